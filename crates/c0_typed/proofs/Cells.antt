@@ -1,11 +1,11 @@
 -- The cells of well-typed trees: their number and the offset of a place are told by the type.
-use Rattle.std.proofs.Common.{◌≡◌, ◌≢◌, ℕ, zero, suc, ◌+◌, ◌-◌, ◌<◌, ◌≤◌, ◌⊎◌, inl, inr, List, [], ◌∷◌, ◌++◌, length, refl, sym, ap, ◌∙◌, subst, arith, append_assoc, append-nil, Bool, true, false, Option, Some, None}
+use Rattle.std.proofs.Common.{◌≡◌, ℕ, zero, suc, ◌+◌, List, [], ◌∷◌, ◌++◌, length, refl, sym, ap, ◌∙◌, subst, arith, Some}
 use Rattle.std.specs.Prelude.{slice_get}
 use Rattle.std.proofs.lemmas.List.{length-append}
 use Rattle.c0_typed.specs.Values.{Value, Tree, Leaf, Node, Trees, Nil, Cons, part, parts, part_at}
 use Rattle.c0_typed.specs.Trees.{Ty, StructTy, Program}
 use Rattle.c0_typed.specs.Layouts.{flat, flats, before, offset}
-use Rattle.c0_typed.specs.Typing.{IsSmall, IsField, Kept, Is, Grown, GrownAll, GrownEach, IsWay}
+use Rattle.c0_typed.specs.Typing.{IsSmall, Kept, Grown, GrownAll, IsWay}
 
 -- ---- trees of one type have one shape
 

@@ -1,7 +1,7 @@
 -- The operators keep to 32 bits.
-use Rattle.std.proofs.Common.{◌≡◌, ◌≢◌, ℕ, zero, suc, ◌+◌, ◌-◌, ◌<◌, ◌≤◌, ◌^◌, ◌/◌, ◌%◌, refl, sym, ap, ◌∙◌, subst, arith, Bool, true, false, Option, Some, None, ℤ, pos, negsuc, FitsSigned}
+use Rattle.std.proofs.Common.{◌≡◌, ◌≢◌, ℕ, zero, suc, ◌≤◌, ◌^◌, ◌/◌, refl, subst, arith, Bool, true, false, Some, ℤ, pos, negsuc, FitsSigned}
 use Rattle.std.specs.Prelude.{nat_lt, not, ◌&&◌, ◌==◌, int_div, int_rem, neg_ℤ}
-use Rattle.std.specs.Int.{w32, int_bit_not, int_bit_and, int_bit_or, int_bit_xor, int_shl, int_shr, cast_signed, cast_unsigned, bit_not}
+use Rattle.std.specs.Int.{w32, int_bit_not, int_bit_and, int_bit_or, int_bit_xor, int_shl, int_shr}
 use Rattle.std.specs.Int.Signed.{mag_shr}
 use Rattle.std.proofs.lemmas.Int.{SFits-int_wrap, fits_signed_from_abs, rem_below}
 use Rattle.std.proofs.Math.Nat.{div-le_self, div-le_of_le-mul}

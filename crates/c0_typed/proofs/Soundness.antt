@@ -1,6 +1,6 @@
 -- Well-typed programs do what their types say.
-use Rattle.std.proofs.Common.{◌≡◌, ◌≢◌, ℕ, zero, suc, ◌+◌, ◌-◌, ◌<◌, ◌≤◌, ◌⊎◌, inl, inr, List, [], ◌∷◌, ◌++◌, length, get_or, refl, sym, ap, ◌∙◌, subst, arith, append_assoc, append-nil, Bool, true, false, Option, Some, None, ℤ, pos, negsuc, FitsSigned}
-use Rattle.std.specs.Prelude.{nat_lt, slice_get, set, map, not, neg_ℤ, replicate}
+use Rattle.std.proofs.Common.{◌≡◌, ℕ, zero, suc, ◌-◌, ◌<◌, ◌⊎◌, inl, inr, List, [], ◌∷◌, ◌++◌, length, get_or, refl, sym, ap, ◌∙◌, subst, arith, append_assoc, append-nil, Bool, true, false, Option, Some, None, ℤ, pos, negsuc, FitsSigned}
+use Rattle.std.specs.Prelude.{nat_lt, slice_get, set, map, not, neg_ℤ}
 use Rattle.std.specs.Int.{w32, int_bit_not}
 use Rattle.std.proofs.lemmas.Int.{SFits-int_wrap, fits_signed_from_abs}
 use Rattle.std.proofs.lemmas.Bool.{ltb-true}
@@ -8,12 +8,12 @@ use Rattle.std.proofs.lemmas.List.{length-append}
 use Rattle.std.proofs.lemmas.Option.{get_or_from_slice_get, slice_get-get_or}
 use Rattle.cells.specs.declared.int32.Int32Op.{Int32Op}
 use Rattle.cells.specs.Numbers.{op_value, wrap32}
-use Rattle.c0_typed.specs.Values.{Value, Number, Truth, Letter, Text, Ref, Void, Tree, Leaf, Node, Trees, Nil, Cons, as_number, as_truth, as_letter, as_text, as_ref, leaf, parts, count, part, with_part, copies, Spot, part_at, with_part_at, allocated, load, store, array_length}
-use Rattle.c0_typed.specs.Trees.{Ty, VoidTy, IntTy, BoolTy, CharTy, TextTy, StructTy, PointerTy, ArrayTy, UnaryOp, Negate, Complement, Not, Relation, Output, Exp, Constant, Null, Local, Unary, Binary, Compare, And, Or, Choose, Call, Out, Read, Alloc, AllocArray, Length, Exps, NoExp, More, Place, Deref, Index, Field, Stmt, Skip, Seq, Set, Update, Store, StoreUpdate, Do, If, Loop, Return, ReturnValue, Assert, Error, Check, Function, Program}
-use Rattle.cells.specs.Stops.{Stop, ArithFault, NullFault, BoundsFault, LengthFault, AssertFailed, ErrorCalled}
-use Rattle.cells.specs.Outcomes.{Done, Stopped, Cut, then_do, Meant}
-use Rattle.c0_typed.specs.Meaning.{State, Outcome, stop, value_or, if_true, turn, local, set_local, unary_value, binary_value, relation_value, printed, default, fields, struct_defaults, allocate, allocate_array, pointed, element, blank, locals_at_entry, eval, evals, locate, Way, Next, Returned, and_then, holds, loop, all_hold, checked, exec, give, in_function, no_function, call, told, mean}
-use Rattle.c0_typed.specs.Typing.{IsSmall, IsHeld, AreHeld, unary_type, output_types, IsConstant, IsField, Has, HasAll, Holds, AllBool, Fits, local_types, FitsFunction, FitsStructs, FitsProgram, Kept, One, Many, IsMade, IsText, Is, AreAll, Grown, GrownAll, GrownEach, IsObject, AreObjects, IsHeap, Extends, IsState, IsWay, IsWayIn, IsPlace, Fine, CallsFit, Gives, GivesAll, Finds, Leaves, AreSmall, IsResult, EvalSound, LocateSound, ExecSound, CallSound, MainSound}
+use Rattle.c0_typed.specs.Values.{Value, Number, Truth, Letter, Text, Ref, Void, Tree, Leaf, Node, Trees, Nil, Cons, as_number, as_truth, as_ref, leaf, parts, count, part, with_part, copies, Spot, part_at, with_part_at, allocated, load, store, array_length}
+use Rattle.c0_typed.specs.Trees.{Ty, VoidTy, IntTy, BoolTy, CharTy, TextTy, StructTy, PointerTy, ArrayTy, UnaryOp, Negate, Complement, Not, Exp, Constant, Null, Local, Unary, Binary, Compare, And, Or, Choose, Call, Out, Read, Alloc, AllocArray, Length, Exps, NoExp, More, Place, Deref, Index, Field, Stmt, Skip, Seq, Set, Update, Store, StoreUpdate, Do, If, Loop, Return, ReturnValue, Assert, Error, Check, Function, Program}
+use Rattle.cells.specs.Stops.{ArithFault, BoundsFault, AssertFailed}
+use Rattle.cells.specs.Outcomes.{Done, Stopped, Cut, then_do}
+use Rattle.c0_typed.specs.Meaning.{State, Outcome, stop, value_or, if_true, turn, local, unary_value, binary_value, relation_value, default, fields, struct_defaults, allocate, allocate_array, pointed, element, blank, locals_at_entry, eval, evals, locate, Way, Next, Returned, and_then, holds, loop, all_hold, checked, exec, in_function, no_function, call}
+use Rattle.c0_typed.specs.Typing.{IsSmall, IsHeld, AreHeld, unary_type, output_types, IsConstant, IsField, Has, HasAll, Holds, AllBool, Fits, local_types, FitsFunction, FitsStructs, FitsProgram, Kept, One, Many, IsMade, Is, AreAll, Grown, GrownAll, GrownEach, IsObject, AreObjects, IsHeap, Extends, IsState, IsWay, IsWayIn, IsPlace, Fine, CallsFit, Gives, GivesAll, Finds, Leaves, AreSmall, IsResult, EvalSound, LocateSound, ExecSound, CallSound, MainSound}
 
 -- ---- lists
 

@@ -1,12 +1,11 @@
 -- More turns change nothing where the program has ended, and else print more.
-use Rattle.std.proofs.Common.{◌≡◌, ℕ, zero, suc, ◌+◌, ◌-◌, ◌<◌, ◌≤◌, List, [], ◌∷◌, ◌++◌, length, get_or, replicate, refl, sym, ap, ◌∙◌, subst, arith, append_assoc, append-nil, Bool, true, false, Option, Some, None, ℤ, pos, negsuc}
+use Rattle.std.proofs.Common.{◌≡◌, ℕ, zero, suc, ◌≤◌, List, [], ◌∷◌, ◌++◌, get_or, refl, sym, ap, ◌∙◌, subst, arith, append_assoc, append-nil, Bool, true, false, Option, Some, None, ℤ, pos, negsuc}
 use Rattle.std.specs.Prelude.{nat_lt}
-use Rattle.cells.specs.declared.int32.Int32Op.{Int32Op}
-use Rattle.c0_typed.specs.Values.{Value, Void, Ref, Tree, Spot, as_ref, as_number, as_truth, as_text, array_length, load, store}
+use Rattle.c0_typed.specs.Values.{Value, Ref, Tree, Spot, as_ref, as_number, as_truth, array_length, load}
 use Rattle.c0_typed.specs.Trees.{Exp, Constant, Null, Local, Unary, Binary, Compare, And, Or, Choose, Call, Out, Read, Alloc, AllocArray, Length, Exps, NoExp, More, Place, Deref, Index, Field, Stmt, Skip, Seq, Set, Update, Store, StoreUpdate, Do, If, Loop, Return, ReturnValue, Assert, Error, Check, Function, Program}
-use Rattle.cells.specs.Stops.{Stop, ArithFault, NullFault, BoundsFault, AssertFailed, ErrorCalled}
-use Rattle.cells.specs.Outcomes.{Done, Stopped, Cut, then_do, Meant}
-use Rattle.c0_typed.specs.Meaning.{State, Outcome, stop, value_or, if_true, turn, local, set_local, binary_value, printed, default, allocate, allocate_array, pointed, element, eval, evals, locate, Way, Next, Returned, and_then, holds, loop, all_hold, checked, exec, give, locals_at_entry, in_function, no_function, struct_defaults, call, told, mean}
+use Rattle.cells.specs.Stops.{Stop, ArithFault, NullFault, BoundsFault, AssertFailed}
+use Rattle.cells.specs.Outcomes.{Done, Stopped, Cut, then_do}
+use Rattle.c0_typed.specs.Meaning.{State, Outcome, stop, value_or, if_true, turn, local, binary_value, printed, default, allocate_array, pointed, element, eval, evals, locate, Way, Next, Returned, and_then, holds, loop, all_hold, checked, exec, locals_at_entry, in_function, no_function, struct_defaults, call, told}
 use Rattle.cells.specs.Outcomes.{IsPrefix, KeepsEnd}
 use Rattle.c0_typed.specs.More.{MoreTurnsExtend}
 

@@ -1,9 +1,9 @@
 -- What the crates above use.
-use Rattle.std.specs.Prelude.{◌≡◌, ℕ, ◌+◌, List, Option, Some, slice_get}
+use Rattle.std.specs.Prelude.{◌≡◌, ℕ, ◌+◌, List, Some, slice_get}
 use Rattle.c0_typed.specs.Values.{Value, Tree, part_at}
 use Rattle.c0_typed.specs.Layouts.{flat, offset}
 use Rattle.c0_typed.specs.Trees.{Ty, Program}
-use Rattle.c0_typed.specs.Typing.{FitsProgram, Kept, Grown, IsWay}
+use Rattle.c0_typed.specs.Typing.{Kept, Grown, IsWay}
 
 -- a place has the same offset in every tree of its type
 abbrev pub OffsetTold : Type 0

@@ -5,3 +5,4 @@ pub mod More
 pub mod Trees
 pub mod Typing
 pub mod Values
+pub mod Views

@@ -1,5 +1,5 @@
 -- The bounded meaning of a program, in big steps: how it ends within n turns, and what it has printed.
-use Rattle.std.specs.Prelude.{ℕ, zero, suc, ◌+◌, ◌-◌, nat_lt, Bool, true, false, not, ℤ, pos, negsuc, neg_ℤ, List, [], ◌∷◌, ◌++◌, length, get_or, set, replicate, map, Option, Some, None, codes}
+use Rattle.std.specs.Prelude.{ℕ, zero, suc, nat_lt, Bool, true, false, not, ℤ, pos, negsuc, neg_ℤ, List, [], ◌∷◌, ◌++◌, length, get_or, set, map, Option, Some, None, codes}
 use Rattle.std.specs.Int.{w32, int_bit_not}
 use Rattle.std.specs.Fmt.{signed_decimal}
 use Rattle.cells.specs.declared.int32.Int32Op.{Int32Op}
@@ -8,7 +8,7 @@ use Rattle.cells.specs.Stops.{Stop, Ended, AssertFailed, ErrorCalled, NullFault,
 use Rattle.cells.specs.Outcomes as b
 use Rattle.cells.specs.Outcomes.{Done, Stopped, Cut, then_do, Meant}
 use Rattle.c0_typed.specs.Values.{Value, Number, Truth, Letter, Text, Ref, Void, Tree, Leaf, Node, Trees, Nil, Cons, as_number, as_truth, as_letter, as_text, as_ref, same_value, value_below, copies, Spot, load, store, array_length, leaf}
-use Rattle.c0_typed.specs.Trees.{Ty, VoidTy, IntTy, BoolTy, CharTy, TextTy, StructTy, PointerTy, ArrayTy, UnaryOp, Negate, Complement, Not, Relation, Equal, Unequal, Below, AtMost, Above, AtLeast, Output, Print, Println, Printint, Printbool, Printchar, Flush, Exp, Constant, Null, Local, Unary, Binary, Compare, And, Or, Choose, Call, Out, Read, Alloc, AllocArray, Length, Exps, NoExp, More, Place, Deref, Index, Field, Stmt, Skip, Seq, Set, Update, Store, StoreUpdate, Do, If, Loop, Return, ReturnValue, Assert, Error, Check, Function, Program}
+use Rattle.c0_typed.specs.Trees.{Ty, VoidTy, IntTy, BoolTy, CharTy, TextTy, StructTy, PointerTy, ArrayTy, UnaryOp, Negate, Complement, Not, Relation, Equal, Unequal, Below, AtMost, Above, AtLeast, Output, Print, Println, Printint, Printbool, Printchar, Exp, Constant, Null, Local, Unary, Binary, Compare, And, Or, Choose, Call, Out, Read, Alloc, AllocArray, Length, Exps, NoExp, More, Place, Deref, Index, Field, Stmt, Skip, Seq, Set, Update, Store, StoreUpdate, Do, If, Loop, Return, ReturnValue, Assert, Error, Check, Function, Program}
 
 -- ---- states and outcomes
 

@@ -1,5 +1,5 @@
 -- The law of more turns: they change nothing where the program has ended, and else print more.
-use Rattle.std.specs.Prelude.{◌≡◌, ℕ, ◌≤◌, List, ◌++◌, Bool, Option, Some, None}
+use Rattle.std.specs.Prelude.{ℕ, ◌≤◌, Bool}
 use Rattle.c0_typed.specs.Trees.{Program}
 use Rattle.cells.specs.Outcomes.{KeepsEnd}
 use Rattle.c0_typed.specs.Meaning.{mean}

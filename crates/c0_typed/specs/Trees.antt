@@ -1,5 +1,5 @@
 -- Programs as the static rules leave them: names are replaced by numbers, typedefs by their types, and each node tells its type at once.
-use Rattle.std.specs.Prelude.{ℕ, List, Bool}
+use Rattle.std.specs.Prelude.{ℕ, List}
 use Rattle.cells.specs.declared.int32.Int32Op.{Int32Op}
 use Rattle.c0_typed.specs.Values.{Value}
 

@@ -1,9 +1,13 @@
 //! Typed programs, their bounded meaning, and the types of what they do.
 #![tactic(auto)]
 
+mod tree;
+
 ghost use Rattle.c0_typed.specs.Laws.{OffsetTold, CellThere};
 ghost use Rattle.c0_typed.specs.More.{MoreTurnsExtend};
 ghost use Rattle.c0_typed.specs.Typing.{EvalSound, LocateSound, ExecSound, CallSound, FreshSound, LoadSound, StoreSound, MainSound};
+
+pub use tree::{Expression, Function, Place, Statement, Typed, ValueType};
 
 /// A well-typed program does what its types say, in every well-typed state: an expression gives a value of its type,
 /// a place holds what its type says, and each allocation keeps what it was made for.
