@@ -1,11 +1,11 @@
 //! The execution of an image up to its heap.
 ghost use Rattle.cells.specs.Stops.{stop_of as stop_read};
-ghost use Rattle.code_form.specs.Code.{Frame, code, effect, most_scopes, output_of, stop_of, is_blocked as is_blocked_in};
+ghost use Rattle.code_form.specs.Code.{Frame, Stuck, begins, code, effect, most_scopes, output_of, stop_of, is_blocked as is_blocked_in};
 ghost use Rattle.code_form.specs.Decisions.{decided, makes};
-ghost use Rattle.code_form.specs.Form.{image_of};
+ghost use Rattle.code_form.specs.Form.{block_of, function_of, image_of};
 ghost use Rattle.code_form.specs.Statuses.{HasFewScopes, core_of, followed};
 ghost use Rattle.code_form.specs.Touches.{IsWithin, Progress, cells_asked, resumed, touch_of};
-ghost use Rattle.std.specs.Prelude.{◌≡◌, ◌≢◌, ℕ, false, IfOk, List, MatchResult, None, option_map};
+ghost use Rattle.std.specs.Prelude.{◌≡◌, ◌≢◌, ℕ, [], false, IfOk, List, MatchOption, MatchResult, None, Some, option_map, slice_get};
 
 use cells::Stop;
 use std::alloc::{AllocError, Global};
@@ -13,7 +13,7 @@ use std::marker::Model;
 
 use crate::allocation::{Allocation, Allocations};
 use crate::call::{Call, Decision, Halt, Scope};
-use crate::form::Image;
+use crate::form::{Block, Function, Image};
 use crate::touch::Touch;
 
 /// Where a run is.
@@ -87,6 +87,27 @@ impl<'a> Status<'a> {
     }
 }
 
+/// `main` and its first block.
+fn first_block(image: &Image) -> Option<(&Function, &Block)>
+    ensures { MatchOption result
+        (begins (slice_get (image_of image.now).functions 0) ≡ Stuck [] [])
+        (λ p. (slice_get (image_of image.now).functions 0 ≡ Some (function_of p.0.now)) × (slice_get (function_of p.0.now).blocks 0 ≡ Some (block_of p.1.now))) }
+{
+    let function = image.functions.first()?;
+    let block = function.blocks.first()?;
+    Some((function, block))
+}
+
+/// Where a run begins. `Err` where memory is refused.
+fn begin<'a>(alloc: Global, image: &'a Image) -> Result<Status<'a>, AllocError>
+    ensures { IfOk result (λ s. core_of s [] [] ≡ begins (slice_get (image_of image.now).functions 0)) }
+{
+    match first_block(image) {
+        Some((function, block)) => Ok(Status::Running(Call::new(alloc, function, block)?)),
+        None => Ok(Status::Stuck),
+    }
+}
+
 impl<'a> Execution<'a> {
     /// What the next instruction touches.
     pub fn next(&self) -> Touch
@@ -126,5 +147,48 @@ impl<'a> Execution<'a> {
             Status::Stopped(Halt::NullFault) => Some(Stop::NullFault),
             _ => None,
         }
+    }
+
+    /// Whether the next instruction needs all scopes shut and one is open.
+    pub fn is_blocked(&self) -> bool
+        ensures { result ≡ is_blocked_in self.now.core }
+    {
+        match &self.status {
+            Status::Running(call) => call.is_blocked(),
+            _ => false,
+        }
+    }
+
+    /// Does the next instruction, which is an allocation; the number of the new one is that of the allocations. `Err` where memory
+    /// is refused: then nothing is changed.
+    pub fn allocate(&mut self) -> Result<(), AllocError>
+        requires { cells_asked (touch_of (effect self.old.image self.old.core)) ≢ None }
+        ensures { MatchResult result
+            (λ _. self.new ≡ record self.old { core = resumed (effect self.old.image self.old.core) self.old.core 0 })
+            (λ _. self.new ≡ self.old) }
+    {
+        if let Status::Running(call) = &mut self.status
+            && let Decision::Makes { to, layout, cells } = call.decide(self.image, &self.allocations)
+        {
+            self.allocations.push(Allocation {
+                layout,
+                length: 1,
+                cells,
+            })?;
+            call.write(to, self.allocations.count());
+        }
+        Ok(())
+    }
+
+    /// The execution of an image at the beginning of `main`. `Err` where memory is refused.
+    pub fn new(alloc: Global, image: &'a Image) -> Result<Execution<'a>, AllocError>
+        ensures { IfOk result (λ e. e ≡ record { image = image_of image.now; core = (code (image_of image.now)).start }) }
+    {
+        Ok(Execution {
+            image,
+            status: begin(alloc, image)?,
+            allocations: Allocations::new(alloc),
+            output: Vec::new(alloc),
+        })
     }
 }

@@ -7,6 +7,7 @@ mod execution;
 mod form;
 mod kinds;
 mod laws;
+mod tests;
 mod touch;
 
 pub use allocation::Allocation;
