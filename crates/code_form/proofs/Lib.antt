@@ -1,2 +1,7 @@
+mod Allocated
 mod Computing
+mod Entering
+mod Few
 mod Runs
+mod Scopes
+mod Within
