@@ -1,2 +1,4 @@
 pub mod Correct
 pub mod Fragment
+pub mod Trees
+pub mod Views
