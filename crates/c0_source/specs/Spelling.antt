@@ -170,19 +170,19 @@ abbrev pub newline_of : Mode → Piece
 newline_of m.Line = p.Token k.End
 newline_of _ = p.Gap
 
--- signs that don't begin with `/`
+-- signs that don't begin with `/`, the longer ones first
 abbrev pub signs : Table
 signs =
-    (codes "(", k.LParen) ∷ (codes ")", k.RParen) ∷ (codes "{", k.LBrace) ∷ (codes "}", k.RBrace) ∷ (codes "[", k.LBracket) ∷ (codes "]", k.RBracket)
-    ∷ (codes ";", k.Semi) ∷ (codes ",", k.Comma) ∷ (codes ".", k.Dot) ∷ (codes "->", k.Arrow) ∷ (codes "?", k.Question) ∷ (codes ":", k.Colon)
-    ∷ (codes "!", k.Bang) ∷ (codes "~", k.Tilde) ∷ (codes "=", k.Assign) ∷ (codes "++", k.PlusPlus) ∷ (codes "--", k.MinusMinus)
-    ∷ (codes "||", k.Infix o.Or) ∷ (codes "&&", k.Infix o.And) ∷ (codes "|", k.Infix o.BitOr) ∷ (codes "^", k.Infix o.BitXor) ∷ (codes "&", k.Infix o.BitAnd)
-    ∷ (codes "==", k.Infix o.Equal) ∷ (codes "!=", k.Infix o.NotEqual) ∷ (codes "<", k.Infix o.Less) ∷ (codes "<=", k.Infix o.LessEqual)
-    ∷ (codes ">", k.Infix o.Greater) ∷ (codes ">=", k.Infix o.GreaterEqual) ∷ (codes "<<", k.Infix o.ShiftLeft) ∷ (codes ">>", k.Infix o.ShiftRight)
-    ∷ (codes "+", k.Infix o.Add) ∷ (codes "-", k.Infix o.Subtract) ∷ (codes "*", k.Infix o.Multiply) ∷ (codes "%", k.Infix o.Modulo)
-    ∷ (codes "+=", k.Update o.Add) ∷ (codes "-=", k.Update o.Subtract) ∷ (codes "*=", k.Update o.Multiply) ∷ (codes "%=", k.Update o.Modulo)
-    ∷ (codes "&=", k.Update o.BitAnd) ∷ (codes "^=", k.Update o.BitXor) ∷ (codes "|=", k.Update o.BitOr) ∷ (codes "<<=", k.Update o.ShiftLeft)
-    ∷ (codes ">>=", k.Update o.ShiftRight) ∷ []
+    (codes "<<=", k.Update o.ShiftLeft) ∷ (codes ">>=", k.Update o.ShiftRight) ∷ (codes "->", k.Arrow) ∷ (codes "++", k.PlusPlus) ∷
+    (codes "--", k.MinusMinus) ∷ (codes "||", k.Infix o.Or) ∷ (codes "&&", k.Infix o.And) ∷ (codes "==", k.Infix o.Equal) ∷ (codes "!=", k.Infix o.NotEqual) ∷
+    (codes "<=", k.Infix o.LessEqual) ∷ (codes ">=", k.Infix o.GreaterEqual) ∷ (codes "<<", k.Infix o.ShiftLeft) ∷ (codes ">>", k.Infix o.ShiftRight) ∷
+    (codes "+=", k.Update o.Add) ∷ (codes "-=", k.Update o.Subtract) ∷ (codes "*=", k.Update o.Multiply) ∷ (codes "%=", k.Update o.Modulo) ∷
+    (codes "&=", k.Update o.BitAnd) ∷ (codes "^=", k.Update o.BitXor) ∷ (codes "|=", k.Update o.BitOr) ∷ (codes "(", k.LParen) ∷ (codes ")", k.RParen) ∷
+    (codes "{", k.LBrace) ∷ (codes "}", k.RBrace) ∷ (codes "[", k.LBracket) ∷ (codes "]", k.RBracket) ∷ (codes ";", k.Semi) ∷ (codes ",", k.Comma) ∷
+    (codes ".", k.Dot) ∷ (codes "?", k.Question) ∷ (codes ":", k.Colon) ∷ (codes "!", k.Bang) ∷ (codes "~", k.Tilde) ∷ (codes "=", k.Assign) ∷
+    (codes "|", k.Infix o.BitOr) ∷ (codes "^", k.Infix o.BitXor) ∷ (codes "&", k.Infix o.BitAnd) ∷ (codes "<", k.Infix o.Less) ∷ (codes ">", k.Infix o.Greater) ∷
+    (codes "+", k.Infix o.Add) ∷ (codes "-", k.Infix o.Subtract) ∷ (codes "*", k.Infix o.Multiply) ∷ (codes "%", k.Infix o.Modulo) ∷
+    []
 
 -- a kind of token as a piece
 abbrev pub token_of : Option Kind → Option Piece

@@ -1,0 +1,5 @@
+pub mod Ends
+pub mod Lexed
+pub mod Numbers
+pub mod Pieces
+pub mod Tables
