@@ -1,3 +1,4 @@
+pub mod Characters
 pub mod Ends
 pub mod Lexed
 pub mod Numbers

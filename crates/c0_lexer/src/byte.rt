@@ -1,8 +1,14 @@
 // Classes of bytes.
 
-ghost use Rattle.std.specs.Prelude.{◌≡◌, ◌&&◌};
+ghost use Rattle.std.specs.Prelude.{◌≡◌, ◌&&◌, slice_index};
 ghost use Rattle.c0_source.specs.Bytes as spec;
-ghost use Rattle.c0_source.specs.Spelling.{is_some};
+
+/// The byte at an index, or 0 behind the end.
+pub fn byte_at(text: &[u8], at: usize) -> u8
+    ensures { result ≡ slice_index text.now at }
+{
+    if at < text.len() { text[at] } else { 0 }
+}
 
 /// Whether the byte is a blank, a newline among them.
 pub fn is_blank(b: u8) -> bool

@@ -1,18 +1,20 @@
 // Comments, the openings of annotations, `/` and `/=`.
 
-ghost use Rattle.std.specs.Prelude.{◌≡◌, ◌<◌, ◌≤◌, length, slice_index};
+ghost use Rattle.std.specs.Prelude.{◌≡◌, ◌<◌, ◌≤◌, length, slice_index, IfSome};
 ghost use Rattle.std.specs.List.{prefix_len};
 ghost use Rattle.c0_source.specs.Bytes as spec;
 ghost use Rattle.c0_lexer.specs.Ends.{comment_end};
 ghost use Rattle.c0_lexer.specs.Pieces.{Gives};
-ghost use Rattle.c0_source.specs.Spelling.{Cut};
+ghost use Rattle.c0_source.specs.Spelling.{Cut, begins_annotation};
 
+use crate::byte::byte_at;
 use crate::longest::LongestPiece;
 use c0_source::kind::{Kind, Mode, Operator, Piece};
 
 /// The length of a nested comment, counted from behind its `/*`; none where it is not closed.
 fn comment_length(mut text: &[u8]) -> Option<usize>
-    ensures { result ≡ comment_end 0 0 0 text.entry.now }
+    ensures value { result ≡ comment_end 0 0 0 text.entry.now }
+    ensures within { IfSome result (λ n. n ≤ length text.entry.now) }
 {
     let mut deeper: usize = 0;
     let mut before: u8 = 0;
@@ -48,13 +50,23 @@ fn line_length(text: &[u8]) -> usize
     n
 }
 
+/// Whether what stands behind `//` or `/*` opens an annotation.
+fn opens_annotation(mode: Mode, text: &[u8]) -> bool
+    ensures { result ≡ begins_annotation mode text.now }
+{
+    match (mode, text) {
+        (Mode::Plain, [b, ..]) => *b == b'@',
+        _ => false,
+    }
+}
+
 /// What begins with `//`: the opening of an annotation, where it stands in none, or a comment.
 fn line_comment(mode: Mode, text: &[u8]) -> LongestPiece
     requires first { slice_index text.now 0 ≡ 47 }
     requires second { slice_index text.now 1 ≡ 47 }
     ensures { Cut mode text.now result.length result.piece }
 {
-    if mode == Mode::Plain && text.len() > 2 && text[2] == b'@' {
+    if opens_annotation(mode, &text[2..]) {
         return LongestPiece {
             length: 3,
             piece: Piece::Opens(Mode::Line),
@@ -72,7 +84,7 @@ fn block_comment(mode: Mode, text: &[u8]) -> Option<LongestPiece>
     requires second { slice_index text.now 1 ≡ 42 }
     ensures { Gives mode text.now result }
 {
-    if mode == Mode::Plain && text.len() > 2 && text[2] == b'@' {
+    if opens_annotation(mode, &text[2..]) {
         return Some(LongestPiece {
             length: 3,
             piece: Piece::Opens(Mode::Block),
@@ -90,8 +102,7 @@ pub fn slash(mode: Mode, text: &[u8]) -> Option<LongestPiece>
     requires { slice_index text.now 0 ≡ 47 }
     ensures { Gives mode text.now result }
 {
-    let second = if text.len() > 1 { text[1] } else { 0 };
-    match second {
+    match byte_at(text, 1) {
         b'/' => Some(line_comment(mode, text)),
         b'*' => block_comment(mode, text),
         b'=' => Some(LongestPiece {

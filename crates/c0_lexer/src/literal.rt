@@ -1,19 +1,21 @@
 // Texts, characters and `#use`.
 
-ghost use Rattle.std.specs.Prelude.{◌≡◌, ◌<◌, ◌≤◌, length, slice_index, false};
+ghost use Rattle.std.specs.Prelude.{◌≡◌, ◌+◌, ◌^◌, ◌<◌, ◌≤◌, length, slice_index, false, IfSome};
 ghost use Rattle.c0_lexer.specs.Ends.{text_end, name_end, use_end};
+ghost use Rattle.c0_lexer.specs.Characters.{escaped_value, plain_value};
 ghost use Rattle.c0_lexer.specs.Pieces.{Gives};
 
-use crate::byte::{escape, is_blank_in_line, is_digit, is_printable, is_word};
+use crate::byte::{byte_at, escape, is_blank_in_line, is_digit, is_printable, is_word};
 use crate::longest::LongestPiece;
 use c0_source::kind::{Kind, Mode, Piece};
 
-/// The length of a text, counted from behind its opening quote; none where the bytes are no text.
-fn text_length(mut text: &[u8]) -> Option<usize>
-    ensures { result ≡ text_end false 0 text.entry.now }
+/// Where a text ends, of which this stands behind the opening quote, after `at` bytes; none where the bytes are no text.
+fn text_length(mut text: &[u8], mut at: usize) -> Option<usize>
+    requires { at + length text.now < 2 ^ 64 }
+    ensures value { result ≡ text_end false at text.entry.now }
+    ensures within { IfSome result (λ n. n ≤ at + length text.entry.now) }
 {
     let mut escaped = false;
-    let mut at: usize = 0;
     while let [b, rest @ ..] = text {
         if escaped {
             let _byte = escape(*b)?;
@@ -36,11 +38,35 @@ pub fn text_literal(mode: Mode, text: &[u8]) -> Option<LongestPiece>
     requires { slice_index text.now 0 ≡ 34 }
     ensures { Gives mode text.now result }
 {
-    let length = text_length(&text[1..])?;
+    let length = text_length(&text[1..], 1)?;
     Some(LongestPiece {
-        length: length + 1,
+        length,
         piece: Piece::Token(Kind::Text),
     })
+}
+
+/// The code of a character with a `\` behind its opening quote.
+fn escaped_code(text: &[u8]) -> Option<u8>
+    ensures { result ≡ escaped_value text.now }
+{
+    if text.len() < 4 || text[3] != b'\'' {
+        None
+    } else if text[2] == b'0' {
+        Some(0)
+    } else {
+        escape(text[2])
+    }
+}
+
+/// The code of a character without a `\`.
+fn plain_code(text: &[u8]) -> Option<u8>
+    ensures { result ≡ plain_value text.now }
+{
+    if text.len() < 3 || text[2] != b'\'' || text[1] == b'\'' || !is_printable(text[1]) {
+        None
+    } else {
+        Some(text[1])
+    }
 }
 
 /// The character at the front, which begins with a single quote.
@@ -48,32 +74,27 @@ pub fn character(mode: Mode, text: &[u8]) -> Option<LongestPiece>
     requires { slice_index text.now 0 ≡ 39 }
     ensures { Gives mode text.now result }
 {
-    match text {
-        [_, b'\\', b'0', b'\'', ..] => Some(LongestPiece {
+    if byte_at(text, 1) == b'\\' {
+        let code = escaped_code(text)?;
+        return Some(LongestPiece {
             length: 4,
-            piece: Piece::Token(Kind::Character(0)),
-        }),
-        [_, b'\\', b, b'\'', ..] => {
-            let code = escape(*b)?;
-            Some(LongestPiece {
-                length: 4,
-                piece: Piece::Token(Kind::Character(code)),
-            })
-        }
-        [_, b, b'\'', ..] if is_printable(*b) && *b != b'\'' && *b != b'\\' => Some(LongestPiece {
-            length: 3,
-            piece: Piece::Token(Kind::Character(*b)),
-        }),
-        _ => None,
+            piece: Piece::Token(Kind::Character(code)),
+        });
     }
+    let code = plain_code(text)?;
+    Some(LongestPiece {
+        length: 3,
+        piece: Piece::Token(Kind::Character(code)),
+    })
 }
 
-/// The length of a name and the `>` behind it, counted from behind `<`.
-fn name_length(mut text: &[u8]) -> Option<usize>
-    ensures { result ≡ name_end false 0 text.entry.now }
+/// Where a name and the `>` behind it end, of which this stands behind `<`, after `at` bytes; none where the bytes are no name.
+fn name_length(mut text: &[u8], mut at: usize) -> Option<usize>
+    requires { at + length text.now < 2 ^ 64 }
+    ensures value { result ≡ name_end false at text.entry.now }
+    ensures within { IfSome result (λ n. n ≤ at + length text.entry.now) }
 {
     let mut begun = false;
-    let mut at: usize = 0;
     while let [b, rest @ ..] = text {
         if *b == b'>' {
             return if begun { Some(at + 1) } else { None };
@@ -90,15 +111,19 @@ fn name_length(mut text: &[u8]) -> Option<usize>
 
 /// The length of what `#use` names, counted from behind `use`: blanks, and a name between `<` and `>` or a text.
 fn used_length(text: &[u8]) -> Option<usize>
-    ensures { result ≡ use_end 0 text.now }
+    ensures value { result ≡ use_end 0 text.now }
+    ensures within { IfSome result (λ n. n ≤ length text.now) }
 {
     let mut at: usize = 0;
     while at < text.len() && is_blank_in_line(text[at]) {
         at += 1;
     }
-    match &text[at..] {
-        [b'<', rest @ ..] => Some(name_length(rest)? + at + 1),
-        [b'"', rest @ ..] => Some(text_length(rest)? + at + 1),
+    if at == text.len() {
+        return None;
+    }
+    match text[at] {
+        b'<' => name_length(&text[at + 1..], at + 1),
+        b'"' => text_length(&text[at + 1..], at + 1),
         _ => None,
     }
 }
@@ -108,14 +133,12 @@ pub fn use_directive(mode: Mode, text: &[u8]) -> Option<LongestPiece>
     requires { slice_index text.now 0 ≡ 35 }
     ensures { Gives mode text.now result }
 {
-    match text {
-        [_, b'u', b's', b'e', rest @ ..] => {
-            let length = used_length(rest)?;
-            Some(LongestPiece {
-                length: length + 4,
-                piece: Piece::Token(Kind::Use),
-            })
-        }
-        _ => None,
+    if !text.starts_with(b"#use") {
+        return None;
     }
+    let length = used_length(&text[4..])?;
+    Some(LongestPiece {
+        length: length + 4,
+        piece: Piece::Token(Kind::Use),
+    })
 }

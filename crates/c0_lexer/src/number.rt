@@ -30,7 +30,7 @@ fn hex_digit(b: u8) -> Option<u64>
 
 /// The value of decimal digits, at most `LARGEST_DECIMAL`.
 fn decimal_value(digits: &[u8]) -> Option<u32>
-    ensures { result ≡ digits_value digits.now }
+    ensures { result ≡ digits_value 0 digits.now }
 {
     let mut value: u64 = 0;
     for b in digits {
@@ -47,7 +47,7 @@ fn decimal_value(digits: &[u8]) -> Option<u32>
 
 /// The value of hexadecimal digits, at most `LARGEST_HEXADECIMAL`.
 fn hexadecimal_value(digits: &[u8]) -> Option<u32>
-    ensures { result ≡ hex_value digits.now }
+    ensures { result ≡ hex_value 0 digits.now }
 {
     let mut value: u64 = 0;
     for b in digits {

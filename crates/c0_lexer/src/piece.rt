@@ -1,8 +1,8 @@
 // The longest piece at the front of a text.
 
-ghost use Rattle.std.specs.Prelude.{◌≡◌, ◌<◌, length, slice_index, true};
-ghost use Rattle.c0_source.specs.Bytes as spec;
-ghost use Rattle.c0_source.specs.Spelling.{Cut, after, kind_of_piece};
+ghost use Rattle.std.specs.Prelude.{◌≡◌, ◌<◌, ◌==◌, if◌then◌else◌, length, slice_index};
+ghost use Rattle.c0_source.specs.Spelling.{after, kind_of_piece, newline_of};
+ghost use Rattle.c0_source.specs.declared.kind.Piece.TheVariants.{Gap};
 ghost use Rattle.c0_lexer.specs.Pieces.{Gives, IsSignByte};
 
 use crate::byte::{is_blank, is_digit, is_letter};
@@ -10,22 +10,18 @@ use crate::comment::slash;
 use crate::literal::{character, text_literal, use_directive};
 use crate::longest::LongestPiece;
 use crate::number::number;
-use crate::table::{first_entry, RESULTS, SIGNS};
+use crate::table::{first_entry, ENDS, RESULTS, SIGNS};
 use crate::word::word;
 use c0_source::kind::{Kind, Mode, Piece};
 
-/// One blank; a newline ends an annotation of a line.
-fn blank(mode: Mode, text: &[u8]) -> LongestPiece
-    requires some { 0 < length text.now }
-    requires blank { spec.is_blank (slice_index text.now 0) ≡ true }
-    ensures { Cut mode text.now result.length result.piece }
+/// What a blank is: a newline ends an annotation of a line.
+fn blank(mode: Mode, first: u8) -> Piece
+    ensures { result ≡ (if first == 10 then newline_of mode else Gap) }
 {
-    let piece = if text[0] == b'\n' && mode == Mode::Line {
-        Piece::Token(Kind::End)
-    } else {
-        Piece::Gap
-    };
-    LongestPiece { length: 1, piece }
+    match (mode, first) {
+        (Mode::Line, b'\n') => Piece::Token(Kind::End),
+        _ => Piece::Gap,
+    }
 }
 
 /// What begins with `\`: `\result` and `\length` in annotations.
@@ -33,10 +29,9 @@ fn backslash(mode: Mode, text: &[u8]) -> Option<LongestPiece>
     requires { slice_index text.now 0 ≡ 92 }
     ensures { Gives mode text.now result }
 {
-    if mode == Mode::Plain {
-        None
-    } else {
-        first_entry(&RESULTS, text)
+    match mode {
+        Mode::Plain => None,
+        _ => first_entry(&RESULTS, text),
     }
 }
 
@@ -45,13 +40,9 @@ fn annotation_end(mode: Mode, text: &[u8]) -> Option<LongestPiece>
     requires { slice_index text.now 0 ≡ 64 }
     ensures { Gives mode text.now result }
 {
-    if mode == Mode::Block && text.starts_with(b"@*/") {
-        Some(LongestPiece {
-            length: 3,
-            piece: Piece::Token(Kind::End),
-        })
-    } else {
-        None
+    match mode {
+        Mode::Block => first_entry(&ENDS, text),
+        _ => None,
     }
 }
 
@@ -71,7 +62,10 @@ pub fn longest_piece(mode: Mode, text: &[u8]) -> Option<LongestPiece>
 {
     let first = text[0];
     if is_blank(first) {
-        return Some(blank(mode, text));
+        return Some(LongestPiece {
+            length: 1,
+            piece: blank(mode, first),
+        });
     }
     if is_letter(first) {
         return Some(word(mode, text));

@@ -42,6 +42,9 @@ pub static CLAUSES: [(&str, Kind); 3] = [
 /// The words behind `\` in annotations.
 pub static RESULTS: [(&str, Kind); 2] = [("\\result", Kind::Result), ("\\length", Kind::Length)];
 
+/// The end of an annotation of a block.
+pub static ENDS: [(&str, Kind); 1] = [("@*/", Kind::End)];
+
 /// The signs but those that begin with `/`, the longer ones first.
 pub static SIGNS: [(&str, Kind); 43] = [
     ("<<=", Kind::Update(Operator::ShiftLeft)),

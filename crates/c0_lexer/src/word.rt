@@ -3,7 +3,7 @@
 ghost use Rattle.std.specs.Prelude.{◌≡◌, ◌<◌, ◌≤◌, length, slice_index, true, false};
 ghost use Rattle.std.specs.List.{prefix_len};
 ghost use Rattle.c0_source.specs.Bytes as spec;
-ghost use Rattle.c0_source.specs.Spelling.{Cut, word_kind};
+ghost use Rattle.c0_source.specs.Spelling.{Cut, keywords, lookup, or_name, word_kind};
 
 use crate::byte::is_word;
 use crate::longest::LongestPiece;
@@ -22,16 +22,24 @@ pub fn word_length(text: &[u8]) -> usize
     n
 }
 
+/// What a word outside annotations is: a keyword or a name.
+fn plain_kind(text: &[u8]) -> Kind
+    ensures { result ≡ or_name (lookup keywords text.now) }
+{
+    lookup(&KEYWORDS, text).unwrap_or(Kind::Name)
+}
+
 /// What a word is: a keyword, among them those of annotations where it stands in one, or a name.
 pub fn word_kind(mode: Mode, text: &[u8]) -> Kind
     ensures { result ≡ word_kind mode text.now }
 {
-    if mode != Mode::Plain
-        && let Some(kind) = lookup(&CLAUSES, text)
-    {
-        return kind;
+    match mode {
+        Mode::Plain => plain_kind(text),
+        _ => match lookup(&CLAUSES, text) {
+            Some(kind) => kind,
+            None => plain_kind(text),
+        },
     }
-    lookup(&KEYWORDS, text).unwrap_or(Kind::Name)
 }
 
 /// The word at the front of a text whose first byte is a letter or `_`.
