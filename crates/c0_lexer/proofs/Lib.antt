@@ -5,3 +5,4 @@ pub mod Signs
 pub mod Comments
 pub mod Literals
 pub mod Numbers
+pub mod Reached

@@ -1,7 +1,7 @@
 // From a text to its tokens.
 
-ghost use Rattle.std.specs.Prelude.{◌≡◌, ◌++◌, ◌<◌, ◌≤◌, List, [], map, IfOk, IfErr, OnOk};
-ghost use Rattle.c0_source.specs.Spelling.{Lexeme, Spells, opening_by, kind_of_piece, add_lexeme};
+ghost use Rattle.std.specs.Prelude.{◌≡◌, ◌++◌, ◌∷◌, ◌<◌, ◌≤◌, List, [], length, map, IfOk, IfErr, OnOk};
+ghost use Rattle.c0_source.specs.Spelling.{Lexeme, Spells, opening_by, kind_of_piece, add_lexeme, end_at, ending};
 ghost use Rattle.c0_source.specs.FaultNumbers.{memory_fault};
 ghost use Rattle.c0_lexer.specs.Lexed.{Answers, IsFault, IsLexed, lexeme, rest_fault};
 
@@ -47,25 +47,35 @@ fn fault_at(mode: Mode, opening: usize, at: usize, rest: &[u8]) -> Fault
     Fault::at(FaultKind::OpenComment, start)
 }
 
-/// The tokens that the text of the source spells, in their order, and behind them one of no bytes at the end of the text. Its fault is
-/// 11 or 12 at the first byte that no piece of the text begins with, but 12 at the opening of an annotation that is not closed; or 50,
-/// where memory runs out.
-pub fn lex<'a>(alloc: Global, source: &'a Source) -> Result<Vec<Token<'a>>, Fault>
-    // What is given is spelled so.
-    ensures spelled { IfOk result (λ v. IsLexed source.now (map lexeme v.items)) }
-    // What is spelled is given, unless memory runs out.
-    ensures only { (ts : List Lexeme) → Spells source.now ts → Answers source.now ts result }
-    // A fault holds at its place.
-    ensures fault { IfErr result (λ f. IsFault f.kind source.now f) }
+/// Adds the tokens of no bytes at the end of a text: the end of an annotation of a line, where one is open, and the end of the text.
+fn push_ends<'a>(tokens: &mut Vec<Token<'a>>, mode: Mode, rest: &'a [u8], at: usize) -> Result<(), Fault>
+    requires { length rest.now ≡ 0 }
+    ensures ok { OnOk result (map lexeme tokens.new.items ≡ map lexeme tokens.old.items ++ ending mode at ++ end_at at ∷ []) }
+    ensures memory { IfErr result (λ f. f ≡ memory_fault) }
 {
-    let text = source.bytes();
+    match mode {
+        Mode::Line => {
+            push_piece(tokens, Piece::Token(Kind::End), rest, at)?;
+            push_piece(tokens, Piece::Token(Kind::EndOfText), rest, at)
+        }
+        _ => push_piece(tokens, Piece::Token(Kind::EndOfText), rest, at),
+    }
+}
+
+/// The tokens of a text.
+fn tokens_of<'a>(alloc: Global, text: &'a [u8]) -> Result<Vec<Token<'a>>, Fault>
+    requires { length text.now < usize.MAX }
+    ensures spelled { IfOk result (λ v. IsLexed text.entry.now (map lexeme v.items)) }
+    ensures fault { IfErr result (λ f. IsFault f.kind text.entry.now f) }
+{
     let mut tokens = Vec::new(alloc);
     let mut mode = Mode::Plain;
     let mut opening = 0;
     let mut at = 0;
     while at < text.len() {
-        let Some(longest) = longest_piece(mode, &text[at..]) else {
-            return Err(fault_at(mode, opening, at, &text[at..]));
+        let rest = &text[at..];
+        let Some(longest) = longest_piece(mode, rest) else {
+            return Err(fault_at(mode, opening, at, rest));
         };
         let next = at + longest.length;
         push_piece(&mut tokens, longest.piece, &text[at..next], at)?;
@@ -73,12 +83,25 @@ pub fn lex<'a>(alloc: Global, source: &'a Source) -> Result<Vec<Token<'a>>, Faul
         mode = mode_after(mode, longest.piece);
         at = next;
     }
-    if mode == Mode::Block {
-        return Err(fault_at(mode, opening, at, &text[at..]));
+    match mode {
+        Mode::Block => Err(fault_at(mode, opening, at, &text[at..])),
+        _ => {
+            push_ends(&mut tokens, mode, &text[at..], at)?;
+            Ok(tokens)
+        }
     }
-    if mode == Mode::Line {
-        push_piece(&mut tokens, Piece::Token(Kind::End), &text[at..], at)?;
-    }
-    push_piece(&mut tokens, Piece::Token(Kind::EndOfText), &text[at..], at)?;
-    Ok(tokens)
+}
+
+/// The tokens that the text of the source spells, in their order, and behind them one of no bytes at the end of the text. Its fault is
+/// 11 or 12 at the first byte that no piece of the text begins with, but 12 at the opening of an annotation that is not closed; or 50,
+/// where memory runs out.
+pub fn lex<'a>(alloc: Global, source: &'a Source) -> Result<Vec<Token<'a>>, Fault>
+    // What is given is spelled so.
+    ensures spelled { IfOk result (λ v. IsLexed source.entry.now (map lexeme v.items)) }
+    // What is spelled is given, unless memory runs out.
+    ensures only { (ts : List Lexeme) → Spells source.entry.now ts → Answers source.entry.now ts result }
+    // A fault holds at its place.
+    ensures fault { IfErr result (λ f. IsFault f.kind source.entry.now f) }
+{
+    tokens_of(alloc, source.bytes())
 }

@@ -335,9 +335,13 @@ pub record Stops (bytes : List ℕ) (fault : FaultKind) (at : ℕ) : Type 0 wher
   pub leads : Leads m.Plain bytes pieces last rest
   pub cause : Cause fault at last pieces rest
 
--- the token of no bytes that stands behind all others, at the end of a text
+-- the token of no bytes that stands behind all others, where a text ends at `at`
+abbrev pub end_at : ℕ → Lexeme
+end_at at = record { kind = k.EndOfText; text = []; start = at }
+
+-- ... and at the end of this text
 abbrev pub end_of_text : List ℕ → Lexeme
-end_of_text bytes = record { kind = k.EndOfText; text = []; start = length bytes }
+end_of_text bytes = end_at (length bytes)
 
 -- Each token's bytes are those of the text at its start.
 abbrev pub AreSlices : List ℕ → List Lexeme → Type 0
