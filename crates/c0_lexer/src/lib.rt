@@ -1,0 +1,16 @@
+// From the text of a program to its tokens.
+#![tactic(auto)]
+
+mod byte;
+mod comment;
+pub mod lex;
+mod longest;
+mod literal;
+mod number;
+mod piece;
+mod table;
+pub mod token;
+mod word;
+
+#[cfg(test)]
+mod tests;
