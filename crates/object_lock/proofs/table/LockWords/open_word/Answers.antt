@@ -9,4 +9,4 @@ pub fetch_add-requires : goal.fetch_add-requires
 fetch_add-requires g c = let own = c.requires.hold.0.1 in let within = c.requires.table.2 in let sized = c.args.self.now.sized.0 in (c.requires.table.0, omega arith, opens _ _ _ _ _ _ _ _ c.requires.hold.0 c.requires.hold.1)
 
 pub returns-clause-exactly : goal.returns-clause-exactly
-returns-clause-exactly g c = let e = opens_exactly _ (step 0 c.args.obj 0 0 none) _ _ _ c.requires.hold.0 c.fetch_add.ensures.2 in (e.0, e.1, λ i. (e.2 i, e.3 i))
+returns-clause-exactly g c = let e = opens_exactly _ (step 0 c.args.obj 0 0 none) _ _ _ c.requires.hold.0 c.fetch_add.ensures.2 in (e.0, e.1, e.2, λ i. (e.3 i, e.4 i))
