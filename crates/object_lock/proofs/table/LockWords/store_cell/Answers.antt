@@ -17,3 +17,7 @@ store-requires g c = let sized = c.args.self.now.sized.0 in let keyed = c.args.s
 pub returns-clause-exactly : goal.returns-clause-exactly
 returns-clause-exactly g c = let same = c.requires.table.1 in let at = c.cell_at-cell.ensures.at ∙ ap (λ (q : Sizes). cell_word q c.args.frame c.args.i) (sym same) in let l = c.requires.low.1 in let low = subst (λ (q : Sizes). c.args.i < q.cells) (sym same) l in
     let e = stores_exactly _ (step 0 c.cell_at-cell.result c.args.v 0 none) _ c.args.v _ c.args.obj c.args.frame c.args.i (c.requires.hold.0, c.requires.hold.1, low, at) c.store.ensures.2 in (λ i. (e.0 i, e.1 i))
+
+pub returns-clause-step : goal.returns-clause-step
+returns-clause-step g c = let same = c.requires.table.1 in let at = c.cell_at-cell.ensures.at ∙ ap (λ (q : Sizes). cell_word q c.args.frame c.args.i) (sym same) in let l = c.requires.low.1 in let low = subst (λ (q : Sizes). c.args.i < q.cells) (sym same) l in
+    let e = c.store.ensures.2.0 c.args.obj c.args.frame c.args.i (c.requires.hold.0, c.requires.hold.1, low, at) in (e.0, e.1, tt)
