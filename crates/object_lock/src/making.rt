@@ -140,6 +140,28 @@ impl<S: RawStore> ObjectTable<S> {
         Ok(movers)
     }
 
+    /// The seats of all programs, and of the movers that own nothing, `count` of them.
+    fn seats<M: Stores<S = S>>(
+        &self,
+        alloc: Global,
+        stores: &M,
+        first: OwnerSeat<S>,
+        programs: usize,
+        share: usize,
+        count: usize,
+    ) -> Result<(Vec<OwnerSeat<S>>, Vec<MoverSeat<S>>), Want>
+        requires numbers { (0 < self.now.sizes.objects) × (0 < programs) × (programs ≤ 256) × (count ≤ 128) }
+        requires first { IsLastOwner self.now share programs 0 first }
+        ensures { IfOk result (λ t. AreNumbered 1 programs t.0.items × All (IsFreshOwner self.now share) t.0.items × AreNumbered (suc programs) count t.1.items × All (IsFreshMover self.now) t.1.items) }
+    {
+        let (mut owners, mut last) = self.owners(alloc, stores, first, programs, share)?;
+        let movers = self.movers(alloc, stores, &mut last, count)?;
+        if let Err(_refused) = owners.push(last) {
+            return Err(Want::OutOfMemory);
+        }
+        Ok((owners, movers))
+    }
+
     /// A table of `config`'s numbers, whose objects are all away and in whose store nothing was put yet, with the seats of
     /// the programs and those of the evacuators and then the fetchers. `OutOfMemory` where a growth was refused, and
     /// the wants of making the stores and their cells.
@@ -176,14 +198,15 @@ impl<S: RawStore> ObjectTable<S> {
             low: 0,
             high: shape.owned as usize,
         };
-        let stores = &config.stores;
-        let (mut owners, mut last) =
-            table.owners(alloc, stores, first, programs as usize, share as usize)?;
         let count = config.evacuators as usize + config.fetchers as usize;
-        let movers = table.movers(alloc, stores, &mut last, count)?;
-        if let Err(_refused) = owners.push(last) {
-            return Err(Want::OutOfMemory);
-        }
+        let (owners, movers) = table.seats(
+            alloc,
+            &config.stores,
+            first,
+            programs as usize,
+            share as usize,
+            count,
+        )?;
         Ok((table, owners, movers))
     }
 }
