@@ -1,8 +1,11 @@
 //! A seat with its way to the store.
-ghost use Rattle.std.specs.Prelude.{◌≡◌};
+ghost use Rattle.std.specs.Prelude.{◌≡◌, ℕ, ◌+◌, ◌%◌, ◌<◌, ◌==◌, not, false, Some, IfOk, MatchResult, length};
+ghost use Rattle.pointer_word.specs.Hands.{listed};
+ghost use Rattle.remote_store.specs.Kept.{piece_cells};
+ghost use Rattle.object_lock.specs.SeatViews.{version_of};
 
 use crate::table::Token;
-use remote_store::{Berth, Port, RawStore};
+use remote_store::{Berth, PIECE_CELLS, Port, RawStore, Refusal};
 use std::marker::Model;
 
 /// A mover's seat at a table: its port, and the berths that it has in hand.
@@ -51,5 +54,35 @@ impl<S: RawStore> MoverSeat<S> {
         ensures { result ≡ self.now.refusals }
     {
         self.port.refusals()
+    }
+
+    /// Whether something was put into the berth of the object that it is bringing in. Else the berth keeps zeros.
+    pub fn stored(&self, obj: usize) -> bool
+        requires { self.now.view.hand.bringing ≡ Some obj }
+        ensures version { result ≡ not (version_of self.now.brought == 0) }
+        ensures zeros { result ≡ false → (i : ℕ) → i < piece_cells → listed self.now.view.hand.promised i ≡ 0 }
+    {
+        let _ = obj;
+        match &self.brought {
+            Some(berth) => berth.version != 0,
+            None => false,
+        }
+    }
+
+    /// Gets the cells that the berth of the object that it is bringing in keeps, where something was put there: those that
+    /// were promised when the object was begun, where the store is honest. After a refusal `words` are as they were.
+    pub fn get(&mut self, obj: usize, words: &mut [u64]) -> Result<(), Refusal>
+        requires brings { self.old.view.hand.bringing ≡ Some obj }
+        requires stored { 0 < version_of self.old.brought }
+        requires words { length words.old ≡ PIECE_CELLS }
+        ensures length { length words.new ≡ PIECE_CELLS }
+        ensures same { self.new ≡ record self.old { refusals = self.new.refusals } }
+        ensures got { IfOk result (λ _. S.honest → words.new ≡ self.old.view.hand.promised) }
+        ensures counted { MatchResult result (λ _. self.new.refusals ≡ self.old.refusals) (λ _. (words.new ≡ words.old) × (self.new.refusals ≡ (self.old.refusals + 1) % 18446744073709551616)) }
+    {
+        match &self.brought {
+            Some(berth) => berth.get(&mut self.port, obj, words),
+            None => unreachable!(),
+        }
     }
 }
