@@ -1,4 +1,5 @@
 pub mod Correct
 pub mod Fragment
+pub mod Reads
 pub mod Trees
 pub mod Views

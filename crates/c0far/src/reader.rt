@@ -1,5 +1,10 @@
 //! From tokens to the tree of a first program: `int main()` with a body of statements `int* x = alloc(int);` and
 //! `*x = NUMBER;`, and then `return NUMBER;` or `return *x;`.
+ghost use Rattle.std.specs.Prelude.{map, IfOk, IfErr};
+ghost use Rattle.c0_lexer.specs.Lexed.{lexeme};
+ghost use Rattle.c0far.specs.Reads.{AreTokens, IsSmall, IsTree, RefusedFor};
+ghost use Rattle.c0far.specs.Views.{tree_of};
+
 use std::alloc::Global;
 
 use c0_lexer::token::Token;
@@ -199,8 +204,14 @@ fn one_too_many(tokens: &[Token<'_>], at: usize) -> Fault {
     }
 }
 
-/// The tree of the program that the tokens are, of which the last stands at the text's end.
-pub(crate) fn read<'a>(alloc: Global, tokens: &[Token<'a>]) -> Result<Tree<'a>, Fault> {
+/// The tree of the program that the tokens are, of which the last stands at the text's end. Fault 20 at the first token with which
+/// no program goes on, 22 at the name of the first pointer that is one too many, and 50 where a growth is refused.
+pub(crate) fn read<'a>(alloc: Global, tokens: &[Token<'a>]) -> Result<Tree<'a>, Fault>
+    requires { AreTokens (map lexeme tokens.now) }
+    ensures found { IfOk result (λ t. IsTree (map lexeme tokens.now) (tree_of t)) }
+    ensures small { IfOk result (λ t. IsSmall (tree_of t)) }
+    ensures refused { IfErr result (λ f. RefusedFor f.kind (map lexeme tokens.now) f) }
+{
     if let Err(k) = follow(&HEADER, tokens) {
         return Err(syntax(tokens, k));
     }
