@@ -28,13 +28,13 @@ AllFit _ _ = ⊥
 abbrev pub name_of : Lexeme → Name
 name_of t = record { text = t.text; span = record { start = t.start; end = t.start + length t.text } }
 
--- token k is this name
+-- the token of this number is this name
 abbrev pub IsNamed : List Lexeme → ℕ → Name → Type 0
-IsNamed ts k x = (t : Lexeme) × (slice_get ts k ≡ Some t) × (x ≡ name_of t)
+IsNamed ts at x = (t : Lexeme) × (slice_get ts at ≡ Some t) × (x ≡ name_of t)
 
--- token k is this number
+-- the token of this number is this number
 abbrev pub IsNumbered : List Lexeme → ℕ → ℕ → Type 0
-IsNumbered ts k value = (t : Lexeme) × (slice_get ts k ≡ Some t) × (t.kind ≡ k.Number value)
+IsNumbered ts at value = (t : Lexeme) × (slice_get ts at ≡ Some t) × (t.kind ≡ k.Number value)
 
 -- the tokens are this statement
 abbrev pub IsStatement : List Lexeme → Statement → Type 0
