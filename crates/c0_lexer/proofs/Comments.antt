@@ -1,5 +1,5 @@
 -- Comments, the openings of annotations, `/` and `/=`.
-use Rattle.std.proofs.Common.{◌≡◌, ℕ, zero, suc, ◌+◌, ◌<◌, ◌≤◌, Bool, true, false, cond, not, ◌==◌, List, [], ◌∷◌, length, take, drop, Option, Some, None, refl, sym, ap, subst, ◌∙◌, arith}
+use Rattle.std.proofs.Common.{◌≡◌, ℕ, zero, suc, ◌+◌, ◌<◌, ◌≤◌, true, false, not, ◌==◌, List, [], ◌∷◌, length, take, drop, Option, Some, None, refl, sym, subst, arith}
 use Rattle.std.specs.Prelude.{slice_index}
 use Rattle.std.specs.List.{prefix_len}
 use Rattle.std.proofs.lemmas.Bool.{ne_eqb, eqb-true}
@@ -10,8 +10,8 @@ use Rattle.c0_source.specs.declared.kind.Mode.{Mode}
 use Rattle.c0_source.specs.declared.kind.Mode.TheVariants as m
 use Rattle.c0_source.specs.declared.kind.Piece.{Piece}
 use Rattle.c0_source.specs.declared.kind.Piece.TheVariants as p
-use Rattle.c0_source.specs.Bytes.{not_newline, all_of}
-use Rattle.c0_source.specs.Spelling.{closes, begins_annotation, begins_star, slash_of, piece_of, apart, Cut, NoCut}
+use Rattle.c0_source.specs.Bytes.{not_newline}
+use Rattle.c0_source.specs.Spelling.{closes, begins_annotation, begins_star, piece_of, apart, Cut, NoCut}
 use Rattle.c0_lexer.specs.Ends.{comment_end}
 use Rattle.c0_lexer.proofs.Ends.{EndsAt, EndsBy, comment_ends}
 use Rattle.c0_lexer.proofs.Words.{all_prefix, all_longer, prefix_within}

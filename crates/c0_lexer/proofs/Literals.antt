@@ -1,17 +1,15 @@
 -- Texts, characters and `#use`.
-use Rattle.std.proofs.Common.{◌≡◌, ℕ, zero, suc, ◌+◌, ◌<◌, ◌≤◌, Bool, true, false, cond, not, ◌&&◌, ◌==◌, List, [], ◌∷◌, ◌++◌, length, take, drop, Option, Some, None, refl, sym, ap, subst, ◌∙◌, arith}
+use Rattle.std.proofs.Common.{◌≡◌, ℕ, zero, suc, ◌+◌, ◌<◌, ◌≤◌, Bool, true, false, not, ◌&&◌, ◌==◌, List, [], ◌∷◌, ◌++◌, length, take, drop, Some, None, refl, sym, ap, subst, ◌∙◌, arith}
 use Rattle.std.specs.Prelude.{slice_index, codes}
 use Rattle.std.specs.Str.{bytes_eq}
-use Rattle.std.specs.List.{starts_with}
-use Rattle.std.proofs.lemmas.Bool.{ne_eqb, and_parts}
+use Rattle.std.proofs.lemmas.Bool.{ne_eqb}
 use Rattle.std.proofs.lemmas.List.{at_drop_more, take-append-drop}
 use Rattle.std.proofs.lemmas.Slice.Eq.{bytes_eq-Decides}
 use Rattle.c0_source.specs.declared.kind.Kind.TheVariants as k
 use Rattle.c0_source.specs.declared.kind.Mode.{Mode}
-use Rattle.c0_source.specs.declared.kind.Piece.{Piece}
 use Rattle.c0_source.specs.declared.kind.Piece.TheVariants as p
-use Rattle.c0_source.specs.Bytes.{escape, is_printable}
-use Rattle.c0_source.specs.Spelling.{when, is_some, text_value, letter_value, letter_piece, use_value, use_of, piece_of, apart, Cut, NoCut}
+use Rattle.c0_source.specs.Bytes.{is_printable}
+use Rattle.c0_source.specs.Spelling.{letter_value, use_of, piece_of, Cut, NoCut}
 use Rattle.c0_lexer.specs.Ends.{name_end, text_end, use_end}
 use Rattle.c0_lexer.specs.Characters.{escaped_value, plain_value}
 use Rattle.c0_lexer.proofs.Ends.{EndsAt, EndsBy, is_text, is_used, text_ends, use_ends}

@@ -3,7 +3,6 @@ use Rattle.std.proofs.Common.{◌≡◌, ℕ, zero, suc, ◌+◌, ◌-◌, ◌*�
 use Rattle.std.specs.Prelude.{slice_index, nat_le, nat_lt}
 use Rattle.std.specs.List.{prefix_len}
 use Rattle.std.proofs.lemmas.Bool.{ne_eqb, eqb-true, and_parts, or_cases, cases_lt, leb-true, le-leb, lt-leb, le-ltb}
-use Rattle.std.proofs.lemmas.Bool.Decides.{nat_tests}
 use Rattle.std.proofs.lemmas.List.{at_drop_more}
 use Rattle.c0_source.specs.declared.kind.Kind.TheVariants as k
 use Rattle.c0_source.specs.declared.kind.Mode.{Mode}
@@ -12,7 +11,7 @@ use Rattle.c0_source.specs.declared.kind.Piece.TheVariants as p
 use Rattle.c0_source.specs.Bytes.{is_blank, is_letter, is_digit, is_hex, is_word, all_of}
 use Rattle.c0_source.specs.Spelling.{value_from, hex_from, hex_digit, decimal_of, hex_of, number_of, piece_of, begins_word, apart, Cut, NoCut}
 use Rattle.c0_lexer.specs.Numbers.{digits_value, hex_digit_value, hex_value, number_value}
-use Rattle.c0_lexer.proofs.Words.{all_prefix, all_longer, prefix_within, ends_word, inside_word, word_first}
+use Rattle.c0_lexer.proofs.Words.{all_longer, prefix_within, ends_word, inside_word, word_first}
 
 -- a number as a piece
 abbrev pub numbered : Option ℕ → Option Piece

@@ -1,9 +1,9 @@
 -- How far a text is cut into pieces.
-use Rattle.std.proofs.Common.{◌≡◌, ℕ, zero, suc, ◌+◌, ◌-◌, ◌<◌, ◌≤◌, Bool, true, false, cond, not, ◌&&◌, ◌==◌, List, [], ◌∷◌, ◌++◌, length, take, drop, Option, Some, None, Result, Ok, Err, refl, sym, ap, subst, ◌∙◌, arith}
+use Rattle.std.proofs.Common.{◌≡◌, ℕ, ◌+◌, ◌<◌, ◌≤◌, Bool, true, false, ◌==◌, List, [], ◌∷◌, ◌++◌, length, take, drop, Option, Some, None, Result, Ok, Err, refl, sym, ap, subst, ◌∙◌, arith}
 use Rattle.std.specs.Prelude.{map, Vec, IfOk, IfErr}
 use Rattle.std.specs.declared.alloc.Global.{Global}
 use Rattle.std.proofs.lemmas.Bool.{ne_eqb}
-use Rattle.std.proofs.lemmas.List.{append_assoc, append-nil, drop-drop, drop_all, length-drop}
+use Rattle.std.proofs.lemmas.List.{drop-drop, drop_all, length-drop}
 use Rattle.c0_source.specs.declared.kind.Kind.{Kind}
 use Rattle.c0_source.specs.declared.kind.Mode.{Mode}
 use Rattle.c0_source.specs.declared.kind.Mode.TheVariants as m
@@ -13,7 +13,8 @@ use Rattle.c0_source.specs.declared.fault.Fault.{Fault}
 use Rattle.c0_source.specs.declared.fault.FaultKind.{FaultKind}
 use Rattle.c0_source.specs.declared.fault.FaultKind.TheVariants as f
 use Rattle.c0_source.specs.FaultNumbers.{byte_fault, memory_fault}
-use Rattle.c0_source.specs.Spelling.{Cut, NoCut, Cause, Leads, Pieces, Lexeme, Spells, Stops, Ends, after, add_lexeme, begins_comment, end_of_text, ending, extent, kind_of_piece, lexemes, opening, opening_by}
+use Rattle.c0_source.specs.Spelling.{Cut, NoCut, Cause, Leads, Pieces, Lexeme, Spells, Ends, AreSlices, Rise, after, add_lexeme, begins_comment, end_of_text, ending, extent, kind_of_piece, lexemes, opening, opening_by}
+use Rattle.c0_source.proofs.Rises.{tokens_rise}
 use Rattle.c0_source.proofs.Once.{fault_excludes, no_cut, one_spelling}
 use Rattle.c0_lexer.specs.declared.token.Token.{Token}
 use Rattle.c0_lexer.specs.Lexed.{Answers, IsFault, IsLexed, StopsAt, lexeme, open_place, rest_fault}
@@ -69,12 +70,12 @@ reached_more bytes mode opens at n what ts us h c same = record {
   pieces = h.pieces ++ (n, what) ∷ [];
   place = extent_push h.pieces n what ∙ ap (λ (i : ℕ). i + n) h.place;
   opened = let here : 0 + extent h.pieces ≡ at = omega (arith, h.place) in
-    opening_push h.pieces 0 0 n what ∙ (ap (λ (i : ℕ). opening_by what i (opening 0 0 h.pieces)) here ∙ ap (opening_by what at) h.opened);
+      opening_push h.pieces 0 0 n what ∙ (ap (λ (i : ℕ). opening_by what i (opening 0 0 h.pieces)) here ∙ ap (opening_by what at) h.opened);
   leads = subst (λ (rest : List ℕ). Leads m.Plain bytes (h.pieces ++ (n, what) ∷ []) (after mode what) rest) (drop-drop n at bytes) (leads_push h.pieces m.Plain mode bytes (drop at bytes) n what h.leads c);
   tokens = let here : 0 + extent h.pieces ≡ at = omega (arith, h.place) in
-    let push = lexemes_push h.pieces 0 bytes n what in
-    let moved : lexemes 0 bytes (h.pieces ++ (n, what) ∷ []) ≡ lexemes 0 bytes h.pieces ++ add_lexeme (kind_of_piece what) (take n (drop at bytes)) at [] = push ∙ (ap (λ (i : ℕ). lexemes 0 bytes h.pieces ++ add_lexeme (kind_of_piece what) (take n (drop i bytes)) (0 + extent h.pieces) []) h.place ∙ ap (λ (i : ℕ). lexemes 0 bytes h.pieces ++ add_lexeme (kind_of_piece what) (take n (drop at bytes)) i []) here) in
-    same ∙ (ap (λ (xs : List Lexeme). xs ++ add_lexeme (kind_of_piece what) (take n (drop at bytes)) at []) h.tokens ∙ sym moved);
+      let push = lexemes_push h.pieces 0 bytes n what in
+      let moved : lexemes 0 bytes (h.pieces ++ (n, what) ∷ []) ≡ lexemes 0 bytes h.pieces ++ add_lexeme (kind_of_piece what) (take n (drop at bytes)) at [] = push ∙ (ap (λ (i : ℕ). lexemes 0 bytes h.pieces ++ add_lexeme (kind_of_piece what) (take n (drop i bytes)) (0 + extent h.pieces) []) h.place ∙ ap (λ (i : ℕ). lexemes 0 bytes h.pieces ++ add_lexeme (kind_of_piece what) (take n (drop at bytes)) i []) here) in
+      same ∙ (ap (λ (xs : List Lexeme). xs ++ add_lexeme (kind_of_piece what) (take n (drop at bytes)) at []) h.tokens ∙ sym moved);
 }
 
 opening_by_within : (what : Piece) (at so_far : ℕ) → so_far ≤ at → opening_by what at so_far ≤ at
@@ -175,3 +176,27 @@ only_fault bytes ts _ fault h s = absurd h
 pub only : (bytes : List ℕ) (r : Result (Vec Token Global) Fault) (ts : List Lexeme) → IfOk r (λ v. IsLexed bytes (map lexeme v.items)) → IfErr r (λ x. IsFault x.kind bytes x) → Spells bytes ts → Answers bytes ts r
 only bytes (Ok v) ts ok err s = ok.given ∙ ap (λ (us : List Lexeme). us ++ end_of_text bytes ∷ []) (one_spelling bytes ok.all ts ok.spelled s)
 only bytes (Err fault) ts ok err s = only_fault bytes ts fault.kind fault err s
+
+-- The tokens are parts of the text, one behind the other.
+
+slices_end : (bytes : List ℕ) (ts : List Lexeme) → AreSlices bytes ts → AreSlices bytes (ts ++ end_of_text bytes ∷ [])
+slices_end bytes [] h = (refl, tt)
+slices_end bytes (t ∷ ts) h = (h.0, slices_end bytes ts h.1)
+
+rise_end : (bytes : List ℕ) (from : ℕ) (ts : List Lexeme) → Rise from (length bytes) ts → Rise from (length bytes) (ts ++ end_of_text bytes ∷ [])
+rise_end bytes from [] h = (h, omega arith)
+rise_end bytes from (t ∷ ts) h = (h.0, rise_end bytes (t.start + length t.text) ts h.1)
+
+pub lexed_parts : (bytes : List ℕ) (us : List Lexeme) → IsLexed bytes us → AreSlices bytes us
+lexed_parts bytes us h = rw h.given (slices_end bytes h.all (tokens_rise bytes h.all h.spelled).0)
+
+pub lexed_rise : (bytes : List ℕ) (us : List Lexeme) → IsLexed bytes us → Rise 0 (length bytes) us
+lexed_rise bytes us h = rw h.given (rise_end bytes 0 h.all (tokens_rise bytes h.all h.spelled).1)
+
+pub result_parts : (bytes : List ℕ) (r : Result (Vec Token Global) Fault) → IfOk r (λ v. IsLexed bytes (map lexeme v.items)) → IfOk r (λ v. AreSlices bytes (map lexeme v.items))
+result_parts bytes (Ok v) h = lexed_parts bytes (map lexeme v.items) h
+result_parts bytes (Err fault) h = tt
+
+pub result_rise : (bytes : List ℕ) (r : Result (Vec Token Global) Fault) → IfOk r (λ v. IsLexed bytes (map lexeme v.items)) → IfOk r (λ v. Rise 0 (length bytes) (map lexeme v.items))
+result_rise bytes (Ok v) h = lexed_rise bytes (map lexeme v.items) h
+result_rise bytes (Err fault) h = tt

@@ -1,10 +1,9 @@
 -- Signs, `\result`, `\length`, and the end of an annotation.
-use Rattle.std.proofs.Common.{◌≡◌, ℕ, zero, suc, ◌+◌, ◌<◌, ◌≤◌, Bool, true, false, cond, ◌==◌, List, [], ◌∷◌, length, take, drop, Option, Some, None, refl, sym, ap, subst, ◌∙◌, arith}
+use Rattle.std.proofs.Common.{◌≡◌, ℕ, zero, suc, ◌<◌, ◌≤◌, Bool, true, false, cond, ◌==◌, List, [], ◌∷◌, length, take, Option, Some, None, refl, sym, subst, arith}
 use Rattle.std.specs.Prelude.{slice_index, codes}
 use Rattle.std.specs.Str.{bytes_eq}
 use Rattle.std.proofs.lemmas.Bool.{ne_eqb}
 use Rattle.std.proofs.lemmas.Slice.Eq.{bytes_eq-Decides}
-use Rattle.c0_source.specs.declared.kind.Kind.{Kind}
 use Rattle.c0_source.specs.declared.kind.Kind.TheVariants as k
 use Rattle.c0_source.specs.declared.kind.Mode.{Mode}
 use Rattle.c0_source.specs.declared.kind.Mode.TheVariants as m
@@ -15,7 +14,7 @@ use Rattle.c0_source.specs.Bytes.{is_blank}
 use Rattle.c0_lexer.specs.declared.longest.LongestPiece.{LongestPiece}
 use Rattle.c0_lexer.specs.Tables.{first_entry, found}
 use Rattle.c0_lexer.specs.Pieces.{Gives, IsSignByte}
-use Rattle.c0_lexer.proofs.Tables.{Fits, table_gives}
+use Rattle.c0_lexer.proofs.Tables.{table_gives}
 
 -- Signs.
 

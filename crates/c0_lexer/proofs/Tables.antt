@@ -1,18 +1,17 @@
 -- The longest entry of a table that a text begins with.
-use Rattle.std.proofs.Common.{◌≡◌, ℕ, zero, suc, ◌+◌, ◌<◌, ◌≤◌, Bool, true, false, cond, not, ◌&&◌, ◌==◌, min, List, [], ◌∷◌, ◌++◌, length, take, drop, Option, Some, None, refl, sym, ap, subst, ◌∙◌, arith}
-use Rattle.std.specs.Prelude.{codes, nat_le}
+use Rattle.std.proofs.Common.{◌≡◌, ℕ, zero, suc, ◌<◌, ◌≤◌, Bool, true, false, cond, ◌&&◌, List, [], ◌∷◌, length, take, drop, Option, Some, None, refl, sym, ap, subst, ◌∙◌, arith}
+use Rattle.std.specs.Prelude.{nat_le}
 use Rattle.std.specs.Str.{bytes_eq}
-use Rattle.std.proofs.lemmas.Bool.{ne_eqb, and_parts, leb-true}
+use Rattle.std.proofs.lemmas.Bool.{and_parts, leb-true}
 use Rattle.std.proofs.lemmas.List.{length-take, length-take-le}
 use Rattle.std.proofs.lemmas.Slice.Eq.{bytes_eq-Decides}
 use Rattle.c0_source.specs.declared.kind.Kind.{Kind}
 use Rattle.c0_source.specs.declared.kind.Kind.TheVariants as k
 use Rattle.c0_source.specs.declared.kind.Operator.TheVariants as o
 use Rattle.c0_source.specs.declared.kind.Mode.{Mode}
-use Rattle.c0_source.specs.declared.kind.Mode.TheVariants as m
 use Rattle.c0_source.specs.declared.kind.Piece.{Piece}
 use Rattle.c0_source.specs.declared.kind.Piece.TheVariants as p
-use Rattle.c0_source.specs.Spelling.{Table, lookup, token_of, piece_of, apart, Cut, NoCut}
+use Rattle.c0_source.specs.Spelling.{Table, lookup, token_of, piece_of, apart, NoCut}
 use Rattle.c0_lexer.specs.declared.longest.LongestPiece.{LongestPiece}
 use Rattle.c0_lexer.specs.Tables.{first_entry, found}
 use Rattle.c0_lexer.specs.Pieces.{Gives}
@@ -67,9 +66,9 @@ entry_length s text e = let l = same_length s (take (length s) text) e in omega 
 not_begun : (s : List ℕ) (text : List ℕ) (i : ℕ) → bytes_eq s (take (length s) text) ≡ false → i ≤ length text → bytes_eq s (take i text) ≡ false
 not_begun s text i e le =
     differ s (take i text) (λ t. let same = (bytes_eq-Decides s (take i text)).0 t in
-      let size : length s ≡ i = ap length same ∙ length-take-le i text le in
-      let all : bytes_eq s (take (length s) text) ≡ true = rw size t in
-      cc)
+    let size : length s ≡ i = ap length same ∙ length-take-le i text le in
+    let all : bytes_eq s (take (length s) text) ≡ true = rw size t in
+    cc)
 
 first_by : (s : List ℕ × Kind) (ss : Table) (text : List ℕ) (o : Option (ℕ × Piece)) (c : Bool) → bytes_eq s.0 (take (length s.0) text) ≡ c → up_to (length s.0) ss ≡ true → FirstOr ss text o
     → FirstOr (s ∷ ss) text (cond c (Some (length s.0, p.Token s.1)) o)
@@ -79,8 +78,8 @@ first_by s ss text o true e short h = record {
   within = entry_length s.0 text e;
   whole = rw e refl;
   longest = λ i lt le. let size = length-take-le i text le in
-    let d = differ s.0 (take i text) (λ t. let l = same_length s.0 (take i text) t in omega arith) in
-    rw d (lookup_long ss (take i text) (length s.0) short (omega arith));
+      let d = differ s.0 (take i text) (λ t. let l = same_length s.0 (take i text) t in omega arith) in
+      rw d (lookup_long ss (take i text) (length s.0) short (omega arith));
 }
 first_by s ss text None false e short h = λ i le. rw (not_begun s.0 text i e le) (h i le)
 first_by s ss text (Some x) false e short h = record {

@@ -1,14 +1,13 @@
 -- Keywords and names.
-use Rattle.std.proofs.Common.{◌≡◌, ℕ, zero, suc, ◌+◌, ◌<◌, ◌≤◌, Bool, true, false, cond, not, ◌&&◌, List, [], ◌∷◌, ◌++◌, length, take, drop, Option, Some, None, refl, sym, ap, subst, ◌∙◌, arith}
+use Rattle.std.proofs.Common.{◌≡◌, ℕ, zero, suc, ◌+◌, ◌<◌, ◌≤◌, Bool, true, false, cond, List, [], ◌∷◌, ◌++◌, length, take, drop, Option, Some, None, refl, ap, ◌∙◌, arith}
 use Rattle.std.specs.Prelude.{slice_index}
 use Rattle.std.specs.Str.{bytes_eq}
 use Rattle.std.specs.List.{prefix_len}
 use Rattle.c0_source.specs.declared.kind.Kind.{Kind}
-use Rattle.c0_source.specs.declared.kind.Kind.TheVariants as k
 use Rattle.c0_source.specs.declared.kind.Mode.{Mode}
 use Rattle.c0_source.specs.declared.kind.Mode.TheVariants as m
 use Rattle.c0_source.specs.declared.kind.Piece.TheVariants as p
-use Rattle.c0_source.specs.Bytes.{is_blank, is_letter, is_digit, is_word, all_of}
+use Rattle.c0_source.specs.Bytes.{is_blank, is_letter, is_word, all_of}
 use Rattle.c0_source.specs.Spelling.{Table, lookup, keywords, clauses, or_name, words_of, word_kind, piece_of, begins_word, Cut}
 use Rattle.c0_lexer.proofs.Tables.{is_plain, all_plain, lookup_plain, apart_plain}
 

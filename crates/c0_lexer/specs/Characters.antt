@@ -1,5 +1,5 @@
 -- Characters by their bytes.
-use Rattle.std.specs.Prelude.{ℕ, not, ◌&&◌, ◌||◌, ◌==◌, if◌then◌else◌, List, [], ◌∷◌, Option, Some, None}
+use Rattle.std.specs.Prelude.{ℕ, not, ◌&&◌, ◌==◌, if◌then◌else◌, List, ◌∷◌, Option, Some, None}
 use Rattle.c0_source.specs.Bytes.{escape, is_printable}
 
 -- the code of a character with a `\`, from its opening quote on

@@ -98,7 +98,7 @@ fn block_comment(mode: Mode, text: &[u8]) -> Option<LongestPiece>
 }
 
 /// What begins with `/`.
-pub fn slash(mode: Mode, text: &[u8]) -> Option<LongestPiece>
+pub(crate) fn slash(mode: Mode, text: &[u8]) -> Option<LongestPiece>
     requires { slice_index text.now 0 ≡ 47 }
     ensures { Gives mode text.now result }
 {

@@ -1,7 +1,7 @@
 // From a text to its tokens.
 
 ghost use Rattle.std.specs.Prelude.{◌≡◌, ◌++◌, ◌∷◌, ◌<◌, ◌≤◌, List, [], length, map, IfOk, IfErr, OnOk};
-ghost use Rattle.c0_source.specs.Spelling.{Lexeme, Spells, opening_by, kind_of_piece, add_lexeme, end_at, ending};
+ghost use Rattle.c0_source.specs.Spelling.{AreSlices, Lexeme, Rise, Spells, opening_by, kind_of_piece, add_lexeme, end_at, ending};
 ghost use Rattle.c0_source.specs.FaultNumbers.{memory_fault};
 ghost use Rattle.c0_lexer.specs.Lexed.{Answers, IsFault, IsLexed, lexeme, rest_fault};
 
@@ -13,7 +13,12 @@ use c0_source::source::Source;
 use std::alloc::Global;
 
 /// Adds the token that a piece is, if it is one.
-fn push_piece<'a>(tokens: &mut Vec<Token<'a>>, piece: Piece, text: &'a [u8], start: usize) -> Result<(), Fault>
+fn push_piece<'a>(
+    tokens: &mut Vec<Token<'a>>,
+    piece: Piece,
+    text: &'a [u8],
+    start: usize,
+) -> Result<(), Fault>
     ensures ok { OnOk result (map lexeme tokens.new.items ≡ map lexeme tokens.old.items ++ add_lexeme (kind_of_piece piece) text.entry.now start []) }
     ensures memory { IfErr result (λ f. f ≡ memory_fault) }
 {
@@ -48,7 +53,12 @@ fn fault_at(mode: Mode, opening: usize, at: usize, rest: &[u8]) -> Fault
 }
 
 /// Adds the tokens of no bytes at the end of a text: the end of an annotation of a line, where one is open, and the end of the text.
-fn push_ends<'a>(tokens: &mut Vec<Token<'a>>, mode: Mode, rest: &'a [u8], at: usize) -> Result<(), Fault>
+fn push_ends<'a>(
+    tokens: &mut Vec<Token<'a>>,
+    mode: Mode,
+    rest: &'a [u8],
+    at: usize,
+) -> Result<(), Fault>
     requires { length rest.now ≡ 0 }
     ensures ok { OnOk result (map lexeme tokens.new.items ≡ map lexeme tokens.old.items ++ ending mode at ++ end_at at ∷ []) }
     ensures memory { IfErr result (λ f. f ≡ memory_fault) }
@@ -98,6 +108,9 @@ fn tokens_of<'a>(alloc: Global, text: &'a [u8]) -> Result<Vec<Token<'a>>, Fault>
 pub fn lex<'a>(alloc: Global, source: &'a Source) -> Result<Vec<Token<'a>>, Fault>
     // What is given is spelled so.
     ensures spelled { IfOk result (λ v. IsLexed source.entry.now (map lexeme v.items)) }
+    // Each token's text is the part of the source at its start, and none begins before the end of the one in front of it.
+    ensures parts { IfOk result (λ v. AreSlices source.entry.now (map lexeme v.items)) }
+    ensures rise { IfOk result (λ v. Rise 0 (length source.entry.now) (map lexeme v.items)) }
     // What is spelled is given, unless memory runs out.
     ensures only { (ts : List Lexeme) → Spells source.entry.now ts → Answers source.entry.now ts result }
     // A fault holds at its place.

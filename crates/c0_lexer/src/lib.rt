@@ -4,13 +4,12 @@
 mod byte;
 mod comment;
 pub mod lex;
-mod longest;
 mod literal;
+mod longest;
 mod number;
 mod piece;
 mod table;
-pub mod token;
-mod word;
-
 #[cfg(test)]
 mod tests;
+pub mod token;
+mod word;

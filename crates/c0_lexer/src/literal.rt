@@ -34,7 +34,7 @@ fn text_length(mut text: &[u8], mut at: usize) -> Option<usize>
 }
 
 /// The text at the front, which begins with a quote.
-pub fn text_literal(mode: Mode, text: &[u8]) -> Option<LongestPiece>
+pub(crate) fn text_literal(mode: Mode, text: &[u8]) -> Option<LongestPiece>
     requires { slice_index text.now 0 ≡ 34 }
     ensures { Gives mode text.now result }
 {
@@ -70,7 +70,7 @@ fn plain_code(text: &[u8]) -> Option<u8>
 }
 
 /// The character at the front, which begins with a single quote.
-pub fn character(mode: Mode, text: &[u8]) -> Option<LongestPiece>
+pub(crate) fn character(mode: Mode, text: &[u8]) -> Option<LongestPiece>
     requires { slice_index text.now 0 ≡ 39 }
     ensures { Gives mode text.now result }
 {
@@ -129,7 +129,7 @@ fn used_length(text: &[u8]) -> Option<usize>
 }
 
 /// The `#use` at the front, which begins with `#`.
-pub fn use_directive(mode: Mode, text: &[u8]) -> Option<LongestPiece>
+pub(crate) fn use_directive(mode: Mode, text: &[u8]) -> Option<LongestPiece>
     requires { slice_index text.now 0 ≡ 35 }
     ensures { Gives mode text.now result }
 {

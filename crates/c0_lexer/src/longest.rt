@@ -4,7 +4,7 @@ use c0_source::kind::Piece;
 
 /// The longest piece at the front of a text: what it is, and how many bytes it has.
 #[derive(Clone, Copy, Debug, PartialEq, Eq)]
-pub struct LongestPiece {
-    pub length: usize,
-    pub piece: Piece,
+pub(crate) struct LongestPiece {
+    pub(crate) length: usize,
+    pub(crate) piece: Piece,
 }

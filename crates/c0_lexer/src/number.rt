@@ -21,9 +21,9 @@ fn hex_digit(b: u8) -> Option<u64>
     ensures { result ≡ hex_digit_value b }
 {
     match b {
-        b'0'..=b'9' => Some((b - b'0') as u64),
-        b'a'..=b'f' => Some((b - b'a') as u64 + 10),
-        b'A'..=b'F' => Some((b - b'A') as u64 + 10),
+        b'0'..=b'9' => Some(u64::from(b - b'0')),
+        b'a'..=b'f' => Some(u64::from(b - b'a') + 10),
+        b'A'..=b'F' => Some(u64::from(b - b'A') + 10),
         _ => None,
     }
 }
@@ -37,7 +37,7 @@ fn decimal_value(digits: &[u8]) -> Option<u32>
         if !is_digit(*b) {
             return None;
         }
-        value = value * 10 + (*b - b'0') as u64;
+        value = value * 10 + u64::from(*b - b'0');
         if value > LARGEST_DECIMAL {
             return None;
         }
@@ -79,7 +79,7 @@ fn number_value(text: &[u8]) -> Option<u32>
 }
 
 /// The number at the front of a text whose first byte is a digit. It goes as far as letters, digits and `_` do.
-pub fn number(mode: Mode, text: &[u8]) -> Option<LongestPiece>
+pub(crate) fn number(mode: Mode, text: &[u8]) -> Option<LongestPiece>
     requires some { 0 < length text.now }
     requires blank { spec.is_blank (slice_index text.now 0) ≡ false }
     requires letter { spec.is_letter (slice_index text.now 0) ≡ false }

@@ -10,7 +10,7 @@ use crate::comment::slash;
 use crate::literal::{character, text_literal, use_directive};
 use crate::longest::LongestPiece;
 use crate::number::number;
-use crate::table::{first_entry, ENDS, RESULTS, SIGNS};
+use crate::table::{ENDS, RESULTS, SIGNS, first_entry};
 use crate::word::word;
 use c0_source::kind::{Kind, Mode, Piece};
 
@@ -56,7 +56,7 @@ fn sign(mode: Mode, text: &[u8]) -> Option<LongestPiece>
 }
 
 /// The longest piece at the front of a text that is not empty.
-pub fn longest_piece(mode: Mode, text: &[u8]) -> Option<LongestPiece>
+pub(crate) fn longest_piece(mode: Mode, text: &[u8]) -> Option<LongestPiece>
     requires { 0 < length text.now }
     ensures { Gives mode text.now result }
 {
@@ -85,7 +85,7 @@ pub fn longest_piece(mode: Mode, text: &[u8]) -> Option<LongestPiece>
 }
 
 /// The mode behind a piece.
-pub fn mode_after(mode: Mode, piece: Piece) -> Mode
+pub(crate) fn mode_after(mode: Mode, piece: Piece) -> Mode
     ensures { result ≡ after mode piece }
 {
     match piece {
@@ -96,7 +96,7 @@ pub fn mode_after(mode: Mode, piece: Piece) -> Mode
 }
 
 /// The kind of the token that a piece is; a blank or a comment is none.
-pub fn kind_of(piece: Piece) -> Option<Kind>
+pub(crate) fn kind_of(piece: Piece) -> Option<Kind>
     ensures { result ≡ kind_of_piece piece }
 {
     match piece {

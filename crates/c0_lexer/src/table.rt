@@ -8,7 +8,7 @@ use crate::longest::LongestPiece;
 use c0_source::kind::{Base, Clause, Kind, Operator, Piece};
 
 /// The keywords.
-pub static KEYWORDS: [(&str, Kind); 21] = [
+pub(crate) static KEYWORDS: [(&str, Kind); 21] = [
     ("int", Kind::Base(Base::Int)),
     ("bool", Kind::Base(Base::Bool)),
     ("char", Kind::Base(Base::Char)),
@@ -33,20 +33,23 @@ pub static KEYWORDS: [(&str, Kind); 21] = [
 ];
 
 /// The keywords of annotations alone.
-pub static CLAUSES: [(&str, Kind); 3] = [
+pub(crate) static CLAUSES: [(&str, Kind); 3] = [
     ("requires", Kind::Clause(Clause::Requires)),
     ("ensures", Kind::Clause(Clause::Ensures)),
     ("loop_invariant", Kind::Clause(Clause::LoopInvariant)),
 ];
 
 /// The words behind `\` in annotations.
-pub static RESULTS: [(&str, Kind); 2] = [("\\result", Kind::Result), ("\\length", Kind::Length)];
+pub(crate) static RESULTS: [(&str, Kind); 2] = [
+    ("\\result", Kind::Result),
+    ("\\length", Kind::Length),
+];
 
 /// The end of an annotation of a block.
-pub static ENDS: [(&str, Kind); 1] = [("@*/", Kind::End)];
+pub(crate) static ENDS: [(&str, Kind); 1] = [("@*/", Kind::End)];
 
 /// The signs but those that begin with `/`, the longer ones first.
-pub static SIGNS: [(&str, Kind); 43] = [
+pub(crate) static SIGNS: [(&str, Kind); 43] = [
     ("<<=", Kind::Update(Operator::ShiftLeft)),
     (">>=", Kind::Update(Operator::ShiftRight)),
     ("->", Kind::Arrow),
@@ -93,7 +96,7 @@ pub static SIGNS: [(&str, Kind); 43] = [
 ];
 
 /// What the table says that the text is.
-pub fn lookup(table: &[(&str, Kind)], text: &[u8]) -> Option<Kind>
+pub(crate) fn lookup(table: &[(&str, Kind)], text: &[u8]) -> Option<Kind>
     ensures { result ≡ lookup (map entry table.now) text.now }
 {
     for (word, kind) in table {
@@ -105,7 +108,7 @@ pub fn lookup(table: &[(&str, Kind)], text: &[u8]) -> Option<Kind>
 }
 
 /// The first entry of the table that the text begins with, as a piece.
-pub fn first_entry(table: &[(&str, Kind)], text: &[u8]) -> Option<LongestPiece>
+pub(crate) fn first_entry(table: &[(&str, Kind)], text: &[u8]) -> Option<LongestPiece>
     ensures { found result ≡ first_entry (map entry table.now) text.now }
 {
     for (sign, kind) in table {

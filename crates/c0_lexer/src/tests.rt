@@ -3,8 +3,8 @@
 use crate::lex::lex;
 use c0_source::fault::{Fault, FaultKind};
 use c0_source::kind::{Base, Clause, Kind, Operator};
-use c0_source::position::{line_column, Position};
-use c0_source::source::{Source, MOST_BYTES};
+use c0_source::position::{Position, line_column};
+use c0_source::source::{MOST_BYTES, Source};
 use std::alloc::Global;
 use std::process::Abort;
 use std::test::Fail;
@@ -51,7 +51,18 @@ fn a_program_is_its_tokens(rt: HostRuntime) -> Result<(), Fail> {
     )?;
     let source = Source::new(rt.alloc(), text)?;
     let tokens = lex(rt.alloc(), &source)?;
-    for (token, want) in tokens.iter().zip(["int", "main", "(", ")", "{", "return", "2147483648", ";", "}", ""]) {
+    for (token, want) in tokens.iter().zip([
+        "int",
+        "main",
+        "(",
+        ")",
+        "{",
+        "return",
+        "2147483648",
+        ";",
+        "}",
+        "",
+    ]) {
         assert_eq!(rt; token.text, want.as_bytes());
     }
     for (token, want) in tokens.iter().zip([0usize, 4, 8, 9, 11, 13, 20, 30, 32, 33]) {
@@ -63,8 +74,16 @@ fn a_program_is_its_tokens(rt: HostRuntime) -> Result<(), Fail> {
 #[test]
 fn faults_stand_at_their_place(rt: HostRuntime) -> Result<(), Fail> {
     let texts: [(&[u8], FaultKind, usize); 8] = [
-        (b"int main() { return 2147483649; }", FaultKind::BadToken, 20),
-        (b"/* /* */ int main() { return 0; }", FaultKind::OpenComment, 0),
+        (
+            b"int main() { return 2147483649; }",
+            FaultKind::BadToken,
+            20,
+        ),
+        (
+            b"/* /* */ int main() { return 0; }",
+            FaultKind::OpenComment,
+            0,
+        ),
         (b"x /*@/*@", FaultKind::OpenComment, 2),
         (b"x /*@ @", FaultKind::BadToken, 6),
         (b"x = 12a;", FaultKind::BadToken, 4),
@@ -75,7 +94,13 @@ fn faults_stand_at_their_place(rt: HostRuntime) -> Result<(), Fail> {
     for (text, kind, at) in texts {
         assert_eq!(rt; fault_of(&rt, rt.alloc(), text)?, Fault::at(kind, at));
     }
-    assert_eq!(rt; line_column(b"int main() { return 2147483649; }", 20), Position { line: 1, column: 21 });
+    assert_eq!(rt;
+        line_column(b"int main() { return 2147483649; }", 20),
+        Position {
+            line: 1,
+            column: 21
+        }
+    );
     Ok(())
 }
 
@@ -126,7 +151,12 @@ fn annotations(rt: HostRuntime) -> Result<(), Fail> {
         &rt,
         rt.alloc(),
         b"//@loop_invariant",
-        &[Kind::Begin, Kind::Clause(Clause::LoopInvariant), Kind::End, Kind::EndOfText],
+        &[
+            Kind::Begin,
+            Kind::Clause(Clause::LoopInvariant),
+            Kind::End,
+            Kind::EndOfText,
+        ],
     )
 }
 

@@ -7,11 +7,11 @@ ghost use Rattle.c0_source.specs.Spelling.{Cut, keywords, lookup, or_name, word_
 
 use crate::byte::is_word;
 use crate::longest::LongestPiece;
-use crate::table::{lookup, CLAUSES, KEYWORDS};
+use crate::table::{CLAUSES, KEYWORDS, lookup};
 use c0_source::kind::{Kind, Mode, Piece};
 
 /// How many of the first bytes are letters, digits and `_`.
-pub fn word_length(text: &[u8]) -> usize
+pub(crate) fn word_length(text: &[u8]) -> usize
     ensures value { result ≡ prefix_len spec.is_word text.now }
     ensures within { result ≤ length text.now }
 {
@@ -30,7 +30,7 @@ fn plain_kind(text: &[u8]) -> Kind
 }
 
 /// What a word is: a keyword, among them those of annotations where it stands in one, or a name.
-pub fn word_kind(mode: Mode, text: &[u8]) -> Kind
+pub(crate) fn word_kind(mode: Mode, text: &[u8]) -> Kind
     ensures { result ≡ word_kind mode text.now }
 {
     match mode {
@@ -43,7 +43,7 @@ pub fn word_kind(mode: Mode, text: &[u8]) -> Kind
 }
 
 /// The word at the front of a text whose first byte is a letter or `_`.
-pub fn word(mode: Mode, text: &[u8]) -> LongestPiece
+pub(crate) fn word(mode: Mode, text: &[u8]) -> LongestPiece
     requires some { 0 < length text.now }
     requires blank { spec.is_blank (slice_index text.now 0) ≡ false }
     requires letter { spec.is_letter (slice_index text.now 0) ≡ true }

@@ -1,4 +1,4 @@
-use Rattle.std.proofs.Common.{◌≡◌, ◌+◌, ◌≤◌, length, false}
+use Rattle.std.proofs.Common.{◌≡◌, ◌+◌, ◌≤◌, length}
 use Rattle.c0_lexer.specs.Ends.{comment_end}
 use Rattle.c0_lexer.proofs.comment.comment_length.Given as goal
 

@@ -2,7 +2,7 @@ use Rattle.std.proofs.Common.{◌≡◌, ℕ, ◌+◌, ◌-◌, List, [], ◌∷
 use Rattle.std.proofs.lemmas.List.{take_rest}
 use Rattle.c0_source.specs.Spelling.{Cut, NoCut, add_lexeme, end_at, ending, kind_of_piece}
 use Rattle.c0_lexer.specs.Lexed.{lexeme, rest_fault}
-use Rattle.c0_lexer.proofs.Reached.{reached_more, reached_end, opens_before, stuck, open_at_end, out_of_memory}
+use Rattle.c0_lexer.proofs.Reached.{reached_more, reached_end, opens_before, stuck}
 use Rattle.c0_lexer.proofs.lex.tokens_of.Goals as goal
 
 pub fault_at-requires-clause-before : goal.fault_at-requires-clause-before

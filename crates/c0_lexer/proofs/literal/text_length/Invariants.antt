@@ -1,4 +1,4 @@
-use Rattle.std.proofs.Common.{◌≡◌, ◌+◌, ◌≤◌, length, false}
+use Rattle.std.proofs.Common.{◌≡◌, ◌+◌, length, false}
 use Rattle.c0_lexer.specs.Ends.{text_end}
 use Rattle.c0_lexer.proofs.literal.text_length.Given as goal
 

@@ -1,4 +1,4 @@
-use Rattle.std.proofs.Common.{◌+◌, ◌*◌, sym, ◌∙◌, arith}
+use Rattle.std.proofs.Common.{◌+◌, ◌*◌, sym, ◌∙◌}
 use Rattle.std.proofs.Common.{drop}
 use Rattle.c0_lexer.proofs.Numbers.{hex_beyond, hex_next}
 use Rattle.c0_lexer.proofs.number.hexadecimal_value.Goals as goal

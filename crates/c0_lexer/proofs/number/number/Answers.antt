@@ -1,4 +1,4 @@
-use Rattle.std.proofs.Common.{sym, ◌∙◌, ap}
+use Rattle.std.proofs.Common.{sym, ◌∙◌}
 use Rattle.c0_lexer.proofs.Numbers.{number_front, no_number_front}
 use Rattle.c0_lexer.proofs.number.number.Goals as goal
 

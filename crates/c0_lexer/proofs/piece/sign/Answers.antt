@@ -1,6 +1,3 @@
-use Rattle.std.proofs.Common.{◌≡◌}
-use Rattle.c0_source.specs.Spelling.{signs}
-use Rattle.c0_lexer.specs.Tables.{first_entry, found}
 use Rattle.c0_lexer.proofs.Signs.{sign_front}
 use Rattle.c0_lexer.proofs.piece.sign.Goals as goal
 
