@@ -13,7 +13,8 @@ use Rattle.c0_typed.specs.Meaning as m
 use Rattle.code_form.specs.declared.form.Kind.TheVariants as kind
 use Rattle.code_form.specs.Form as i
 use Rattle.code_form.specs.Effects.{Heap, step, steps, saved, upd}
-use Rattle.code_form.specs.Code.{Allocation, Core, Scope, Shut, Aimed, Stopped, code, int_of, of_int, written}
+use Rattle.code_form.specs.declared.allocation.Allocation.{Allocation}
+use Rattle.code_form.specs.Code.{Core, Scope, Shut, Aimed, Stopped, code, int_of, of_int, written}
 use Rattle.c0far.specs.declared.fragment.Step.{Step}
 use Rattle.c0far.specs.declared.fragment.Step.TheVariants.{Allocate, Write}
 use Rattle.c0far.specs.declared.fragment.Answer.{Answer}

@@ -9,7 +9,8 @@ use Rattle.c0_typed.specs.Trees as t
 use Rattle.c0_typed.specs.Meaning as m
 use Rattle.code_form.specs.declared.form.Kind.TheVariants as kind
 use Rattle.code_form.specs.Effects.{Heap, step, steps, code_run}
-use Rattle.code_form.specs.Code.{Allocation, Core, Running, Shut, Stopped, Stuck, code, of_int, output_of}
+use Rattle.code_form.specs.declared.allocation.Allocation.{Allocation}
+use Rattle.code_form.specs.Code.{Core, Running, Shut, Stopped, Stuck, code, of_int, output_of}
 use Rattle.code_form.specs.Laws.{StepsAdd, StoppedStays, StuckStays, OutputGrows}
 use Rattle.c0far.specs.declared.fragment.Step.{Step}
 use Rattle.c0far.specs.declared.fragment.Answer.{Answer}

@@ -13,7 +13,8 @@ use Rattle.code_form.specs.declared.form.Kind.{Kind}
 use Rattle.code_form.specs.declared.form.Kind.TheVariants as kind
 use Rattle.code_form.specs.Form as i
 use Rattle.code_form.specs.Effects.{Heap, step, saved}
-use Rattle.code_form.specs.Code.{Allocation, Core, Frame, Running, Scope, Shut, Aimed, Stopped, code, cells_of, int_of, of_int, sizes, written}
+use Rattle.code_form.specs.declared.allocation.Allocation.{Allocation}
+use Rattle.code_form.specs.Code.{Core, Frame, Running, Scope, Shut, Aimed, Stopped, code, cells_of, int_of, of_int, sizes, written}
 use Rattle.c0far.specs.Fragment.{Program, image_of, main_code}
 
 -- `main` before these instructions

@@ -1,3 +1,4 @@
+pub mod Compiled
 pub mod Correct
 pub mod Fragment
 pub mod Reads
