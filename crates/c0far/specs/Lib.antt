@@ -2,5 +2,6 @@ pub mod Compiled
 pub mod Correct
 pub mod Fragment
 pub mod Reads
+pub mod Statuses
 pub mod Trees
 pub mod Views

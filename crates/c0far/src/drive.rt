@@ -1,4 +1,7 @@
 //! The commands, over files and two writers.
+ghost use Rattle.std.specs.Prelude.{◌≡◌, ◌≤◌};
+ghost use Rattle.c0far.specs.Statuses.{run_status};
+
 use std::alloc::Global;
 use std::io::Write;
 use std::sync::Wait;
@@ -21,7 +24,10 @@ const REFUSED: u8 = 2;
 const WANTED: u8 = 3;
 
 /// The status where a write succeeded, else that of a failed write.
-fn after<T: Drop, E: Drop>(written: Result<T, E>, status: u8) -> u8 {
+fn after<T: Drop, E: Drop>(written: Result<T, E>, status: u8) -> u8
+    requires { status ≤ 3 }
+    ensures { result ≤ 3 }
+{
     match written {
         Ok(_) => status,
         Err(_) => REFUSED,
@@ -29,12 +35,16 @@ fn after<T: Drop, E: Drop>(written: Result<T, E>, status: u8) -> u8 {
 }
 
 /// Says that a growth was refused.
-fn say_memory<E: Write>(err: &mut E) -> u8 {
+fn say_memory<E: Write>(err: &mut E) -> u8
+    ensures { result ≤ 3 }
+{
     after(writeln!(err, "out of memory"), WANTED)
 }
 
 /// Says why a text is refused.
-fn say_fault<E: Write>(err: &mut E, file: &str, text: &[u8], fault: Fault) -> u8 {
+fn say_fault<E: Write>(err: &mut E, file: &str, text: &[u8], fault: Fault) -> u8
+    ensures { result ≤ 3 }
+{
     if fault.kind == FaultKind::OutOfMemory {
         return say_memory(err);
     }
@@ -45,7 +55,9 @@ fn say_fault<E: Write>(err: &mut E, file: &str, text: &[u8], fault: Fault) -> u8
 }
 
 /// Says why a file was not read.
-fn say_unread<E: Write>(err: &mut E, file: &str, error: FileError) -> u8 {
+fn say_unread<E: Write>(err: &mut E, file: &str, error: FileError) -> u8
+    ensures { result ≤ 3 }
+{
     match error {
         FileError::Cannot => after(writeln!(err, "{file}: cannot be read"), REFUSED),
         FileError::OutOfMemory => say_memory(err),
@@ -53,7 +65,9 @@ fn say_unread<E: Write>(err: &mut E, file: &str, error: FileError) -> u8 {
 }
 
 /// The status of a run that has ended so.
-fn status_of(run: &Run) -> u8 {
+fn status_of(run: &Run) -> u8
+    ensures { result ≡ run_status run.now }
+{
     match run {
         Run::Wanted(_) => WANTED,
         Run::Stopped(Stop::Ended(_)) | Run::Running => 0,
@@ -62,7 +76,9 @@ fn status_of(run: &Run) -> u8 {
 }
 
 /// Says what a program printed and how it ended: a newline stands between them where the output doesn't end in one.
-fn say_end<O: Write>(out: &mut O, ended: &Ended) -> u8 {
+fn say_end<O: Write>(out: &mut O, ended: &Ended) -> u8
+    ensures { result ≤ 3 }
+{
     let status = status_of(&ended.run);
     if out.write_all(&ended.output).is_err() {
         return REFUSED;
@@ -86,7 +102,9 @@ fn run<W: Wait, F: Files, O: Write, E: Write>(
     files: &mut F,
     out: &mut O,
     err: &mut E,
-) -> u8 {
+) -> u8
+    ensures { result ≤ 3 }
+{
     let text = match files.read(alloc, file) {
         Ok(text) => text,
         Err(error) => return say_unread(err, file, error),
@@ -110,7 +128,9 @@ pub fn drive<W: Wait, F: Files, O: Write, E: Write>(
     files: &mut F,
     out: &mut O,
     err: &mut E,
-) -> u8 {
+) -> u8
+    ensures { result ≤ 3 }
+{
     match line(alloc, words) {
         Ok(Line::Run { file }) => run(alloc, rt, file, files, out, err),
         Err(Usage::Refused) => {
