@@ -1,0 +1,66 @@
+-- What a begin tells, and what a seat has in its hands when it gives a berth back.
+use Rattle.std.proofs.Common.{◌≡◌, ◌<◌, ℕ, List, [], ◌∷◌, sym, refl, ap, ap₂, ◌∙◌, subst}
+use Rattle.std.specs.Prelude.{Option, Some, None}
+use mathlib.Core.Path.{Path}
+use Rattle.atomic_table.specs.Table.{Me, rest}
+use Rattle.pointer_word.specs.Words.{Place, Away, Coming, Here, Leaving, framed}
+use Rattle.pointer_word.specs.Hands.{Hand, Note, told}
+use Rattle.pointer_word.specs.Calls.{Filled}
+use Rattle.remote_store.specs.declared.berth.Berth.{Berth}
+use Rattle.object_lock.specs.declared.answers.Begin.{Begin}
+use Rattle.object_lock.specs.Seats.{View, note, with_note}
+use Rattle.object_lock.specs.Rule.{PlaceIn}
+use Rattle.object_lock.specs.Kept.{slot_keeps, berth_keeps}
+use Rattle.object_lock.specs.Plays.{Confirms}
+use Rattle.object_lock.specs.SeatViews.{SeatView, InHand, Promises, carried}
+use Rattle.object_lock.specs.Seating.{Brought}
+use Rattle.object_lock.specs.Telling.{begun, Begun}
+use Rattle.object_lock.proofs.Exact.{same_note}
+
+-- a note in which no frame is known stays when none is told
+unknown : (v : View) (o : ℕ) → ((f : ℕ) → (note v o).frame ≡ Some f → None ≡ Some f) → with_note v o (told (note v o) None) ≡ v
+unknown v o none = go (note v o).frame refl
+  where
+    go : (q : Option ℕ) → (note v o).frame ≡ q → with_note v o (told (note v o) None) ≡ v
+    go None e = ap (λ (q : Option ℕ). with_note v o (told (note v o) q)) (sym e) ∙ same_note v o
+    go (Some f) e = absurd (let h = none f e in cc)
+
+module _ {C : Type 0} (content : C → Option (List ℕ)) (o : ℕ) (old new : SeatView C) where
+  abbrev Left : Place → Type 0
+  Left p = Path (SeatView C) new (record old { view = with_note old.view o (told (note old.view o) (framed p)) })
+
+  answered : (p : Place) → PlaceIn old.view.sizes p → Confirms old.view o p → Left p → Begun content o old new (begun p)
+  answered Away k c e = e ∙ ap (λ (v : View). record old { view = v }) (unknown old.view o c)
+  answered (Coming m) k c e = e ∙ ap (λ (v : View). record old { view = v }) (unknown old.view o c)
+  answered (Here f b) k c e = (k, (λ g h. let q = c g h in let r : f ≡ g = cc in sym r), e)
+  answered (Leaving f m b) k c e = (k.0, (λ g h. let q = c g h in let r : f ≡ g = cc in sym r), e)
+
+  -- what is answered of an object that was not begun
+  pub not_begun : (p : Place) (r : Begin) → r ≡ begun p → PlaceIn old.view.sizes p → Confirms old.view o p → Left p → Begun content o old new r
+  not_begun p r is k c e = subst (Begun content o old new) (sym is) (answered p k c e)
+
+module _ {C : Type 0} (content : C → Option (List ℕ)) (o : ℕ) (ws : List ℕ) where
+  -- a slot that keeps something has a berth
+  pub berth_in : (b r : Option (Berth C)) → slot_keeps content b o ws → Path (Option (Berth C)) r b → (x : Berth C) × berth_keeps content x o ws × Path (Option (Berth C)) r (Some x)
+  berth_in None r k e = absurd k
+  berth_in (Some x) r k e = (x, k, e)
+
+pub first_slot : {A : Type 0} (p q : ℕ × A) (xs ys : List (ℕ × A)) → (p ∷ xs) ≡ (q ∷ ys) → Path A p.1 q.1
+first_slot {A} p q xs ys e = let same : Path (ℕ × A) p q = (cc) in ap (λ (r : ℕ × A). r.1) same
+
+module _ {C : Type 0} (content : C → Option (List ℕ)) (o : ℕ) where
+  promises : (q : Option ℕ) (ws : List ℕ) (b : Option (Berth C)) → q ≡ Some o → Promises content q ws b → slot_keeps content b o ws
+  promises None ws b e k = cc
+  promises (Some p) ws None e k = k
+  promises (Some p) ws (Some b) e k = let h : p ≡ o = cc in subst (λ (i : ℕ). berth_keeps content b i ws) h k
+
+  -- the berth that was brought in keeps what was promised
+  pub keeps_promised : (number low high : ℕ) (v : View) (slots : List (ℕ × Option (Berth C))) (brought taken : Option (Berth C)) → v.hand.bringing ≡ Some o → InHand content number low high v slots brought taken → slot_keeps content brought o v.hand.promised
+  keeps_promised number low high v slots brought taken e k = promises v.hand.bringing v.hand.promised brought e k.5
+
+  -- the berth was put back into the slot that is out
+  pub put_back : (m : Me (Option (Berth C)) View) (v : View) (slots : List (ℕ × Option (Berth C))) (b : Option (Berth C)) → m ≡ (v, (o, b) ∷ slots) → slot_keeps content b o v.hand.promised → Brought (slot_keeps content) o m
+  put_back m v slots b e k = subst (Brought (slot_keeps content) o) (sym e) (b, refl, k)
+
+pub filled_at : (h : Type 0) (n k : ℕ) (x y : Hand) → n ≡ k → x ≡ y → Filled h k y → Filled h n x
+filled_at h n k x y e d f = subst (λ (q : ℕ). Filled h q x) (sym e) (subst (Filled h k) (sym d) f)

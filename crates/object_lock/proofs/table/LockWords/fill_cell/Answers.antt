@@ -1,0 +1,16 @@
+use Rattle.std.proofs.Common.{subst, sym, ap, ◌∙◌, ◌≡◌, ◌<◌, ℕ}
+use Rattle.pointer_word.specs.Hands.{or_zero}
+use Rattle.object_lock.specs.Seats.{Sizes, cell_word}
+use Rattle.object_lock.proofs.Frames.{fills, some_of}
+use Rattle.object_lock.proofs.table.LockWords.fill_cell.Goals as goal
+
+pub store-requires : goal.store-requires
+store-requires g c =
+    let v = c.args.seat.now.me.0 in let same = c.requires.table.1 in let mine : or_zero v.hand.claimed ≡ c.args.frame = ap or_zero c.requires.claimed in
+    let cs = ap (λ (q : Sizes). q.cells) same in let l = c.requires.low.1 in (
+      c.requires.table.0,
+      c.cell_at-cell.ensures.inside,
+      fills _ _ _ _ _ _ _ _ c.args.i _
+          (c.cell_at-cell.ensures.at ∙ ap (λ (q : Sizes). cell_word q c.args.frame c.args.i) (sym same) ∙ ap (λ (f : ℕ). cell_word v.sizes f c.args.i) (sym mine))
+          (subst (λ (q : Sizes). c.args.i < q.cells) (sym same) l) (some_of v.hand.claimed _ c.requires.claimed),
+    )

@@ -1,0 +1,12 @@
+use Rattle.std.proofs.Common.{arith}
+use mathlib.Core.Option.{none}
+use Rattle.atomic_table.specs.Table.{step}
+use Rattle.object_lock.proofs.Owner.{opens}
+use Rattle.object_lock.proofs.Exact.{opens_exactly}
+use Rattle.object_lock.proofs.table.LockWords.open_word.Goals as goal
+
+pub fetch_add-requires : goal.fetch_add-requires
+fetch_add-requires g c = let own = c.requires.hold.0.1 in let within = c.requires.table.2 in let sized = c.args.self.now.sized.0 in (c.requires.table.0, omega arith, opens _ _ _ _ _ _ _ _ c.requires.hold.0 c.requires.hold.1)
+
+pub returns-clause-exactly : goal.returns-clause-exactly
+returns-clause-exactly g c = let e = opens_exactly _ (step 0 c.args.obj 0 0 none) _ _ _ c.requires.hold.0 c.fetch_add.ensures.2 in (e.0, e.1, e.2, λ i. (e.3 i, e.4 i))

@@ -1,0 +1,23 @@
+use Rattle.std.proofs.Common.{arith, subst, sym, ap, ◌∙◌, ◌≡◌, ◌<◌, ℕ, false}
+use Rattle.std.specs.Prelude.{Some}
+use Rattle.pointer_word.specs.Hands.{or_zero, Hand}
+use Rattle.pointer_word.specs.Calls.{Filled}
+use Rattle.object_lock.specs.declared.shape.Shape.{Shape}
+use Rattle.object_lock.specs.Seats.{Sizes, frame_word, cell_word}
+use Rattle.object_lock.proofs.Stored.{stored}
+use mathlib.Core.Option.{none}
+use Rattle.atomic_table.specs.Table.{step}
+use Rattle.object_lock.proofs.Exact.{stores_exactly}
+use Rattle.object_lock.proofs.Frames.{stores}
+use Rattle.object_lock.proofs.table.LockWords.store_cell.Goals as goal
+
+pub store-requires : goal.store-requires
+store-requires g c = let sized = c.args.self.now.sized.0 in let keyed = c.args.self.now.keyed in let zo = ap (λ (q : Shape). q.objects) keyed in let zf = ap (λ (q : Shape). q.frames) keyed in let same = c.requires.table.1 in let at = c.cell_at-cell.ensures.at ∙ ap (λ (q : Sizes). cell_word q c.args.frame c.args.i) (sym same) in let l = c.requires.low.1 in let low = subst (λ (q : Sizes). c.args.i < q.cells) (sym same) l in (c.requires.table.0, c.cell_at-cell.ensures.inside, stores _ _ _ _ _ _ _ _ c.args.obj c.args.frame c.args.i _ (c.requires.hold.0, c.requires.hold.1, low, at) c.requires.hold.2)
+
+pub returns-clause-exactly : goal.returns-clause-exactly
+returns-clause-exactly g c = let same = c.requires.table.1 in let at = c.cell_at-cell.ensures.at ∙ ap (λ (q : Sizes). cell_word q c.args.frame c.args.i) (sym same) in let l = c.requires.low.1 in let low = subst (λ (q : Sizes). c.args.i < q.cells) (sym same) l in
+    let e = stores_exactly _ (step 0 c.cell_at-cell.result c.args.v 0 none) _ c.args.v _ c.args.obj c.args.frame c.args.i (c.requires.hold.0, c.requires.hold.1, low, at) c.store.ensures.2 in (λ i. (e.0 i, e.1 i))
+
+pub returns-clause-step : goal.returns-clause-step
+returns-clause-step g c = let same = c.requires.table.1 in let at = c.cell_at-cell.ensures.at ∙ ap (λ (q : Sizes). cell_word q c.args.frame c.args.i) (sym same) in let l = c.requires.low.1 in let low = subst (λ (q : Sizes). c.args.i < q.cells) (sym same) l in
+    let e = c.store.ensures.2.0 c.args.obj c.args.frame c.args.i (c.requires.hold.0, c.requires.hold.1, low, at) in (e.0, e.1, tt)

@@ -1,0 +1,40 @@
+use Rattle.std.proofs.Common.{◌≡◌, ◌<◌, ℕ, List, ◌∷◌, sym, ap, ◌∙◌, subst, arith}
+use Rattle.std.specs.Prelude.{Option, Some}
+use mathlib.Core.Path.{Path}
+use Rattle.atomic_table.specs.Table.{Me}
+use Rattle.pointer_word.specs.Words.{counted}
+use Rattle.pointer_word.specs.Hands.{bringing}
+use Rattle.remote_store.specs.declared.berth.Berth.{Berth}
+use Rattle.object_lock.specs.Seats.{View, note, with_hand}
+use Rattle.object_lock.specs.SeatViews.{SeatView}
+use Rattle.object_lock.specs.Telling.{Begun}
+use Rattle.object_lock.proofs.Answered.{not_begun, berth_in, first_slot}
+use Rattle.object_lock.proofs.table.ObjectTable.try_begin.Goals as goal
+
+pub returns-else-found-count-clause-told : goal.returns-else-found-count-clause-told
+returns-else-found-count-clause-told g c =
+    let t = c.begin_own_word-found.ensures.missed c.if-found-count.false in let v = c.mover.view_is in let o : ℕ = c.args.obj in let w = c.begin_own_word-found in
+    let old : SeatView g.row.S-Cell.Denot = record { table = c.mover.inside.seat.table_id; id = c.mover.inside.seat.id; view = c.mover.inside.seat.me.0; brought = c.mover.inside.brought; taken = c.mover.inside.taken; refusals = c.mover.inside.port.refusals } in
+    let new : SeatView g.row.S-Cell.Denot = record { table = w.new.seat.table_id; id = w.new.seat.id; view = w.new.seat.me.0; brought = c.mover.inside.brought; taken = c.mover.inside.taken; refusals = c.mover.inside.port.refusals } in
+    subst (λ (h : SeatView g.row.S-Cell.Denot). Begun g.S.RawStore.content o h new c.begin_of.result) v
+    (not_begun g.S.RawStore.content o old new t.0 c.begin_of.result (c.begin_of.ensures (counted (note old.view o).count t.0) t.1.1.0 t.1.0) t.1.1.1 t.2
+    (λ i. record { table = w.ensures.seat.0 i; id = w.ensures.seat.1 i; view = ap (λ (m : Me (Option (Berth g.row.S-Cell.Denot)) View). m.0) t.3 i; brought = c.mover.inside.brought; taken = c.mover.inside.taken; refusals = c.mover.inside.port.refusals }))
+
+pub returns-then-found-count-clause-told : goal.returns-then-found-count-clause-told
+returns-then-found-count-clause-told g c =
+    let w = c.begin_own_word-found in let t = w.ensures.taken c.if-found-count.true in let x = c.exchange.ensures in let v = c.mover.view_is in
+    let slots = ap (λ (m : Me (Option (Berth g.row.S-Cell.Denot)) View). m.1) t.3 in
+    let got : Path (Option (Berth g.row.S-Cell.Denot)) c.exchange.result t.0 = first_slot (c.args.obj, c.exchange.result) (c.args.obj, t.0) _ _ (sym x.2 ∙ slots) in
+    let b = berth_in g.S.RawStore.content c.args.obj t.1 t.0 c.exchange.result t.2 got in (
+      b.0,
+      t.1,
+      b.1,
+      λ i. record {
+        table = (x.0 ∙ (w.ensures.seat.0 ∙ ap (λ (h : SeatView g.row.S-Cell.Denot). h.table) v)) i;
+        id = (x.1 ∙ (w.ensures.seat.1 ∙ ap (λ (h : SeatView g.row.S-Cell.Denot). h.id) v)) i;
+        view = (ap (λ (m : Me (Option (Berth g.row.S-Cell.Denot)) View). m.0) x.3 ∙ (ap (λ (m : Me (Option (Berth g.row.S-Cell.Denot)) View). m.0) t.3 ∙ ap (λ (h : SeatView g.row.S-Cell.Denot). with_hand h.view (bringing h.view.hand c.args.obj t.1)) v)) i;
+        brought = b.2 i;
+        taken = ap (λ (h : SeatView g.row.S-Cell.Denot). h.taken) v i;
+        refusals = ap (λ (h : SeatView g.row.S-Cell.Denot). h.refusals) v i;
+      },
+    )

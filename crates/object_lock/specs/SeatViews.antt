@@ -1,0 +1,62 @@
+-- What a table is to its callers, and a seat with its port.
+use Rattle.std.specs.Prelude.{◌≡◌, ℕ, ◌<◌, ◌≤◌, List, [], ◌∷◌, length, Option, Some, None}
+use Rattle.atomic_table.specs.Seated.{TableId}
+use Rattle.remote_store.specs.declared.berth.Berth.{Berth}
+use Rattle.remote_store.specs.Kept.{piece_cells}
+use Rattle.object_lock.specs.Seats.{Sizes, View}
+use Rattle.object_lock.specs.Kept.{berth_keeps}
+
+-- a table, and its numbers
+pub record TableView : Type 0 where
+  pub id : TableId
+  pub sizes : Sizes
+
+-- The table of a seat and its number there, what the seat knows, the berth of the object that it is bringing in, the berth of the object that it is
+-- moving out, and how many puts and gets were refused through its port, modulo 2^64
+pub record SeatView (C : Type 0) : Type 0 where
+  pub table : TableId
+  pub id : ℕ
+  pub view : View
+  pub brought : Option (Berth C)
+  pub taken : Option (Berth C)
+  pub refusals : ℕ
+
+-- The numbers of a table are within the limits
+abbrev pub IsTable : TableView → Type 0
+IsTable t = (t.sizes.objects ≤ 16777216) × (t.sizes.frames ≤ 1048576) × (t.sizes.cells ≡ piece_cells)
+
+-- The seat is one of the table, whose numbers are within the limits; its own objects are among the table's, and it has a note of each
+abbrev pub IsSeat : {C : Type 0} → TableView → SeatView C → Type 0
+IsSeat t s = (s.table ≡ t.id) × (s.view.sizes ≡ t.sizes) × (s.view.high ≤ t.sizes.objects) × (s.view.high ≤ length s.view.notes) × IsTable t
+
+-- the slots that are out: the berths themselves lie in the seat
+abbrev pub carried : {C : Type 0} → Option ℕ → Option ℕ → List (ℕ × Option (Berth C))
+carried (Some q) (Some p) = (q, None) ∷ (p, None) ∷ []
+carried (Some q) None = (q, None) ∷ []
+carried None (Some p) = (p, None) ∷ []
+carried None None = []
+
+module _ {C : Type 0} (content : C → Option (List ℕ)) where
+  -- the berth of the object that is brought in is in hand, and keeps what was promised
+  abbrev pub Promises : Option ℕ → List ℕ → Option (Berth C) → Type 0
+  Promises None ws None = Unit {0}
+  Promises (Some o) ws (Some b) = berth_keeps content b o ws
+  Promises None ws (Some b) = ⊥
+  Promises (Some o) ws None = ⊥
+
+  -- the berth of the object that is moved out is in hand
+  abbrev pub Matches : Option ℕ → Option (Berth C) → Type 0
+  Matches None None = Unit {0}
+  Matches (Some o) (Some b) = Unit {0}
+  Matches None (Some b) = ⊥
+  Matches (Some o) None = ⊥
+
+  -- what the seat has in its hands is what its view says
+  abbrev pub InHand : ℕ → ℕ → ℕ → View → List (ℕ × Option (Berth C)) → Option (Berth C) → Option (Berth C) → Type 0
+  InHand number low high v slots brought taken = (number ≡ v.number) × (number < 65536) × (low ≡ v.low) × (high ≡ v.high)
+      × (slots ≡ carried v.hand.leaving v.hand.bringing) × Promises v.hand.bringing v.hand.promised brought × Matches v.hand.leaving taken
+
+-- the version of the berth in hand, 0 where there is none
+abbrev pub version_of : {C : Type 0} → Option (Berth C) → ℕ
+version_of None = 0
+version_of (Some b) = b.version

@@ -1,0 +1,44 @@
+-- What the calls answer, and what they leave of the seat that made them.
+use Rattle.std.specs.Prelude.{◌≡◌, ℕ, ◌<◌, List, Bool, true, false, Option, Some, None}
+use Rattle.pointer_word.specs.Words.{Place, Away, Coming, Here, Leaving}
+use Rattle.pointer_word.specs.Hands.{opened, told, bringing, claiming}
+use Rattle.remote_store.specs.declared.berth.Berth.{Berth}
+use Rattle.object_lock.specs.declared.answers.Held.{Held}
+use Rattle.object_lock.specs.declared.answers.Held.TheVariants as H
+use Rattle.object_lock.specs.declared.answers.Begin.{Begin}
+use Rattle.object_lock.specs.declared.answers.Begin.TheVariants as B
+use Rattle.object_lock.specs.Seats.{note, with_note, with_hand}
+use Rattle.object_lock.specs.SeatViews.{SeatView}
+use Rattle.object_lock.specs.Kept.{berth_keeps}
+
+-- where an object is, as an answer
+abbrev pub held : Place → Held
+held Away = H.Away
+held (Coming m) = H.Coming
+held (Here f k) = H.Here f
+held (Leaving f m k) = H.Here f
+
+-- the answer where an object was not begun
+abbrev pub begun : Place → Begin
+begun Away = B.Busy
+begun (Coming m) = B.Busy
+begun (Here f k) = B.Here f
+begun (Leaving f m k) = B.Here f
+
+-- A hold of the object o was opened: its note has one hold more, and the frame that was told. A frame that the seat knew is told again
+abbrev pub Opened : {C : Type 0} → ℕ → SeatView C → SeatView C → Held → Type 0
+Opened o old new (H.Here f) = (f < old.view.sizes.frames) × ((g : ℕ) → (note old.view o).frame ≡ Some g → g ≡ f) × (new ≡ record old { view = with_note old.view o (opened (note old.view o) (Some f)) })
+Opened o old new H.Away = ((note old.view o).frame ≡ None) × (new ≡ record old { view = with_note old.view o (opened (note old.view o) None) })
+Opened o old new H.Coming = ((note old.view o).frame ≡ None) × (new ≡ record old { view = with_note old.view o (opened (note old.view o) None) })
+
+module _ {C : Type 0} (content : C → Option (List ℕ)) where
+  -- The object o was begun: its berth is in hand, and what that keeps is promised. Or it is in a frame, which is noted. Or nothing changed
+  abbrev pub Begun : ℕ → SeatView C → SeatView C → Begin → Type 0
+  Begun o old new B.Taken = (b : Berth C) × (ws : List ℕ) × berth_keeps content b o ws × (new ≡ record old { view = with_hand old.view (bringing old.view.hand o ws); brought = Some b })
+  Begun o old new (B.Here f) = (f < old.view.sizes.frames) × ((g : ℕ) → (note old.view o).frame ≡ Some g → g ≡ f) × (new ≡ record old { view = with_note old.view o (told (note old.view o) (Some f)) })
+  Begun o old new B.Busy = new ≡ old
+
+-- the frame f was claimed, or nothing changed
+abbrev pub Claimed : {C : Type 0} → ℕ → SeatView C → SeatView C → Bool → Type 0
+Claimed f old new true = new ≡ record old { view = with_hand old.view (claiming old.view.hand f) }
+Claimed f old new false = new ≡ old

@@ -1,0 +1,31 @@
+//! What a pointer word that was found tells its finder.
+ghost use Rattle.std.specs.Prelude.{◌≡◌};
+ghost use Rattle.pointer_word.specs.Words.{Field};
+ghost use Rattle.object_lock.specs.Telling.{held, begun};
+
+use crate::answers::{Begin, Held};
+use pointer_word::Word;
+
+/// Where the object is.
+pub(crate) fn held_of(bits: u64) -> Held
+    ensures { Field bits (λ w. result ≡ held w.place) }
+{
+    let word = Word { bits };
+    match word.state() {
+        2 => Held::Here(word.frame() as usize),
+        1 => Held::Coming,
+        _ => Held::Away,
+    }
+}
+
+/// What is told of an object that could not be begun.
+pub(crate) fn begin_of(bits: u64) -> Begin
+    ensures { Field bits (λ w. result ≡ begun w.place) }
+{
+    let word = Word { bits };
+    if word.state() == 2 {
+        Begin::Here(word.frame() as usize)
+    } else {
+        Begin::Busy
+    }
+}

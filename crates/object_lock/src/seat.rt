@@ -1,0 +1,88 @@
+//! A seat with its way to the store.
+ghost use Rattle.std.specs.Prelude.{◌≡◌, ℕ, ◌+◌, ◌%◌, ◌<◌, ◌==◌, not, false, Some, IfOk, MatchResult, length};
+ghost use Rattle.pointer_word.specs.Hands.{listed};
+ghost use Rattle.remote_store.specs.Kept.{piece_cells};
+ghost use Rattle.object_lock.specs.SeatViews.{version_of};
+
+use crate::table::Token;
+use remote_store::{Berth, PIECE_CELLS, Port, RawStore, Refusal};
+use std::marker::Model;
+
+/// A mover's seat at a table: its port, and the berths that it has in hand.
+#[derive(Drop)]
+pub struct MoverSeat<S: RawStore> {
+    pub(crate) port: Port<S>,
+    pub(crate) seat: Token<S::Cell>,
+    pub(crate) brought: Option<Berth<S::Cell>>,
+    pub(crate) taken: Option<Berth<S::Cell>>,
+    pub(crate) number: u64,
+    pub(crate) low: usize,
+    pub(crate) high: usize,
+}
+
+/// The seat of a program: a mover's seat with objects of its own, from `low` to below `high`. One view tells what it
+/// holds and stored as an owner, and what it has in hand as a mover.
+pub type OwnerSeat<S> = MoverSeat<S>;
+
+impl<S: RawStore> Model for MoverSeat<S> {
+    ghost use Rattle.object_lock.specs.SeatViews.{SeatView, InHand};
+
+    ghost Value = { SeatView S.Cell };
+
+    ghost view = { λ s. record { table = s.seat.table_id; id = s.seat.id; view = s.seat.me.0; brought = s.brought; taken = s.taken; refusals = s.port.refusals } };
+
+    ghost invariant = { λ s. InHand S.content s.number s.low s.high s.seat.me.0 s.seat.me.1 s.brought s.taken };
+}
+
+impl<S: RawStore> MoverSeat<S> {
+    /// The first of its own objects.
+    pub fn low(&self) -> usize
+        ensures { result ≡ self.now.view.low }
+    {
+        self.low
+    }
+
+    /// The end of its own objects: one more than the last.
+    pub fn high(&self) -> usize
+        ensures { result ≡ self.now.view.high }
+    {
+        self.high
+    }
+
+    /// How many puts and gets were refused through its port, modulo 2^64.
+    pub fn refusals(&self) -> u64
+        ensures { result ≡ self.now.refusals }
+    {
+        self.port.refusals()
+    }
+
+    /// Whether something was put into the berth of the object that it is bringing in. Else the berth keeps zeros.
+    pub fn stored(&self, obj: usize) -> bool
+        requires { self.now.view.hand.bringing ≡ Some obj }
+        ensures version { result ≡ not (version_of self.now.brought == 0) }
+        ensures zeros { result ≡ false → (i : ℕ) → i < piece_cells → listed self.now.view.hand.promised i ≡ 0 }
+    {
+        let _ = obj;
+        match &self.brought {
+            Some(berth) => berth.version != 0,
+            None => false,
+        }
+    }
+
+    /// Gets the cells that the berth of the object that it is bringing in keeps, where something was put there: those that
+    /// were promised when the object was begun, where the store is honest. After a refusal `words` are as they were.
+    pub fn get(&mut self, obj: usize, words: &mut [u64]) -> Result<(), Refusal>
+        requires brings { self.old.view.hand.bringing ≡ Some obj }
+        requires stored { 0 < version_of self.old.brought }
+        requires words { length words.old ≡ PIECE_CELLS }
+        ensures length { length words.new ≡ PIECE_CELLS }
+        ensures same { self.new ≡ record self.old { refusals = self.new.refusals } }
+        ensures got { IfOk result (λ _. S.honest → words.new ≡ self.old.view.hand.promised) }
+        ensures counted { MatchResult result (λ _. self.new.refusals ≡ self.old.refusals) (λ _. (words.new ≡ words.old) × (self.new.refusals ≡ (self.old.refusals + 1) % 18446744073709551616)) }
+    {
+        match &self.brought {
+            Some(berth) => berth.get(&mut self.port, obj, words),
+            None => unreachable!(),
+        }
+    }
+}

@@ -1,0 +1,80 @@
+//! An object's place in the store.
+ghost use Rattle.std.specs.Prelude.{◌≡◌, ℕ, ◌+◌, ◌%◌, ◌<◌, List, length, IfOk, MatchResult};
+ghost use Rattle.remote_store.specs.Kept.{Keeps, next_version, piece_cells};
+
+use crate::port::{Failed, Port, Refusal};
+use crate::raw::{PIECE_CELLS, ROW_WORDS, RawStore};
+
+/// The store cell of an object, and the version that was put there last. At version 0 nothing was put yet.
+#[derive(Drop)]
+pub struct Berth<C: Drop> {
+    pub cell: C,
+    pub version: u64,
+}
+
+impl<C: Drop> Berth<C> {
+    /// A berth into which nothing was put yet.
+    pub fn new(cell: C) -> Berth<C>
+        ensures cell { result.cell ≡ cell }
+        ensures version { result.version ≡ 0 }
+    {
+        Berth { cell, version: 0 }
+    }
+
+    /// Puts the object's cells into the berth, under the next version. After a failure nothing is known of what it keeps.
+    pub fn put<S: RawStore<Cell = C>>(
+        &mut self,
+        port: &mut Port<S>,
+        obj: usize,
+        words: &[u64],
+    ) -> Result<(), Failed>
+        requires { length words.now ≡ PIECE_CELLS }
+        ensures version { self.new.version ≡ next_version self.old.version }
+        ensures put { IfOk result (λ _. Keeps piece_cells self.new.version (S.content self.new.cell) obj words.now) }
+        ensures counted { MatchResult result (λ _. (port.new.refusals ≡ port.old.refusals) × (S.failures port.new.store ≡ S.failures port.old.store))
+            (λ _. (port.new.refusals ≡ (port.old.refusals + 1) % 18446744073709551616) × (S.failures port.new.store ≡ (S.failures port.old.store + 1) % 18446744073709551616)) }
+    {
+        self.version = if self.version == u64::MAX {
+            1
+        } else {
+            self.version + 1
+        };
+        let mut row = [0; ROW_WORDS];
+        row[0] = obj as u64;
+        row[1] = self.version;
+        row[2] = PIECE_CELLS as u64;
+        row[3..].copy_from_slice(words);
+        let written = port.store.write(&mut self.cell, &row);
+        if written.is_err() {
+            port.refusals = port.refusals.wrapping_add(1);
+        }
+        written
+    }
+
+    /// Gets the object's cells from the berth: those of its last put, where the store is honest. `Failed` where the store
+    /// failed, `Wrong` where what it read has another header. `words` then stay.
+    pub fn get<S: RawStore<Cell = C>>(
+        &self,
+        port: &mut Port<S>,
+        obj: usize,
+        words: &mut [u64],
+    ) -> Result<(), Refusal>
+        requires { (length words.old ≡ PIECE_CELLS) × (0 < self.now.version) }
+        ensures length { length words.new ≡ PIECE_CELLS }
+        ensures got { IfOk result (λ _. S.honest → (ws : List ℕ) → Keeps piece_cells self.now.version (S.content self.now.cell) obj ws → words.new ≡ ws) }
+        ensures counted { MatchResult result (λ _. (port.new.refusals ≡ port.old.refusals) × (S.failures port.new.store ≡ S.failures port.old.store))
+            (λ why. (words.new ≡ words.old) × (port.new.refusals ≡ (port.old.refusals + 1) % 18446744073709551616) × (why ≡ Refusal.Failed → S.failures port.new.store ≡ (S.failures port.old.store + 1) % 18446744073709551616)) }
+    {
+        let mut row = [0; ROW_WORDS];
+        let Ok(()) = port.store.read(&self.cell, &mut row) else {
+            port.refusals = port.refusals.wrapping_add(1);
+            return Err(Refusal::Failed);
+        };
+        if row[0] != obj as u64 || row[1] != self.version || row[2] != PIECE_CELLS as u64 {
+            port.refusals = port.refusals.wrapping_add(1);
+            return Err(Refusal::Wrong);
+        }
+        words.copy_from_slice(&row[3..]);
+        Ok(())
+    }
+}

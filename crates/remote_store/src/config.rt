@@ -1,0 +1,22 @@
+//! The numbers of a system, and what makes its stores.
+use crate::raw::RawStore;
+use cells::Want;
+use std::alloc::Global;
+
+/// Makes each mover's way to one store.
+pub trait Stores {
+    type S: RawStore + Send + Drop;
+
+    /// One more way to the store. `OutOfMemory` where a growth is refused, `StoreFailed` where the store can't be reached.
+    fn one(&self, alloc: Global) -> Result<Self::S, Want>;
+}
+
+/// How many frames, objects, evacuators and fetchers a system has, and its stores.
+#[derive(Drop)]
+pub struct Config<M: Stores + Drop> {
+    pub frames: u32,
+    pub objects: u32,
+    pub evacuators: u32,
+    pub fetchers: u32,
+    pub stores: M,
+}

@@ -1,0 +1,44 @@
+//! One mover's way to the store.
+ghost use Rattle.std.specs.Prelude.{◌≡◌, ℕ, ◌+◌, ◌%◌, List, Option, Some, length, IfOk, MatchResult};
+
+use crate::port::Failed;
+use cells::Want;
+use std::alloc::Global;
+
+/// The cells of a piece.
+pub const PIECE_CELLS: usize = 64;
+
+/// The words of a store cell: an object, a version and the number of cells, and then the cells.
+pub const ROW_WORDS: usize = 67;
+
+/// One mover's way to the store. `content` is what a cell holds: the words of the last write of it, where that
+/// succeeded. An `honest` store reads back those words, or words of another header. `failures` counts the calls
+/// that failed through this value, modulo 2^64.
+pub trait RawStore: Drop {
+    type Cell: Send + Drop;
+
+    ghost use Rattle.remote_store.specs.Kept.{Reads};
+
+    ghost honest: { Type 0 };
+
+    ghost failures: { Self → ℕ };
+
+    ghost content: { Self.Cell → Option (List ℕ) };
+
+    /// A new cell for `ROW_WORDS` words. `OutOfMemory` where its growth is refused, `StoreFailed` where the
+    /// store has no more.
+    fn cell(&self, alloc: Global) -> Result<Self::Cell, Want>;
+
+    /// Writes `ROW_WORDS` words into the cell. After a failure nothing is known of what the cell holds.
+    fn write(&mut self, c: &mut Self::Cell, w: &[u64]) -> Result<(), Failed>
+        requires { length w.now ≡ ROW_WORDS }
+        ensures put { IfOk result (λ _. content c.new ≡ Some w.now) }
+        ensures counted { MatchResult result (λ _. failures self.new ≡ failures self.old) (λ _. failures self.new ≡ (failures self.old + 1) % 18446744073709551616) };
+
+    /// Reads the cell's `ROW_WORDS` words. After a failure `w` may hold any words.
+    fn read(&mut self, c: &Self::Cell, w: &mut [u64]) -> Result<(), Failed>
+        requires { length w.old ≡ ROW_WORDS }
+        ensures length { length w.new ≡ length w.old }
+        ensures got { IfOk result (λ _. honest → (ws : List ℕ) → content c.now ≡ Some ws → Reads ws w.new) }
+        ensures counted { MatchResult result (λ _. failures self.new ≡ failures self.old) (λ _. failures self.new ≡ (failures self.old + 1) % 18446744073709551616) };
+}
