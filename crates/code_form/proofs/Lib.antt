@@ -1,7 +1,11 @@
+mod Addresses
 mod Allocated
 mod Computing
 mod Entering
 mod Few
+mod Heaps
 mod Runs
 mod Scopes
+mod Tidy
+mod Tracks
 mod Within

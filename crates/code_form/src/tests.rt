@@ -72,6 +72,8 @@ mod tests {
         computed();
         stuck();
         run_laws();
+        effect_laws();
+        heap_laws();
         Ok(())
     }
 
