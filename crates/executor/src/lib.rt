@@ -1,0 +1,4 @@
+//! Programs that run over far memory: each a session at one seat of a table of objects.
+#![tactic(auto)]
+
+mod bring;
