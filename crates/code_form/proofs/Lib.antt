@@ -1,6 +1,7 @@
 mod Addresses
 mod Allocated
 mod Computing
+mod Endings
 mod Entering
 mod Few
 mod Heaps

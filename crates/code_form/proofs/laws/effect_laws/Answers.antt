@@ -1,3 +1,4 @@
+use Rattle.code_form.proofs.Endings.{ends_so}
 use Rattle.code_form.proofs.Tidy.{tidy}
 use Rattle.code_form.proofs.Tracks.{tracked, waits_shut}
 use Rattle.code_form.proofs.laws.effect_laws.Goals as goal
@@ -10,3 +11,6 @@ returns-clause-tracked c = tracked
 
 pub returns-clause-waits : goal.returns-clause-waits
 returns-clause-waits c = waits_shut
+
+pub returns-clause-ends : goal.returns-clause-ends
+returns-clause-ends c = ends_so
