@@ -2,3 +2,7 @@
 #![tactic(auto)]
 
 mod bring;
+mod hold;
+mod machine;
+
+pub use hold::Hold;
