@@ -1,2 +1,6 @@
+mod Counts
 mod Filling
+mod Holding
+mod Places
 mod Taking
+mod Writing

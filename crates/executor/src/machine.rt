@@ -14,7 +14,7 @@ ghost use Rattle.remote_store.specs.Kept.{piece_cells};
 ghost use Rattle.std.specs.Prelude.{◌≡◌, ◌≢◌, ◌+◌, ◌-◌, ◌/◌, ◌<◌, ◌≤◌, ◌^◌, ℕ, IfOk, MatchResult, None, Some, length, option_map, slice_index, true};
 
 use cells::{Stop, Want};
-use code_form::{Cell, Execution, Image, Touch};
+use code_form::{Cell, Execution, Image, Touch, heap_laws};
 use object_lock::{ObjectTable, OwnerSeat};
 use remote_store::{PIECE_CELLS, RawStore};
 use std::alloc::{AllocError, Global};
@@ -241,23 +241,15 @@ impl<'a, S: RawStore> Machine<'a, S> {
         requires four { length self.now.holds ≡ 4 }
         ensures { result ≡ count_of object self.now.holds }
     {
-        let mut count = 0;
-        for hold in &self.holds {
-            if let Some(hold) = hold
-                && hold.object == object
-            {
-                count += 1;
-            }
-        }
-        count
+        count_in(&self.holds, object)
     }
 
-    fn place_of(&self, cell: Cell) -> usize
-        requires low { (0 < cell.reference) × (cell.reference ≤ length self.now.firsts) }
-        requires fits { first_of self.now.firsts cell.reference + cell.index / piece_cells < 2 ^ 32 }
-        ensures { result ≡ first_of self.now.firsts cell.reference + cell.index / piece_cells }
+    /// The first object of the allocation of this number.
+    fn first(&self, reference: u64) -> u64
+        requires { (0 < reference) × (reference ≤ length self.now.firsts) }
+        ensures { result ≡ first_of self.now.firsts reference }
     {
-        (self.firsts[(cell.reference - 1) as usize] + cell.index / PIECE_CELLS as u64) as usize
+        self.firsts[(reference - 1) as usize]
     }
 
     /// The object of a cell.
@@ -267,17 +259,15 @@ impl<'a, S: RawStore> Machine<'a, S> {
         ensures value { result ≡ object_of self.now cell }
         ensures own { Owns self.now.view result }
     {
-        self.place_of(cell)
+        heap_laws();
+        (self.first(cell.reference) + cell.index / PIECE_CELLS as u64) as usize
     }
 
     fn has(&self, scope: usize, object: usize) -> bool
         requires { scope < length self.now.holds }
         ensures { result ≡ has_object (hold_at self.now.holds scope) object }
     {
-        match self.holds[scope] {
-            Some(hold) => hold.object == object,
-            None => false,
-        }
+        is_of(&self.holds[scope], object)
     }
 
     /// Makes the scope, which held nothing, hold the object.
@@ -367,6 +357,30 @@ impl<'a, S: RawStore> Machine<'a, S> {
         ensures { result ≡ length self.now.holds }
     {
         self.holds.len()
+    }
+}
+
+/// How many of these holds are of the object.
+fn count_in(holds: &[Option<Hold>], object: usize) -> u64
+    requires { length holds.now < 2 ^ 32 }
+    ensures { result ≡ count_of object holds.now }
+{
+    let mut count = 0;
+    for hold in holds {
+        if is_of(hold, object) {
+            count += 1;
+        }
+    }
+    count
+}
+
+/// Whether there is a hold, and it is of the object.
+fn is_of(hold: &Option<Hold>, object: usize) -> bool
+    ensures { result ≡ has_object hold.now object }
+{
+    match hold {
+        Some(hold) => hold.object == object,
+        None => false,
     }
 }
 
