@@ -1,6 +1,9 @@
 mod Counts
 mod Filling
 mod Holding
+mod Laws
 mod Places
+mod Running
 mod Taking
+mod Ways
 mod Writing

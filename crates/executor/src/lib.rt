@@ -3,6 +3,8 @@
 
 mod bring;
 mod hold;
+mod kinds;
 mod machine;
+mod run;
 
 pub use hold::Hold;
