@@ -2,6 +2,7 @@ mod Counts
 mod Filling
 mod Holding
 mod Laws
+mod Opening
 mod Places
 mod Running
 mod Taking

@@ -6,5 +6,7 @@ mod hold;
 mod kinds;
 mod machine;
 mod run;
+mod session;
 
 pub use hold::Hold;
+pub use session::Session;
