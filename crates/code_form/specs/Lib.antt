@@ -4,5 +4,7 @@ pub mod Decisions
 pub mod Effects
 pub mod Form
 pub mod Laws
+pub mod Placed
 pub mod Statuses
 pub mod Touches
+pub mod Tracked

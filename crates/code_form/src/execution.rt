@@ -7,14 +7,13 @@ ghost use Rattle.code_form.specs.Statuses.{HasFewScopes, core_of, followed};
 ghost use Rattle.code_form.specs.Touches.{IsWithin, Progress, cells_asked, resumed, touch_of};
 ghost use Rattle.std.specs.Prelude.{◌≡◌, ◌≢◌, ℕ, [], false, IfOk, List, MatchOption, MatchResult, None, Some, option_map, slice_get};
 
-use cells::Stop;
-use std::alloc::{AllocError, Global};
-use std::marker::Model;
-
 use crate::allocation::{Allocation, Allocations};
 use crate::call::{Call, Decision, Halt, Scope};
 use crate::form::{Block, Function, Image};
 use crate::touch::Touch;
+use cells::Stop;
+use std::alloc::{AllocError, Global};
+use std::marker::Model;
 
 /// Where a run is.
 #[derive(Drop)]
@@ -115,7 +114,9 @@ impl<'a> Execution<'a> {
         ensures within { IsWithin (most_scopes self.now.image.functions) self.now.core result }
     {
         match &self.status {
-            Status::Running(call) => call.decide(self.image, &self.allocations).touch(&self.allocations),
+            Status::Running(call) => call
+                .decide(self.image, &self.allocations)
+                .touch(&self.allocations),
             _ => Touch::Nothing,
         }
     }
@@ -168,7 +169,10 @@ impl<'a> Execution<'a> {
             (λ _. self.new ≡ self.old) }
     {
         if let Status::Running(call) = &mut self.status
-            && let Decision::Makes { to, layout, cells } = call.decide(self.image, &self.allocations)
+            && let Decision::Makes { to, layout, cells } = call.decide(
+                self.image,
+                &self.allocations,
+            )
         {
             self.allocations.push(Allocation {
                 layout,

@@ -66,7 +66,8 @@ fn has_array_of(kinds: &[Kind], offset: u32, register: u32) -> bool
     ensures { result ≡ is_array_of (slice_get kinds.now offset) (slice_get kinds.now register) }
 {
     match kind_at(kinds, offset) {
-        Some(Kind::Off(layout)) => matches!(kind_at(kinds, register), Some(Kind::Arr(other)) if layout == other),
+        Some(Kind::Off(layout)) =>
+            matches!(kind_at(kinds, register), Some(Kind::Arr(other)) if layout == other),
         _ => false,
     }
 }
@@ -92,7 +93,12 @@ fn layout(kind: Kind) -> Option<u32>
 }
 
 /// The kind of the cell `displacement` of what the register refers to, or of its elements.
-pub(crate) fn kind_of_cell(image: &Image, kinds: &[Kind], register: u32, displacement: u32) -> Option<Kind>
+pub(crate) fn kind_of_cell(
+    image: &Image,
+    kinds: &[Kind],
+    register: u32,
+    displacement: u32,
+) -> Option<Kind>
     ensures { result ≡ cell_kind (image_of image.now).head kinds.now register displacement }
 {
     let number = layout(kind_at(kinds, register)?)?;

@@ -6,6 +6,8 @@ ghost use Rattle.code_form.specs.Computed.{image_of_each, image_v, image_with};
 ghost use Rattle.code_form.specs.Effects.{code_run};
 ghost use Rattle.code_form.specs.Form.{Aim, Alloc, Binary, CheckIndex, CheckNull, Const, Jump, Leave, Load, Move, Return, Simple};
 ghost use Rattle.code_form.specs.Laws.{OutputGrows, StepsAdd, StepsSuc, StoppedStays, StuckStays};
+ghost use Rattle.code_form.specs.Placed.{HaveAddresses, HeapAllocated, HeapSaved};
+ghost use Rattle.code_form.specs.Tracked.{AlwaysEndsSo, AlwaysTidy, AlwaysTracked, AlwaysWaitsShut};
 ghost use Rattle.std.specs.Prelude.{◌++◌, ◌∷◌, ◌≡◌, [], None, Some, codes, pos, true};
 
 /// What two images come to: one of ten instructions that returns 5, and one with most other instructions.
@@ -42,4 +44,19 @@ pub fn run_laws()
     ensures stopped { StoppedStays }
     ensures stuck { StuckStays }
     ensures output { OutputGrows }
+{}
+
+/// What each instruction of each image changes of the allocations and of what the scopes hold, and that only an end stops the program.
+pub fn effect_laws()
+    ensures tidy { AlwaysTidy }
+    ensures tracked { AlwaysTracked }
+    ensures waits { AlwaysWaitsShut }
+    ensures ends { AlwaysEndsSo }
+{}
+
+/// How the cells of allocations lie in objects.
+pub fn heap_laws()
+    ensures addresses { HaveAddresses }
+    ensures saved { HeapSaved }
+    ensures allocated { HeapAllocated }
 {}

@@ -13,5 +13,5 @@ mod touch;
 pub use allocation::Allocation;
 pub use execution::Execution;
 pub use form::{Block, Fact, Function, Image, Instruction, Kind, Relation, UnaryOperator};
-pub use laws::{computed, run_laws, stuck};
+pub use laws::{computed, effect_laws, heap_laws, run_laws, stuck};
 pub use touch::{Cell, Touch};

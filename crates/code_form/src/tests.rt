@@ -1,7 +1,9 @@
 #[cfg(test)]
 mod tests {
-    use crate::{computed, run_laws, stuck};
-    use crate::{Block, Cell, Execution, Fact, Function, Image, Instruction, Kind, Touch};
+    use crate::{
+        Block, Cell, Execution, Fact, Function, Image, Instruction, Kind, Touch, computed,
+        run_laws, stuck,
+    };
     use cells::Stop;
     use std::alloc::{AllocError, Global};
     use std::test::Fail;
@@ -49,11 +51,29 @@ mod tests {
         })
     }
 
+    /// Does the next instruction, where a load gives this value.
+    fn step(execution: &mut Execution, loaded: u64) -> Result<(), AllocError> {
+        match execution.next() {
+            Touch::Allocs(_) => execution.allocate()?,
+            Touch::Plain
+            | Touch::Aims(..)
+            | Touch::Loads(..)
+            | Touch::Saves(..)
+            | Touch::Leaves(_)
+            | Touch::Ends
+            | Touch::Wrong
+            | Touch::Nothing => execution.proceed(loaded),
+        }
+        Ok(())
+    }
+
     #[test]
     fn laws(_rt: HostRuntime) -> Result<(), Fail> {
         computed();
         stuck();
         run_laws();
+        effect_laws();
+        heap_laws();
         Ok(())
     }
 
@@ -65,10 +85,9 @@ mod tests {
             reference: 1,
             index: 0,
         };
-        assert_eq!(rt; execution.next(), Touch::Allocs(1));
         assert_eq!(rt; execution.is_blocked(), false);
-        execution.allocate()?;
         let touches = [
+            Touch::Allocs(1),
             Touch::Plain,
             Touch::Plain,
             Touch::Aims(0, Some(cell)),
@@ -82,7 +101,7 @@ mod tests {
         ];
         for touch in touches {
             assert_eq!(rt; execution.next(), touch);
-            execution.proceed(5);
+            step(&mut execution, 5)?;
         }
         assert_eq!(rt; execution.stop(), Some(Stop::Ended(5)));
         assert_eq!(rt; execution.output().len(), 0);
@@ -91,12 +110,15 @@ mod tests {
 
     #[test]
     fn null_stops(rt: HostRuntime) -> Result<(), Fail> {
-        let code = vec![in rt.alloc(); Instruction::Null { to: 0 }, Instruction::CheckNull { register: 0 }]?;
+        let code = vec![in rt.alloc();
+            Instruction::Null { to: 0 },
+            Instruction::CheckNull { register: 0 },
+        ]?;
         let image = image_with(rt.alloc(), code)?;
         let mut execution = Execution::new(rt.alloc(), &image)?;
-        execution.proceed(0);
+        step(&mut execution, 0)?;
         assert_eq!(rt; execution.next(), Touch::Ends);
-        execution.proceed(0);
+        step(&mut execution, 0)?;
         assert_eq!(rt; execution.stop(), Some(Stop::NullFault));
         Ok(())
     }
@@ -113,7 +135,7 @@ mod tests {
         let image = image_with(rt.alloc(), code)?;
         let mut execution = Execution::new(rt.alloc(), &image)?;
         assert_eq!(rt; execution.next(), Touch::Aims(0, None));
-        execution.proceed(0);
+        step(&mut execution, 0)?;
         assert_eq!(rt; execution.is_blocked(), true);
         Ok(())
     }

@@ -1,5 +1,4 @@
-use Rattle.std.proofs.Common.{◌≡◌, ◌<◌, ◌-◌, length, get_or, arith, sym, ap, ◌∙◌}
-use Rattle.std.proofs.lemmas.List.{get_or_read}
+use Rattle.std.proofs.Common.{arith, sym, ap, ◌∙◌}
 use Rattle.code_form.specs.Code.{Allocation, sizes}
 use Rattle.code_form.proofs.Allocated.{none_at_zero, none_behind, cells_at}
 use Rattle.code_form.proofs.allocation.Allocations.cells.Goals as goal

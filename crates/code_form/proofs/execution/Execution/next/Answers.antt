@@ -11,4 +11,4 @@ returns-in-Running-clause-within c =
     let call = c.in-Running.call in
     let o = c.self.inside.output.items in
     rw (← c.self.view_is) (next_within image c.self.inside.status call c.self.inside.allocations o (most_scopes image.functions) c.touch.result
-        c.in-Running.is c.self.invariant (c.touch.ensures call o ∙ sym (ap touch_of (c.decide.ensures o))))
+    c.in-Running.is c.self.invariant (c.touch.ensures call o ∙ sym (ap touch_of (c.decide.ensures o))))
