@@ -1,0 +1,5 @@
+pub mod Once
+pub mod Scanned
+pub mod Blanks
+pub mod Rises
+pub mod Told

@@ -1,0 +1,9 @@
+pub mod Bytes
+pub mod FaultNumbers
+pub mod Laws
+pub mod Lines
+pub mod Scanning
+pub mod SourceTexts
+pub mod Spelling
+pub mod Terminals
+pub mod WorkedTexts

@@ -1,0 +1,67 @@
+// Texts and faults.
+
+use crate::fault::{Fault, FaultKind};
+use crate::position::{Position, line_column};
+use crate::source::{MOST_BYTES, Source};
+use std::test::Fail;
+
+#[test]
+fn a_text_is_taken_as_it_is(rt: HostRuntime) -> Result<(), Fail> {
+    let source = Source::new(rt.alloc(), b"int x;\x7f\n")?;
+    assert_eq!(rt; source.bytes(), b"int x;\x7f\n".as_slice());
+    Ok(())
+}
+
+#[test]
+fn bytes_over_127_are_found_first(rt: HostRuntime) -> Result<(), Fail> {
+    let Err(fault) = Source::new(rt.alloc(), b"int \x80 \xff") else {
+        panic!(rt; "a text with a byte over 127 is taken");
+    };
+    assert_eq!(rt; fault, Fault::at(FaultKind::BadByte, 4));
+    let mut long = vec![in rt.alloc(); b' '; MOST_BYTES + 1]?;
+    let Err(fault) = Source::new(rt.alloc(), &long) else {
+        panic!(rt; "a text of 1,048,577 bytes is taken");
+    };
+    assert_eq!(rt; fault, Fault::at(FaultKind::TooLarge, 1_048_576));
+    long.push(200)?;
+    let Err(fault) = Source::new(rt.alloc(), &long) else {
+        panic!(rt; "a text of 1,048,578 bytes is taken");
+    };
+    assert_eq!(rt; fault, Fault::at(FaultKind::BadByte, 1_048_577));
+    let longest = vec![in rt.alloc(); b' '; MOST_BYTES]?;
+    let source = Source::new(rt.alloc(), &longest)?;
+    assert_eq!(rt; source.bytes().len(), MOST_BYTES);
+    Ok(())
+}
+
+#[test]
+fn faults_are_shown_by_number_and_name(rt: HostRuntime) -> Result<(), Fail> {
+    for (kind, number, text) in [
+        (FaultKind::BadByte, 10, "fault 10 BadByte"),
+        (FaultKind::BadToken, 11, "fault 11 BadToken"),
+        (FaultKind::TooLarge, 22, "fault 22 TooLarge"),
+        (FaultKind::UnknownName, 30, "fault 30 UnknownName"),
+        (FaultKind::BadUse, 47, "fault 47 BadUse"),
+        (FaultKind::OutOfMemory, 50, "fault 50 OutOfMemory"),
+    ] {
+        assert_eq!(rt; kind.number(), number);
+        let fault = Fault::at(kind, 3);
+        assert_eq!(rt; format!(in rt.alloc(); "{fault}")?.as_str(), text);
+    }
+    Ok(())
+}
+
+#[test]
+fn lines_end_at_newlines_alone(rt: HostRuntime) {
+    let text = b"int\r\n\nx = 1;";
+    for (at, line, column) in [
+        (0, 1, 1),
+        (4, 1, 5),
+        (5, 2, 1),
+        (6, 3, 1),
+        (8, 3, 3),
+        (99, 3, 7),
+    ] {
+        assert_eq!(rt; line_column(text, at), Position { line, column }, "at {at}");
+    }
+}

@@ -1,0 +1,4 @@
+pub mod Cells
+pub mod Ops
+pub mod Soundness
+pub mod Turns

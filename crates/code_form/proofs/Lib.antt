@@ -1,0 +1,12 @@
+mod Addresses
+mod Allocated
+mod Computing
+mod Endings
+mod Entering
+mod Few
+mod Heaps
+mod Runs
+mod Scopes
+mod Tidy
+mod Tracks
+mod Within

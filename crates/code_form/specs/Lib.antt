@@ -1,0 +1,10 @@
+pub mod Code
+pub mod Computed
+pub mod Decisions
+pub mod Effects
+pub mod Form
+pub mod Laws
+pub mod Placed
+pub mod Statuses
+pub mod Touches
+pub mod Tracked

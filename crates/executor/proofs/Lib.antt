@@ -1,0 +1,10 @@
+mod Counts
+mod Filling
+mod Holding
+mod Laws
+mod Opening
+mod Places
+mod Running
+mod Taking
+mod Ways
+mod Writing

@@ -1,0 +1,53 @@
+-- Opening a hold of an object and bringing the object in.
+use Rattle.std.proofs.Common.{◌≡◌, ℕ, ◌+◌, ◌<◌, List, [], ◌∷◌, ◌++◌, length, sym, refl, ap, ◌∙◌, arith, subst}
+use Rattle.std.specs.Prelude.{Option, Some, None, slice_set}
+use Rattle.std.proofs.lemmas.List.{get_or-set_same, set-set}
+use Rattle.pointer_word.specs.Hands.{Hand, Note, blank, claiming, listed, opened, told}
+use Rattle.pointer_word.specs.Calls.{Filled}
+use Rattle.object_lock.specs.Seats.{View, note, with_hand, with_note}
+use Rattle.object_lock.specs.SeatViews.{SeatView}
+use Rattle.executor.specs.Taken.{Brings, FilledBelow, FillsOnly, Takes}
+use Rattle.executor.proofs.Filling.{filled_next}
+
+pub filled_from : (honest : Type 0) (promised : List ℕ) (w : Hand) (ws : List ℕ) → w.promised ≡ promised → FilledBelow w.filled ws 64
+    → (honest → (i : ℕ) → i < 64 → listed ws i ≡ listed promised i) → Filled honest 64 w
+filled_from honest promised w ws same h got i l = (listed ws i, h i l, λ t. got t i l ∙ ap (λ (ps : List ℕ). listed ps i) (sym same))
+
+pub taken : (o : ℕ) (v u w : View) (f : ℕ) → (note v o).frame ≡ None → u ≡ with_note v o (opened (note v o) None) → o < length v.notes → Brings o u w f → Takes o v w f
+taken o v u w f away e wide b =
+    let n : Note = opened (note v o) None in
+    let here : note (with_note v o n) o ≡ n = get_or-set_same v.notes o n blank wide in
+    let at : note u o ≡ n = ap (λ (x : View). note x o) e ∙ here in
+    record {
+      room = subst (λ (x : View). f < x.sizes.frames) e b.room;
+      same = λ g h. absurd (cc);
+      notes = b.notes ∙ (ap (λ (x : Note). slice_set u.notes o (told x (Some f))) at ∙ (ap (λ (x : View). slice_set x.notes o (told n (Some f))) e ∙ set-set v.notes o n (told n (Some f))));
+      low = b.low ∙ ap (λ (x : View). x.low) e;
+      high = b.high ∙ ap (λ (x : View). x.high) e;
+      sizes = b.sizes ∙ ap (λ (x : View). x.sizes) e;
+      quiet = b.quiet;
+    }
+
+pub fill_keeps : {C : Type 0} (s t u : SeatView C) (i n : ℕ) → FillsOnly s t
+    → u ≡ record t { view = with_hand t.view (record t.view.hand { filled = t.view.hand.filled ++ (i, n) ∷ [] }) } → FillsOnly s u
+fill_keeps {C} s t u i n e d =
+    let a : u.view.hand.filled ≡ t.view.hand.filled ++ (i, n) ∷ [] = ap (λ (x : SeatView C). x.view.hand.filled) d in
+    let put : SeatView C → List (ℕ × ℕ) → SeatView C = λ x ps. record x { view = with_hand x.view (record x.view.hand { filled = ps }) } in
+    d ∙ ap (put t) (sym a) ∙ ap (λ (x : SeatView C). put x u.view.hand.filled) e
+
+pub same_view : {C : Type 0} (s t : SeatView C) → s ≡ t → s.view ≡ t.view
+same_view {C} s t e = ap (λ (x : SeatView C). x.view) e
+
+pub fill_more : {C : Type 0} (s t u : SeatView C) (ws : List ℕ) (i : ℕ) → FillsOnly s t → FilledBelow t.view.hand.filled ws i
+    → u ≡ record t { view = with_hand t.view (record t.view.hand { filled = t.view.hand.filled ++ (i, listed ws i) ∷ [] }) }
+    → FillsOnly s u × FilledBelow u.view.hand.filled ws (i + 1)
+fill_more {C} s t u ws i same below e =
+    (fill_keeps s t u i (listed ws i) same e, filled_next t.view.hand.filled u.view.hand.filled ws i below (ap (λ (x : SeatView C). x.view.hand.filled) e))
+
+pub filled_hand : {C : Type 0} (honest : Type 0) (s t u w : SeatView C) (f cells : ℕ) (ws : List ℕ) → cells ≡ 64
+    → t ≡ record s { view = with_hand s.view (claiming s.view.hand f) } → u ≡ record t { refusals = u.refusals } → FillsOnly u w
+    → FilledBelow w.view.hand.filled ws 64 → (honest → (i : ℕ) → i < 64 → listed ws i ≡ listed t.view.hand.promised i) → Filled honest cells w.view.hand
+filled_hand {C} honest s t u w f cells ws size claimed read fills below got =
+    let promised : SeatView C → List ℕ = λ x. x.view.hand.promised in
+    let same : w.view.hand.promised ≡ t.view.hand.promised = ap promised fills ∙ ap promised read in
+    subst (λ n. Filled honest n w.view.hand) (sym size) (filled_from honest t.view.hand.promised w.view.hand ws same below got)

@@ -1,0 +1,83 @@
+-- What a session is to its caller, and where its code run is.
+use Rattle.std.specs.Prelude.{◌≡◌, ◌≢◌, ◌⊎◌, ℕ, suc, ◌+◌, ◌-◌, ◌/◌, ◌%◌, ◌<◌, ◌≤◌, ◌==◌, Bool, true, false, cond, List, [], ◌∷◌, ◌++◌, length, Option, Some, None, slice_index_or, slice_set, replicate}
+use Rattle.cells.specs.declared.ending.Want.{Want}
+use Rattle.cells.specs.declared.ending.Want.TheVariants.{OutOfMemory, NoObjects, StoreFailed}
+use Rattle.cells.specs.declared.ending.Run.{Run}
+use Rattle.cells.specs.declared.ending.Run.TheVariants.{Running, Stopped, Wanted}
+use Rattle.cells.specs.Stops.{stop_of as stop_read}
+use Rattle.code_form.specs.Form.{Image}
+use Rattle.code_form.specs.Effects.{upd, code_run}
+use Rattle.code_form.specs.Code.{Core, sizes, allocations_of, effect, code, held, stop_of, is_blocked, most_scopes}
+use Rattle.code_form.specs.Placed.{SameHeap, next_object, object_at, pieces}
+use Rattle.code_form.specs.Touches.{IsWithin, cell_option, resumed, touch_of}
+use Rattle.code_form.specs.Tracked.{WaitsShut}
+use Rattle.code_form.specs.declared.touch.Cell.{Cell}
+use Rattle.code_form.specs.declared.touch.Touch.{Touch}
+use Rattle.code_form.specs.declared.touch.Touch.TheVariants as touch
+use Rattle.pointer_word.specs.Hands.{Note, added, blank, closed, latest_of, writable}
+use Rattle.remote_store.specs.Kept.{piece_cells}
+use Rattle.object_lock.specs.Seats.{Owns, View, note, with_note}
+use Rattle.executor.specs.declared.hold.Hold.{Hold}
+use Rattle.executor.specs.Taken.{IsQuiet, Takes}
+
+-- A session: its image, where its program is, what each scope holds, the first object of each allocation, the newest first, the next
+-- object, what its seat knows, how many instructions were completed, and what it wants if it wants anything
+pub record State : Type 0 where
+  pub image : Image
+  pub core : Core
+  pub holds : List (Option Hold)
+  pub firsts : List ℕ
+  pub next : ℕ
+  pub view : View
+  pub completed : ℕ
+  pub want : Option Want
+
+-- the number of cells of each allocation, the newest first
+abbrev pub cells_in : State → List ℕ
+cells_in s = sizes (allocations_of s.core)
+
+-- the latest store at place i of object o, as its owner knows; 0 where nothing was stored
+abbrev pub latest_in : View → ℕ → ℕ → ℕ
+latest_in v o i = latest_of (note v o).history i
+
+-- the object of a cell
+abbrev pub object_of : State → Cell → ℕ
+object_of s a = object_at piece_cells s.view.low (cells_in s) a.reference a.index
+
+-- what the next instruction touches
+abbrev pub next_touch : State → Touch
+next_touch s = touch_of (effect s.image s.core)
+
+-- what scope k holds
+abbrev pub hold_at : List (Option Hold) → ℕ → Option Hold
+hold_at hs k = slice_index_or hs k None
+
+-- every scope holds nothing
+abbrev pub AllShut : State → Type 0
+AllShut s = (k : ℕ) → hold_at s.holds k ≡ None
+
+-- the session's program is where the run of its code is, and its cells are the latest stores
+pub record IsAt (s : State) : Type 0 where
+  pub core : s.core ≡ (code_run (code s.image) s.completed).0
+  pub heap : SameHeap piece_cells s.view.low s.view.high (cells_in s) (latest_in s.view) (code_run (code s.image) s.completed).1
+
+-- the program has not stopped, and wants nothing
+abbrev pub IsGoing : State → Type 0
+IsGoing s = (stop_of s.core ≡ None) × (s.want ≡ None)
+
+-- why a want is answered: the pieces of the allocation that is next don't fit in what is left of the share; memory was refused to an
+-- allocation; or the code is stuck, or needs all scopes shut where one is open
+abbrev pub Caused : State → Want → Type 0
+Caused s NoObjects = (n : ℕ) × (next_touch s ≡ touch.Allocs n) × (s.view.high < next_object piece_cells s.view.low (cells_in s) + pieces piece_cells n)
+Caused s OutOfMemory = (n : ℕ) × (next_touch s ≡ touch.Allocs n)
+Caused s StoreFailed = (next_touch s ≡ touch.Wrong) ⊎ ((next_touch s ≡ touch.Nothing) ⊎ (is_blocked s.core ≡ true))
+
+-- a run of at most n instructions from s to t: what it answers is so, and it answers a want for a cause
+abbrev pub Ran : ℕ → State → State → Run → Type 0
+Ran n s t Running = (t.image ≡ s.image) × (t.completed ≡ s.completed + n) × IsGoing t
+Ran n s t (Stopped x) = (t.image ≡ s.image) × (t.completed ≤ s.completed + n) × (stop_of t.core ≡ Some (stop_read x))
+Ran n s t (Wanted w) = (t.image ≡ s.image) × (t.completed ≤ s.completed + n) × (t.want ≡ Some w) × (stop_of t.core ≡ None) × (IsGoing s → Caused (record t { want = None }) w)
+
+-- a session at its beginning
+abbrev pub begin : Image → View → State
+begin C v = record { image = C; core = (code C).start; holds = replicate 4 None; firsts = []; next = v.low; view = v; completed = 0; want = None }

@@ -1,0 +1,136 @@
+//! Each kind of instruction, by what it touches.
+ghost use Rattle.code_form.specs.declared.touch.Touch.TheVariants.{Aims, Allocs, Ends, Leaves, Loads, Plain, Saves};
+ghost use Rattle.executor.specs.Keeping.{Allocated, IsNext, IsSafe, IsSimple, Moves};
+ghost use Rattle.remote_store.specs.Kept.{piece_cells};
+ghost use Rattle.std.specs.Prelude.{◌≡◌, ◌+◌, ◌%◌, ◌<◌, ◌^◌};
+
+use cells::Want;
+use code_form::{Cell, Touch, effect_laws};
+use remote_store::{PIECE_CELLS, RawStore};
+use std::sync::Wait;
+
+use crate::machine::{Machine, pieces};
+
+/// The place of a cell in its piece.
+fn place(cell: Cell) -> usize
+    ensures { result ≡ cell.index % piece_cells }
+{
+    (cell.index % PIECE_CELLS as u64) as usize
+}
+
+impl<'a, S: RawStore> Machine<'a, S> {
+    fn goes(&mut self)
+        requires safe { IsSafe self.old }
+        requires next { IsNext Plain self.old }
+        requires room { self.old.completed + 1 < 2 ^ 64 }
+        ensures safe { IsSafe self.new }
+        ensures moves { Moves S.honest Plain self.old self.new }
+    {
+        effect_laws();
+        self.finish(0);
+    }
+
+    fn aims<R: Wait>(&mut self, rt: &R, scope: usize, wanted: Option<Cell>)
+        requires safe { IsSafe self.old }
+        requires next { IsNext (Aims scope wanted) self.old }
+        requires room { self.old.completed + 1 < 2 ^ 64 }
+        ensures safe { IsSafe self.new }
+        ensures moves { Moves S.honest (Aims scope wanted) self.old self.new }
+    {
+        effect_laws();
+        self.hold_wanted(rt, scope, wanted);
+        self.finish(0);
+    }
+
+    fn leaves(&mut self, scope: usize)
+        requires safe { IsSafe self.old }
+        requires next { IsNext (Leaves scope) self.old }
+        requires room { self.old.completed + 1 < 2 ^ 64 }
+        ensures safe { IsSafe self.new }
+        ensures moves { Moves S.honest (Leaves scope) self.old self.new }
+    {
+        effect_laws();
+        self.shut(scope);
+        self.finish(0);
+    }
+
+    fn loads(&mut self, scope: usize, cell: Cell)
+        requires safe { IsSafe self.old }
+        requires next { IsNext (Loads scope cell) self.old }
+        requires room { self.old.completed + 1 < 2 ^ 64 }
+        ensures safe { IsSafe self.new }
+        ensures moves { Moves S.honest (Loads scope cell) self.old self.new }
+    {
+        effect_laws();
+        let hold = self.held(scope);
+        let value = self.load_cell(hold, place(cell));
+        self.finish(value);
+    }
+
+    fn saves(&mut self, scope: usize, cell: Cell, value: u64)
+        requires safe { IsSafe self.old }
+        requires next { IsNext (Saves scope cell value) self.old }
+        requires room { self.old.completed + 1 < 2 ^ 64 }
+        ensures safe { IsSafe self.new }
+        ensures moves { Moves S.honest (Saves scope cell value) self.old self.new }
+    {
+        effect_laws();
+        let hold = self.held(scope);
+        self.make_writable(scope, hold);
+        self.store_cell(hold, place(cell), value);
+        self.finish(0);
+    }
+
+    /// Completes an instruction that stops the program.
+    pub(crate) fn ends(&mut self)
+        requires safe { IsSafe self.old }
+        requires next { IsNext Ends self.old }
+        requires room { self.old.completed + 1 < 2 ^ 64 }
+        ensures safe { IsSafe self.new }
+        ensures moves { Moves S.honest Ends self.old self.new }
+    {
+        effect_laws();
+        self.close_all();
+        self.finish(0);
+    }
+
+    /// Completes an allocation, or tells what it wants.
+    pub(crate) fn allocs(&mut self, cells: u64) -> Option<Want>
+        requires safe { IsSafe self.old }
+        requires next { IsNext (Allocs cells) self.old }
+        requires room { self.old.completed + 1 < 2 ^ 64 }
+        ensures { Allocated S.honest cells self.old self.new result }
+    {
+        effect_laws();
+        let many = pieces(cells);
+        if self.end() - self.next() < many {
+            return Some(Want::NoObjects);
+        }
+        match self.extend(cells, many) {
+            Ok(()) => None,
+            Err(_) => Some(Want::OutOfMemory),
+        }
+    }
+
+    /// Completes an instruction that is no allocation and does not stop the program.
+    pub(crate) fn make<R: Wait>(&mut self, rt: &R, touch: Touch)
+        requires safe { IsSafe self.old }
+        requires next { IsNext touch self.old }
+        requires simple { IsSimple touch }
+        requires room { self.old.completed + 1 < 2 ^ 64 }
+        ensures safe { IsSafe self.new }
+        ensures moves { Moves S.honest touch self.old self.new }
+    {
+        match touch {
+            Touch::Plain => self.goes(),
+            Touch::Aims(scope, wanted) => self.aims(rt, scope, wanted),
+            Touch::Loads(scope, cell) => self.loads(scope, cell),
+            Touch::Saves(scope, cell, value) => self.saves(scope, cell, value),
+            Touch::Leaves(scope) => self.leaves(scope),
+            Touch::Allocs(_) => unreachable!(),
+            Touch::Ends => unreachable!(),
+            Touch::Wrong => unreachable!(),
+            Touch::Nothing => unreachable!(),
+        }
+    }
+}

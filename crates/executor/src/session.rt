@@ -1,0 +1,92 @@
+//! A session: a program that runs at one seat of a table.
+ghost use Rattle.cells.specs.declared.ending.Run.TheVariants.{Wanted};
+ghost use Rattle.cells.specs.declared.ending.Want.TheVariants.{OutOfMemory, StoreFailed};
+ghost use Rattle.cells.specs.Stops.{Stop};
+ghost use Rattle.code_form.specs.Code.{Covered, most_scopes, output_of, stop_of};
+ghost use Rattle.code_form.specs.Form.{image_of};
+ghost use Rattle.executor.specs.Keeping.{IsRun};
+ghost use Rattle.executor.specs.State.{AllShut, IsAt, IsGoing, Ran, State, begin};
+ghost use Rattle.object_lock.specs.Fresh.{IsFreshOwner};
+ghost use Rattle.std.specs.Prelude.{◌≡◌, ◌≢◌, ◌+◌, ◌<◌, ◌≤◌, ◌^◌, ℕ, MatchResult, Some};
+
+use cells::{Run, Want};
+use code_form::{Image, effect_laws, heap_laws, run_laws};
+use object_lock::{ObjectTable, OwnerSeat};
+use remote_store::RawStore;
+use std::alloc::Global;
+use std::marker::Model;
+use std::sync::Wait;
+
+use crate::machine::Machine;
+
+/// A program that runs at one seat of a table. A contract sees where it is: its image, the state of its program, what its scopes
+/// hold, what its seat knows, how many instructions it completed, and what it wants, if it wants anything.
+#[derive(Drop)]
+pub struct Session<'a, S: RawStore> {
+    machine: Machine<'a, S>,
+}
+
+impl<'a, S: RawStore> Model for Session<'a, S> {
+    ghost use Rattle.executor.specs.Keeping.{IsRun};
+    ghost use Rattle.executor.specs.State.{State};
+
+    ghost Value = { State };
+
+    ghost view = { λ s. s.machine };
+
+    ghost invariant = { λ s. IsRun S.honest s.machine };
+}
+
+impl<'a, S: RawStore> Session<'a, S> {
+    /// The image's program at its beginning, at a seat as the table gave it out. The only want is `OutOfMemory`, where memory is
+    /// refused.
+    pub fn new(
+        alloc: Global,
+        table: &'a ObjectTable<S>,
+        image: &'a Image,
+        seat: OwnerSeat<S>,
+    ) -> Result<Session<'a, S>, Want>
+        requires seat { (share : ℕ) × IsFreshOwner table.now share seat }
+        requires scopes { most_scopes (image_of image.now).functions ≤ 4 }
+        ensures { MatchResult result (λ s. s ≡ begin (image_of image.now) seat.view) (λ want. want ≡ OutOfMemory) }
+    {
+        match Machine::new(alloc, table, image, seat) {
+            Ok(machine) => Ok(Session { machine }),
+            Err(_) => Err(Want::OutOfMemory),
+        }
+    }
+
+    /// Completes `limit` instructions, unless the program stops or wants something; it may wait. Having answered a stop or a want it
+    /// answers the same from then on and changes nothing.
+    ///
+    /// `NoObjects`: the pieces of the allocation that is next don't fit in what is left of the program's share. `OutOfMemory`: memory
+    /// was refused to an allocation. `StoreFailed`: the code is stuck, or an allocation or a return finds a scope open, which is never
+    /// so where the store is honest and the image covered.
+    pub fn run<R: Wait>(&mut self, rt: &R, limit: u64) -> Run
+        requires { self.old.completed + limit < 2 ^ 64 }
+        ensures at { S.honest → IsAt self.new }
+        ensures told { Ran limit self.old self.new result }
+        ensures shut { (x : Stop) → stop_of self.new.core ≡ Some x → AllShut self.new }
+        ensures covered { S.honest → Covered self.old.image → IsGoing self.old → result ≢ Wanted StoreFailed }
+        ensures ended { (IsGoing self.old → ⊥) → self.new ≡ self.old }
+    {
+        effect_laws();
+        heap_laws();
+        run_laws();
+        self.machine.run(rt, limit)
+    }
+
+    /// What the program printed.
+    pub fn output(&self) -> &[u8]
+        ensures { result.now ≡ output_of self.now.core }
+    {
+        self.machine.output()
+    }
+
+    /// How many instructions were completed.
+    pub fn completed(&self) -> u64
+        ensures { result ≡ self.now.completed }
+    {
+        self.machine.completed()
+    }
+}
