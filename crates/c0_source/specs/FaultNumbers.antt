@@ -1,5 +1,5 @@
 -- The numbers of faults.
-use Rattle.std.specs.Prelude.{ℕ}
+use Rattle.std.specs.Prelude.{ℕ, ◌+◌}
 use Rattle.c0_source.specs.declared.fault.FaultKind.{FaultKind}
 use Rattle.c0_source.specs.declared.fault.FaultKind.TheVariants as f
 use Rattle.c0_source.specs.declared.fault.Fault.{Fault}
@@ -35,3 +35,7 @@ fault_number f.OutOfMemory = 50
 -- want of memory, which stands at no byte
 abbrev pub memory_fault : Fault
 memory_fault = record { kind = f.OutOfMemory; span = record { start = 0; end = 0 } }
+
+-- a fault at one byte, or at the text's end
+abbrev pub byte_fault : FaultKind → ℕ → Fault
+byte_fault kind at = record { kind = kind; span = record { start = at; end = at + 1 } }

@@ -170,19 +170,19 @@ abbrev pub newline_of : Mode → Piece
 newline_of m.Line = p.Token k.End
 newline_of _ = p.Gap
 
--- signs that don't begin with `/`
+-- signs that don't begin with `/`, the longer ones first
 abbrev pub signs : Table
 signs =
-    (codes "(", k.LParen) ∷ (codes ")", k.RParen) ∷ (codes "{", k.LBrace) ∷ (codes "}", k.RBrace) ∷ (codes "[", k.LBracket) ∷ (codes "]", k.RBracket)
-    ∷ (codes ";", k.Semi) ∷ (codes ",", k.Comma) ∷ (codes ".", k.Dot) ∷ (codes "->", k.Arrow) ∷ (codes "?", k.Question) ∷ (codes ":", k.Colon)
-    ∷ (codes "!", k.Bang) ∷ (codes "~", k.Tilde) ∷ (codes "=", k.Assign) ∷ (codes "++", k.PlusPlus) ∷ (codes "--", k.MinusMinus)
-    ∷ (codes "||", k.Infix o.Or) ∷ (codes "&&", k.Infix o.And) ∷ (codes "|", k.Infix o.BitOr) ∷ (codes "^", k.Infix o.BitXor) ∷ (codes "&", k.Infix o.BitAnd)
-    ∷ (codes "==", k.Infix o.Equal) ∷ (codes "!=", k.Infix o.NotEqual) ∷ (codes "<", k.Infix o.Less) ∷ (codes "<=", k.Infix o.LessEqual)
-    ∷ (codes ">", k.Infix o.Greater) ∷ (codes ">=", k.Infix o.GreaterEqual) ∷ (codes "<<", k.Infix o.ShiftLeft) ∷ (codes ">>", k.Infix o.ShiftRight)
-    ∷ (codes "+", k.Infix o.Add) ∷ (codes "-", k.Infix o.Subtract) ∷ (codes "*", k.Infix o.Multiply) ∷ (codes "%", k.Infix o.Modulo)
-    ∷ (codes "+=", k.Update o.Add) ∷ (codes "-=", k.Update o.Subtract) ∷ (codes "*=", k.Update o.Multiply) ∷ (codes "%=", k.Update o.Modulo)
-    ∷ (codes "&=", k.Update o.BitAnd) ∷ (codes "^=", k.Update o.BitXor) ∷ (codes "|=", k.Update o.BitOr) ∷ (codes "<<=", k.Update o.ShiftLeft)
-    ∷ (codes ">>=", k.Update o.ShiftRight) ∷ []
+    (codes "<<=", k.Update o.ShiftLeft) ∷ (codes ">>=", k.Update o.ShiftRight) ∷ (codes "->", k.Arrow) ∷ (codes "++", k.PlusPlus) ∷
+    (codes "--", k.MinusMinus) ∷ (codes "||", k.Infix o.Or) ∷ (codes "&&", k.Infix o.And) ∷ (codes "==", k.Infix o.Equal) ∷ (codes "!=", k.Infix o.NotEqual) ∷
+    (codes "<=", k.Infix o.LessEqual) ∷ (codes ">=", k.Infix o.GreaterEqual) ∷ (codes "<<", k.Infix o.ShiftLeft) ∷ (codes ">>", k.Infix o.ShiftRight) ∷
+    (codes "+=", k.Update o.Add) ∷ (codes "-=", k.Update o.Subtract) ∷ (codes "*=", k.Update o.Multiply) ∷ (codes "%=", k.Update o.Modulo) ∷
+    (codes "&=", k.Update o.BitAnd) ∷ (codes "^=", k.Update o.BitXor) ∷ (codes "|=", k.Update o.BitOr) ∷ (codes "(", k.LParen) ∷ (codes ")", k.RParen) ∷
+    (codes "{", k.LBrace) ∷ (codes "}", k.RBrace) ∷ (codes "[", k.LBracket) ∷ (codes "]", k.RBracket) ∷ (codes ";", k.Semi) ∷ (codes ",", k.Comma) ∷
+    (codes ".", k.Dot) ∷ (codes "?", k.Question) ∷ (codes ":", k.Colon) ∷ (codes "!", k.Bang) ∷ (codes "~", k.Tilde) ∷ (codes "=", k.Assign) ∷
+    (codes "|", k.Infix o.BitOr) ∷ (codes "^", k.Infix o.BitXor) ∷ (codes "&", k.Infix o.BitAnd) ∷ (codes "<", k.Infix o.Less) ∷ (codes ">", k.Infix o.Greater) ∷
+    (codes "+", k.Infix o.Add) ∷ (codes "-", k.Infix o.Subtract) ∷ (codes "*", k.Infix o.Multiply) ∷ (codes "%", k.Infix o.Modulo) ∷
+    []
 
 -- a kind of token as a piece
 abbrev pub token_of : Option Kind → Option Piece
@@ -335,9 +335,13 @@ pub record Stops (bytes : List ℕ) (fault : FaultKind) (at : ℕ) : Type 0 wher
   pub leads : Leads m.Plain bytes pieces last rest
   pub cause : Cause fault at last pieces rest
 
--- the token of no bytes that stands behind all others, at the end of a text
+-- the token of no bytes that stands behind all others, where a text ends at `at`
+abbrev pub end_at : ℕ → Lexeme
+end_at at = record { kind = k.EndOfText; text = []; start = at }
+
+-- ... and at the end of this text
 abbrev pub end_of_text : List ℕ → Lexeme
-end_of_text bytes = record { kind = k.EndOfText; text = []; start = length bytes }
+end_of_text bytes = end_at (length bytes)
 
 -- Each token's bytes are those of the text at its start.
 abbrev pub AreSlices : List ℕ → List Lexeme → Type 0

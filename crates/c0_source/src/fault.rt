@@ -1,7 +1,7 @@
 // What can be wrong with a program, and where.
 
-ghost use Rattle.std.specs.Prelude.{◌≡◌, ◌+◌, ◌<◌};
-ghost use Rattle.c0_source.specs.FaultNumbers.{fault_number, memory_fault};
+ghost use Rattle.std.specs.Prelude.{◌≡◌, ◌<◌};
+ghost use Rattle.c0_source.specs.FaultNumbers.{byte_fault, fault_number, memory_fault};
 
 use std::alloc::{AllocError, AllocFailed};
 use thiserror::Error;
@@ -89,9 +89,7 @@ impl Fault {
     /// A fault at one byte, or at the text's end.
     pub fn at(kind: FaultKind, start: usize) -> Fault
         requires { start < usize.MAX }
-        ensures kind { result.kind ≡ kind }
-        ensures start { result.span.start ≡ start }
-        ensures end { result.span.end ≡ start + 1 }
+        ensures { result ≡ byte_fault kind start }
     {
         Fault {
             kind,

@@ -13,7 +13,8 @@ use Rattle.c0_typed.specs.Meaning as m
 use Rattle.code_form.specs.declared.form.Kind.TheVariants as kind
 use Rattle.code_form.specs.Form as i
 use Rattle.code_form.specs.Effects.{Heap, step, steps, saved, upd}
-use Rattle.code_form.specs.Code.{Allocation, Core, Scope, Shut, Aimed, Stopped, code, int_of, of_int, written}
+use Rattle.code_form.specs.declared.allocation.Allocation.{Allocation}
+use Rattle.code_form.specs.Code.{Core, Scope, Shut, Aimed, Stopped, code, int_of, of_int, written}
 use Rattle.c0far.specs.declared.fragment.Step.{Step}
 use Rattle.c0far.specs.declared.fragment.Step.TheVariants.{Allocate, Write}
 use Rattle.c0far.specs.declared.fragment.Answer.{Answer}
@@ -198,8 +199,8 @@ module _ (p : Program) (checks : Bool) (call : Calls) (turns : ℕ) (result : v.
       let same_length : length numbers' ≡ length numbers = length-set numbers j z in
       let inside : Inside pointers (length numbers') = λ y. let old = ready.3 y in omega arith in
       let ran = next 1 (of_int z) numbers' pointers (saved h (suc j) 0 (of_int z)) (λ _. refl) (ready.0, holds_write h numbers j z there ready.1, wraps_set numbers j z (number_back (pos value)) ready.2, inside) in
-      let codes = ap (λ a. (at p (code_of rest answer) (of_int z) pointers (Shut ∷ []) (replicate a one), saved h (suc j) 0 (of_int z))) (sym same_length) in
       let index : suc j - 1 ≡ j = omega arith in
+      let codes = ap (λ a. (at p (code_of rest answer) (of_int z) pointers (Shut ∷ []) (replicate a one), saved h (suc j) 0 (of_int z))) (sym same_length) in
       let heap : set (map whole numbers) (suc j - 1) (whole z) ≡ map whole numbers' = ap (λ a. set (map whole numbers) a (whole z)) index ∙ sym (map-set whole numbers j z) in
       let with : List v.Tree → m.State = λ trees. record { turns = turns; heap = trees; locals = result ∷ map v.Ref pointers; output = [] } in
       let told : told_of checks call (Write x value ∷ rest) answer (state turns numbers result pointers) ≡ told_of checks call rest answer (with (map whole numbers')) =

@@ -9,13 +9,13 @@ use Rattle.c0_typed.specs.Trees as t
 use Rattle.c0_typed.specs.Meaning as m
 use Rattle.code_form.specs.declared.form.Kind.TheVariants as kind
 use Rattle.code_form.specs.Effects.{Heap, step, steps, code_run}
-use Rattle.code_form.specs.Code.{Allocation, Core, Running, Shut, Stopped, Stuck, code, of_int, output_of}
+use Rattle.code_form.specs.declared.allocation.Allocation.{Allocation}
+use Rattle.code_form.specs.Code.{Core, Running, Shut, Stopped, Stuck, code, of_int, output_of}
 use Rattle.code_form.specs.Laws.{StepsAdd, StoppedStays, StuckStays, OutputGrows}
 use Rattle.c0far.specs.declared.fragment.Step.{Step}
 use Rattle.c0far.specs.declared.fragment.Answer.{Answer}
 use Rattle.c0far.specs.Correct.{Behaves}
-use Rattle.c0far.specs.Fragment.{Program, IsWithin, code_of, touches, scopes_of, main_of, typed_of, image_of}
-use Rattle.c0far.proofs.Instructions.{function_of}
+use Rattle.c0far.specs.Fragment.{Program, IsWithin, code_of, touches, scopes_of, main_code, main_of, typed_of, image_of}
 use Rattle.c0far.proofs.Body.{Calls, AtEnd, Inside, Wraps, at_as, state, then_result, told_as, told_of, ends}
 
 -- ---- states and what is told of them
@@ -87,7 +87,7 @@ both_end p checks n w =
     let holds : (r : ℕ) → 0 ≡ of_int (get_or [] r (pos 0)) = λ r. ap of_int (sym (no_numbers r)) in
     let wraps : (r : ℕ) → Wraps (get_or [] r (pos 0)) = λ r. subst Wraps (sym (no_numbers r)) refl in
     let ran = ends p checks (m.call checks (typed_of p) n) n (v.Number (pos 0)) p.steps p.answer w.0 w.1 (scopes_of p) 0 [] (replicate p.pointers 0) (λ _ _. 0) (scoped p) (long, holds, wraps, zeros_inside p.pointers 0) in
-    let begins : ℕ → Core × Heap = λ a. (Running (record { function = function_of p; rest = code_of p.steps p.answer; registers = replicate a 0; scopes = replicate (scopes_of p) Shut; destination = None }) [] [] [], λ _ _. 0) in
+    let begins : ℕ → Core × Heap = λ a. (Running (record { function = main_code p; rest = code_of p.steps p.answer; registers = replicate a 0; scopes = replicate (scopes_of p) Shut; destination = None }) [] [] [], λ _ _. 0) in
     at_as p _ _ _ (ap begins registers) (told_as p _ _ _ (meant_is p checks n) ran)
 
 module _ (p : Program) (checks : Bool) (w : IsWithin p) (steps_add : StepsAdd) (stopped_stays : StoppedStays) (stuck_stays : StuckStays) (grows : OutputGrows) where

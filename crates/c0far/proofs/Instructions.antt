@@ -13,22 +13,13 @@ use Rattle.code_form.specs.declared.form.Kind.{Kind}
 use Rattle.code_form.specs.declared.form.Kind.TheVariants as kind
 use Rattle.code_form.specs.Form as i
 use Rattle.code_form.specs.Effects.{Heap, step, saved}
-use Rattle.code_form.specs.Code.{Allocation, Core, Frame, Running, Scope, Shut, Aimed, Stopped, code, cells_of, int_of, of_int, sizes, written}
-use Rattle.c0far.specs.Fragment.{Program, image_of, scopes_of, facts_of, code_of}
-
--- the function of an image
-abbrev pub function_of : Program → i.Function
-function_of p = record {
-  result = Some kind.Int;
-  parameters = 0;
-  kinds = kind.Int ∷ replicate p.pointers (kind.Ptr 0);
-  scopes = scopes_of p;
-  blocks = record { facts = facts_of (scopes_of p); code = code_of p.steps p.answer } ∷ [];
-}
+use Rattle.code_form.specs.declared.allocation.Allocation.{Allocation}
+use Rattle.code_form.specs.Code.{Core, Frame, Running, Scope, Shut, Aimed, Stopped, code, cells_of, int_of, of_int, sizes, written}
+use Rattle.c0far.specs.Fragment.{Program, image_of, main_code}
 
 -- `main` before these instructions
 abbrev pub at : Program → List i.Instruction → ℕ → List ℕ → List Scope → List Allocation → Core
-at p rest number pointers scopes al = Running (record { function = function_of p; rest = rest; registers = number ∷ pointers; scopes = scopes; destination = None }) [] al []
+at p rest number pointers scopes al = Running (record { function = main_code p; rest = rest; registers = number ∷ pointers; scopes = scopes; destination = None }) [] al []
 
 -- an allocation of one int
 abbrev pub one : Allocation

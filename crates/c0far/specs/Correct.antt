@@ -6,7 +6,8 @@ use Rattle.c0_typed.specs.Trees.{Program}
 use Rattle.c0_typed.specs.Meaning.{mean}
 use Rattle.code_form.specs.Form.{Image}
 use Rattle.code_form.specs.Effects.{code_run}
-use Rattle.code_form.specs.Code.{Allocation, Stopped, Stuck, output_of, code}
+use Rattle.code_form.specs.declared.allocation.Allocation.{Allocation}
+use Rattle.code_form.specs.Code.{Stopped, Stuck, output_of, code}
 
 -- The image and the program's bounded meaning agree both ways, and the image is never stuck
 pub record Behaves (P : Program) (checks : Bool) (C : Image) : Type 0 where

@@ -114,15 +114,16 @@ abbrev pub facts_of : ℕ → List Fact
 facts_of zero = []
 facts_of (suc n) = fact.Shut 0 ∷ []
 
+-- `main`
+abbrev pub main_code : Program → i.Function
+main_code p = record {
+  result = Some kind.Int;
+  parameters = 0;
+  kinds = kind.Int ∷ replicate p.pointers (kind.Ptr 0);
+  scopes = scopes_of p;
+  blocks = record { facts = facts_of (scopes_of p); code = code_of p.steps p.answer } ∷ [];
+}
+
 -- the image
 abbrev pub image_of : Program → i.Image
-image_of p = record {
-  head = record { texts = []; layouts = (kind.Int ∷ []) ∷ [] };
-  functions = record {
-    result = Some kind.Int;
-    parameters = 0;
-    kinds = kind.Int ∷ replicate p.pointers (kind.Ptr 0);
-    scopes = scopes_of p;
-    blocks = record { facts = facts_of (scopes_of p); code = code_of p.steps p.answer } ∷ [];
-  } ∷ [];
-}
+image_of p = record { head = record { texts = []; layouts = (kind.Int ∷ []) ∷ [] }; functions = main_code p ∷ [] }

@@ -1,2 +1,7 @@
+pub mod Compiled
 pub mod Correct
 pub mod Fragment
+pub mod Reads
+pub mod Statuses
+pub mod Trees
+pub mod Views

@@ -17,3 +17,11 @@ pub(crate) enum Answer {
     /// `*x`
     Read(u32),
 }
+
+/// `main` with its pointers to int.
+#[derive(Debug, Drop)]
+pub(crate) struct Program {
+    pub(crate) pointers: u32,
+    pub(crate) steps: Vec<Step>,
+    pub(crate) answer: Answer,
+}

@@ -1,7 +1,36 @@
-//! A compiler for C0 and a runtime with a heap of evacuated objects.
+//! A compiler for C0, and a runtime whose heap may be larger than local memory.
 #![tactic(auto)]
 
+mod compile;
+mod drive;
+mod execute;
+mod files;
 mod fragment;
+mod generate;
 mod laws;
+mod line;
+mod names;
+mod reader;
+mod tests;
+mod words;
 
-fn main() {}
+use std::alloc::{AllocError, Global};
+use std::env;
+use std::io;
+use std::process::ExitCode;
+
+use crate::drive::drive;
+use crate::files::FolderFiles;
+
+fn main(rt: HostRuntime) -> io::Result<ExitCode> {
+    let words: Vec<String> = env::args(&rt)?.collect(rt.alloc())?;
+    let mut names: Vec<&str> = Vec::new(rt.alloc());
+    for word in &words {
+        names.push(word.as_str())?;
+    }
+    let mut out = io::writer(&rt);
+    let mut err = rt.stderr();
+    let mut files = FolderFiles::new(&rt);
+    let status = drive(rt.alloc(), &rt, &names, &mut files, &mut out, &mut err);
+    Ok(ExitCode::from(status))
+}

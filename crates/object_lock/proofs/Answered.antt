@@ -1,14 +1,16 @@
 -- What a begin tells, and what a seat has in its hands when it gives a berth back.
-use Rattle.std.proofs.Common.{◌≡◌, ◌<◌, ℕ, List, [], ◌∷◌, sym, refl, ap, ap₂, ◌∙◌, subst}
+use Rattle.std.proofs.Common.{◌≡◌, ◌<◌, ℕ, suc, ◌+◌, List, [], ◌∷◌, ◌++◌, arith, sym, refl, ap, ap₂, ◌∙◌, subst}
 use Rattle.std.specs.Prelude.{Option, Some, None}
 use mathlib.Core.Path.{Path}
 use Rattle.atomic_table.specs.Table.{Me, rest}
 use Rattle.pointer_word.specs.Words.{Place, Away, Coming, Here, Leaving, framed}
-use Rattle.pointer_word.specs.Hands.{Hand, Note, told}
+use Rattle.pointer_word.specs.Hands.{Hand, Note, listed, told, filling}
 use Rattle.pointer_word.specs.Calls.{Filled}
+use Rattle.pointer_word.specs.Ordered.{IsFilled}
+use Rattle.pointer_word.proofs.Ordered.{filled_one}
 use Rattle.remote_store.specs.declared.berth.Berth.{Berth}
 use Rattle.object_lock.specs.declared.answers.Begin.{Begin}
-use Rattle.object_lock.specs.Seats.{View, note, with_note}
+use Rattle.object_lock.specs.Seats.{View, note, with_note, with_hand}
 use Rattle.object_lock.specs.Rule.{PlaceIn}
 use Rattle.object_lock.specs.Kept.{slot_keeps, berth_keeps}
 use Rattle.object_lock.specs.Plays.{Confirms}
@@ -64,3 +66,17 @@ module _ {C : Type 0} (content : C → Option (List ℕ)) (o : ℕ) where
 
 pub filled_at : (h : Type 0) (n k : ℕ) (x y : Hand) → n ≡ k → x ≡ y → Filled h k y → Filled h n x
 filled_at h n k x y e d f = subst (λ (q : ℕ). Filled h q x) (sym e) (subst (Filled h k) (sym d) f)
+
+-- one more fill of the claimed frame
+pub refilled : {C : Type 0} (first old new : SeatView C) (i v : ℕ) → old ≡ record first { view = with_hand first.view (record first.view.hand { filled = old.view.hand.filled }) }
+    → new ≡ record old { view = with_hand old.view (filling old.view.hand i v) } → new ≡ record first { view = with_hand first.view (record first.view.hand { filled = new.view.hand.filled }) }
+refilled {C} first old new i v a b =
+    let g : new.view.hand.filled ≡ old.view.hand.filled ++ (i, v) ∷ [] = ap (λ (s : SeatView C). s.view.hand.filled) b in
+    b ∙ (ap (λ (s : SeatView C). record s { view = with_hand s.view (filling s.view.hand i v) }) a
+    ∙ (ap (λ (xs : List (ℕ × ℕ)). record first { view = with_hand first.view (record first.view.hand { filled = xs }) }) (sym g)))
+
+pub filled_on : {C : Type 0} (old new : SeatView C) (ws : List ℕ) (i v : ℕ) → new ≡ record old { view = with_hand old.view (filling old.view.hand i v) } → listed ws i ≡ v → IsFilled old.view.hand ws i → IsFilled new.view.hand ws (i + 1)
+filled_on {C} old new ws i v b e is =
+    let one : suc i ≡ i + 1 = omega arith in
+    subst (λ (k : ℕ). IsFilled new.view.hand ws k) one (subst (λ (x : Hand). IsFilled x ws (suc i)) (sym (ap (λ (s : SeatView C). s.view.hand) b))
+    (subst (λ (q : ℕ). IsFilled (filling old.view.hand i q) ws (suc i)) e (filled_one old.view.hand ws i is)))

@@ -6,6 +6,7 @@ mod config;
 mod heap;
 mod port;
 mod raw;
+mod tests;
 
 pub use berth::Berth;
 pub use config::{Config, Stores};

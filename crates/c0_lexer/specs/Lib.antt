@@ -1,0 +1,6 @@
+pub mod Characters
+pub mod Ends
+pub mod Lexed
+pub mod Numbers
+pub mod Pieces
+pub mod Tables

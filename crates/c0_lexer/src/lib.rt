@@ -1,0 +1,15 @@
+// From the text of a program to its tokens.
+#![tactic(auto)]
+
+mod byte;
+mod comment;
+pub mod lex;
+mod literal;
+mod longest;
+mod number;
+mod piece;
+mod table;
+#[cfg(test)]
+mod tests;
+pub mod token;
+mod word;

@@ -1,0 +1,21 @@
+use Rattle.std.proofs.Common.{ap, map, subst, sym}
+use Rattle.c0_lexer.specs.Lexed.{lexeme}
+use Rattle.code_form.specs.Form as form
+use Rattle.c0far.specs.Compiled.{HasTokens}
+use Rattle.c0far.specs.Correct.{Behaves}
+use Rattle.c0far.specs.Fragment.{typed_of}
+use Rattle.c0far.specs.Views.{program_of, tree_of}
+use Rattle.c0far.proofs.Places.{compiled, has_tokens, tokens_are}
+use Rattle.c0far.proofs.compile.compile.Goals as goal
+
+pub read-requires : goal.read-requires
+read-requires c =
+    let e = c.in_ok-tokens.ensures in
+    tokens_are c.args.text.now c.in_ok-source.source _ _ _ c.in_ok-source.ensures c.source.view_is c.source.invariant e.spelled e.rise (ap (map lexeme) c.deref.ensures.value)
+
+pub returns-clause-compiled : goal.returns-clause-compiled
+returns-clause-compiled c =
+    let e = c.in_ok-tokens.ensures in
+    let spelled = has_tokens c.args.text.now c.in_ok-source.source _ _ c.in_ok-source.ensures c.source.view_is c.source.invariant e.spelled in
+    compiled c.args.text.now c.args._checks _ _ c.in_ok-tree.tree c.in_ok-program.program (form.image_of c.in_ok-generate.field-0) spelled (ap (map lexeme) c.deref.ensures.value) c.in_ok-tree.ensures.found c.in_ok-tree.ensures.small
+    c.in_ok-program.ensures.resolved c.in_ok-program.ensures.within.0 c.image_behaves.ensures c.in_ok-generate.ensures

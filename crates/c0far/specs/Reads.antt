@@ -1,0 +1,105 @@
+-- Which tokens are a first program, and with which tokens none goes on.
+use Rattle.std.specs.Prelude.{◌≡◌, ℕ, ◌+◌, ◌<◌, ◌≤◌, List, [], ◌∷◌, ◌++◌, length, Option, Some, slice_get, codes, take}
+use Rattle.c0_source.specs.declared.kind.Kind.TheVariants as k
+use Rattle.c0_source.specs.declared.fault.Fault.{Fault}
+use Rattle.c0_source.specs.declared.fault.FaultKind.{FaultKind}
+use Rattle.c0_source.specs.declared.fault.FaultKind.TheVariants as f
+use Rattle.c0_source.specs.FaultNumbers.{memory_fault}
+use Rattle.c0_source.specs.Spelling.{Lexeme}
+use Rattle.c0far.specs.declared.reader.Shape.{Shape}
+use Rattle.c0far.specs.declared.reader.Shape.TheVariants.{Exactly, Main, AnyName, AnyNumber}
+use Rattle.c0far.specs.declared.reader.TheConstants.{HEADER, DECLARATION, WRITE, RETURN_NUMBER, RETURN_READ}
+use Rattle.c0far.specs.Trees.{Name, Statement, Declares, Writes, Returned, Constant, Reads, Tree, behind_all}
+
+-- a token is as asked for
+abbrev pub Fits : Shape → Lexeme → Type 0
+Fits (Exactly kind) t = t.kind ≡ kind
+Fits Main t = (t.kind ≡ k.Name) × (t.text ≡ codes "main")
+Fits AnyName t = t.kind ≡ k.Name
+Fits AnyNumber t = (value : ℕ) × (t.kind ≡ k.Number value)
+
+-- these tokens, one by one
+abbrev pub AllFit : List Shape → List Lexeme → Type 0
+AllFit [] [] = Unit {0}
+AllFit (s ∷ ss) (t ∷ ts) = Fits s t × AllFit ss ts
+AllFit _ _ = ⊥
+
+-- the name that a token is
+abbrev pub name_of : Lexeme → Name
+name_of t = record { text = t.text; span = record { start = t.start; end = t.start + length t.text } }
+
+-- the token of this number is this name
+abbrev pub IsNamed : List Lexeme → ℕ → Name → Type 0
+IsNamed ts at x = (t : Lexeme) × (slice_get ts at ≡ Some t) × (x ≡ name_of t)
+
+-- the token of this number is this number
+abbrev pub IsNumbered : List Lexeme → ℕ → ℕ → Type 0
+IsNumbered ts at value = (t : Lexeme) × (slice_get ts at ≡ Some t) × (t.kind ≡ k.Number value)
+
+-- the tokens are this statement
+abbrev pub IsStatement : List Lexeme → Statement → Type 0
+IsStatement ts (Declares x) = AllFit DECLARATION ts × IsNamed ts 2 x
+IsStatement ts (Writes x value) = AllFit WRITE ts × IsNamed ts 1 x × IsNumbered ts 3 value
+
+-- the tokens are this `return` and all behind it
+abbrev pub IsReturned : List Lexeme → Returned → Type 0
+IsReturned ts (Constant value) = AllFit RETURN_NUMBER ts × IsNumbered ts 1 value
+IsReturned ts (Reads x) = AllFit RETURN_READ ts × IsNamed ts 2 x
+
+-- the tokens are these statements, and then this `return`
+abbrev pub IsBody : List Lexeme → List Statement → Returned → Type 0
+IsBody ts [] r = IsReturned ts r
+IsBody ts (s ∷ ss) r = (front : List Lexeme) × (back : List Lexeme) × (ts ≡ front ++ back) × IsStatement front s × IsBody back ss r
+
+-- the tokens are this program, with any number of pointers
+pub record IsTree (ts : List Lexeme) (t : Tree) : Type 0 where
+  pub front : List Lexeme
+  pub back : List Lexeme
+  pub whole : ts ≡ front ++ back
+  pub header : AllFit HEADER front
+  pub body : IsBody back t.statements t.returned
+
+-- no more pointers than a function may have
+abbrev pub IsSmall : Tree → Type 0
+IsSmall t = length (behind_all [] t.statements) ≤ 1024
+
+-- some program begins with these tokens
+abbrev pub GoesOn : List Lexeme → Type 0
+GoesOn us = (rest : List Lexeme) × (t : Tree) × IsTree (us ++ rest) t
+
+-- some program with no more pointers than a function may have begins with these tokens
+abbrev pub GoesOnSmall : List Lexeme → Type 0
+GoesOnSmall us = (rest : List Lexeme) × (t : Tree) × IsTree (us ++ rest) t × IsSmall t
+
+-- the fault stands at a token: a program begins with those before it, and none with it too
+pub record NoWayOn (ts : List Lexeme) (fault : Fault) : Type 0 where
+  pub number : ℕ
+  pub at : Lexeme
+  pub there : slice_get ts number ≡ Some at
+  pub span : fault.span ≡ (name_of at).span
+  pub before : GoesOn (take number ts)
+  pub none : GoesOn (take (number + 1) ts) → ⊥
+
+-- the fault stands at a token: a program begins with the tokens up to it, but none that has few pointers enough
+pub record OneTooMany (ts : List Lexeme) (fault : Fault) : Type 0 where
+  pub number : ℕ
+  pub at : Lexeme
+  pub there : slice_get ts number ≡ Some at
+  pub span : fault.span ≡ (name_of at).span
+  pub begun : GoesOn (take (number + 1) ts)
+  pub none : GoesOnSmall (take (number + 1) ts) → ⊥
+
+-- why tokens are refused, by the kind of the fault
+abbrev pub RefusedFor : FaultKind → List Lexeme → Fault → Type 0
+RefusedFor f.Syntax ts fault = NoWayOn ts fault
+RefusedFor f.TooLarge ts fault = OneTooMany ts fault
+RefusedFor f.OutOfMemory ts fault = fault ≡ memory_fault
+RefusedFor _ ts fault = ⊥
+
+-- tokens of a text: the last one stands at its end, and no place is beyond the limit of texts
+pub record AreTokens (ts : List Lexeme) : Type 0 where
+  pub all : List Lexeme
+  pub end : Lexeme
+  pub ended : ts ≡ all ++ end ∷ []
+  pub last : end.kind ≡ k.EndOfText
+  pub placed : (i : ℕ) (t : Lexeme) → slice_get ts i ≡ Some t → t.start + length t.text ≤ 1048576

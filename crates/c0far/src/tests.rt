@@ -1,0 +1,161 @@
+#[cfg(test)]
+mod tests {
+    use std::alloc::{AllocError, Global};
+    use std::io;
+    use std::io::Write;
+    use std::sync::Wait;
+    use std::test::Fail;
+
+    use crate::drive::drive;
+    use crate::files::{FileError, Files, MemFiles};
+    use crate::line::line;
+    use crate::words::{Line, Usage};
+
+    /// What a command printed, and its status.
+    #[derive(Drop)]
+    struct Told {
+        status: u8,
+        out: Vec<u8>,
+        err: Vec<u8>,
+    }
+
+    /// A writer that refuses each write.
+    #[derive(Drop)]
+    struct Closed;
+
+    impl Write for Closed {
+        fn write(&mut self, _bytes: &[u8]) -> io::Result<usize> {
+            Err(io::Error::from(io::ErrorKind::BrokenPipe))
+        }
+
+        fn flush(&mut self) -> io::Result<()> {
+            Ok(())
+        }
+    }
+
+    fn command<W: Wait>(alloc: Global, rt: &W, words: &[&str], files: &mut MemFiles) -> Told {
+        let mut out = Vec::new(alloc);
+        let mut err = Vec::new(alloc);
+        let status = drive(alloc, rt, words, files, &mut out, &mut err);
+        Told { status, out, err }
+    }
+
+    /// `c0far run NAME` with this text in the file.
+    fn run_file<W: Wait>(alloc: Global, rt: &W, name: &str, text: &[u8]) -> Result<Told, FileError> {
+        let mut files = MemFiles::new(alloc);
+        files.write(alloc, name, text)?;
+        let words = ["c0far", "run", name];
+        Ok(command(alloc, rt, &words, &mut files))
+    }
+
+    /// The same of a text that is no file's bytes but the body of `main`.
+    fn run_body<W: Wait>(alloc: Global, rt: &W, body: &str) -> Result<Told, Fail> {
+        let text = format!(in alloc; "int main() {{ {body} }}")?;
+        Ok(run_file(alloc, rt, "a.c0", text.as_bytes())?)
+    }
+
+    fn allocations(alloc: Global, count: u32) -> Result<String, AllocError> {
+        let mut body = String::new(alloc);
+        for number in 0..count {
+            body.push_str(format!(in alloc; "int* p{number} = alloc(int); ")?.as_str())?;
+        }
+        body.push_str("return 0;")?;
+        Ok(body)
+    }
+
+    #[test]
+    fn results(rt: HostRuntime) -> Result<(), Fail> {
+        let told = run_body(rt.alloc(), &rt, "int* p = alloc(int); *p = 7; return *p;")?;
+        assert_eq!(rt; told.out.as_slice(), b"result: 7\n".as_slice());
+        assert_eq!(rt; told.status, 0);
+        let told = run_body(rt.alloc(), &rt, "int* p = alloc(int); return *p;")?;
+        assert_eq!(rt; told.out.as_slice(), b"result: 0\n".as_slice());
+        let told = run_body(rt.alloc(), &rt, "return 0;")?;
+        assert_eq!(rt; told.out.as_slice(), b"result: 0\n".as_slice());
+        assert_eq!(rt; told.err.len(), 0);
+        let told = run_body(rt.alloc(), &rt, "return 2147483648;")?;
+        assert_eq!(rt; told.out.as_slice(), b"result: -2147483648\n".as_slice());
+        Ok(())
+    }
+
+    #[test]
+    fn objects(rt: HostRuntime) -> Result<(), Fail> {
+        let body = allocations(rt.alloc(), 65)?;
+        let told = run_body(rt.alloc(), &rt, body.as_str())?;
+        assert_eq!(rt; told.out.as_slice(), b"no objects\n".as_slice());
+        assert_eq!(rt; told.status, 3);
+        let body = allocations(rt.alloc(), 64)?;
+        let told = run_body(rt.alloc(), &rt, body.as_str())?;
+        assert_eq!(rt; told.out.as_slice(), b"result: 0\n".as_slice());
+        assert_eq!(rt; told.status, 0);
+        Ok(())
+    }
+
+    #[test]
+    fn faults(rt: HostRuntime) -> Result<(), Fail> {
+        let text = b"int main() { int* p = alloc(int); *q = 1; return 0; }";
+        let told = run_file(rt.alloc(), &rt, "q.c0", text)?;
+        assert_eq!(rt; told.err.as_slice(), b"q.c0:1:36: fault 30 UnknownName\n".as_slice());
+        assert_eq!(rt; told.status, 2);
+        assert_eq!(rt; told.out.len(), 0);
+        let text = b"int main() { return 2147483649; }";
+        let told = run_file(rt.alloc(), &rt, "k.c0", text)?;
+        assert_eq!(rt; told.err.as_slice(), b"k.c0:1:21: fault 11 BadToken\n".as_slice());
+        let text = b"int main() { int* p = alloc(int);\n int* p = alloc(int); return 0; }";
+        let told = run_file(rt.alloc(), &rt, "d.c0", text)?;
+        assert_eq!(rt; told.err.as_slice(), b"d.c0:2:7: fault 32 DuplicateName\n".as_slice());
+        let told = run_file(rt.alloc(), &rt, "b.c0", b"int main() { break; return 0; }")?;
+        assert_eq!(rt; told.err.as_slice(), b"b.c0:1:14: fault 20 Syntax\n".as_slice());
+        Ok(())
+    }
+
+    #[test]
+    fn bad_input(rt: HostRuntime) -> Result<(), Fail> {
+        let told = run_file(rt.alloc(), &rt, "e.c0", b"")?;
+        assert_eq!(rt; told.err.as_slice(), b"e.c0:1:1: fault 20 Syntax\n".as_slice());
+        assert_eq!(rt; told.status, 2);
+        let told = run_file(rt.alloc(), &rt, "h.c0", b"int main() { return 0; } \xff")?;
+        assert_eq!(rt; told.err.as_slice(), b"h.c0:1:26: fault 10 BadByte\n".as_slice());
+        let long = vec![in rt.alloc(); b' '; 1_048_577]?;
+        let told = run_file(rt.alloc(), &rt, "l.c0", long.as_slice())?;
+        assert_eq!(rt; told.err.as_slice(), b"l.c0:1:1048577: fault 22 TooLarge\n".as_slice());
+        let told = run_file(rt.alloc(), &rt, "o.c0", b"/* /* */ int main() { return 0; }")?;
+        assert_eq!(rt; told.err.as_slice(), b"o.c0:1:1: fault 12 OpenComment\n".as_slice());
+        let mut files = MemFiles::new(rt.alloc());
+        let words = ["c0far", "run", "none.c0"];
+        let told = command(rt.alloc(), &rt, &words, &mut files);
+        assert_eq!(rt; told.err.as_slice(), b"none.c0: cannot be read\n".as_slice());
+        assert_eq!(rt; told.status, 2);
+        Ok(())
+    }
+
+    #[test]
+    fn command_lines(rt: HostRuntime) -> Result<(), Fail> {
+        let words = ["c0far", "run", "a.c0"];
+        assert_eq!(rt; line(rt.alloc(), &words), Ok(Line::Run { file: "a.c0" }));
+        let words = ["c0far", "walk", "a.c0"];
+        assert_eq!(rt; line(rt.alloc(), &words), Err(Usage::Refused));
+        let words = ["c0far", "run"];
+        assert_eq!(rt; line(rt.alloc(), &words), Err(Usage::Refused));
+        let words = ["c0far"];
+        assert_eq!(rt; line(rt.alloc(), &words), Err(Usage::Refused));
+        let mut files = MemFiles::new(rt.alloc());
+        let told = command(rt.alloc(), &rt, &words, &mut files);
+        assert_eq!(rt; told.status, 2);
+        assert_eq!(rt; told.out.len(), 0);
+        Ok(())
+    }
+
+    #[test]
+    fn closed_streams(rt: HostRuntime) -> Result<(), Fail> {
+        let mut files = MemFiles::new(rt.alloc());
+        files.write(rt.alloc(), "a.c0", b"int main() { return 0; }")?;
+        let words = ["c0far", "run", "a.c0"];
+        let mut err: Vec<u8> = Vec::new(rt.alloc());
+        assert_eq!(rt; drive(rt.alloc(), &rt, &words, &mut files, &mut Closed, &mut err), 2);
+        let words = ["c0far", "run", "none.c0"];
+        let mut out: Vec<u8> = Vec::new(rt.alloc());
+        assert_eq!(rt; drive(rt.alloc(), &rt, &words, &mut files, &mut out, &mut Closed), 2);
+        Ok(())
+    }
+}
