@@ -1,5 +1,5 @@
 //! How a table is made with all its seats.
-ghost use Rattle.std.specs.Prelude.{◌≡◌, ℕ, ◌+◌, ◌-◌, ◌*◌, ◌/◌, ◌<◌, ◌≤◌, true, None, IfOk, [], length, suc};
+ghost use Rattle.std.specs.Prelude.{◌≡◌, ◌≢◌, ℕ, ◌+◌, ◌-◌, ◌*◌, ◌/◌, ◌<◌, ◌≤◌, true, None, IfOk, IfErr, [], length, suc};
 ghost use mathlib.Core.Option.{some};
 ghost use lib.ListN.{get_elem?};
 ghost use Rattle.std.specs.List.{All};
@@ -21,7 +21,8 @@ fn empty_berths<S: RawStore>(
     store: &S,
     objects: usize,
 ) -> Result<Vec<Option<Berth<S::Cell>>>, Want>
-    ensures { IfOk result (λ v. (length v.items ≡ objects) × ((o : ℕ) → o < length v.items → (b : _) × (get_elem? v.items o ≡ some b) × slot_keeps S.content b o [])) }
+    ensures made { IfOk result (λ v. (length v.items ≡ objects) × ((o : ℕ) → o < length v.items → (b : _) × (get_elem? v.items o ≡ some b) × slot_keeps S.content b o [])) }
+    ensures wants { IfErr result (λ want. want ≢ Want.NoObjects) }
 {
     let mut slots = Vec::new(alloc);
     while slots.len() < objects {
@@ -44,7 +45,8 @@ impl<S: RawStore> ObjectTable<S> {
     ) -> Result<OwnerSeat<S>, Want>
         requires table { IsSeat self.now last.old × (0 < self.now.sizes.objects) }
         requires last { (last.old.view.last ≡ true) × (last.old.view.number < 65535) × (share ≡ last.old.view.share) × (last.old.view.low + share ≤ last.old.view.high) }
-        ensures { IfOk result (λ next. (last.new ≡ record last.old { view = first_part last.old.view }) × (next.table ≡ last.old.table) × (next.view ≡ next_owner last.old.view) × (next.brought ≡ None) × (next.taken ≡ None) × (next.refusals ≡ 0)) }
+        ensures made { IfOk result (λ next. (last.new ≡ record last.old { view = first_part last.old.view }) × (next.table ≡ last.old.table) × (next.view ≡ next_owner last.old.view) × (next.brought ≡ None) × (next.taken ≡ None) × (next.refusals ≡ 0)) }
+        ensures wants { IfErr result (λ want. want ≢ Want.NoObjects) }
     {
         let port = Port::new(stores.one(alloc)?);
         let seat = self.words.split_owner(&mut last.seat);
@@ -70,7 +72,8 @@ impl<S: RawStore> ObjectTable<S> {
     ) -> Result<MoverSeat<S>, Want>
         requires table { IsSeat self.now last.old × (0 < self.now.sizes.objects) }
         requires last { (last.old.view.last ≡ true) × (last.old.view.number < 65535) × (last.old.view.low ≤ last.old.view.high) }
-        ensures { IfOk result (λ next. (last.new ≡ record last.old { view = whole_part last.old.view }) × (next.table ≡ last.old.table) × (next.view ≡ next_mover last.old.view) × (next.brought ≡ None) × (next.taken ≡ None) × (next.refusals ≡ 0)) }
+        ensures made { IfOk result (λ next. (last.new ≡ record last.old { view = whole_part last.old.view }) × (next.table ≡ last.old.table) × (next.view ≡ next_mover last.old.view) × (next.brought ≡ None) × (next.taken ≡ None) × (next.refusals ≡ 0)) }
+        ensures wants { IfErr result (λ want. want ≢ Want.NoObjects) }
     {
         let port = Port::new(stores.one(alloc)?);
         let seat = self.words.split_mover(&mut last.seat);
@@ -96,7 +99,8 @@ impl<S: RawStore> ObjectTable<S> {
     ) -> Result<(Vec<OwnerSeat<S>>, OwnerSeat<S>), Want>
         requires numbers { (0 < self.now.sizes.objects) × (0 < programs) × (programs ≤ 256) }
         requires first { IsLastOwner self.now share programs 0 first }
-        ensures { IfOk result (λ t. AreNumbered 1 (programs - 1) t.0.items × All (IsFreshOwner self.now share) t.0.items × IsLastOwner self.now share programs (programs - 1) t.1) }
+        ensures made { IfOk result (λ t. AreNumbered 1 (programs - 1) t.0.items × All (IsFreshOwner self.now share) t.0.items × IsLastOwner self.now share programs (programs - 1) t.1) }
+        ensures wants { IfErr result (λ want. want ≢ Want.NoObjects) }
     {
         let mut owners = Vec::new(alloc);
         let mut last = first;
@@ -120,7 +124,8 @@ impl<S: RawStore> ObjectTable<S> {
     ) -> Result<Vec<MoverSeat<S>>, Want>
         requires numbers { (0 < self.now.sizes.objects) × (owner.old.view.number + count < 65535) }
         requires owner { IsFresh self.now owner.old × (owner.old.view.low ≤ owner.old.view.high) × (owner.old.view.last ≡ true) }
-        ensures { IfOk result (λ v. AreNumbered (suc owner.old.view.number) count v.items × All (IsFreshMover self.now) v.items × (owner.new ≡ record owner.old { view = record owner.old.view { last = owner.new.view.last } })) }
+        ensures made { IfOk result (λ v. AreNumbered (suc owner.old.view.number) count v.items × All (IsFreshMover self.now) v.items × (owner.new ≡ record owner.old { view = record owner.old.view { last = owner.new.view.last } })) }
+        ensures wants { IfErr result (λ want. want ≢ Want.NoObjects) }
     {
         let mut movers = Vec::new(alloc);
         if count == 0 {
@@ -152,7 +157,8 @@ impl<S: RawStore> ObjectTable<S> {
     ) -> Result<(Vec<OwnerSeat<S>>, Vec<MoverSeat<S>>), Want>
         requires numbers { (0 < self.now.sizes.objects) × (0 < programs) × (programs ≤ 256) × (count ≤ 128) }
         requires first { IsLastOwner self.now share programs 0 first }
-        ensures { IfOk result (λ t. AreNumbered 1 programs t.0.items × All (IsFreshOwner self.now share) t.0.items × AreNumbered (suc programs) count t.1.items × All (IsFreshMover self.now) t.1.items) }
+        ensures made { IfOk result (λ t. AreNumbered 1 programs t.0.items × All (IsFreshOwner self.now share) t.0.items × AreNumbered (suc programs) count t.1.items × All (IsFreshMover self.now) t.1.items) }
+        ensures wants { IfErr result (λ want. want ≢ Want.NoObjects) }
     {
         let (mut owners, mut last) = self.owners(alloc, stores, first, programs, share)?;
         let movers = self.movers(alloc, stores, &mut last, count)?;
@@ -171,9 +177,10 @@ impl<S: RawStore> ObjectTable<S> {
         config: &Config<M>,
     ) -> Result<(ObjectTable<S>, Vec<OwnerSeat<S>>, Vec<MoverSeat<S>>), Want>
         requires limits { IsWithinLimits programs config.now.frames config.now.objects config.now.evacuators config.now.fetchers }
-        ensures { IfOk result (λ t. (t.0.sizes ≡ sizes_of config.now.objects config.now.frames)
+        ensures made { IfOk result (λ t. (t.0.sizes ≡ sizes_of config.now.objects config.now.frames)
             × AreNumbered 1 programs t.1.items × All (IsFreshOwner t.0 (config.now.objects / programs)) t.1.items
             × AreNumbered (suc programs) (config.now.evacuators + config.now.fetchers) t.2.items × All (IsFreshMover t.0) t.2.items) }
+        ensures wants { IfErr result (λ want. want ≢ Want.NoObjects) }
     {
         let port = Port::new(config.stores.one(alloc)?);
         let share = config.objects / programs;

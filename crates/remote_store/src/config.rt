@@ -1,4 +1,6 @@
 //! The numbers of a system, and what makes its stores.
+ghost use Rattle.std.specs.Prelude.{◌≢◌, IfErr};
+
 use crate::raw::RawStore;
 use cells::Want;
 use std::alloc::Global;
@@ -8,7 +10,8 @@ pub trait Stores {
     type S: RawStore + Send + Drop;
 
     /// One more way to the store. `OutOfMemory` where a growth is refused, `StoreFailed` where the store can't be reached.
-    fn one(&self, alloc: Global) -> Result<Self::S, Want>;
+    fn one(&self, alloc: Global) -> Result<Self::S, Want>
+        ensures { IfErr result (λ want. want ≢ Want.NoObjects) };
 }
 
 /// How many frames, objects, evacuators and fetchers a system has, and its stores.

@@ -1,5 +1,5 @@
 //! One mover's way to the store.
-ghost use Rattle.std.specs.Prelude.{◌≡◌, ℕ, ◌+◌, ◌%◌, List, Option, Some, length, IfOk, MatchResult};
+ghost use Rattle.std.specs.Prelude.{◌≡◌, ◌≢◌, ℕ, ◌+◌, ◌%◌, List, Option, Some, length, IfOk, IfErr, MatchResult};
 
 use crate::port::Failed;
 use cells::Want;
@@ -27,7 +27,8 @@ pub trait RawStore: Drop {
 
     /// A new cell for `ROW_WORDS` words. `OutOfMemory` where its growth is refused, `StoreFailed` where the
     /// store has no more.
-    fn cell(&self, alloc: Global) -> Result<Self::Cell, Want>;
+    fn cell(&self, alloc: Global) -> Result<Self::Cell, Want>
+        ensures { IfErr result (λ want. want ≢ Want.NoObjects) };
 
     /// Writes `ROW_WORDS` words into the cell. After a failure nothing is known of what the cell holds.
     fn write(&mut self, c: &mut Self::Cell, w: &[u64]) -> Result<(), Failed>

@@ -13,7 +13,7 @@ next_owner-requires-clause-last g c κs within =
 
 pub loop-program-preserved : goal.loop-program-preserved
 loop-program-preserved g c =
-    let e = c.in_default.ensures.items in let i = c.loop-program.invariant in let n = c.in_ok-next.ensures in let l = c.loop-program-test.true in
+    let e = c.in_default.ensures.items in let i = c.loop-program.invariant in let n = c.in_ok-next.ensures.made in let l = c.loop-program-test.true in
     let t = c.args.self.now in let s = c.loop-program.last in let s' = c.next_owner.new.last in let k = c.loop-program._program in let xs = c.loop-program.owners.items in
     let number : s'.view.number ≡ 1 + k = ap (λ (q : SeatView g.row.S-Cell.Denot). q.view.number) n.0 ∙ (let h = i.2.1 in omega arith) in (
       subst (λ (ys : List (SeatView g.row.S-Cell.Denot)). AreNumbered 1 (k + 1) ys) (sym e) (numbered_on 1 k xs s' i.0 number),
@@ -21,8 +21,8 @@ loop-program-preserved g c =
       owner_next t c.args.share c.args.programs k s c.in_ok-next.next i.2 n.1 n.2 n.3 n.4 n.5,
     )
 
-pub returns : goal.returns
-returns g c =
+pub returns-clause-made : goal.returns-clause-made
+returns-clause-made g c =
     let i = c.loop-program.invariant in let a = c.loop-program-test.false in let b = c.loop-program.auto._program-end in let k = c.loop-program._program in
     let e : k ≡ c.args.programs - 1 = omega arith in
     subst (λ (q : ℕ). AreNumbered 1 q c.loop-program.owners.items × All (IsFreshOwner c.args.self.now c.args.share) c.loop-program.owners.items × IsLastOwner c.args.self.now c.args.share c.args.programs q c.loop-program.last) e i

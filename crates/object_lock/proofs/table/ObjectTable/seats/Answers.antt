@@ -5,9 +5,9 @@ use Rattle.object_lock.specs.Fresh.{IsFreshOwner, IsFreshMover, AreNumbered}
 use Rattle.object_lock.proofs.SeatRows.{numbered_on, all_on, last_done}
 use Rattle.object_lock.proofs.table.ObjectTable.seats.Goals as goal
 
-pub returns : goal.returns
-returns g c =
-    let e = c.in_default.ensures.items in let o = c.in_ok-owners.ensures in let m = c.in_ok-movers.ensures in let t = c.args.self.now in
+pub returns-clause-made : goal.returns-clause-made
+returns-clause-made g c =
+    let e = c.in_default.ensures.items in let o = c.in_ok-owners.ensures.made in let m = c.in_ok-movers.ensures.made in let t = c.args.self.now in
     let s = c.in_ok-owners.last in let s' = c.movers.new.owner in let n = c.args.programs in let xs = c.in_ok-owners.owners.items in let some_programs = c.requires.numbers.1 in
     let is = o.2.1 in let whole : n - 1 + 1 ≡ n = omega arith in let number : s.view.number ≡ n = omega arith in
     let number' : s'.view.number ≡ 1 + (n - 1) = ap (λ (q : SeatView g.row.S-Cell.Denot). q.view.number) m.2 ∙ (omega arith) in (
