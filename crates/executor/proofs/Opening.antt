@@ -14,7 +14,7 @@ use Rattle.code_form.specs.Tracked.{WaitsShut, is_running}
 use Rattle.code_form.specs.declared.touch.Touch.TheVariants as touch
 use Rattle.pointer_word.specs.Hands.{Note, blank, latest_of}
 use Rattle.remote_store.specs.Kept.{piece_cells}
-use Rattle.object_lock.specs.Fresh.{IsFreshOwner}
+use Rattle.object_lock.specs.Fresh.{IsFresh}
 use Rattle.object_lock.specs.SeatViews.{SeatView, TableView}
 use Rattle.object_lock.specs.Seats.{View, note}
 use Rattle.executor.specs.declared.hold.Hold.{Hold}
@@ -51,13 +51,13 @@ begins_so (Some g) = at_block (slice_get g.blocks 0)
     at_block None = record { none = refl; holds = λ k. refl; waits = tt }
     at_block (Some x) = record { none = refl; holds = λ k. shut_scopes g.scopes k; waits = tt }
 
-pub blank_seat : {C : Type 0} (t : TableView) (share : ℕ) (s : SeatView C) → IsFreshOwner t share s → IsBlank s.view
-blank_seat t share s f =
-    let seat = f.0.0 in
-    let hand = f.0.1 in
+pub blank_seat : {C : Type 0} (t : TableView) (s : SeatView C) → IsFresh t s → s.view.low ≤ s.view.high → IsBlank s.view
+blank_seat t s f low =
+    let seat = f.0 in
+    let hand = f.1 in
     record {
-      notes = λ o. ap (λ ns. slice_index_or ns o blank) f.0.2 ∙ at_all blank t.sizes.objects o;
-      low = let a = f.2 in omega arith;
+      notes = λ o. ap (λ ns. slice_index_or ns o blank) f.2 ∙ at_all blank t.sizes.objects o;
+      low = low;
       wide = seat.3;
       small = let a = seat.2 in let b = seat.4.0 in omega arith;
       cells = ap (λ z. z.cells) seat.1 ∙ seat.4.2;
@@ -96,8 +96,8 @@ opened_run honest C v f few =
       };
     }
 
-pub fresh_run : {C : Type 0} (honest : Type 0) (t : TableView) (share : ℕ) (s : SeatView C) (image : Image) → IsFreshOwner t share s → most_scopes image.functions ≤ 4 → IsRun honest (begin image s.view)
-fresh_run honest t share s image f few = opened_run honest image s.view (blank_seat t share s f) few
+pub fresh_run : {C : Type 0} (honest : Type 0) (t : TableView) (s : SeatView C) (image : Image) → IsFresh t s → s.view.low ≤ s.view.high → most_scopes image.functions ≤ 4 → IsRun honest (begin image s.view)
+fresh_run honest t s image f low few = opened_run honest image s.view (blank_seat t s f low) few
 
 -- where the program has stopped every scope is shut
 stopped_holds : (c : Core) (x : Stop) (k : ℕ) → stop_of c ≡ Some x → held c k ≡ None

@@ -6,8 +6,8 @@ ghost use Rattle.code_form.specs.Code.{Covered, most_scopes, output_of, stop_of}
 ghost use Rattle.code_form.specs.Form.{image_of};
 ghost use Rattle.executor.specs.Keeping.{IsRun};
 ghost use Rattle.executor.specs.State.{AllShut, IsAt, IsGoing, Ran, State, begin};
-ghost use Rattle.object_lock.specs.Fresh.{IsFreshOwner};
-ghost use Rattle.std.specs.Prelude.{◌≡◌, ◌≢◌, ◌+◌, ◌<◌, ◌≤◌, ◌^◌, ℕ, MatchResult, Some};
+ghost use Rattle.object_lock.specs.Fresh.{IsFresh};
+ghost use Rattle.std.specs.Prelude.{◌≡◌, ◌≢◌, ◌+◌, ◌<◌, ◌≤◌, ◌^◌, MatchResult, Some};
 
 use cells::{Run, Want};
 use code_form::{Image, effect_laws, heap_laws, run_laws};
@@ -46,7 +46,8 @@ impl<'a, S: RawStore> Session<'a, S> {
         image: &'a Image,
         seat: OwnerSeat<S>,
     ) -> Result<Session<'a, S>, Want>
-        requires seat { (share : ℕ) × IsFreshOwner table.now share seat }
+        requires fresh { IsFresh table.now seat }
+        requires own { seat.view.low ≤ seat.view.high }
         requires scopes { most_scopes (image_of image.now).functions ≤ 4 }
         ensures { MatchResult result (λ s. s ≡ begin (image_of image.now) seat.view) (λ want. want ≡ OutOfMemory) }
     {
