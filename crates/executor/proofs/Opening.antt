@@ -1,5 +1,5 @@
 -- A session at its beginning is where the run of its code begins; and a covered image's code is never stuck.
-use Rattle.std.proofs.Common.{◌≡◌, ◌≢◌, ◌⊎◌, inl, inr, ℕ, zero, suc, ◌+◌, ◌<◌, ◌≤◌, Bool, true, false, List, [], ◌∷◌, length, refl, sym, ap, ◌∙◌, subst, arith}
+use Rattle.std.proofs.Common.{◌≡◌, ◌≢◌, inl, inr, ℕ, zero, suc, ◌+◌, ◌<◌, ◌≤◌, true, false, [], refl, sym, ap, ◌∙◌, subst, arith}
 use Rattle.std.specs.Prelude.{Option, Some, None, replicate, slice_get, slice_index_or}
 use Rattle.cells.specs.Stops.{Stop}
 use Rattle.cells.specs.declared.ending.Run.{Run}
@@ -8,18 +8,16 @@ use Rattle.cells.specs.declared.ending.Want.TheVariants.{StoreFailed}
 use Rattle.code_form.specs.Form.{Block, Function, Image}
 use Rattle.code_form.specs.Effects.{code_run}
 use Rattle.code_form.specs.Code.{Core, Covered, effect, IsCovered, IsStuck, Running, Shut, Stopped, Stuck, allocations_of, begins, cells_of, code, entered, held, held_by, is_blocked, most_scopes, sizes, stop_of}
-use Rattle.code_form.specs.Placed.{next_object}
 use Rattle.code_form.specs.Touches.{cell_option, loaded, resumed}
 use Rattle.code_form.specs.Tracked.{WaitsShut, is_running}
 use Rattle.code_form.specs.declared.touch.Touch.TheVariants as touch
 use Rattle.pointer_word.specs.Hands.{Note, blank, latest_of}
-use Rattle.remote_store.specs.Kept.{piece_cells}
 use Rattle.object_lock.specs.Fresh.{IsFresh}
 use Rattle.object_lock.specs.SeatViews.{SeatView, TableView}
-use Rattle.object_lock.specs.Seats.{View, note}
+use Rattle.object_lock.specs.Seats.{View}
 use Rattle.executor.specs.declared.hold.Hold.{Hold}
-use Rattle.executor.specs.State.{AllShut, Caused, IsAt, IsGoing, Ran, State, begin, cells_in, hold_at, latest_in, next_touch}
-use Rattle.executor.specs.Keeping.{IsBlank, IsHolding, IsNext, IsRun, IsSafe, Matches, count_of}
+use Rattle.executor.specs.State.{AllShut, Caused, IsGoing, Matches, Ran, State, begin, hold_at}
+use Rattle.executor.specs.Keeping.{IsBlank, IsHolding, IsNext, IsRun, IsSafe, count_of}
 use Rattle.executor.proofs.Laws.{Ended, Laws, ended}
 use Rattle.executor.proofs.Running.{HeapLaws, next_run}
 
@@ -145,7 +143,7 @@ never_stuck honest laws heaps s run q cover going cause =
       | inl wrong ↦
           let n = next_run heaps C j s.core touch.Wrong a.core wrong in
           let stuck : IsStuck (code_run (code C) (j + 1)).0 ≡ true =
-              ap (λ z. IsStuck z.0) n ∙ subst (λ y. Ended y s.core (resumed (effect C s.core) s.core (loaded (code_run (code C) j).1 touch.Wrong))) wrong (ended s.core (effect C s.core) _ (laws.ends C s.core)) in
+          ap (λ z. IsStuck z.0) n ∙ subst (λ y. Ended y s.core (resumed (effect C s.core) s.core (loaded (code_run (code C) j).1 touch.Wrong))) wrong (ended s.core (effect C s.core) _ (laws.ends C s.core)) in
           covered_not_stuck most (code_run (code C) (j + 1)).0 (cover.everywhere (j + 1)) stuck
       | inr other ↦ elim other [
         | inl nothing ↦
