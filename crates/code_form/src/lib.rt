@@ -7,6 +7,7 @@ mod execution;
 mod form;
 mod kinds;
 mod laws;
+#[cfg(test)]
 mod tests;
 mod touch;
 

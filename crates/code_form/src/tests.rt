@@ -1,142 +1,140 @@
-#[cfg(test)]
-mod tests {
-    use crate::{
-        Block, Cell, Execution, Fact, Function, Image, Instruction, Kind, Touch, computed,
-        run_laws, stuck,
+//! The touches of a program, in order.
+use crate::{
+    Block, Cell, Execution, Fact, Function, Image, Instruction, Kind, Touch, computed, run_laws,
+    stuck,
+};
+use cells::Stop;
+use std::alloc::{AllocError, Global};
+use std::test::Fail;
+
+/// Writes 5 into a new struct, reads it back and returns it.
+fn writes_and_reads(alloc: Global) -> Result<Image, AllocError> {
+    let aim = Instruction::Aim {
+        scope: 0,
+        register: 0,
+        offset: None,
+        displacement: 0,
     };
-    use cells::Stop;
-    use std::alloc::{AllocError, Global};
-    use std::test::Fail;
+    let code = vec![in alloc;
+        Instruction::Alloc { to: 0, layout: 0 },
+        Instruction::Const { to: 1, value: 5 },
+        Instruction::CheckNull { register: 0 },
+        aim,
+        Instruction::Store { scope: 0, from: 1 },
+        Instruction::Leave { scope: 0 },
+        aim,
+        Instruction::Load { to: 1, scope: 0 },
+        Instruction::Leave { scope: 0 },
+        Instruction::Return { from: 1 },
+    ]?;
+    image_with(alloc, code)
+}
 
-    /// Writes 5 into a new struct, reads it back and returns it.
-    fn writes_and_reads(alloc: Global) -> Result<Image, AllocError> {
-        let aim = Instruction::Aim {
-            scope: 0,
-            register: 0,
-            offset: None,
-            displacement: 0,
-        };
-        let code = vec![in alloc;
-            Instruction::Alloc { to: 0, layout: 0 },
-            Instruction::Const { to: 1, value: 5 },
-            Instruction::CheckNull { register: 0 },
-            aim,
-            Instruction::Store { scope: 0, from: 1 },
-            Instruction::Leave { scope: 0 },
-            aim,
-            Instruction::Load { to: 1, scope: 0 },
-            Instruction::Leave { scope: 0 },
-            Instruction::Return { from: 1 },
-        ]?;
-        image_with(alloc, code)
-    }
+/// One block with these instructions, over a pointer and a number.
+fn image_with(alloc: Global, code: Vec<Instruction>) -> Result<Image, AllocError> {
+    let block = Block {
+        facts: vec![in alloc; Fact::Shut(0)]?,
+        code,
+    };
+    let main = Function {
+        result: Some(Kind::Int),
+        parameters: 0,
+        kinds: vec![in alloc; Kind::Ptr(0), Kind::Int]?,
+        scopes: 1,
+        blocks: vec![in alloc; block]?,
+    };
+    Ok(Image {
+        texts: Vec::new(alloc),
+        layouts: vec![in alloc; vec![in alloc; Kind::Int]?]?,
+        functions: vec![in alloc; main]?,
+    })
+}
 
-    /// One block with these instructions, over a pointer and a number.
-    fn image_with(alloc: Global, code: Vec<Instruction>) -> Result<Image, AllocError> {
-        let block = Block {
-            facts: vec![in alloc; Fact::Shut(0)]?,
-            code,
-        };
-        let main = Function {
-            result: Some(Kind::Int),
-            parameters: 0,
-            kinds: vec![in alloc; Kind::Ptr(0), Kind::Int]?,
-            scopes: 1,
-            blocks: vec![in alloc; block]?,
-        };
-        Ok(Image {
-            texts: Vec::new(alloc),
-            layouts: vec![in alloc; vec![in alloc; Kind::Int]?]?,
-            functions: vec![in alloc; main]?,
-        })
+/// Does the next instruction, where a load gives this value.
+fn step(execution: &mut Execution, loaded: u64) -> Result<(), AllocError> {
+    match execution.next() {
+        Touch::Allocs(_) => execution.allocate()?,
+        Touch::Plain
+        | Touch::Aims(..)
+        | Touch::Loads(..)
+        | Touch::Saves(..)
+        | Touch::Leaves(_)
+        | Touch::Ends
+        | Touch::Wrong
+        | Touch::Nothing => execution.proceed(loaded),
     }
+    Ok(())
+}
 
-    /// Does the next instruction, where a load gives this value.
-    fn step(execution: &mut Execution, loaded: u64) -> Result<(), AllocError> {
-        match execution.next() {
-            Touch::Allocs(_) => execution.allocate()?,
-            Touch::Plain
-            | Touch::Aims(..)
-            | Touch::Loads(..)
-            | Touch::Saves(..)
-            | Touch::Leaves(_)
-            | Touch::Ends
-            | Touch::Wrong
-            | Touch::Nothing => execution.proceed(loaded),
-        }
-        Ok(())
-    }
+#[test]
+fn laws(_rt: HostRuntime) -> Result<(), Fail> {
+    computed();
+    stuck();
+    run_laws();
+    effect_laws();
+    heap_laws();
+    Ok(())
+}
 
-    #[test]
-    fn laws(_rt: HostRuntime) -> Result<(), Fail> {
-        computed();
-        stuck();
-        run_laws();
-        effect_laws();
-        heap_laws();
-        Ok(())
+#[test]
+fn touches_in_order(rt: HostRuntime) -> Result<(), Fail> {
+    let image = writes_and_reads(rt.alloc())?;
+    let mut execution = Execution::new(rt.alloc(), &image)?;
+    let cell = Cell {
+        reference: 1,
+        index: 0,
+    };
+    assert_eq!(rt; execution.is_blocked(), false);
+    let touches = [
+        Touch::Allocs(1),
+        Touch::Plain,
+        Touch::Plain,
+        Touch::Aims(0, Some(cell)),
+        Touch::Saves(0, cell, 5),
+        Touch::Leaves(0),
+        Touch::Aims(0, Some(cell)),
+        Touch::Loads(0, cell),
+        Touch::Leaves(0),
+        Touch::Ends,
+        Touch::Nothing,
+    ];
+    for touch in touches {
+        assert_eq!(rt; execution.next(), touch);
+        step(&mut execution, 5)?;
     }
+    assert_eq!(rt; execution.stop(), Some(Stop::Ended(5)));
+    assert_eq!(rt; execution.output().len(), 0);
+    Ok(())
+}
 
-    #[test]
-    fn touches_in_order(rt: HostRuntime) -> Result<(), Fail> {
-        let image = writes_and_reads(rt.alloc())?;
-        let mut execution = Execution::new(rt.alloc(), &image)?;
-        let cell = Cell {
-            reference: 1,
-            index: 0,
-        };
-        assert_eq!(rt; execution.is_blocked(), false);
-        let touches = [
-            Touch::Allocs(1),
-            Touch::Plain,
-            Touch::Plain,
-            Touch::Aims(0, Some(cell)),
-            Touch::Saves(0, cell, 5),
-            Touch::Leaves(0),
-            Touch::Aims(0, Some(cell)),
-            Touch::Loads(0, cell),
-            Touch::Leaves(0),
-            Touch::Ends,
-            Touch::Nothing,
-        ];
-        for touch in touches {
-            assert_eq!(rt; execution.next(), touch);
-            step(&mut execution, 5)?;
-        }
-        assert_eq!(rt; execution.stop(), Some(Stop::Ended(5)));
-        assert_eq!(rt; execution.output().len(), 0);
-        Ok(())
-    }
+#[test]
+fn null_stops(rt: HostRuntime) -> Result<(), Fail> {
+    let code = vec![in rt.alloc();
+        Instruction::Null { to: 0 },
+        Instruction::CheckNull { register: 0 },
+    ]?;
+    let image = image_with(rt.alloc(), code)?;
+    let mut execution = Execution::new(rt.alloc(), &image)?;
+    step(&mut execution, 0)?;
+    assert_eq!(rt; execution.next(), Touch::Ends);
+    step(&mut execution, 0)?;
+    assert_eq!(rt; execution.stop(), Some(Stop::NullFault));
+    Ok(())
+}
 
-    #[test]
-    fn null_stops(rt: HostRuntime) -> Result<(), Fail> {
-        let code = vec![in rt.alloc();
-            Instruction::Null { to: 0 },
-            Instruction::CheckNull { register: 0 },
-        ]?;
-        let image = image_with(rt.alloc(), code)?;
-        let mut execution = Execution::new(rt.alloc(), &image)?;
-        step(&mut execution, 0)?;
-        assert_eq!(rt; execution.next(), Touch::Ends);
-        step(&mut execution, 0)?;
-        assert_eq!(rt; execution.stop(), Some(Stop::NullFault));
-        Ok(())
-    }
-
-    #[test]
-    fn blocked_by_an_open_scope(rt: HostRuntime) -> Result<(), Fail> {
-        let aim = Instruction::Aim {
-            scope: 0,
-            register: 0,
-            offset: None,
-            displacement: 0,
-        };
-        let code = vec![in rt.alloc(); aim, Instruction::Alloc { to: 0, layout: 0 }]?;
-        let image = image_with(rt.alloc(), code)?;
-        let mut execution = Execution::new(rt.alloc(), &image)?;
-        assert_eq!(rt; execution.next(), Touch::Aims(0, None));
-        step(&mut execution, 0)?;
-        assert_eq!(rt; execution.is_blocked(), true);
-        Ok(())
-    }
+#[test]
+fn blocked_by_an_open_scope(rt: HostRuntime) -> Result<(), Fail> {
+    let aim = Instruction::Aim {
+        scope: 0,
+        register: 0,
+        offset: None,
+        displacement: 0,
+    };
+    let code = vec![in rt.alloc(); aim, Instruction::Alloc { to: 0, layout: 0 }]?;
+    let image = image_with(rt.alloc(), code)?;
+    let mut execution = Execution::new(rt.alloc(), &image)?;
+    assert_eq!(rt; execution.next(), Touch::Aims(0, None));
+    step(&mut execution, 0)?;
+    assert_eq!(rt; execution.is_blocked(), true);
+    Ok(())
 }

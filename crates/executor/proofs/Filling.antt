@@ -1,5 +1,5 @@
 -- The words of a frame that is being filled.
-use Rattle.std.proofs.Common.{◌≡◌, ◌≢◌, ℕ, zero, suc, ◌+◌, ◌<◌, ◌==◌, cond, Bool, List, [], ◌∷◌, ◌++◌, sym, refl, ap, ◌∙◌, eq-eqb, ne_eqb, arith, below_more}
+use Rattle.std.proofs.Common.{◌≡◌, ◌≢◌, ℕ, zero, suc, ◌+◌, ◌==◌, cond, Bool, List, [], ◌∷◌, ◌++◌, sym, refl, ap, ◌∙◌, eq-eqb, ne_eqb, arith, below_more}
 use Rattle.std.specs.Prelude.{Option, Some, None, replicate}
 use Rattle.pointer_word.specs.Hands.{later, listed, seen}
 use Rattle.executor.specs.Taken.{FilledBelow}

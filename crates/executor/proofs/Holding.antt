@@ -1,12 +1,12 @@
 -- How the scopes' holds and the seat's stay the same.
-use Rattle.std.proofs.Common.{◌≡◌, ◌≢◌, ◌⊎◌, inl, inr, ℕ, zero, suc, ◌+◌, ◌-◌, ◌<◌, ◌≤◌, Bool, true, false, cond, List, [], ◌∷◌, length, refl, sym, ap, ◌∙◌, subst, arith, eq-eqb, ne_eqb}
+use Rattle.std.proofs.Common.{◌≡◌, ◌≢◌, ◌⊎◌, inl, inr, ℕ, suc, ◌+◌, ◌-◌, ◌<◌, Bool, true, false, cond, List, length, refl, sym, ap, ◌∙◌, subst, arith, ne_eqb}
 use Rattle.std.specs.Prelude.{◌==◌, Option, Some, None, slice_index_or, slice_set}
 use Rattle.std.proofs.lemmas.Bool.Decides.{eqb_tells}
 use Rattle.std.proofs.lemmas.List.{get_or-set_same, get_or-set_other, length-set}
 use Rattle.pointer_word.specs.Hands.{Note, blank, closed, opened}
 use Rattle.object_lock.specs.Seats.{Owns, Sizes, View, note, with_note}
 use Rattle.executor.specs.declared.hold.Hold.{Hold}
-use Rattle.executor.specs.Taken.{IsQuiet, Takes}
+use Rattle.executor.specs.Taken.{IsQuiet}
 use Rattle.executor.specs.State.{State, cells_in, hold_at}
 use Rattle.executor.specs.Keeping.{Changes, Holds, IsHeld, IsHolding, IsPlaced, a_hold, one, shut_at}
 use Rattle.executor.proofs.Counts.{one_is, one_not, one_le, two_le, count-set}

@@ -1,5 +1,5 @@
 -- A session at its beginning is where the run of its code begins; and a covered image's code is never stuck.
-use Rattle.std.proofs.Common.{◌≡◌, ◌≢◌, ◌⊎◌, inl, inr, ℕ, zero, suc, ◌+◌, ◌<◌, ◌≤◌, Bool, true, false, List, [], ◌∷◌, length, refl, sym, ap, ◌∙◌, subst, arith}
+use Rattle.std.proofs.Common.{◌≡◌, ◌≢◌, inl, inr, ℕ, zero, suc, ◌+◌, ◌<◌, ◌≤◌, true, false, [], refl, sym, ap, ◌∙◌, subst, arith}
 use Rattle.std.specs.Prelude.{Option, Some, None, replicate, slice_get, slice_index_or}
 use Rattle.cells.specs.Stops.{Stop}
 use Rattle.cells.specs.declared.ending.Run.{Run}
@@ -8,18 +8,16 @@ use Rattle.cells.specs.declared.ending.Want.TheVariants.{StoreFailed}
 use Rattle.code_form.specs.Form.{Block, Function, Image}
 use Rattle.code_form.specs.Effects.{code_run}
 use Rattle.code_form.specs.Code.{Core, Covered, effect, IsCovered, IsStuck, Running, Shut, Stopped, Stuck, allocations_of, begins, cells_of, code, entered, held, held_by, is_blocked, most_scopes, sizes, stop_of}
-use Rattle.code_form.specs.Placed.{next_object}
 use Rattle.code_form.specs.Touches.{cell_option, loaded, resumed}
 use Rattle.code_form.specs.Tracked.{WaitsShut, is_running}
 use Rattle.code_form.specs.declared.touch.Touch.TheVariants as touch
 use Rattle.pointer_word.specs.Hands.{Note, blank, latest_of}
-use Rattle.remote_store.specs.Kept.{piece_cells}
-use Rattle.object_lock.specs.Fresh.{IsFreshOwner}
+use Rattle.object_lock.specs.Fresh.{IsFresh}
 use Rattle.object_lock.specs.SeatViews.{SeatView, TableView}
-use Rattle.object_lock.specs.Seats.{View, note}
+use Rattle.object_lock.specs.Seats.{View}
 use Rattle.executor.specs.declared.hold.Hold.{Hold}
-use Rattle.executor.specs.State.{AllShut, Caused, IsAt, IsGoing, Ran, State, begin, cells_in, hold_at, latest_in, next_touch}
-use Rattle.executor.specs.Keeping.{IsBlank, IsHolding, IsNext, IsRun, IsSafe, Matches, count_of}
+use Rattle.executor.specs.State.{AllShut, Caused, IsGoing, Matches, Ran, State, begin, hold_at}
+use Rattle.executor.specs.Keeping.{IsBlank, IsHolding, IsNext, IsRun, IsSafe, count_of}
 use Rattle.executor.proofs.Laws.{Ended, Laws, ended}
 use Rattle.executor.proofs.Running.{HeapLaws, next_run}
 
@@ -51,13 +49,13 @@ begins_so (Some g) = at_block (slice_get g.blocks 0)
     at_block None = record { none = refl; holds = λ k. refl; waits = tt }
     at_block (Some x) = record { none = refl; holds = λ k. shut_scopes g.scopes k; waits = tt }
 
-pub blank_seat : {C : Type 0} (t : TableView) (share : ℕ) (s : SeatView C) → IsFreshOwner t share s → IsBlank s.view
-blank_seat t share s f =
-    let seat = f.0.0 in
-    let hand = f.0.1 in
+pub blank_seat : {C : Type 0} (t : TableView) (s : SeatView C) → IsFresh t s → s.view.low ≤ s.view.high → IsBlank s.view
+blank_seat t s f low =
+    let seat = f.0 in
+    let hand = f.1 in
     record {
-      notes = λ o. ap (λ ns. slice_index_or ns o blank) f.0.2 ∙ at_all blank t.sizes.objects o;
-      low = let a = f.2 in omega arith;
+      notes = λ o. ap (λ ns. slice_index_or ns o blank) f.2 ∙ at_all blank t.sizes.objects o;
+      low = low;
       wide = seat.3;
       small = let a = seat.2 in let b = seat.4.0 in omega arith;
       cells = ap (λ z. z.cells) seat.1 ∙ seat.4.2;
@@ -96,8 +94,8 @@ opened_run honest C v f few =
       };
     }
 
-pub fresh_run : {C : Type 0} (honest : Type 0) (t : TableView) (share : ℕ) (s : SeatView C) (image : Image) → IsFreshOwner t share s → most_scopes image.functions ≤ 4 → IsRun honest (begin image s.view)
-fresh_run honest t share s image f few = opened_run honest image s.view (blank_seat t share s f) few
+pub fresh_run : {C : Type 0} (honest : Type 0) (t : TableView) (s : SeatView C) (image : Image) → IsFresh t s → s.view.low ≤ s.view.high → most_scopes image.functions ≤ 4 → IsRun honest (begin image s.view)
+fresh_run honest t s image f low few = opened_run honest image s.view (blank_seat t s f low) few
 
 -- where the program has stopped every scope is shut
 stopped_holds : (c : Core) (x : Stop) (k : ℕ) → stop_of c ≡ Some x → held c k ≡ None
@@ -145,7 +143,7 @@ never_stuck honest laws heaps s run q cover going cause =
       | inl wrong ↦
           let n = next_run heaps C j s.core touch.Wrong a.core wrong in
           let stuck : IsStuck (code_run (code C) (j + 1)).0 ≡ true =
-              ap (λ z. IsStuck z.0) n ∙ subst (λ y. Ended y s.core (resumed (effect C s.core) s.core (loaded (code_run (code C) j).1 touch.Wrong))) wrong (ended s.core (effect C s.core) _ (laws.ends C s.core)) in
+          ap (λ z. IsStuck z.0) n ∙ subst (λ y. Ended y s.core (resumed (effect C s.core) s.core (loaded (code_run (code C) j).1 touch.Wrong))) wrong (ended s.core (effect C s.core) _ (laws.ends C s.core)) in
           covered_not_stuck most (code_run (code C) (j + 1)).0 (cover.everywhere (j + 1)) stuck
       | inr other ↦ elim other [
         | inl nothing ↦

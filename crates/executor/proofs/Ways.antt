@@ -1,13 +1,13 @@
 -- Each kind of instruction keeps the scopes' holds as its program's scopes have them.
-use Rattle.std.proofs.Common.{◌≡◌, ◌≢◌, ◌⊎◌, inl, inr, ℕ, suc, ◌+◌, ◌-◌, ◌%◌, ◌<◌, ◌≤◌, Bool, true, false, cond, List, [], ◌∷◌, ◌++◌, length, refl, sym, ap, ◌∙◌, subst, arith}
-use Rattle.std.specs.Prelude.{◌==◌, Option, Some, None, slice_index_or, slice_set}
+use Rattle.std.proofs.Common.{◌≡◌, ◌≢◌, inl, inr, ℕ, ◌+◌, ◌%◌, ◌<◌, ◌≤◌, Bool, true, false, cond, [], ◌∷◌, ◌++◌, length, refl, sym, ap, ◌∙◌, subst, arith}
+use Rattle.std.specs.Prelude.{◌==◌, Option, Some, None}
 use Rattle.std.proofs.lemmas.Bool.Decides.{eqb_tells}
 use Rattle.std.proofs.lemmas.List.{get_or-set_same, get_or-set_other}
 use Rattle.code_form.specs.Effects.{upd}
-use Rattle.code_form.specs.Code.{Core, allocations_of, effect, held, is_blocked, most_scopes, sizes}
+use Rattle.code_form.specs.Code.{Core, allocations_of, effect, held, most_scopes, sizes}
 use Rattle.code_form.specs.Placed.{object_at, pieces}
 use Rattle.code_form.specs.Touches.{cell_option, cells_asked, resumed}
-use Rattle.code_form.specs.Tracked.{HoldsSame, HoldsSameBut, WaitsShut}
+use Rattle.code_form.specs.Tracked.{HoldsSameBut, WaitsShut}
 use Rattle.code_form.specs.declared.touch.Cell.{Cell}
 use Rattle.code_form.specs.declared.touch.Touch.{Touch}
 use Rattle.code_form.specs.declared.touch.Touch.TheVariants as touch
@@ -15,11 +15,11 @@ use Rattle.pointer_word.specs.Hands.{Note, added, blank, latest_of, or_zero}
 use Rattle.remote_store.specs.Kept.{piece_cells}
 use Rattle.object_lock.specs.Seats.{Owns, View, note, with_note}
 use Rattle.executor.specs.declared.hold.Hold.{Hold}
-use Rattle.executor.specs.State.{AllShut, State, cells_in, hold_at, latest_in, next_touch, object_of}
-use Rattle.executor.specs.Keeping.{Changes, Closes, HasWriter, IsHeld, IsHolding, IsNext, IsPlaced, IsSafe, IsSimple, Matches, Moves, a_hold, extended, finished, shut, shut_at, written}
+use Rattle.executor.specs.State.{AllShut, Matches, State, cells_in, hold_at, latest_in, next_touch, object_of}
+use Rattle.executor.specs.Keeping.{Changes, Closes, HasWriter, IsHolding, IsNext, IsPlaced, IsSafe, Moves, a_hold, extended, finished, shut, shut_at, written}
 use Rattle.executor.proofs.Filling.{seen_else, seen_here}
-use Rattle.executor.proofs.Holding.{owned_here, stored_note}
-use Rattle.executor.proofs.Laws.{Does, Laws, Tidies, Tracks, does}
+use Rattle.executor.proofs.Holding.{owned_here}
+use Rattle.executor.proofs.Laws.{Does, Laws, does}
 use Rattle.executor.proofs.Writing.{holding_written}
 
 -- ---- what stays where only the program went on
@@ -81,7 +81,7 @@ module _ (laws : Laws) (s t u : State) (x : Touch) (v : ℕ) (safe : IsSafe s) (
       let holds : u.holds ≡ t.holds = ap (λ (y : State). y.holds) e in
       let cells_t : cells_in u ≡ cells_in t = cells ∙ sym (ap (λ (c : Core). sizes (allocations_of c)) core) in
       safe_with s u (holding_finished t u v e cells_t ok) (ap (λ (y : View). y.low) view ∙ low) cells did.waits
-        (λ k. subst (λ hs. Matches s (cell_option (held u.core k)) (hold_at hs k)) (sym holds) (scopes k))
+      (λ k. subst (λ hs. Matches s (cell_option (held u.core k)) (hold_at hs k)) (sym holds) (scopes k))
 
 -- ---- holds that stay
 
@@ -129,7 +129,7 @@ safe_left laws s t u k safe next ok ch l after e =
     let d = did laws s t u x 0 safe next ok ch.image ch.core ch.low e in
     let gone : hold_at t.holds k ≡ None = ap (λ (y : State). hold_at y.holds k) after ∙ shut_none s k (hold_at s.holds k) l refl in
     safe_after laws s t u x 0 safe next ok ch.image ch.core ch.low e d.tidies
-      (one_match s t u.core k none safe ch (ap cell_option d.tracks.0) d.tracks.1 (subst (λ h. Matches s none h) (sym gone) tt))
+    (one_match s t u.core k none safe ch (ap cell_option d.tracks.0) d.tracks.1 (subst (λ h. Matches s none h) (sym gone) tt))
 
 -- ---- loads and stores
 
@@ -196,10 +196,10 @@ safe_saved laws s t v u k a n i h safe next l e ok ch w d f =
     let p = did laws s v u x 0 safe next hv image core low f in
     let o = object_is s k a h safe (saves_cell laws s k a n safe next) e in
     let mine : Matches s (cell_option (held s.core k)) (hold_at v.holds k) =
-        subst (λ z. Matches s z (hold_at v.holds k)) (sym (saves_cell laws s k a n safe next))
-          (subst (λ z. Matches s (Some a) z) (sym (ap (λ hs. hold_at hs k) holds ∙ w)) o) in
+    subst (λ z. Matches s z (hold_at v.holds k)) (sym (saves_cell laws s k a n safe next))
+    (subst (λ z. Matches s (Some a) z) (sym (ap (λ hs. hold_at hs k) holds ∙ w)) o) in
     safe_after laws s v u x 0 safe next hv image core low f p.tidies
-      (λ j. subst (λ z. Matches s (cell_option z) (hold_at v.holds j)) (sym (p.tracks.1 j)) (kept v mine holds j))
+    (λ j. subst (λ z. Matches s (cell_option z) (hold_at v.holds j)) (sym (p.tracks.1 j)) (kept v mine holds j))
   where
     kept : (v' : State) → Matches s (cell_option (held s.core k)) (hold_at v'.holds k) → v'.holds ≡ t.holds → (j : ℕ) → Matches s (cell_option (held s.core j)) (hold_at v'.holds j)
     kept v' mine holds j =
@@ -214,7 +214,7 @@ pub safe_ended : Laws → (s t u : State) → IsSafe s → IsNext touch.Ends s �
 safe_ended laws s t u safe next ok ch all e =
     let d = did laws s t u touch.Ends 0 safe next ok ch.image ch.core ch.low e in
     safe_after laws s t u touch.Ends 0 safe next ok ch.image ch.core ch.low e d.tidies
-      (λ k. subst (λ z. Matches s (cell_option z) (hold_at t.holds k)) (sym (d.tracks k)) (subst (λ z. Matches s None z) (sym (all k)) tt))
+    (λ k. subst (λ z. Matches s (cell_option z) (hold_at t.holds k)) (sym (d.tracks k)) (subst (λ z. Matches s None z) (sym (all k)) tt))
 
 no_match : (s u : State) (x : Option Cell) (h : Option Hold) → x ≡ None → Matches s x h → Matches u None h
 no_match s u None None e m = tt
@@ -257,7 +257,7 @@ pub moves_loaded : (honest : Type 0) → Laws → (s u : State) (k : ℕ) (a : C
 moves_loaded honest laws s u k a v i h safe next e p got f =
     let o = object_is s k a h safe (loads_cell laws s k a safe next) e in
     subst (λ (y : State). Moves honest (touch.Loads k a) s y) (sym f)
-      (record { image = refl; want = refl; value = v; core = refl; loads = λ q. got q ∙ (ap (λ z. latest_in s.view z i) o ∙ ap (latest_in s.view (object_of s a)) p); stores = λ o i. refl; low = refl; high = refl; completed = refl })
+    (record { image = refl; want = refl; value = v; core = refl; loads = λ q. got q ∙ (ap (λ z. latest_in s.view z i) o ∙ ap (latest_in s.view (object_of s a)) p); stores = λ o i. refl; low = refl; high = refl; completed = refl })
 
 module _ (honest : Type 0) (s t u : State) (k : ℕ) (ch : Changes k s t) (e : u ≡ finished t 0) where
   pub moves_aimed : (w : Option Cell) → Moves honest (touch.Aims k w) s u
@@ -309,7 +309,7 @@ latest_added v o x n l p i =
     elim (eqb_tells p o) [
       | inl q ↦
           let new : (note (with_note v o (added (note v o) x n)) p).history ≡ (note v o).history ++ (x, n) ∷ [] =
-              ap (λ z. (note (with_note v o (added (note v o) x n)) z).history) q.1 ∙ ap (λ (y : Note). y.history) (get_or-set_same v.notes o (added (note v o) x n) blank l) in
+          ap (λ z. (note (with_note v o (added (note v o) x n)) z).history) q.1 ∙ ap (λ (y : Note). y.history) (get_or-set_same v.notes o (added (note v o) x n) blank l) in
           ap (λ ps. latest_of ps i) new ∙ (at_place ∙ sym (ap (λ (b : Bool). cond b (upd (latest_in v o) x n) (latest_in v p) i) q.0))
       | inr q ↦
           let old : (note (with_note v o (added (note v o) x n)) p).history ≡ (note v p).history = ap (λ (y : Note). y.history) (get_or-set_other v.notes o p (added (note v o) x n) blank q.1) in

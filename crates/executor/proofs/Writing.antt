@@ -1,6 +1,6 @@
 -- A hold that becomes one for writing, a store, and scopes that are shut one after the other.
-use Rattle.std.proofs.Common.{◌≡◌, ◌≢◌, inl, inr, ℕ, zero, suc, ◌+◌, ◌-◌, ◌/◌, ◌<◌, ◌≤◌, Bool, true, false, cond, List, [], ◌∷◌, ◌++◌, length, refl, sym, ap, ◌∙◌, subst, arith}
-use Rattle.std.specs.Prelude.{◌==◌, Option, Some, None, slice_index_or, slice_set}
+use Rattle.std.proofs.Common.{◌≡◌, ◌≢◌, inl, inr, ℕ, ◌+◌, ◌/◌, ◌<◌, ◌≤◌, true, false, cond, List, length, refl, sym, ap, ◌∙◌, subst, arith}
+use Rattle.std.specs.Prelude.{◌==◌, Option, Some, None, slice_set}
 use Rattle.std.proofs.lemmas.Bool.Decides.{eqb_tells, leb_tells}
 use Rattle.std.proofs.lemmas.List.{get_or_past, get_or-set_same, get_or-set_other, length-set, set-get_or}
 use Rattle.pointer_word.specs.Hands.{Note, added, blank, known as known_frame, writable}
@@ -11,8 +11,8 @@ use Rattle.code_form.specs.Touches.{IsCell}
 use Rattle.remote_store.specs.Kept.{piece_cells}
 use Rattle.executor.specs.declared.hold.Hold.{Hold}
 use Rattle.executor.specs.State.{State, cells_in, hold_at, object_of}
-use Rattle.executor.specs.Keeping.{Changes, Closes, HasWriter, Holds, HoldsObject, IsHeld, IsHolding, a_hold, cleared, count_of, first_of, one, shut, shut_at, written}
-use Rattle.executor.proofs.Holding.{changes_trans, held_along, hold_counts, holding_with, note_set, owned_here, stored_note, opened_hold}
+use Rattle.executor.specs.Keeping.{Changes, Closes, Holds, HoldsObject, IsHeld, IsHolding, a_hold, cleared, count_of, first_of, one, shut, shut_at, written}
+use Rattle.executor.proofs.Holding.{held_along, hold_counts, holding_with, note_set, owned_here, stored_note, opened_hold}
 use Rattle.executor.proofs.Counts.{count_room}
 use Rattle.executor.proofs.Places.{first_is, first_low, known, next_is, same_length}
 

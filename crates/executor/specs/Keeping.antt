@@ -1,16 +1,15 @@
 -- What a session keeps true between its steps, and what each step leaves.
-use Rattle.std.specs.Prelude.{◌≡◌, ◌≢◌, ℕ, suc, ◌+◌, ◌-◌, ◌/◌, ◌%◌, ◌<◌, ◌≤◌, ◌==◌, Bool, true, false, cond, List, [], ◌∷◌, ◌++◌, length, Option, Some, None, slice_index_or, slice_set}
+use Rattle.std.specs.Prelude.{◌≡◌, ◌≢◌, ℕ, suc, ◌+◌, ◌%◌, ◌<◌, ◌≤◌, ◌==◌, Bool, true, false, cond, List, [], ◌∷◌, length, Option, Some, None, slice_set}
 use Rattle.cells.specs.declared.ending.Want.{Want}
 use Rattle.cells.specs.declared.ending.Want.TheVariants.{OutOfMemory, NoObjects, StoreFailed}
 use Rattle.cells.specs.declared.ending.Run.{Run}
 use Rattle.cells.specs.declared.ending.Run.TheVariants.{Running, Stopped, Wanted}
 use Rattle.cells.specs.Stops.{stop_of as stop_read}
 use Rattle.code_form.specs.Effects.{upd}
-use Rattle.code_form.specs.Code.{effect, held, stop_of, is_blocked, most_scopes}
+use Rattle.code_form.specs.Code.{effect, stop_of, is_blocked, most_scopes}
 use Rattle.code_form.specs.Placed.{pieces}
-use Rattle.code_form.specs.Touches.{IsWithin, cell_option, cells_asked, resumed, touch_of}
+use Rattle.code_form.specs.Touches.{IsWithin, resumed}
 use Rattle.code_form.specs.Tracked.{WaitsShut}
-use Rattle.code_form.specs.declared.touch.Cell.{Cell}
 use Rattle.code_form.specs.declared.touch.Touch.{Touch}
 use Rattle.code_form.specs.declared.touch.Touch.TheVariants as touch
 use Rattle.pointer_word.specs.Hands.{added, blank, closed, writable}
@@ -18,7 +17,7 @@ use Rattle.remote_store.specs.Kept.{piece_cells}
 use Rattle.object_lock.specs.Seats.{Owns, View, note, with_note}
 use Rattle.executor.specs.declared.hold.Hold.{Hold}
 use Rattle.executor.specs.Taken.{IsQuiet, Takes}
-use Rattle.executor.specs.State.{AllShut, Caused, IsAt, IsGoing, State, cells_in, hold_at, latest_in, next_touch, object_of}
+use Rattle.executor.specs.State.{Caused, IsAt, IsGoing, ScopesHold, State, cells_in, hold_at, latest_in, next_touch, object_of}
 
 -- allocations, the newest first, take their objects one behind the other, from low on; next is the object behind them
 abbrev pub IsPlaced : ℕ → List ℕ → List ℕ → ℕ → Type 0
@@ -63,17 +62,10 @@ pub record IsHolding (s : State) : Type 0 where
   pub few : most_scopes s.image.functions ≤ 4
   pub quiet : IsQuiet s.view
 
--- a hold is of the object of this cell, and there is none where there is no cell
-abbrev pub Matches : State → Option Cell → Option Hold → Type 0
-Matches s None None = Unit {0}
-Matches s None (Some h) = ⊥
-Matches s (Some a) None = ⊥
-Matches s (Some a) (Some h) = h.object ≡ object_of s a
-
 -- between instructions: the scopes hold what the program's do
 pub record IsSafe (s : State) : Type 0 where
   pub holding : IsHolding s
-  pub scopes : (k : ℕ) → Matches s (cell_option (held s.core k)) (hold_at s.holds k)
+  pub scopes : ScopesHold s
   pub waits : WaitsShut s.core
 
 -- a session between instructions, which is where the run of its code is if the store is honest

@@ -1,24 +1,22 @@
 -- What a session is to its caller, and where its code run is.
-use Rattle.std.specs.Prelude.{◌≡◌, ◌≢◌, ◌⊎◌, ℕ, suc, ◌+◌, ◌-◌, ◌/◌, ◌%◌, ◌<◌, ◌≤◌, ◌==◌, Bool, true, false, cond, List, [], ◌∷◌, ◌++◌, length, Option, Some, None, slice_index_or, slice_set, replicate}
+use Rattle.std.specs.Prelude.{◌≡◌, ◌⊎◌, ℕ, ◌+◌, ◌<◌, ◌≤◌, true, List, [], Option, Some, None, slice_index_or, replicate}
 use Rattle.cells.specs.declared.ending.Want.{Want}
 use Rattle.cells.specs.declared.ending.Want.TheVariants.{OutOfMemory, NoObjects, StoreFailed}
 use Rattle.cells.specs.declared.ending.Run.{Run}
 use Rattle.cells.specs.declared.ending.Run.TheVariants.{Running, Stopped, Wanted}
 use Rattle.cells.specs.Stops.{stop_of as stop_read}
 use Rattle.code_form.specs.Form.{Image}
-use Rattle.code_form.specs.Effects.{upd, code_run}
-use Rattle.code_form.specs.Code.{Core, sizes, allocations_of, effect, code, held, stop_of, is_blocked, most_scopes}
+use Rattle.code_form.specs.Effects.{code_run}
+use Rattle.code_form.specs.Code.{Core, sizes, allocations_of, effect, code, held, stop_of, is_blocked}
 use Rattle.code_form.specs.Placed.{SameHeap, next_object, object_at, pieces}
-use Rattle.code_form.specs.Touches.{IsWithin, cell_option, resumed, touch_of}
-use Rattle.code_form.specs.Tracked.{WaitsShut}
+use Rattle.code_form.specs.Touches.{cell_option, touch_of}
 use Rattle.code_form.specs.declared.touch.Cell.{Cell}
 use Rattle.code_form.specs.declared.touch.Touch.{Touch}
 use Rattle.code_form.specs.declared.touch.Touch.TheVariants as touch
-use Rattle.pointer_word.specs.Hands.{Note, added, blank, closed, latest_of, writable}
+use Rattle.pointer_word.specs.Hands.{latest_of}
 use Rattle.remote_store.specs.Kept.{piece_cells}
-use Rattle.object_lock.specs.Seats.{Owns, View, note, with_note}
+use Rattle.object_lock.specs.Seats.{View, note}
 use Rattle.executor.specs.declared.hold.Hold.{Hold}
-use Rattle.executor.specs.Taken.{IsQuiet, Takes}
 
 -- A session: its image, where its program is, what each scope holds, the first object of each allocation, the newest first, the next
 -- object, what its seat knows, how many instructions were completed, and what it wants if it wants anything
@@ -55,6 +53,17 @@ hold_at hs k = slice_index_or hs k None
 -- every scope holds nothing
 abbrev pub AllShut : State → Type 0
 AllShut s = (k : ℕ) → hold_at s.holds k ≡ None
+
+-- a hold is of the object of this cell, and there is none where there is no cell
+abbrev pub Matches : State → Option Cell → Option Hold → Type 0
+Matches s None None = Unit {0}
+Matches s None (Some h) = ⊥
+Matches s (Some a) None = ⊥
+Matches s (Some a) (Some h) = h.object ≡ object_of s a
+
+-- each scope holds the piece of the cell that its program's scope has, and nothing where that has none
+abbrev pub ScopesHold : State → Type 0
+ScopesHold s = (k : ℕ) → Matches s (cell_option (held s.core k)) (hold_at s.holds k)
 
 -- the session's program is where the run of its code is, and its cells are the latest stores
 pub record IsAt (s : State) : Type 0 where

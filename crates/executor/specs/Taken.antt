@@ -1,6 +1,6 @@
 -- What bringing an object into a frame leaves of its owner's seat.
 use Rattle.std.specs.Prelude.{◌≡◌, ℕ, ◌<◌, Option, Some, None, List}
-use Rattle.pointer_word.specs.Hands.{Hand, claiming, listed, opened, seen, told}
+use Rattle.pointer_word.specs.Hands.{claiming, listed, opened, seen, told}
 use Rattle.object_lock.specs.Seats.{View, note, with_hand, with_note}
 use Rattle.object_lock.specs.SeatViews.{SeatView}
 

@@ -53,11 +53,7 @@ fn claim<R: Wait, S: RawStore>(
 
 /// The words that the berth of the object keeps that is being brought in: zeros where nothing was put there. Asks the store again
 /// where that refuses.
-fn read<R: Wait, S: RawStore>(
-    rt: &R,
-    owner: &mut OwnerSeat<S>,
-    obj: usize,
-) -> [u64; PIECE_CELLS]
+fn read<R: Wait, S: RawStore>(rt: &R, owner: &mut OwnerSeat<S>, obj: usize) -> [u64; PIECE_CELLS]
     requires brings { owner.old.view.hand.bringing ≡ Some obj }
     ensures length { length result ≡ PIECE_CELLS }
     ensures same { owner.new ≡ record owner.old { refusals = owner.new.refusals } }
@@ -76,12 +72,7 @@ fn read<R: Wait, S: RawStore>(
 }
 
 /// Fills the claimed frame with the words.
-fn fill<S: RawStore>(
-    table: &ObjectTable<S>,
-    owner: &mut OwnerSeat<S>,
-    frame: usize,
-    words: &[u64],
-)
+fn fill<S: RawStore>(table: &ObjectTable<S>, owner: &mut OwnerSeat<S>, frame: usize, words: &[u64])
     requires table { IsSeat table.now owner.old }
     requires low { frame < table.now.sizes.frames }
     requires claimed { owner.old.view.hand.claimed ≡ Some frame }

@@ -4,12 +4,11 @@ ghost use Rattle.executor.specs.Keeping.{Allocated, IsNext, IsSafe, IsSimple, Mo
 ghost use Rattle.remote_store.specs.Kept.{piece_cells};
 ghost use Rattle.std.specs.Prelude.{◌≡◌, ◌+◌, ◌%◌, ◌<◌, ◌^◌};
 
+use crate::machine::{Machine, pieces};
 use cells::Want;
 use code_form::{Cell, Touch, effect_laws};
 use remote_store::{PIECE_CELLS, RawStore};
 use std::sync::Wait;
-
-use crate::machine::{Machine, pieces};
 
 /// The place of a cell in its piece.
 fn place(cell: Cell) -> usize

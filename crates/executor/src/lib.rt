@@ -7,6 +7,8 @@ mod kinds;
 mod machine;
 mod run;
 mod session;
+#[cfg(test)]
+mod tests;
 
 pub use hold::Hold;
 pub use session::Session;

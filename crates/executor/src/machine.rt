@@ -5,14 +5,16 @@ ghost use Rattle.code_form.specs.Placed.{pieces as pieces_of};
 ghost use Rattle.code_form.specs.Touches.{IsCell, IsCellOrNone, IsWithin, cells_asked};
 ghost use Rattle.code_form.specs.declared.touch.Touch.TheVariants.{Allocs};
 ghost use Rattle.cells.specs.Stops.{stop_of as stop_read};
-ghost use Rattle.executor.specs.Keeping.{Changes, Closes, HasWriter, Holds, HoldsObject, IsHolding, Matches, cleared, count_of, extended, finished, first_of, has_object, shut, shut_at, wants, written};
-ghost use Rattle.executor.specs.State.{AllShut, State, begin, hold_at, latest_in, next_touch, object_of};
+ghost use Rattle.executor.specs.Keeping.{Changes, Closes, HasWriter, Holds, HoldsObject, IsHolding, cleared, count_of, extended, finished, first_of, has_object, shut, shut_at, wants, written};
+ghost use Rattle.executor.specs.State.{AllShut, Matches, State, begin, hold_at, latest_in, next_touch, object_of};
 ghost use Rattle.executor.specs.Taken.{IsQuiet};
 ghost use Rattle.object_lock.specs.SeatViews.{IsSeat};
 ghost use Rattle.object_lock.specs.Seats.{Owns, note};
 ghost use Rattle.remote_store.specs.Kept.{piece_cells};
 ghost use Rattle.std.specs.Prelude.{◌≡◌, ◌≢◌, ◌+◌, ◌-◌, ◌/◌, ◌<◌, ◌≤◌, ◌^◌, ℕ, IfOk, MatchResult, None, Some, length, option_map, slice_index, true};
 
+use crate::bring::take;
+use crate::hold::Hold;
 use cells::{Stop, Want};
 use code_form::{Cell, Execution, Image, Touch, heap_laws};
 use object_lock::{ObjectTable, OwnerSeat};
@@ -20,9 +22,6 @@ use remote_store::{PIECE_CELLS, RawStore};
 use std::alloc::{AllocError, Global};
 use std::marker::Model;
 use std::sync::Wait;
-
-use crate::bring::take;
-use crate::hold::Hold;
 
 /// A program with what its scopes hold, at one seat of a table.
 #[derive(Drop)]
@@ -174,8 +173,9 @@ impl<'a, S: RawStore> Machine<'a, S> {
         requires hold { Owns self.old.view hold.object × ((note self.old.view hold.object).frame ≡ Some hold.frame) × ((note self.old.view hold.object).writing ≡ true) }
         ensures { self.new ≡ written self.old hold index value }
     {
-        self.table
-            .store(&mut self.owner, hold.object, hold.frame, index, value);
+        let Hold { object, frame, .. } = hold;
+        let owner = &mut self.owner;
+        self.table.store(owner, object, frame, index, value);
     }
 
     pub(crate) fn load_cell(&mut self, hold: Hold, index: usize) -> u64
@@ -184,8 +184,8 @@ impl<'a, S: RawStore> Machine<'a, S> {
         ensures same { self.new ≡ self.old }
         ensures value { S.honest → result ≡ latest_in self.old.view hold.object index }
     {
-        self.table
-            .load(&mut self.owner, hold.object, hold.frame, index)
+        let Hold { object, frame, .. } = hold;
+        self.table.load(&mut self.owner, object, frame, index)
     }
 
     /// Does what is left of the next instruction, which is no allocation.

@@ -5,10 +5,11 @@ ghost use Rattle.cells.specs.Stops.{Stop};
 ghost use Rattle.code_form.specs.Code.{Covered, most_scopes, output_of, stop_of};
 ghost use Rattle.code_form.specs.Form.{image_of};
 ghost use Rattle.executor.specs.Keeping.{IsRun};
-ghost use Rattle.executor.specs.State.{AllShut, IsAt, IsGoing, Ran, State, begin};
-ghost use Rattle.object_lock.specs.Fresh.{IsFreshOwner};
-ghost use Rattle.std.specs.Prelude.{◌≡◌, ◌≢◌, ◌+◌, ◌<◌, ◌≤◌, ◌^◌, ℕ, MatchResult, Some};
+ghost use Rattle.executor.specs.State.{AllShut, IsAt, IsGoing, Ran, ScopesHold, State, begin};
+ghost use Rattle.object_lock.specs.Fresh.{IsFresh};
+ghost use Rattle.std.specs.Prelude.{◌≡◌, ◌≢◌, ◌+◌, ◌<◌, ◌≤◌, ◌^◌, IfOk, MatchResult, Some};
 
+use crate::machine::Machine;
 use cells::{Run, Want};
 use code_form::{Image, effect_laws, heap_laws, run_laws};
 use object_lock::{ObjectTable, OwnerSeat};
@@ -16,8 +17,6 @@ use remote_store::RawStore;
 use std::alloc::Global;
 use std::marker::Model;
 use std::sync::Wait;
-
-use crate::machine::Machine;
 
 /// A program that runs at one seat of a table. A contract sees where it is: its image, the state of its program, what its scopes
 /// hold, what its seat knows, how many instructions it completed, and what it wants, if it wants anything.
@@ -46,9 +45,11 @@ impl<'a, S: RawStore> Session<'a, S> {
         image: &'a Image,
         seat: OwnerSeat<S>,
     ) -> Result<Session<'a, S>, Want>
-        requires seat { (share : ℕ) × IsFreshOwner table.now share seat }
+        requires fresh { IsFresh table.now seat }
+        requires own { seat.view.low ≤ seat.view.high }
         requires scopes { most_scopes (image_of image.now).functions ≤ 4 }
-        ensures { MatchResult result (λ s. s ≡ begin (image_of image.now) seat.view) (λ want. want ≡ OutOfMemory) }
+        ensures begins { MatchResult result (λ s. s ≡ begin (image_of image.now) seat.view) (λ want. want ≡ OutOfMemory) }
+        ensures at { IfOk result (λ s. S.honest → IsAt s) }
     {
         match Machine::new(alloc, table, image, seat) {
             Ok(machine) => Ok(Session { machine }),
@@ -66,6 +67,7 @@ impl<'a, S: RawStore> Session<'a, S> {
         requires { self.old.completed + limit < 2 ^ 64 }
         ensures at { S.honest → IsAt self.new }
         ensures told { Ran limit self.old self.new result }
+        ensures scopes { ScopesHold self.new }
         ensures shut { (x : Stop) → stop_of self.new.core ≡ Some x → AllShut self.new }
         ensures covered { S.honest → Covered self.old.image → IsGoing self.old → result ≢ Wanted StoreFailed }
         ensures ended { (IsGoing self.old → ⊥) → self.new ≡ self.old }

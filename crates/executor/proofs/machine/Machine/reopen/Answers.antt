@@ -1,4 +1,4 @@
-use Rattle.executor.proofs.Holding.{holding_open, opened_hold}
+use Rattle.executor.proofs.Holding.{holding_open}
 use Rattle.executor.proofs.Writing.{holds_one, may_open}
 use Rattle.executor.proofs.machine.Machine.reopen.Goals as goal
 
