@@ -2,6 +2,9 @@ pub mod Body
 pub mod Both
 pub mod Constants
 pub mod Instructions
+pub mod ReadingBodies
+pub mod ReadingEnds
+pub mod ReadingShapes
 pub mod Resolving
 pub mod Scopes
 pub mod Within
