@@ -5,6 +5,7 @@ pub mod Instructions
 pub mod ReadingBodies
 pub mod ReadingEnds
 pub mod ReadingShapes
+pub mod ReadingSteps
 pub mod Resolving
 pub mod Scopes
 pub mod Within

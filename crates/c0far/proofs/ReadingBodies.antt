@@ -4,13 +4,14 @@ use Rattle.std.specs.Prelude.{slice_get}
 use Rattle.std.proofs.lemmas.Option.{slice_get_within}
 use Rattle.std.proofs.lemmas.List.{append-nil, append_assoc, length-append, take_at, drop_at}
 use Rattle.c0_source.specs.declared.fault.Fault.{Fault}
+use Rattle.c0_source.specs.declared.fault.FaultKind.{FaultKind}
 use Rattle.c0_source.specs.declared.fault.FaultKind.TheVariants as f
 use Rattle.c0_source.specs.Spelling.{Lexeme}
 use Rattle.c0far.specs.declared.reader.Shape.{Shape}
 use Rattle.c0far.specs.declared.reader.Shape.TheVariants.{Exactly, Main, AnyName, AnyNumber}
 use Rattle.c0far.specs.declared.reader.TheConstants.{INT, STAR, SEMI, RETURN, END, LAST, HEADER, DECLARATION, NAMED, WRITE, RETURN_NUMBER, RETURN_READ}
 use Rattle.c0far.specs.Trees.{Name, Statement, Declares, Writes, Returned, Constant, Reads, Tree, Scope, behind, behind_all}
-use Rattle.c0far.specs.Reads.{AllFit, AreBegun, AreStatements, AreTokens, BeginsStatement, BodyGoesOn, BodyStops, FirstFits, Fits, FitsAt, GoesOn, GoesOnSmall, IsBody, IsMisfit, IsNamed, IsOver, IsReadTo, IsReturned, IsSmall, IsStatement, IsTree, NoWayOn, OneTooMany, SecondFits, StartsWith, name_of, pointers_of, width_of}
+use Rattle.c0far.specs.Reads.{AllFit, AreBegun, AreStatements, AreTokens, BeginsStatement, BodyGoesOn, BodyStops, FirstFits, Fits, FitsAt, GoesOn, GoesOnSmall, IsBody, IsMisfit, IsNamed, IsOver, IsReadTo, IsReturned, IsSmall, IsStatement, IsTree, NoWayOn, OneTooMany, RefusedFor, SecondFits, StartsWith, name_of, pointers_of, width_of}
 use Rattle.c0far.proofs.ReadingShapes.{Breaks, breaks_more, breaks_of, bars_inside, broken_at, cancel, clash, complete, complete_all, declaration_bars, ended, example, examples_fit, first_fits, get_past, header_bars, length_fits, named_bars, number_bars, read_bars, second_fits, some_left, split_front, take_past, token_of, tokens_behind, write_bars}
 
 -- ---- statements from their shapes
@@ -39,7 +40,7 @@ ending_fits = constant_of ending (examples_fit RETURN_NUMBER)
 
 -- ---- which statement it is shows in the first token
 
-int_not_star : (ts : List Lexeme) → FirstFits INT ts → FirstFits STAR ts → ⊥
+pub int_not_star : (ts : List Lexeme) → FirstFits INT ts → FirstFits STAR ts → ⊥
 int_not_star [] a b = a
 int_not_star (t ∷ ts) a b = absurd (cc (a, b))
 
@@ -54,7 +55,7 @@ star_not_return (t ∷ ts) a b = absurd (cc (a, b))
 int_first : (a x ts : List Lexeme) → AllFit DECLARATION a → ts ≡ a ++ x → FirstFits INT ts
 int_first a x ts h e = first_fits INT (drop 1 DECLARATION) a x ts h e
 
-star_first : (a x ts : List Lexeme) → AllFit WRITE a → ts ≡ a ++ x → FirstFits STAR ts
+pub star_first : (a x ts : List Lexeme) → AllFit WRITE a → ts ≡ a ++ x → FirstFits STAR ts
 star_first a x ts h e = first_fits STAR (drop 1 WRITE) a x ts h e
 
 return_first : (ts : List Lexeme) (r : Returned) → IsReturned ts r → FirstFits RETURN ts
@@ -65,7 +66,7 @@ pub statement_first : (ts front back : List Lexeme) (s : Statement) → IsStatem
 statement_first ts front back (Declares x) h e = inl (int_first front back ts h.0 e)
 statement_first ts front back (Writes x value) h e = inr (star_first front back ts h.0 e)
 
-no_return : (ts : List Lexeme) (r : Returned) → IsReturned ts r → BeginsStatement ts → ⊥
+pub no_return : (ts : List Lexeme) (r : Returned) → IsReturned ts r → BeginsStatement ts → ⊥
 no_return ts r h (inl a) = int_not_return ts a (return_first ts r h)
 no_return ts r h (inr a) = star_not_return ts a (return_first ts r h)
 
@@ -104,7 +105,7 @@ pointers_push ss s n h = let a = pointers_total ss in let b = pointers_total (ss
 -- ---- statements, and a body behind them
 
 -- one statement more
-statements_push : (front back : List Lexeme) (ss : List Statement) (s : Statement) → AreStatements front ss → IsStatement back s → AreStatements (front ++ back) (ss ++ s ∷ [])
+pub statements_push : (front back : List Lexeme) (ss : List Statement) (s : Statement) → AreStatements front ss → IsStatement back s → AreStatements (front ++ back) (ss ++ s ∷ [])
 statements_push front back [] s h i = (back, [], ap (λ xs. xs ++ back) h ∙ sym (append-nil back), i, refl)
 statements_push front back (x ∷ ss) s h i =
     (h.0, h.1 ++ back, ap (λ xs. xs ++ back) h.2 ∙ append_assoc h.0 h.1 back, h.3, statements_push h.1 back ss s h.4 i)
@@ -113,6 +114,11 @@ body_join : (front back : List Lexeme) (ss more : List Statement) (r : Returned)
 body_join front back [] more r h b = let P : List Lexeme → Type 0 = λ xs. IsBody (xs ++ back) more r in subst P (sym h) b
 body_join front back (s ∷ ss) more r h b =
     (h.0, h.1 ++ back, ap (λ xs. xs ++ back) h.2 ∙ append_assoc h.0 h.1 back, h.3, body_join h.1 back ss more r h.4 b)
+
+pub body_ended : (front back : List Lexeme) (ss : List Statement) (r : Returned) → AreStatements front ss → IsReturned back r → IsBody (front ++ back) ss r
+body_ended front back [] r h b = let P : List Lexeme → Type 0 = λ xs. IsReturned (xs ++ back) r in subst P (sym h) b
+body_ended front back (s ∷ ss) r h b =
+    (h.0, h.1 ++ back, ap (λ xs. xs ++ back) h.2 ∙ append_assoc h.0 h.1 back, h.3, body_ended h.1 back ss r h.4 b)
 
 -- what is left of a body behind statements
 body_left : (front back : List Lexeme) (ss all : List Statement) (r : Returned) → AreStatements front ss → IsBody (front ++ back) all r → (more : List Statement) × IsBody back more r × (total all ≡ total ss + total more)
@@ -131,7 +137,7 @@ body_left front back (s ∷ ss) (t ∷ all) r h b =
 
 -- ---- the tokens of a program before a number
 
-begun_place : (ts : List Lexeme) (at : ℕ) (ss : List Statement) (h : AreBegun ts at ss) → (ts ≡ (h.header ++ h.middle) ++ h.back) × (length (h.header ++ h.middle) ≡ at)
+pub begun_place : (ts : List Lexeme) (at : ℕ) (ss : List Statement) (h : AreBegun ts at ss) → (ts ≡ (h.header ++ h.middle) ++ h.back) × (length (h.header ++ h.middle) ≡ at)
 begun_place ts at ss h = (h.whole ∙ sym (append_assoc h.header h.middle h.back), length-append h.header h.middle ∙ h.place)
 
 pub begun_back : (ts : List Lexeme) (at : ℕ) (ss : List Statement) (h : AreBegun ts at ss) → drop at ts ≡ h.back
@@ -170,7 +176,7 @@ goes_down : (ts : List Lexeme) (at : ℕ) (ss : List Statement) (i : ℕ) (h : A
 goes_down ts at ss i h (rest, t, p) = let left = tree_left ts at ss i h rest t p in (rest, left.0, t.returned, left.1)
 
 -- no program goes on with a token with which no body does
-pub stopped : (ts : List Lexeme) (at : ℕ) (ss : List Statement) (i : ℕ) (fault : Fault) → AreBegun ts at ss → BodyStops (drop at ts) i → ((t : Lexeme) → slice_get ts (at + i) ≡ Some t → fault ≡ record { kind = f.Syntax; span = (name_of t).span }) → NoWayOn ts fault
+pub stopped : (ts : List Lexeme) (at : ℕ) (ss : List Statement) (i : ℕ) (fault : Fault) → AreBegun ts at ss → BodyStops (drop at ts) i → ((t : Lexeme) → slice_get ts (at + i) ≡ Some t → fault ≡ record { kind = f.Syntax; span = (name_of t).span }) → RefusedFor fault.kind ts fault
 stopped ts at ss i fault h stops told =
     let e = begun_back ts at ss h in
     let P : List Lexeme → Type 0 = λ xs. BodyStops xs i in
@@ -178,18 +184,19 @@ stopped ts at ss i fault h stops told =
     let there : slice_get ts (at + i) ≡ Some s.at = begun_get ts at ss i h ∙ s.there in
     let Q : ℕ → Type 0 = λ n. GoesOn (take n ts) in
     let one : at + i + 1 ≡ at + (i + 1) = omega arith in
-    record {
+    let R : FaultKind → Type 0 = λ kind. RefusedFor kind ts fault in
+    subst R (sym (ap (λ (x : Fault). x.kind) (told s.at there))) (record {
       number = at + i;
       at = s.at;
       there = there;
       span = ap (λ (x : Fault). x.span) (told s.at there);
       before = goes_up ts at ss i h s.before;
       none = λ g. s.none (goes_down ts at ss (i + 1) h (subst Q one g))
-    }
+    })
 
 -- ---- where statements stop
 
-fits_go_on : (s : Shape) (ts : List Lexeme) (i : ℕ) (r : List Lexeme) → FirstFits s ts → FirstFits s (take (i + 1) ts ++ r)
+pub fits_go_on : (s : Shape) (ts : List Lexeme) (i : ℕ) (r : List Lexeme) → FirstFits s ts → FirstFits s (take (i + 1) ts ++ r)
 fits_go_on s [] i r h = absurd h
 fits_go_on s (t ∷ ts) i r h = let P : ℕ → Type 0 = λ n. FirstFits s (take n (t ∷ ts) ++ r) in let e : suc i ≡ i + 1 = omega arith in subst P e h
 

@@ -4,24 +4,26 @@ use Rattle.std.specs.Prelude.{slice_get}
 use Rattle.std.proofs.lemmas.Option.{slice_get_within}
 use Rattle.std.proofs.lemmas.List.{append-nil, append_assoc, length-append, length-take-le, take_at, map-append}
 use Rattle.c0_source.specs.declared.fault.Fault.{Fault}
+use Rattle.c0_source.specs.declared.fault.FaultKind.{FaultKind}
 use Rattle.c0_source.specs.declared.fault.FaultKind.TheVariants as f
 use Rattle.c0_source.specs.Spelling.{Lexeme}
 use Rattle.c0far.specs.declared.reader.Shape.{Shape}
 use Rattle.c0far.specs.declared.reader.Shape.TheVariants.{Exactly, Main, AnyName, AnyNumber}
 use Rattle.c0far.specs.declared.reader.TheConstants.{INT, STAR, RETURN, HEADER, DECLARATION, NAMED, WRITE, RETURN_NUMBER, RETURN_READ}
 use Rattle.c0far.specs.Trees.{Name, Statement, Declares, Writes, Returned, Constant, Reads, Tree, behind_all}
-use Rattle.c0far.specs.Reads.{AllFit, AreBegun, AreStatements, AreTokens, BeginsStatement, BodyGoesOn, BodyStops, FirstFits, Fits, FitsAt, GoesOn, GoesOnSmall, IsBody, IsMisfit, IsOver, IsReadTo, IsReturned, IsSmall, IsTree, NoWayOn, OneTooMany, SecondFits, StartsWith, name_of, pointers_of, width_of}
+use Rattle.c0far.specs.Reads.{AllFit, AreBegun, AreStatements, AreTokens, BeginsStatement, BodyGoesOn, BodyStops, FirstFits, Fits, FitsAt, GoesOn, GoesOnSmall, IsBody, IsMisfit, IsOver, IsReadTo, IsReturned, IsSmall, IsTree, NoWayOn, OneTooMany, RefusedFor, SecondFits, StartsWith, name_of, pointers_of, width_of}
 use Rattle.c0far.proofs.ReadingShapes.{Breaks, breaks_more, breaks_of, bars_inside, broken_at, clash, complete, complete_all, ended, header_bars, length_fits, named_bars, number_bars, read_bars, second_fits, split_front, token_of}
-use Rattle.c0far.proofs.ReadingBodies.{begun_back, begun_get, constant_of, declaration_goes_on, declaration_stops, ending, ending_fits, goes_up, more_than, pointers_total, reads_of, statement_first, stopped, total, tree_left}
+use Rattle.c0far.proofs.ReadingBodies.{begun_back, begun_get, constant_of, declaration_goes_on, declaration_stops, ending, ending_fits, fits_go_on, goes_up, int_not_star, more_than, no_return, pointers_total, reads_of, star_first, statement_first, stopped, total, tree_left}
 
 -- ---- the header
 
-pub header_stops : (ts : List Lexeme) (i : ℕ) (fault : Fault) → AreTokens ts → IsMisfit HEADER ts i → ((t : Lexeme) → slice_get ts i ≡ Some t → fault ≡ record { kind = f.Syntax; span = (name_of t).span }) → NoWayOn ts fault
+pub header_stops : (ts : List Lexeme) (i : ℕ) (fault : Fault) → AreTokens ts → IsMisfit HEADER ts i → ((t : Lexeme) → slice_get ts i ≡ Some t → fault ≡ record { kind = f.Syntax; span = (name_of t).span }) → RefusedFor fault.kind ts fault
 header_stops ts i fault all misfit told =
     let h = breaks_of HEADER ts i (bars_inside HEADER header_bars) (ended ts all) misfit in
     let there = broken_at HEADER ts i h in
     let r = complete HEADER ts i h in
-    record {
+    let R : FaultKind → Type 0 = λ kind. RefusedFor kind ts fault in
+    subst R (sym (ap (λ (x : Fault). x.kind) (told there.0 there.1))) (record {
       number = i;
       at = there.0;
       there = there.1;
@@ -34,7 +36,7 @@ header_stops ts i fault all misfit told =
         body = ending_fits.1
       });
       none = λ (rest, t, p). clash HEADER ts i p.front p.back rest h p.header (sym (more_than ts rest i) ∙ p.whole)
-    }
+    })
 
 -- ---- the `return`
 
@@ -165,3 +167,48 @@ read_stops ts i all never star (inr over) =
       before = read_goes_on (take i ts) [] (over_front RETURN_READ ts i over);
       none = none_returned ts i (omega arith) never (λ rest x. over_none (drop 1 RETURN_READ) AnyNumber (drop 2 RETURN_NUMBER) ts i rest over (star_not_number ts star) (swap x))
     }
+
+-- ---- one pointer too many
+
+declares_one : (us : List Lexeme) (ss : List Statement) (r : Returned) → FirstFits INT us → IsBody us ss r → 0 < total ss
+declares_one us [] r first b = absurd (no_return us r b (inl first))
+declares_one us (Declares x ∷ ss) r first b = omega arith
+declares_one us (Writes x value ∷ ss) r first b = absurd (int_not_star us first (star_first b.0 b.1 us b.3.0 b.2))
+
+none_small : (ts : List Lexeme) (at : ℕ) (ss : List Statement) (h : AreBegun ts at ss) → length (behind_all [] ss) ≡ 1024 → FirstFits INT h.back → GoesOnSmall (take (at + 3) ts) → ⊥
+none_small ts at ss h counted first (rest, t, p, small) =
+    let left = tree_left ts at ss 3 h rest t p in
+    let one = declares_one (take 3 h.back ++ rest) left.0 t.returned (fits_go_on INT h.back 2 rest first) left.1 in
+    let all : total t.statements ≡ total ss + total left.0 = left.2 in
+    let a = pointers_total ss in
+    let c = pointers_total t.statements in
+    omega arith
+
+pub get_front : (xs ys : List Lexeme) (i : ℕ) (t : Lexeme) → slice_get xs i ≡ Some t → slice_get (xs ++ ys) i ≡ Some t
+get_front [] ys i t e = absurd (cc e)
+get_front (x ∷ xs) ys zero t e = e
+get_front (x ∷ xs) ys (suc i) t e = get_front xs ys i t e
+
+pub too_many : (ts : List Lexeme) (at : ℕ) (fault : Fault) → IsReadTo ts at 1024 → FirstFits INT (drop at ts) → ((i : ℕ) → i < 3 → FitsAt NAMED (drop at ts) i) → ((t : Lexeme) → slice_get ts (at + 2) ≡ Some t → fault ≡ record { kind = f.TooLarge; span = (name_of t).span }) → RefusedFor fault.kind ts fault
+too_many ts at fault h first fit told =
+    let b : AreBegun ts at h.statements = h.begun in
+    let e : drop at ts ≡ b.back = begun_back ts at h.statements b in
+    let r = split_front NAMED (drop at ts) fit in
+    let u = token_of NAMED r.0 2 AnyName r.3 refl in
+    let long = length_fits NAMED r.0 r.3 in
+    let whole : b.back ≡ r.0 ++ r.1 = sym e ∙ r.2 in
+    let there : slice_get ts (at + 2) ≡ Some u.0 = begun_get ts at h.statements 2 b ∙ (ap (λ xs. slice_get xs 2) whole ∙ get_front r.0 r.1 2 u.0 u.1) in
+    let taken : take 3 b.back ≡ r.0 = ap (take 3) whole ∙ take_at r.0 r.1 3 long in
+    let go : BodyGoesOn (take 3 b.back) = let c = complete_all NAMED (drop 3 DECLARATION) r.0 r.3 in subst BodyGoesOn (sym taken) (declaration_goes_on r.0 c.0 c.1) in
+    let three : at + 2 + 1 ≡ at + 3 = omega arith in
+    let Q : ℕ → Type 0 = λ n. GoesOn (take n ts) in
+    let S : ℕ → Type 0 = λ n. GoesOnSmall (take n ts) in
+    let R : FaultKind → Type 0 = λ kind. RefusedFor kind ts fault in
+    subst R (sym (ap (λ (x : Fault). x.kind) (told u.0 there))) (record {
+      number = at + 2;
+      at = u.0;
+      there = there;
+      span = ap (λ (x : Fault). x.span) (told u.0 there);
+      begun = subst Q (sym three) (goes_up ts at h.statements 3 b go);
+      none = λ g. none_small ts at h.statements b h.counted (subst (FirstFits INT) e first) (subst S three g)
+    })
