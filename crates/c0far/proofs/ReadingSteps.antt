@@ -2,7 +2,7 @@
 use Rattle.std.proofs.Common.{◌≡◌, ◌<◌, ◌≤◌, ◌+◌, ◌-◌, ◌++◌, ℕ, zero, suc, List, [], ◌∷◌, length, map, get_or, take, drop, Some, None, refl, sym, ap, ◌∙◌, subst, arith, ◌⊎◌, inl, inr}
 use Rattle.std.specs.Prelude.{slice_get}
 use Rattle.std.proofs.lemmas.Option.{slice_get_within}
-use Rattle.std.proofs.lemmas.List.{append-nil, append_assoc, length-append, length-drop, length-map, map-append, take-append-drop}
+use Rattle.std.proofs.lemmas.List.{append-nil, append_assoc, length-append, length-drop, length-map, map-append, take_rest, take-append-drop}
 use Rattle.c0_source.specs.declared.fault.Fault.{Fault}
 use Rattle.c0_source.specs.declared.fault.FaultKind.{FaultKind}
 use Rattle.c0_source.specs.declared.fault.FaultKind.TheVariants as f
@@ -29,19 +29,26 @@ map_drop zero xs = refl
 map_drop (suc n) [] = refl
 map_drop (suc n) (x ∷ xs) = map_drop n xs
 
+-- the slice behind a number
+abbrev pub rest_of : ℕ → List Token → List Token
+rest_of at xs = take (length xs - at) (drop at xs)
+
+pub map_rest : (at : ℕ) (xs : List Token) → map lexeme (rest_of at xs) ≡ drop at (map lexeme xs)
+map_rest at xs = ap (map lexeme) (take_rest xs at) ∙ map_drop at xs
+
 tokens_dropped : (ts : List Lexeme) (at : ℕ) → AreTokens ts → at < length ts → AreTokens (drop at ts)
 tokens_dropped ts at h lt = let long = length-drop at ts in tokens_behind ts (take at ts) (drop at ts) (sym (take-append-drop at ts)) (omega arith) h
 
-pub tokens_left : (xs : List Token) (at : ℕ) → AreTokens (map lexeme xs) → at < length (map lexeme xs) → AreTokens (map lexeme (drop at xs))
-tokens_left xs at h lt = subst AreTokens (sym (map_drop at xs)) (tokens_dropped (map lexeme xs) at h lt)
+pub tokens_left : (xs : List Token) (at : ℕ) → AreTokens (map lexeme xs) → at < length (map lexeme xs) → AreTokens (map lexeme (rest_of at xs))
+tokens_left xs at h lt = subst AreTokens (sym (map_rest at xs)) (tokens_dropped (map lexeme xs) at h lt)
 
-there_within : (xs : List Token) (at i : ℕ) (t : Lexeme) → slice_get (map lexeme (drop at xs)) i ≡ Some t → at + i < length xs
+there_within : (xs : List Token) (at i : ℕ) (t : Lexeme) → slice_get (map lexeme (rest_of at xs)) i ≡ Some t → at + i < length xs
 there_within xs at i t e =
-    let within = within_tokens (drop at xs) i t e in
-    let long = length-drop at xs in
+    let within = within_tokens (rest_of at xs) i t e in
+    let long : length (rest_of at xs) ≡ length xs - at = ap length (take_rest xs at) ∙ length-drop at xs in
     omega arith
 
-pub stop_within : (xs : List Token) (at i : ℕ) → BodyStops (map lexeme (drop at xs)) i → at + i < length xs
+pub stop_within : (xs : List Token) (at i : ℕ) → BodyStops (map lexeme (rest_of at xs)) i → at + i < length xs
 stop_within xs at i h = there_within xs at i h.at h.there
 
 -- a shape's token, by its number
@@ -98,21 +105,21 @@ name_read xs d x h le e =
 
 -- ---- one pointer too many
 
-pub unnamed : (xs : List Token) (at i : ℕ) → AreTokens (map lexeme xs) → at < length (map lexeme xs) → FirstFits INT (drop at (map lexeme xs)) → IsMisfit NAMED (map lexeme (drop at xs)) i → BodyStops (map lexeme (drop at xs)) i
+pub unnamed : (xs : List Token) (at i : ℕ) → AreTokens (map lexeme xs) → at < length (map lexeme xs) → FirstFits INT (drop at (map lexeme xs)) → IsMisfit NAMED (map lexeme (rest_of at xs)) i → BodyStops (map lexeme (rest_of at xs)) i
 unnamed xs at i all lt first h =
     let left = tokens_left xs at all lt in
-    declaration_stops (map lexeme (drop at xs)) i (subst (FirstFits INT) (sym (map_drop at xs)) first)
-    (breaks_more NAMED (drop 3 DECLARATION) (map lexeme (drop at xs)) i (breaks_of NAMED (map lexeme (drop at xs)) i (bars_inside NAMED named_bars) (ended (map lexeme (drop at xs)) left) h))
+    declaration_stops (map lexeme (rest_of at xs)) i (subst (FirstFits INT) (sym (map_rest at xs)) first)
+    (breaks_more NAMED (drop 3 DECLARATION) (map lexeme (rest_of at xs)) i (breaks_of NAMED (map lexeme (rest_of at xs)) i (bars_inside NAMED named_bars) (ended (map lexeme (rest_of at xs)) left) h))
 
-pub stopped_at : (xs : List Token) (at i : ℕ) (ss : List Statement) (fault : Fault) → AreBegun (map lexeme xs) at ss → BodyStops (map lexeme (drop at xs)) i → ((t : Lexeme) → slice_get (map lexeme xs) (at + i) ≡ Some t → fault ≡ record { kind = f.Syntax; span = (name_of t).span }) → RefusedFor fault.kind (map lexeme xs) fault
+pub stopped_at : (xs : List Token) (at i : ℕ) (ss : List Statement) (fault : Fault) → AreBegun (map lexeme xs) at ss → BodyStops (map lexeme (rest_of at xs)) i → ((t : Lexeme) → slice_get (map lexeme xs) (at + i) ≡ Some t → fault ≡ record { kind = f.Syntax; span = (name_of t).span }) → RefusedFor fault.kind (map lexeme xs) fault
 stopped_at xs at i ss fault h stops told =
     let P : List Lexeme → Type 0 = λ ts. BodyStops ts i in
-    stopped (map lexeme xs) at ss i fault h (subst P (map_drop at xs) stops) told
+    stopped (map lexeme xs) at ss i fault h (subst P (map_rest at xs) stops) told
 
-pub too_many_at : (xs : List Token) (at : ℕ) (fault : Fault) → IsReadTo (map lexeme xs) at 1024 → FirstFits INT (drop at (map lexeme xs)) → ((i : ℕ) → i < 3 → FitsAt NAMED (map lexeme (drop at xs)) i) → ((t : Lexeme) → slice_get (map lexeme xs) (at + 2) ≡ Some t → fault ≡ record { kind = f.TooLarge; span = (name_of t).span }) → RefusedFor fault.kind (map lexeme xs) fault
+pub too_many_at : (xs : List Token) (at : ℕ) (fault : Fault) → IsReadTo (map lexeme xs) at 1024 → FirstFits INT (drop at (map lexeme xs)) → ((i : ℕ) → i < 3 → FitsAt NAMED (map lexeme (rest_of at xs)) i) → ((t : Lexeme) → slice_get (map lexeme xs) (at + 2) ≡ Some t → fault ≡ record { kind = f.TooLarge; span = (name_of t).span }) → RefusedFor fault.kind (map lexeme xs) fault
 too_many_at xs at fault h first fit told =
     let P : List Lexeme → Type 0 = λ ts. (i : ℕ) → i < 3 → FitsAt NAMED ts i in
-    too_many (map lexeme xs) at fault h first (subst P (map_drop at xs) fit) told
+    too_many (map lexeme xs) at fault h first (subst P (map_rest at xs) fit) told
 
 -- ---- one statement more
 
@@ -192,10 +199,10 @@ kept_first xs all h =
     (record { header = r.0; middle = []; back = r.1; whole = r.2; place = omega arith; fits = r.3; statements = refl }, refl, omega arith, omega arith)
 
 -- the tree
-pub tree_read : (xs : List Token) (at : ℕ) (ss : List RustStatement) (n : ℕ) (r : Returned) → Kept xs at ss n → IsReturned (map lexeme (drop at xs)) r → IsTree (map lexeme xs) (record { statements = map statement_of ss; returned = r })
+pub tree_read : (xs : List Token) (at : ℕ) (ss : List RustStatement) (n : ℕ) (r : Returned) → Kept xs at ss n → IsReturned (map lexeme (rest_of at xs)) r → IsTree (map lexeme xs) (record { statements = map statement_of ss; returned = r })
 tree_read xs at ss n r h e =
     let b : AreBegun (map lexeme xs) at (map statement_of ss) = h.0 in
-    let same : map lexeme (drop at xs) ≡ b.back = map_drop at xs ∙ begun_back (map lexeme xs) at (map statement_of ss) b in
+    let same : map lexeme (rest_of at xs) ≡ b.back = map_rest at xs ∙ begun_back (map lexeme xs) at (map statement_of ss) b in
     let P : List Lexeme → Type 0 = λ ts. IsReturned ts r in
     record {
       front = b.header;
@@ -204,3 +211,9 @@ tree_read xs at ss n r h e =
       header = b.fits;
       body = body_ended b.middle b.back (map statement_of ss) r b.statements (subst P same e)
     }
+
+pub starts_behind : (xs : List Token) (at : ℕ) (s : Statement) → StartsWith (map lexeme (rest_of at xs)) s → StartsWith (drop at (map lexeme xs)) s
+starts_behind xs at s h = let P : List Lexeme → Type 0 = λ ts. StartsWith ts s in subst P (map_rest at xs) h
+
+pub tokens_left_kept : (xs : List Token) (at : ℕ) (ss : List RustStatement) (n : ℕ) → AreTokens (map lexeme xs) → Kept xs at ss n → AreTokens (map lexeme (rest_of at xs))
+tokens_left_kept xs at ss n all h = let long = length-map xs lexeme in let lt : at < length xs = h.3 in tokens_left xs at all (omega arith)
