@@ -4,6 +4,7 @@ pub mod Constants
 pub mod Instructions
 pub mod ReadingBodies
 pub mod ReadingEnds
+pub mod ReadingKinds
 pub mod ReadingShapes
 pub mod ReadingSteps
 pub mod Resolving
