@@ -137,38 +137,38 @@ body_left front back (s ∷ ss) (t ∷ all) r h b =
 
 -- ---- the tokens of a program before a number
 
-pub begun_place : (ts : List Lexeme) (at : ℕ) (ss : List Statement) (h : AreBegun ts at ss) → (ts ≡ (h.header ++ h.middle) ++ h.back) × (length (h.header ++ h.middle) ≡ at)
-begun_place ts at ss h = (h.whole ∙ sym (append_assoc h.header h.middle h.back), length-append h.header h.middle ∙ h.place)
+pub begun_place : (ts : List Lexeme) (at : ℕ) (ss : List Statement) (h : AreBegun ts at ss) → (ts ≡ (h.start ++ h.middle) ++ h.back) × (length (h.start ++ h.middle) ≡ at)
+begun_place ts at ss h = (h.whole ∙ sym (append_assoc h.start h.middle h.back), length-append h.start h.middle ∙ h.place)
 
 pub begun_back : (ts : List Lexeme) (at : ℕ) (ss : List Statement) (h : AreBegun ts at ss) → drop at ts ≡ h.back
-begun_back ts at ss h = let p = begun_place ts at ss h in ap (drop at) p.0 ∙ drop_at (h.header ++ h.middle) h.back at p.1
+begun_back ts at ss h = let p = begun_place ts at ss h in ap (drop at) p.0 ∙ drop_at (h.start ++ h.middle) h.back at p.1
 
 pub begun_get : (ts : List Lexeme) (at : ℕ) (ss : List Statement) (i : ℕ) (h : AreBegun ts at ss) → slice_get ts (at + i) ≡ slice_get h.back i
 begun_get ts at ss i h =
     let p = begun_place ts at ss h in
-    ap (λ xs. slice_get xs (at + i)) p.0 ∙ (ap (λ n. slice_get ((h.header ++ h.middle) ++ h.back) (n + i)) (sym p.1) ∙ get_past (h.header ++ h.middle) h.back i)
+    ap (λ xs. slice_get xs (at + i)) p.0 ∙ (ap (λ n. slice_get ((h.start ++ h.middle) ++ h.back) (n + i)) (sym p.1) ∙ get_past (h.start ++ h.middle) h.back i)
 
-begun_take : (ts : List Lexeme) (at : ℕ) (ss : List Statement) (i : ℕ) (h : AreBegun ts at ss) → take (at + i) ts ≡ h.header ++ (h.middle ++ take i h.back)
+begun_take : (ts : List Lexeme) (at : ℕ) (ss : List Statement) (i : ℕ) (h : AreBegun ts at ss) → take (at + i) ts ≡ h.start ++ (h.middle ++ take i h.back)
 begun_take ts at ss i h =
     let p = begun_place ts at ss h in
-    ap (λ xs. take (at + i) xs) p.0 ∙ (ap (λ n. take (n + i) ((h.header ++ h.middle) ++ h.back)) (sym p.1) ∙ (take_past (h.header ++ h.middle) h.back i ∙ append_assoc h.header h.middle (take i h.back)))
+    ap (λ xs. take (at + i) xs) p.0 ∙ (ap (λ n. take (n + i) ((h.start ++ h.middle) ++ h.back)) (sym p.1) ∙ (take_past (h.start ++ h.middle) h.back i ∙ append_assoc h.start h.middle (take i h.back)))
 
 -- some program goes on, where its body does
 pub goes_up : (ts : List Lexeme) (at : ℕ) (ss : List Statement) (i : ℕ) (h : AreBegun ts at ss) → BodyGoesOn (take i h.back) → GoesOn (take (at + i) ts)
 goes_up ts at ss i h (rest, more, r, b) =
     (rest, record { statements = ss ++ more; returned = r }, record {
-      front = h.header;
+      front = h.start;
       back = h.middle ++ (take i h.back ++ rest);
-      whole = ap (λ xs. xs ++ rest) (begun_take ts at ss i h) ∙ (append_assoc h.header (h.middle ++ take i h.back) rest ∙ ap (λ xs. h.header ++ xs) (append_assoc h.middle (take i h.back) rest));
-      header = h.fits;
+      whole = ap (λ xs. xs ++ rest) (begun_take ts at ss i h) ∙ (append_assoc h.start (h.middle ++ take i h.back) rest ∙ ap (λ xs. h.start ++ xs) (append_assoc h.middle (take i h.back) rest));
+      begins = h.fits;
       body = body_join h.middle (take i h.back ++ rest) ss more r h.statements b
     })
 
 -- and the other way round
 pub tree_left : (ts : List Lexeme) (at : ℕ) (ss : List Statement) (i : ℕ) (h : AreBegun ts at ss) (rest : List Lexeme) (t : Tree) → IsTree (take (at + i) ts ++ rest) t → (more : List Statement) × IsBody (take i h.back ++ rest) more t.returned × (total t.statements ≡ total ss + total more)
 tree_left ts at ss i h rest t p =
-    let e = ap (λ xs. xs ++ rest) (begun_take ts at ss i h) ∙ (append_assoc h.header (h.middle ++ take i h.back) rest ∙ ap (λ xs. h.header ++ xs) (append_assoc h.middle (take i h.back) rest)) in
-    let same : p.back ≡ h.middle ++ (take i h.back ++ rest) = cancel HEADER p.front h.header p.back (h.middle ++ (take i h.back ++ rest)) p.header h.fits (sym p.whole ∙ e) in
+    let e = ap (λ xs. xs ++ rest) (begun_take ts at ss i h) ∙ (append_assoc h.start (h.middle ++ take i h.back) rest ∙ ap (λ xs. h.start ++ xs) (append_assoc h.middle (take i h.back) rest)) in
+    let same : p.back ≡ h.middle ++ (take i h.back ++ rest) = cancel HEADER p.front h.start p.back (h.middle ++ (take i h.back ++ rest)) p.begins h.fits (sym p.whole ∙ e) in
     let P : List Lexeme → Type 0 = λ xs. IsBody xs t.statements t.returned in
     body_left h.middle (take i h.back ++ rest) ss t.statements t.returned h.statements (subst P same p.body)
 

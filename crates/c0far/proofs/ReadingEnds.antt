@@ -32,10 +32,10 @@ header_stops ts i fault all misfit told =
         front = take i ts ++ r.0;
         back = ending;
         whole = sym (append_assoc (take i ts) r.0 ending);
-        header = r.1;
+        begins = r.1;
         body = ending_fits.1
       });
-      none = λ (rest, t, p). clash HEADER ts i p.front p.back rest h p.header (sym (more_than ts rest i) ∙ p.whole)
+      none = λ (rest, t, p). clash HEADER ts i p.front p.back rest h p.begins (sym (more_than ts rest i) ∙ p.whole)
     })
 
 -- ---- the `return`

@@ -135,13 +135,13 @@ begun_more : (ts : List Lexeme) (at : ℕ) (ss : List Statement) (s : Statement)
 begun_more ts at ss s h (front, back, e, i) =
     let same : h.back ≡ front ++ back = sym (begun_back ts at ss h) ∙ e in
     let long = width_fits front s i in
-    let place : length h.header + length h.middle ≡ at = h.place in
+    let place : length h.start + length h.middle ≡ at = h.place in
     let middle = length-append h.middle front in
     record {
-      header = h.header;
+      start = h.start;
       middle = h.middle ++ front;
       back = back;
-      whole = h.whole ∙ ap (λ xs. h.header ++ xs) (ap (λ xs. h.middle ++ xs) same ∙ sym (append_assoc h.middle front back));
+      whole = h.whole ∙ ap (λ xs. h.start ++ xs) (ap (λ xs. h.middle ++ xs) same ∙ sym (append_assoc h.middle front back));
       place = omega arith;
       fits = h.fits;
       statements = statements_push h.middle front ss s h.statements i
@@ -196,7 +196,7 @@ kept_first xs all h =
     let parts = length-append r.0 r.1 in
     let same : length (map lexeme xs) ≡ length (r.0 ++ r.1) = ap length r.2 in
     let mapped = length-map xs lexeme in
-    (record { header = r.0; middle = []; back = r.1; whole = r.2; place = omega arith; fits = r.3; statements = refl }, refl, omega arith, omega arith)
+    (record { start = r.0; middle = []; back = r.1; whole = r.2; place = omega arith; fits = r.3; statements = refl }, refl, omega arith, omega arith)
 
 -- the tree
 pub tree_read : (xs : List Token) (at : ℕ) (ss : List RustStatement) (n : ℕ) (r : Returned) → Kept xs at ss n → IsReturned (map lexeme (rest_of at xs)) r → IsTree (map lexeme xs) (record { statements = map statement_of ss; returned = r })
@@ -205,10 +205,10 @@ tree_read xs at ss n r h e =
     let same : map lexeme (rest_of at xs) ≡ b.back = map_rest at xs ∙ begun_back (map lexeme xs) at (map statement_of ss) b in
     let P : List Lexeme → Type 0 = λ ts. IsReturned ts r in
     record {
-      front = b.header;
+      front = b.start;
       back = b.middle ++ b.back;
       whole = b.whole;
-      header = b.fits;
+      begins = b.fits;
       body = body_ended b.middle b.back (map statement_of ss) r b.statements (subst P same e)
     }
 

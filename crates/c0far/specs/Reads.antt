@@ -1,6 +1,8 @@
 -- Which tokens are a first program, and with which tokens none goes on.
 use Rattle.std.specs.Prelude.{◌≡◌, ℕ, ◌+◌, ◌<◌, ◌≤◌, List, [], ◌∷◌, ◌++◌, length, Option, Some, slice_get, codes, take, ◌⊎◌}
 use Rattle.c0_source.specs.declared.kind.Kind.TheVariants as k
+use Rattle.c0_source.specs.declared.kind.Base.TheVariants as b
+use Rattle.c0_source.specs.declared.kind.Operator.TheVariants as o
 use Rattle.c0_source.specs.declared.fault.Fault.{Fault}
 use Rattle.c0_source.specs.declared.fault.FaultKind.{FaultKind}
 use Rattle.c0_source.specs.declared.fault.FaultKind.TheVariants as f
@@ -8,7 +10,7 @@ use Rattle.c0_source.specs.FaultNumbers.{memory_fault}
 use Rattle.c0_source.specs.Spelling.{Lexeme}
 use Rattle.c0far.specs.declared.reader.Shape.{Shape}
 use Rattle.c0far.specs.declared.reader.Shape.TheVariants.{Exactly, Main, AnyName, AnyNumber}
-use Rattle.c0far.specs.declared.reader.TheConstants.{INT, STAR, HEADER, DECLARATION, WRITE, RETURN_NUMBER, RETURN_READ}
+use Rattle.c0far.specs.declared.reader.TheConstants.{INT, STAR}
 use Rattle.c0far.specs.Trees.{Name, Statement, Declares, Writes, Returned, Constant, Reads, Tree, behind_all}
 
 -- a token is as asked for
@@ -24,6 +26,28 @@ AllFit [] [] = Unit {0}
 AllFit (s ∷ ss) (t ∷ ts) = Fits s t × AllFit ss ts
 AllFit _ _ = ⊥
 
+-- int main() {
+abbrev pub header : List Shape
+header = Exactly (k.Base b.Int) ∷ Main ∷ Exactly k.LParen ∷ Exactly k.RParen ∷ Exactly k.LBrace ∷ []
+
+-- int* NAME = alloc(int);
+abbrev pub declaration : List Shape
+declaration =
+    Exactly (k.Base b.Int) ∷ Exactly (k.Infix o.Multiply) ∷ AnyName ∷ Exactly k.Assign ∷ Exactly k.Alloc ∷ Exactly k.LParen ∷ Exactly (k.Base b.Int) ∷ Exactly k.RParen ∷ Exactly k.Semi
+    ∷ []
+
+-- *NAME = NUMBER;
+abbrev pub write : List Shape
+write = Exactly (k.Infix o.Multiply) ∷ AnyName ∷ Exactly k.Assign ∷ AnyNumber ∷ Exactly k.Semi ∷ []
+
+-- return NUMBER; } and the text's end
+abbrev pub return_number : List Shape
+return_number = Exactly k.Return ∷ AnyNumber ∷ Exactly k.Semi ∷ Exactly k.RBrace ∷ Exactly k.EndOfText ∷ []
+
+-- return *NAME; } and the text's end
+abbrev pub return_read : List Shape
+return_read = Exactly k.Return ∷ Exactly (k.Infix o.Multiply) ∷ AnyName ∷ Exactly k.Semi ∷ Exactly k.RBrace ∷ Exactly k.EndOfText ∷ []
+
 -- the name that a token is
 abbrev pub name_of : Lexeme → Name
 name_of t = record { text = t.text; span = record { start = t.start; end = t.start + length t.text } }
@@ -38,13 +62,13 @@ IsNumbered ts at value = (t : Lexeme) × (slice_get ts at ≡ Some t) × (t.kind
 
 -- the tokens are this statement
 abbrev pub IsStatement : List Lexeme → Statement → Type 0
-IsStatement ts (Declares x) = AllFit DECLARATION ts × IsNamed ts 2 x
-IsStatement ts (Writes x value) = AllFit WRITE ts × IsNamed ts 1 x × IsNumbered ts 3 value
+IsStatement ts (Declares x) = AllFit declaration ts × IsNamed ts 2 x
+IsStatement ts (Writes x value) = AllFit write ts × IsNamed ts 1 x × IsNumbered ts 3 value
 
 -- the tokens are this `return` and all behind it
 abbrev pub IsReturned : List Lexeme → Returned → Type 0
-IsReturned ts (Constant value) = AllFit RETURN_NUMBER ts × IsNumbered ts 1 value
-IsReturned ts (Reads x) = AllFit RETURN_READ ts × IsNamed ts 2 x
+IsReturned ts (Constant value) = AllFit return_number ts × IsNumbered ts 1 value
+IsReturned ts (Reads x) = AllFit return_read ts × IsNamed ts 2 x
 
 -- the tokens are these statements, and then this `return`
 abbrev pub IsBody : List Lexeme → List Statement → Returned → Type 0
@@ -56,7 +80,7 @@ pub record IsTree (ts : List Lexeme) (t : Tree) : Type 0 where
   pub front : List Lexeme
   pub back : List Lexeme
   pub whole : ts ≡ front ++ back
-  pub header : AllFit HEADER front
+  pub begins : AllFit header front
   pub body : IsBody back t.statements t.returned
 
 -- no more pointers than a function may have
@@ -169,12 +193,12 @@ AreStatements ts (s ∷ ss) = (front : List Lexeme) × (back : List Lexeme) × (
 
 -- the tokens before the one with this number are the header and these statements
 pub record AreBegun (ts : List Lexeme) (at : ℕ) (ss : List Statement) : Type 0 where
-  pub header : List Lexeme
+  pub start : List Lexeme
   pub middle : List Lexeme
   pub back : List Lexeme
-  pub whole : ts ≡ header ++ (middle ++ back)
-  pub place : length header + length middle ≡ at
-  pub fits : AllFit HEADER header
+  pub whole : ts ≡ start ++ (middle ++ back)
+  pub place : length start + length middle ≡ at
+  pub fits : AllFit header start
   pub statements : AreStatements middle ss
 
 -- the tokens before the one with this number are the header and statements that declare so many pointers, and some token is left
