@@ -1,18 +1,17 @@
 -- The statements and the `return` of first programs, and the tokens with which they go on.
-use Rattle.std.proofs.Common.{◌≡◌, ◌<◌, ◌≤◌, ◌+◌, ◌++◌, ℕ, zero, suc, List, [], ◌∷◌, length, map, take, drop, Some, None, refl, sym, ap, ◌∙◌, subst, arith, ◌⊎◌, inl, inr, add-one}
+use Rattle.std.proofs.Common.{◌≡◌, ◌+◌, ◌++◌, ℕ, suc, List, [], ◌∷◌, length, map, take, drop, Some, refl, sym, ap, ◌∙◌, subst, arith, inl, inr}
 use Rattle.std.specs.Prelude.{slice_get}
-use Rattle.std.proofs.lemmas.Option.{slice_get_within}
-use Rattle.std.proofs.lemmas.List.{append-nil, append_assoc, length-append, take_at, drop_at}
+use Rattle.std.proofs.lemmas.List.{append-nil, append_assoc, length-append, drop_at}
 use Rattle.c0_source.specs.declared.fault.Fault.{Fault}
 use Rattle.c0_source.specs.declared.fault.FaultKind.{FaultKind}
 use Rattle.c0_source.specs.declared.fault.FaultKind.TheVariants as f
 use Rattle.c0_source.specs.Spelling.{Lexeme}
 use Rattle.c0far.specs.declared.reader.Shape.{Shape}
-use Rattle.c0far.specs.declared.reader.Shape.TheVariants.{Exactly, Main, AnyName, AnyNumber}
-use Rattle.c0far.specs.declared.reader.TheConstants.{INT, STAR, SEMI, RETURN, END, LAST, HEADER, DECLARATION, NAMED, WRITE, RETURN_NUMBER, RETURN_READ}
+use Rattle.c0far.specs.declared.reader.Shape.TheVariants.{AnyName, AnyNumber}
+use Rattle.c0far.specs.declared.reader.TheConstants.{INT, STAR, RETURN, HEADER, DECLARATION, WRITE, RETURN_NUMBER, RETURN_READ}
 use Rattle.c0far.specs.Trees.{Name, Statement, Declares, Writes, Returned, Constant, Reads, Tree, Scope, behind, behind_all}
-use Rattle.c0far.specs.Reads.{AllFit, AreBegun, AreStatements, AreTokens, BeginsStatement, BodyGoesOn, BodyStops, FirstFits, Fits, FitsAt, GoesOn, GoesOnSmall, IsBody, IsMisfit, IsNamed, IsOver, IsReadTo, IsReturned, IsSmall, IsStatement, IsTree, NoWayOn, OneTooMany, RefusedFor, SecondFits, StartsWith, name_of, pointers_of, width_of}
-use Rattle.c0far.proofs.ReadingShapes.{Breaks, breaks_more, breaks_of, bars_inside, broken_at, cancel, clash, complete, complete_all, declaration_bars, ended, example, examples_fit, first_fits, get_past, header_bars, length_fits, named_bars, number_bars, read_bars, second_fits, some_left, split_front, take_past, token_of, tokens_behind, write_bars}
+use Rattle.c0far.specs.Reads.{AllFit, AreBegun, AreStatements, BeginsStatement, BodyGoesOn, BodyStops, FirstFits, GoesOn, IsBody, IsReturned, IsStatement, IsTree, RefusedFor, name_of, pointers_of}
+use Rattle.c0far.proofs.ReadingShapes.{Breaks, broken_at, cancel, clash, complete, example, examples_fit, first_fits, get_past, take_past, token_of}
 
 -- ---- statements from their shapes
 
@@ -155,14 +154,17 @@ begun_take ts at ss i h =
 
 -- some program goes on, where its body does
 pub goes_up : (ts : List Lexeme) (at : ℕ) (ss : List Statement) (i : ℕ) (h : AreBegun ts at ss) → BodyGoesOn (take i h.back) → GoesOn (take (at + i) ts)
-goes_up ts at ss i h (rest, more, r, b) =
-    (rest, record { statements = ss ++ more; returned = r }, record {
-      front = h.start;
-      back = h.middle ++ (take i h.back ++ rest);
-      whole = ap (λ xs. xs ++ rest) (begun_take ts at ss i h) ∙ (append_assoc h.start (h.middle ++ take i h.back) rest ∙ ap (λ xs. h.start ++ xs) (append_assoc h.middle (take i h.back) rest));
-      begins = h.fits;
-      body = body_join h.middle (take i h.back ++ rest) ss more r h.statements b
-    })
+goes_up ts at ss i h (rest, more, r, b) = (
+  rest,
+  record { statements = ss ++ more; returned = r },
+  record {
+    front = h.start;
+    back = h.middle ++ (take i h.back ++ rest);
+    whole = ap (λ xs. xs ++ rest) (begun_take ts at ss i h) ∙ (append_assoc h.start (h.middle ++ take i h.back) rest ∙ ap (λ xs. h.start ++ xs) (append_assoc h.middle (take i h.back) rest));
+    begins = h.fits;
+    body = body_join h.middle (take i h.back ++ rest) ss more r h.statements b;
+  },
+)
 
 -- and the other way round
 pub tree_left : (ts : List Lexeme) (at : ℕ) (ss : List Statement) (i : ℕ) (h : AreBegun ts at ss) (rest : List Lexeme) (t : Tree) → IsTree (take (at + i) ts ++ rest) t → (more : List Statement) × IsBody (take i h.back ++ rest) more t.returned × (total t.statements ≡ total ss + total more)
@@ -191,7 +193,7 @@ stopped ts at ss i fault h stops told =
       there = there;
       span = ap (λ (x : Fault). x.span) (told s.at there);
       before = goes_up ts at ss i h s.before;
-      none = λ g. s.none (goes_down ts at ss (i + 1) h (subst Q one g))
+      none = λ g. s.none (goes_down ts at ss (i + 1) h (subst Q one g));
     })
 
 -- ---- where statements stop
@@ -232,8 +234,8 @@ declaration_stops ts i first h =
       there = there.1;
       before = declaration_goes_on (take i ts) r.0 r.1;
       none = λ (rest, ss, ret, b).
-        let d = declaration_ends (take (i + 1) ts ++ rest) ss ret (fits_go_on INT ts i rest first) b in
-        clash DECLARATION ts i d.0 d.1 rest h d.3 (sym (more_than ts rest i) ∙ d.2)
+          let d = declaration_ends (take (i + 1) ts ++ rest) ss ret (fits_go_on INT ts i rest first) b in
+          clash DECLARATION ts i d.0 d.1 rest h d.3 (sym (more_than ts rest i) ∙ d.2);
     }
 
 pub write_stops : (ts : List Lexeme) (i : ℕ) → FirstFits STAR ts → Breaks WRITE ts i → BodyStops ts i
@@ -245,6 +247,6 @@ write_stops ts i first h =
       there = there.1;
       before = write_goes_on (take i ts) r.0 r.1;
       none = λ (rest, ss, ret, b).
-        let d = write_ends (take (i + 1) ts ++ rest) ss ret (fits_go_on STAR ts i rest first) b in
-        clash WRITE ts i d.0 d.1 rest h d.3 (sym (more_than ts rest i) ∙ d.2)
+          let d = write_ends (take (i + 1) ts ++ rest) ss ret (fits_go_on STAR ts i rest first) b in
+          clash WRITE ts i d.0 d.1 rest h d.3 (sym (more_than ts rest i) ∙ d.2);
     }

@@ -1,19 +1,19 @@
 -- The beginnings and the ends of first programs, and the tokens with which they go on.
-use Rattle.std.proofs.Common.{◌≡◌, ◌<◌, ◌≤◌, ◌+◌, ◌++◌, ℕ, zero, suc, List, [], ◌∷◌, length, map, get_or, take, drop, Some, None, refl, sym, ap, ◌∙◌, subst, arith, ◌⊎◌, inl, inr, add-one}
+use Rattle.std.proofs.Common.{◌≡◌, ◌<◌, ◌+◌, ◌++◌, ℕ, zero, suc, List, [], ◌∷◌, length, take, drop, Some, refl, sym, ap, ◌∙◌, subst, arith, ◌⊎◌, inl, inr}
 use Rattle.std.specs.Prelude.{slice_get}
 use Rattle.std.proofs.lemmas.Option.{slice_get_within}
-use Rattle.std.proofs.lemmas.List.{append-nil, append_assoc, length-append, length-take-le, take_at, map-append}
+use Rattle.std.proofs.lemmas.List.{append-nil, append_assoc, length-append, length-take-le, take_at}
 use Rattle.c0_source.specs.declared.fault.Fault.{Fault}
 use Rattle.c0_source.specs.declared.fault.FaultKind.{FaultKind}
 use Rattle.c0_source.specs.declared.fault.FaultKind.TheVariants as f
 use Rattle.c0_source.specs.Spelling.{Lexeme}
 use Rattle.c0far.specs.declared.reader.Shape.{Shape}
-use Rattle.c0far.specs.declared.reader.Shape.TheVariants.{Exactly, Main, AnyName, AnyNumber}
-use Rattle.c0far.specs.declared.reader.TheConstants.{INT, STAR, RETURN, HEADER, DECLARATION, NAMED, WRITE, RETURN_NUMBER, RETURN_READ}
-use Rattle.c0far.specs.Trees.{Name, Statement, Declares, Writes, Returned, Constant, Reads, Tree, behind_all}
-use Rattle.c0far.specs.Reads.{AllFit, AreBegun, AreStatements, AreTokens, BeginsStatement, BodyGoesOn, BodyStops, FirstFits, Fits, FitsAt, GoesOn, GoesOnSmall, IsBody, IsMisfit, IsOver, IsReadTo, IsReturned, IsSmall, IsTree, NoWayOn, OneTooMany, RefusedFor, SecondFits, StartsWith, name_of, pointers_of, width_of}
-use Rattle.c0far.proofs.ReadingShapes.{Breaks, breaks_more, breaks_of, bars_inside, broken_at, clash, complete, complete_all, ended, header_bars, length_fits, named_bars, number_bars, read_bars, second_fits, split_front, token_of}
-use Rattle.c0far.proofs.ReadingBodies.{begun_back, begun_get, constant_of, declaration_goes_on, declaration_stops, ending, ending_fits, fits_go_on, goes_up, int_not_star, more_than, no_return, pointers_total, reads_of, star_first, statement_first, stopped, total, tree_left}
+use Rattle.c0far.specs.declared.reader.Shape.TheVariants.{AnyName, AnyNumber}
+use Rattle.c0far.specs.declared.reader.TheConstants.{INT, STAR, RETURN, HEADER, DECLARATION, NAMED, RETURN_NUMBER, RETURN_READ}
+use Rattle.c0far.specs.Trees.{Statement, Declares, Writes, Returned, Constant, Reads, behind_all}
+use Rattle.c0far.specs.Reads.{AllFit, AreBegun, AreTokens, BeginsStatement, BodyGoesOn, BodyStops, FirstFits, FitsAt, GoesOn, GoesOnSmall, IsBody, IsMisfit, IsOver, IsReadTo, RefusedFor, SecondFits, name_of}
+use Rattle.c0far.proofs.ReadingShapes.{Breaks, breaks_of, bars_inside, broken_at, clash, complete, complete_all, ended, header_bars, length_fits, number_bars, read_bars, split_front, token_of}
+use Rattle.c0far.proofs.ReadingBodies.{begun_back, begun_get, constant_of, declaration_goes_on, ending, ending_fits, fits_go_on, goes_up, int_not_star, more_than, no_return, pointers_total, reads_of, star_first, statement_first, total, tree_left}
 
 -- ---- the header
 
@@ -28,14 +28,18 @@ header_stops ts i fault all misfit told =
       at = there.0;
       there = there.1;
       span = ap (λ (x : Fault). x.span) (told there.0 there.1);
-      before = (r.0 ++ ending, record { statements = []; returned = Constant ending_fits.0 }, record {
-        front = take i ts ++ r.0;
-        back = ending;
-        whole = sym (append_assoc (take i ts) r.0 ending);
-        begins = r.1;
-        body = ending_fits.1
-      });
-      none = λ (rest, t, p). clash HEADER ts i p.front p.back rest h p.begins (sym (more_than ts rest i) ∙ p.whole)
+      before = (
+        r.0 ++ ending,
+        record { statements = []; returned = Constant ending_fits.0 },
+        record {
+          front = take i ts ++ r.0;
+          back = ending;
+          whole = sym (append_assoc (take i ts) r.0 ending);
+          begins = r.1;
+          body = ending_fits.1;
+        },
+      );
+      none = λ (rest, t, p). clash HEADER ts i p.front p.back rest h p.begins (sym (more_than ts rest i) ∙ p.whole);
     })
 
 -- ---- the `return`
@@ -129,7 +133,7 @@ number_stops ts i all never second (inl misfit) =
       at = there.0;
       there = there.1;
       before = number_goes_on (take i ts) r.0 r.1;
-      none = none_returned ts i (omega arith) never (λ rest x. break_none (drop 1 RETURN_NUMBER) STAR (drop 2 RETURN_READ) ts i rest h second x)
+      none = none_returned ts i (omega arith) never (λ rest x. break_none (drop 1 RETURN_NUMBER) STAR (drop 2 RETURN_READ) ts i rest h second x);
     }
 number_stops ts i all never second (inr over) =
     let more : i < length ts = over.more in
@@ -138,7 +142,7 @@ number_stops ts i all never second (inr over) =
       at = there.0;
       there = there.1;
       before = number_goes_on (take i ts) [] (over_front RETURN_NUMBER ts i over);
-      none = none_returned ts i (omega arith) never (λ rest x. over_none (drop 1 RETURN_NUMBER) STAR (drop 2 RETURN_READ) ts i rest over second x)
+      none = none_returned ts i (omega arith) never (λ rest x. over_none (drop 1 RETURN_NUMBER) STAR (drop 2 RETURN_READ) ts i rest over second x);
     }
 
 star_not_number : (ts : List Lexeme) → SecondFits STAR ts → SecondFits AnyNumber ts → ⊥
@@ -156,7 +160,7 @@ read_stops ts i all never star (inl misfit) =
       at = there.0;
       there = there.1;
       before = read_goes_on (take i ts) r.0 r.1;
-      none = none_returned ts i (omega arith) never (λ rest x. break_none (drop 1 RETURN_READ) AnyNumber (drop 2 RETURN_NUMBER) ts i rest h (star_not_number ts star) (swap x))
+      none = none_returned ts i (omega arith) never (λ rest x. break_none (drop 1 RETURN_READ) AnyNumber (drop 2 RETURN_NUMBER) ts i rest h (star_not_number ts star) (swap x));
     }
 read_stops ts i all never star (inr over) =
     let more : i < length ts = over.more in
@@ -165,7 +169,7 @@ read_stops ts i all never star (inr over) =
       at = there.0;
       there = there.1;
       before = read_goes_on (take i ts) [] (over_front RETURN_READ ts i over);
-      none = none_returned ts i (omega arith) never (λ rest x. over_none (drop 1 RETURN_READ) AnyNumber (drop 2 RETURN_NUMBER) ts i rest over (star_not_number ts star) (swap x))
+      none = none_returned ts i (omega arith) never (λ rest x. over_none (drop 1 RETURN_READ) AnyNumber (drop 2 RETURN_NUMBER) ts i rest over (star_not_number ts star) (swap x));
     }
 
 -- ---- one pointer too many
@@ -210,5 +214,5 @@ too_many ts at fault h first fit told =
       there = there;
       span = ap (λ (x : Fault). x.span) (told u.0 there);
       begun = subst Q (sym three) (goes_up ts at h.statements 3 b go);
-      none = λ g. none_small ts at h.statements b h.counted (subst (FirstFits INT) e first) (subst S three g)
+      none = λ g. none_small ts at h.statements b h.counted (subst (FirstFits INT) e first) (subst S three g);
     })

@@ -1,5 +1,5 @@
 -- Tokens, and the shapes that they are asked for.
-use Rattle.std.proofs.Common.{◌≡◌, ◌<◌, ◌≤◌, ◌+◌, ◌++◌, ℕ, zero, suc, List, [], ◌∷◌, length, map, get_or, take, drop, Some, None, Option, refl, sym, ap, ◌∙◌, subst, arith, ◌⊎◌, inl, inr, add-one}
+use Rattle.std.proofs.Common.{◌≡◌, ◌<◌, ◌≤◌, ◌+◌, ◌++◌, ℕ, zero, suc, List, [], ◌∷◌, length, map, get_or, take, Some, refl, sym, ap, ◌∙◌, subst, arith}
 use Rattle.std.specs.Prelude.{slice_get, codes}
 use Rattle.std.specs.Option.{option_map}
 use Rattle.std.proofs.lemmas.Option.{slice_get-map, slice_get-get_or, slice_get_within}
@@ -12,7 +12,7 @@ use Rattle.c0_lexer.specs.Lexed.{lexeme}
 use Rattle.c0far.specs.declared.reader.Shape.{Shape}
 use Rattle.c0far.specs.declared.reader.Shape.TheVariants.{Exactly, Main, AnyName, AnyNumber}
 use Rattle.c0far.specs.declared.reader.TheConstants.{HEADER, DECLARATION, NAMED, WRITE, RETURN_NUMBER, RETURN_READ}
-use Rattle.c0far.specs.Reads.{AllFit, AreTokens, FirstFits, Fits, FitsAt, IsMisfit, IsOver, SecondFits}
+use Rattle.c0far.specs.Reads.{AllFit, AreTokens, FirstFits, Fits, FitsAt, IsMisfit, SecondFits}
 
 -- ---- the values of equations
 
@@ -235,7 +235,7 @@ tokens_behind ts front back whole lt h =
       end = h.end;
       ended = r.1;
       last = h.last;
-      placed = λ i t e. h.placed (length front + i) t (ap (λ xs. slice_get xs (length front + i)) whole ∙ (get_past front back i ∙ e))
+      placed = λ i t e. h.placed (length front + i) t (ap (λ xs. slice_get xs (length front + i)) whole ∙ (get_past front back i ∙ e));
     }
 
 ended_by : (t : Lexeme) (all : List Lexeme) (end : Lexeme) → end.kind ≡ k.EndOfText → EndedBy t (all ++ end ∷ [])

@@ -1,25 +1,22 @@
 -- What the parts of the reader give, of tokens as code holds them.
-use Rattle.std.proofs.Common.{◌≡◌, ◌<◌, ◌≤◌, ◌+◌, ◌-◌, ◌++◌, ℕ, zero, suc, List, [], ◌∷◌, length, map, get_or, take, drop, Some, None, refl, sym, ap, ◌∙◌, subst, arith, ◌⊎◌, inl, inr}
+use Rattle.std.proofs.Common.{◌≡◌, ◌<◌, ◌≤◌, ◌+◌, ◌-◌, ◌++◌, ℕ, zero, suc, List, [], ◌∷◌, length, map, get_or, take, drop, Some, refl, sym, ap, ◌∙◌, subst, arith, inl, inr}
 use Rattle.std.specs.Prelude.{slice_get}
-use Rattle.std.proofs.lemmas.Option.{slice_get_within}
 use Rattle.std.proofs.lemmas.List.{append-nil, append_assoc, length-append, length-drop, length-map, map-append, take_rest, take-append-drop}
 use Rattle.c0_source.specs.declared.fault.Fault.{Fault}
-use Rattle.c0_source.specs.declared.fault.FaultKind.{FaultKind}
 use Rattle.c0_source.specs.declared.fault.FaultKind.TheVariants as f
 use Rattle.c0_source.specs.declared.kind.Kind.TheVariants as k
-use Rattle.c0_source.specs.declared.kind.Kind.{Kind}
 use Rattle.c0_source.specs.Spelling.{Lexeme}
 use Rattle.c0_lexer.specs.declared.token.Token.{Token}
 use Rattle.c0_lexer.specs.Lexed.{lexeme}
 use Rattle.c0far.specs.declared.reader.Shape.{Shape}
-use Rattle.c0far.specs.declared.reader.Shape.TheVariants.{Exactly, Main, AnyName, AnyNumber}
+use Rattle.c0far.specs.declared.reader.Shape.TheVariants.{AnyName, AnyNumber}
 use Rattle.c0far.specs.declared.reader.Statement.{Statement as RustStatement}
-use Rattle.c0far.specs.declared.reader.TheConstants.{INT, STAR, RETURN, HEADER, DECLARATION, NAMED, WRITE, RETURN_NUMBER, RETURN_READ}
-use Rattle.c0far.specs.Trees.{Name, Statement, Declares, Writes, Returned, Constant, Reads, Tree, behind_all}
+use Rattle.c0far.specs.declared.reader.TheConstants.{INT, HEADER, DECLARATION, NAMED, WRITE, RETURN_NUMBER, RETURN_READ}
+use Rattle.c0far.specs.Trees.{Name, Statement, Declares, Writes, Returned, Constant, Reads, behind_all}
 use Rattle.c0far.specs.Views.{statement_of}
-use Rattle.c0far.specs.Reads.{AllFit, AreBegun, AreStatements, AreTokens, BeginsStatement, BodyStops, FirstFits, Fits, FitsAt, IsBody, IsMisfit, IsOver, IsReadTo, IsReturned, IsSmall, IsStatement, IsTree, NoWayOn, OneTooMany, RefusedFor, SecondFits, StartsWith, name_of, pointers_of, width_of}
-use Rattle.c0far.proofs.ReadingShapes.{Breaks, all_of, bars_inside, breaks_more, breaks_of, broken_at, declaration_bars, ended, header_bars, length_fits, named_bars, same_token, some_left, split_front, token_of, tokens_behind, within_tokens, write_bars}
-use Rattle.c0far.proofs.ReadingBodies.{begun_back, begun_place, body_ended, declaration_stops, pointers_push, pointers_total, statements_push, stopped, write_stops}
+use Rattle.c0far.specs.Reads.{AreBegun, AreTokens, BeginsStatement, BodyStops, FirstFits, Fits, FitsAt, IsMisfit, IsReadTo, IsReturned, IsStatement, IsTree, RefusedFor, StartsWith, name_of, pointers_of, width_of}
+use Rattle.c0far.proofs.ReadingShapes.{all_of, bars_inside, breaks_more, breaks_of, declaration_bars, ended, header_bars, length_fits, named_bars, same_token, some_left, split_front, token_of, tokens_behind, within_tokens, write_bars}
+use Rattle.c0far.proofs.ReadingBodies.{begun_back, body_ended, declaration_stops, pointers_push, statements_push, stopped, write_stops}
 use Rattle.c0far.proofs.ReadingEnds.{get_front, too_many}
 
 -- ---- tokens behind a number
@@ -144,7 +141,7 @@ begun_more ts at ss s h (front, back, e, i) =
       whole = h.whole ∙ ap (λ xs. h.start ++ xs) (ap (λ xs. h.middle ++ xs) same ∙ sym (append_assoc h.middle front back));
       place = omega arith;
       fits = h.fits;
-      statements = statements_push h.middle front ss s h.statements i
+      statements = statements_push h.middle front ss s h.statements i;
     }
 
 more_left : (ts : List Lexeme) (at : ℕ) (s : Statement) → AreTokens ts → at < length ts → StartsWith (drop at ts) s → at + width_of s < length ts
@@ -175,11 +172,12 @@ kept_more xs at ss more n at' n' s all h starts room pushed e f =
     let left = more_left (map lexeme xs) at (statement_of s) all (omega arith) starts in
     let B : ℕ → Type 0 = λ m. AreBegun (map lexeme xs) m (map statement_of more) in
     let C : List Statement → Type 0 = λ ys. AreBegun (map lexeme xs) (at + width_of (statement_of s)) ys in
-    let counted = pointers_push (map statement_of ss) (statement_of s) n h.1 in
-    (subst B (sym e) (subst C (sym view) (begun_more (map lexeme xs) at (map statement_of ss) (statement_of s) h.0 starts)),
-     ap (λ ys. length (behind_all [] ys)) view ∙ (counted ∙ sym f),
-     omega arith,
-     omega arith)
+    let counted = pointers_push (map statement_of ss) (statement_of s) n h.1 in (
+      subst B (sym e) (subst C (sym view) (begun_more (map lexeme xs) at (map statement_of ss) (statement_of s) h.0 starts)),
+      ap (λ ys. length (behind_all [] ys)) view ∙ (counted ∙ sym f),
+      omega arith,
+      omega arith,
+    )
 
 pub read_to : (xs : List Token) (at : ℕ) (ss : List RustStatement) (n : ℕ) → Kept xs at ss n → IsReadTo (map lexeme xs) at n
 read_to xs at ss n h =
@@ -209,7 +207,7 @@ tree_read xs at ss n r h e =
       back = b.middle ++ b.back;
       whole = b.whole;
       begins = b.fits;
-      body = body_ended b.middle b.back (map statement_of ss) r b.statements (subst P same e)
+      body = body_ended b.middle b.back (map statement_of ss) r b.statements (subst P same e);
     }
 
 pub starts_behind : (xs : List Token) (at : ℕ) (s : Statement) → StartsWith (map lexeme (rest_of at xs)) s → StartsWith (drop at (map lexeme xs)) s

@@ -1,5 +1,5 @@
 -- Which tokens are a first program, and with which tokens none goes on.
-use Rattle.std.specs.Prelude.{◌≡◌, ℕ, ◌+◌, ◌<◌, ◌≤◌, List, [], ◌∷◌, ◌++◌, length, Option, Some, slice_get, codes, take, ◌⊎◌}
+use Rattle.std.specs.Prelude.{◌≡◌, ℕ, ◌+◌, ◌<◌, ◌≤◌, List, [], ◌∷◌, ◌++◌, length, Some, slice_get, codes, take, ◌⊎◌}
 use Rattle.c0_source.specs.declared.kind.Kind.TheVariants as k
 use Rattle.c0_source.specs.declared.kind.Base.TheVariants as b
 use Rattle.c0_source.specs.declared.kind.Operator.TheVariants as o

@@ -6,11 +6,10 @@ ghost use Rattle.c0_source.specs.Spelling.{Lexeme};
 ghost use Rattle.c0far.specs.Reads.{AreTokens, BeginsStatement, BodyStops, FirstFits, Fits, FitsAt, IsMisfit, IsOver, IsReadTo, IsReturned, IsSmall, IsTree, RefusedFor, SecondFits, StartsWith, name_of as lexeme_name, pointers_of, width_of};
 ghost use Rattle.c0far.specs.Views.{name_of as name_view, returned_of, statement_of, tree_of};
 
-use std::alloc::Global;
-
 use c0_lexer::token::Token;
 use c0_source::fault::{Fault, FaultKind, Span};
 use c0_source::kind::{Base, Kind, Operator};
+use std::alloc::Global;
 
 /// The most pointers that `main` may declare.
 const MOST_LOCALS: usize = 1024;
@@ -26,15 +25,25 @@ pub(crate) enum Shape {
 }
 
 const INT: Shape = Shape::Exactly(Kind::Base(Base::Int));
+
 const STAR: Shape = Shape::Exactly(Kind::Infix(Operator::Multiply));
+
 const OPEN: Shape = Shape::Exactly(Kind::LParen);
+
 const CLOSE: Shape = Shape::Exactly(Kind::RParen);
+
 const SEMI: Shape = Shape::Exactly(Kind::Semi);
+
 const ASSIGN: Shape = Shape::Exactly(Kind::Assign);
+
 const ALLOC: Shape = Shape::Exactly(Kind::Alloc);
+
 const RETURN: Shape = Shape::Exactly(Kind::Return);
+
 const BEGIN: Shape = Shape::Exactly(Kind::LBrace);
+
 const END: Shape = Shape::Exactly(Kind::RBrace);
+
 const LAST: Shape = Shape::Exactly(Kind::EndOfText);
 
 /// `int main() {`
@@ -294,7 +303,11 @@ fn one_too_many(tokens: &[Token<'_>], at: usize) -> Fault
 }
 
 /// The statement behind others that declare so many pointers.
-fn next_statement<'a>(tokens: &[Token<'a>], at: usize, declared: usize) -> Result<Statement<'a>, Fault>
+fn next_statement<'a>(
+    tokens: &[Token<'a>],
+    at: usize,
+    declared: usize,
+) -> Result<Statement<'a>, Fault>
     requires tokens { AreTokens (map lexeme tokens.now) }
     requires before { IsReadTo (map lexeme tokens.now) at declared }
     requires small { declared ≤ 1024 }

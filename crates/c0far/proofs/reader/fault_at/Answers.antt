@@ -1,4 +1,4 @@
-use Rattle.std.proofs.Common.{◌≡◌, ap, ◌∙◌}
+use Rattle.std.proofs.Common.{ap, ◌∙◌}
 use Rattle.c0_source.specs.declared.fault.Fault.{Fault}
 use Rattle.c0_source.specs.Spelling.{Lexeme}
 use Rattle.c0far.specs.Reads.{name_of}

@@ -1,4 +1,4 @@
-use Rattle.std.proofs.Common.{◌≡◌, sym, subst, IsTrue, ◌↔◌}
+use Rattle.std.proofs.Common.{sym, subst, IsTrue}
 use Rattle.c0_lexer.specs.Lexed.{lexeme}
 use Rattle.c0far.specs.declared.reader.Shape.{Shape}
 use Rattle.c0far.specs.Reads.{Fits}

@@ -1,4 +1,4 @@
-use Rattle.std.proofs.Common.{◌≡◌, true, ap, ◌∙◌, sym, subst}
+use Rattle.std.proofs.Common.{◌≡◌, ap, ◌∙◌, sym}
 use Rattle.c0far.proofs.ReadingKinds.{kind_same, kinds_agree, same_kind}
 use Rattle.c0far.proofs.reader.is_kind.Goals as goal
 

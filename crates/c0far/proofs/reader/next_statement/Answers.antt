@@ -1,7 +1,7 @@
 use Rattle.std.proofs.Common.{subst, sym}
 use Rattle.c0far.specs.declared.reader.TheConstants.{INT}
 use Rattle.c0far.specs.Reads.{BeginsStatement, FirstFits}
-use Rattle.c0far.proofs.ReadingSteps.{map_rest, starts_behind, stop_within, stopped_at, tokens_left}
+use Rattle.c0far.proofs.ReadingSteps.{map_rest, starts_behind, stopped_at, tokens_left}
 use Rattle.c0far.proofs.reader.next_statement.Goals as goal
 
 pub one_too_many-requires-clause-begun : goal.one_too_many-requires-clause-begun

@@ -1,7 +1,6 @@
-use Rattle.std.proofs.Common.{[], ◌+◌, ◌≡◌, ap, ◌∙◌, subst, sym}
-use Rattle.c0_lexer.specs.Lexed.{lexeme}
+use Rattle.std.proofs.Common.{◌+◌, ap, subst, sym}
 use Rattle.c0far.specs.Reads.{BeginsStatement}
-use Rattle.c0far.specs.Views.{statement_of, returned_of}
+use Rattle.c0far.specs.Views.{returned_of}
 use Rattle.c0far.proofs.ReadingEnds.{header_stops}
 use Rattle.c0far.proofs.ReadingSteps.{Kept, kept_first, kept_more, map_rest, read_to, stopped_at, tokens_left_kept, tree_read}
 use Rattle.c0far.proofs.reader.read.Goals as goal

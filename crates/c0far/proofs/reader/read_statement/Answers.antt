@@ -1,4 +1,4 @@
-use Rattle.std.proofs.Common.{◌<◌, length, arith}
+use Rattle.std.proofs.Common.{arith}
 use Rattle.c0far.specs.declared.reader.TheConstants.{DECLARATION, WRITE}
 use Rattle.c0far.proofs.ReadingShapes.{placed_at}
 use Rattle.c0far.proofs.ReadingSteps.{declaration_read, declaration_refused, fits_within, write_read, write_refused}
