@@ -4,6 +4,11 @@ pub mod Constants
 pub mod Ending
 pub mod Instructions
 pub mod Places
+pub mod ReadingBodies
+pub mod ReadingEnds
+pub mod ReadingKinds
+pub mod ReadingShapes
+pub mod ReadingSteps
 pub mod Resolving
 pub mod Scopes
 pub mod Within

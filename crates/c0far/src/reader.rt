@@ -1,9 +1,10 @@
 //! From tokens to the tree of a first program: `int main()` with a body of statements `int* x = alloc(int);` and
 //! `*x = NUMBER;`, and then `return NUMBER;` or `return *x;`.
-ghost use Rattle.std.specs.Prelude.{map, IfOk, IfErr};
+ghost use Rattle.std.specs.Prelude.{◌≡◌, ◌⊎◌, ◌↔◌, ℕ, ◌+◌, ◌<◌, ◌≤◌, length, map, drop, slice_get, Some, IfOk, IfErr, IsTrue, MatchResult};
 ghost use Rattle.c0_lexer.specs.Lexed.{lexeme};
-ghost use Rattle.c0far.specs.Reads.{AreTokens, IsSmall, IsTree, RefusedFor};
-ghost use Rattle.c0far.specs.Views.{tree_of};
+ghost use Rattle.c0_source.specs.Spelling.{Lexeme};
+ghost use Rattle.c0far.specs.Reads.{AreTokens, BeginsStatement, BodyStops, FirstFits, Fits, FitsAt, IsMisfit, IsOver, IsReadTo, IsReturned, IsSmall, IsTree, RefusedFor, SecondFits, StartsWith, name_of as lexeme_name, pointers_of, width_of};
+ghost use Rattle.c0far.specs.Views.{name_of as name_view, returned_of, statement_of, tree_of};
 
 use c0_lexer::token::Token;
 use c0_source::fault::{Fault, FaultKind, Span};
@@ -59,6 +60,8 @@ const DECLARATION: [Shape; 9] = [
     CLOSE,
     SEMI,
 ];
+/// `int* x`, with which a declaration begins
+const NAMED: [Shape; 3] = [INT, STAR, Shape::AnyName];
 /// `*x = NUMBER;`
 const WRITE: [Shape; 5] = [STAR, Shape::AnyName, ASSIGN, Shape::AnyNumber, SEMI];
 /// `return NUMBER; }` and the text's end
@@ -82,12 +85,24 @@ pub(crate) enum Statement<'a> {
     Write(Name<'a>, u32),
 }
 
-impl<'a> Statement<'a> {
+impl Statement<'_> {
     /// How many tokens the statement has.
-    fn width(&self) -> usize {
+    fn width(&self) -> usize
+        ensures { result ≡ width_of (statement_of self.now) }
+    {
         match self {
             Statement::Declare(_) => DECLARATION.len(),
             Statement::Write(_, _) => WRITE.len(),
+        }
+    }
+
+    /// How many pointers the statement declares.
+    fn pointers(&self) -> usize
+        ensures { result ≡ pointers_of (statement_of self.now) }
+    {
+        match self {
+            Statement::Declare(_) => 1,
+            Statement::Write(_, _) => 0,
         }
     }
 }
@@ -108,7 +123,10 @@ pub(crate) struct Tree<'a> {
 }
 
 /// Where a token stands; the text's end is a place of no bytes.
-fn span_of(token: Token<'_>) -> Span {
+fn span_of(token: Token<'_>) -> Span
+    requires { token.start + length token.text.now ≤ 1048576 }
+    ensures { result ≡ (lexeme_name (lexeme token.entry)).span }
+{
     Span {
         start: token.start,
         end: token.start + token.text.len(),
@@ -116,24 +134,78 @@ fn span_of(token: Token<'_>) -> Span {
 }
 
 /// The name that a token is.
-fn name_of<'a>(token: Token<'a>) -> Name<'a> {
+fn name_of<'a>(token: Token<'a>) -> Name<'a>
+    requires { token.start + length token.text.now ≤ 1048576 }
+    ensures { name_view result ≡ lexeme_name (lexeme token.entry) }
+{
     Name {
         text: token.text,
         span: span_of(token),
     }
 }
 
-fn fits(shape: Shape, token: Token<'_>) -> bool {
+/// The value of a number's token, and 0 of another.
+fn number_of(token: Token<'_>) -> u32
+    ensures { (value : ℕ) → token.entry.kind ≡ Kind.Number value → result ≡ value }
+{
+    match token.kind {
+        Kind::Number(value) => value,
+        _ => 0,
+    }
+}
+
+/// Whether a token is of this kind.
+fn is_kind(token: Token<'_>, kind: Kind) -> bool
+    ensures { IsTrue result ↔ (token.entry.kind ≡ kind) }
+{
+    token.kind == kind
+}
+
+/// Whether a token is the name `main`.
+fn is_main(token: Token<'_>) -> bool
+    ensures { IsTrue result ↔ Fits Shape.Main (lexeme token.entry) }
+{
+    is_kind(token, Kind::Name) && token.text == b"main".as_slice()
+}
+
+/// Whether a token is as asked for.
+fn fits(shape: Shape, token: Token<'_>) -> bool
+    ensures { IsTrue result ↔ Fits shape (lexeme token.entry) }
+{
     match shape {
-        Shape::Exactly(kind) => token.kind == kind,
-        Shape::Main => token.kind == Kind::Name && token.text == b"main".as_slice(),
-        Shape::AnyName => token.kind == Kind::Name,
+        Shape::Exactly(kind) => is_kind(token, kind),
+        Shape::Main => is_main(token),
+        Shape::AnyName => is_kind(token, Kind::Name),
         Shape::AnyNumber => matches!(token.kind, Kind::Number(_)),
     }
 }
 
+/// Whether there is a token, and the first one is as asked for.
+fn begins_with(shape: Shape, rest: &[Token<'_>]) -> bool
+    ensures { IsTrue result ↔ FirstFits shape (map lexeme rest.now) }
+{
+    match rest {
+        [first, ..] => fits(shape, *first),
+        [] => false,
+    }
+}
+
+/// Whether there are two tokens, and the second one is as asked for.
+fn second_is(shape: Shape, rest: &[Token<'_>]) -> bool
+    ensures { IsTrue result ↔ SecondFits shape (map lexeme rest.now) }
+{
+    match rest {
+        [_, second, ..] => fits(shape, *second),
+        _ => false,
+    }
+}
+
 /// Whether the first tokens have these shapes; else the number of the first that hasn't its shape.
-fn follow(shapes: &[Shape], rest: &[Token<'_>]) -> Result<(), usize> {
+fn follow(shapes: &[Shape], rest: &[Token<'_>]) -> Result<(), usize>
+    ensures { MatchResult result
+        (λ _. (i : ℕ) → i < length shapes.now → FitsAt shapes.now (map lexeme rest.now) i)
+        (λ k. IsMisfit shapes.now (map lexeme rest.now) k) }
+{
     for (k, shape) in shapes.iter().enumerate() {
         match rest.get(k) {
             Some(token) if fits(*shape, *token) => {}
@@ -143,73 +215,114 @@ fn follow(shapes: &[Shape], rest: &[Token<'_>]) -> Result<(), usize> {
     Ok(())
 }
 
-/// Whether the tokens begin as a declaration does.
-fn begins_declaration(rest: &[Token<'_>]) -> bool {
-    match rest {
-        [first, ..] => fits(INT, *first),
-        [] => false,
+/// Whether the tokens begin as a statement in front of the last one does.
+fn begins_statement(rest: &[Token<'_>]) -> bool
+    ensures { IsTrue result ↔ BeginsStatement (map lexeme rest.now) }
+{
+    begins_with(INT, rest) || begins_with(STAR, rest)
+}
+
+/// The statement with which the tokens begin. Err is the number of the first token with which none goes on.
+fn read_statement<'a>(rest: &[Token<'a>]) -> Result<Statement<'a>, usize>
+    requires tokens { AreTokens (map lexeme rest.now) }
+    requires begun { BeginsStatement (map lexeme rest.now) }
+    ensures { MatchResult result
+        (λ s. StartsWith (map lexeme rest.now) (statement_of s))
+        (λ k. BodyStops (map lexeme rest.now) k) }
+{
+    if begins_with(INT, rest) {
+        match follow(&DECLARATION, rest) {
+            Ok(()) => Ok(Statement::Declare(name_of(rest[2]))),
+            Err(k) => Err(k),
+        }
+    } else {
+        match follow(&WRITE, rest) {
+            Ok(()) => Ok(Statement::Write(name_of(rest[1]), number_of(rest[3]))),
+            Err(k) => Err(k),
+        }
     }
 }
 
-/// The statement with which the tokens begin, or None where they begin with none but perhaps a `return`. Err is the
-/// number of the first token with which none goes on.
-fn read_statement<'a>(rest: &[Token<'a>]) -> Result<Option<Statement<'a>>, usize> {
-    match rest {
-        [first, ..] if fits(INT, *first) => {
-            follow(&DECLARATION, rest)?;
-            Ok(Some(Statement::Declare(name_of(rest[2]))))
-        }
-        [first, ..] if fits(STAR, *first) => {
-            follow(&WRITE, rest)?;
-            Ok(Some(Statement::Write(name_of(rest[1]), number_of(rest[3]))))
-        }
-        _ => Ok(None),
+/// Whether the tokens have these shapes, and there are no more; else the number of the first with which it is not so.
+fn follow_to_end(shapes: &[Shape], rest: &[Token<'_>]) -> Result<(), usize>
+    ensures { MatchResult result
+        (λ _. ((i : ℕ) → i < length shapes.now → FitsAt shapes.now (map lexeme rest.now) i) × (length rest.now ≤ length shapes.now))
+        (λ k. IsMisfit shapes.now (map lexeme rest.now) k ⊎ IsOver shapes.now (map lexeme rest.now) k) }
+{
+    match follow(shapes, rest) {
+        Ok(()) if shapes.len() < rest.len() => Err(shapes.len()),
+        outcome => outcome,
     }
 }
 
 /// The `return` with which the tokens begin, up to the text's end. Err is the number of the first token with which none
 /// goes on.
-fn read_returned<'a>(rest: &[Token<'a>]) -> Result<Returned<'a>, usize> {
-    match rest {
-        [_, second, ..] if fits(STAR, *second) => {
-            follow(&RETURN_READ, rest)?;
-            Ok(Returned::Read(name_of(rest[2])))
+fn read_returned<'a>(rest: &[Token<'a>]) -> Result<Returned<'a>, usize>
+    requires tokens { AreTokens (map lexeme rest.now) }
+    requires behind { BeginsStatement (map lexeme rest.now) → ⊥ }
+    ensures { MatchResult result
+        (λ r. IsReturned (map lexeme rest.now) (returned_of r))
+        (λ k. BodyStops (map lexeme rest.now) k) }
+{
+    if second_is(STAR, rest) {
+        match follow_to_end(&RETURN_READ, rest) {
+            Ok(()) => Ok(Returned::Read(name_of(rest[2]))),
+            Err(k) => Err(k),
         }
-        _ => {
-            follow(&RETURN_NUMBER, rest)?;
-            Ok(Returned::Number(number_of(rest[1])))
+    } else {
+        match follow_to_end(&RETURN_NUMBER, rest) {
+            Ok(()) => Ok(Returned::Number(number_of(rest[1]))),
+            Err(k) => Err(k),
         }
     }
 }
 
-/// The value of a number's token.
-fn number_of(token: Token<'_>) -> u32 {
-    match token.kind {
-        Kind::Number(value) => value,
-        _ => 0,
-    }
-}
-
-/// The fault of tokens that are no program, at the token with this number.
-fn syntax(tokens: &[Token<'_>], at: usize) -> Fault {
-    let span = match tokens.get(at) {
-        Some(token) => span_of(*token),
-        None => Span { start: 0, end: 0 },
-    };
+/// A fault at the token with this number.
+fn fault_at(kind: FaultKind, tokens: &[Token<'_>], at: usize) -> Fault
+    requires tokens { AreTokens (map lexeme tokens.now) }
+    requires within { at < length tokens.now }
+    ensures { (t : Lexeme) → slice_get (map lexeme tokens.now) at ≡ Some t → result ≡ record { kind = kind; span = (lexeme_name t).span } }
+{
     Fault {
-        kind: FaultKind::Syntax,
-        span,
+        kind,
+        span: span_of(tokens[at]),
     }
 }
 
 /// The fault of the declaration that is one too many: 22 at its name, or 20 where it has none.
-fn one_too_many(tokens: &[Token<'_>], at: usize) -> Fault {
-    match follow(&DECLARATION[..3], &tokens[at..]) {
-        Ok(()) => Fault {
-            kind: FaultKind::TooLarge,
-            span: span_of(tokens[at + 2]),
-        },
-        Err(k) => syntax(tokens, at + k),
+fn one_too_many(tokens: &[Token<'_>], at: usize) -> Fault
+    requires tokens { AreTokens (map lexeme tokens.now) }
+    requires full { IsReadTo (map lexeme tokens.now) at 1024 }
+    requires begun { FirstFits INT (drop at (map lexeme tokens.now)) }
+    ensures { RefusedFor result.kind (map lexeme tokens.now) result }
+{
+    match follow(&NAMED, &tokens[at..]) {
+        Ok(()) => fault_at(FaultKind::TooLarge, tokens, at + 2),
+        Err(k) => fault_at(FaultKind::Syntax, tokens, at + k),
+    }
+}
+
+/// The statement behind others that declare so many pointers.
+fn next_statement<'a>(
+    tokens: &[Token<'a>],
+    at: usize,
+    declared: usize,
+) -> Result<Statement<'a>, Fault>
+    requires tokens { AreTokens (map lexeme tokens.now) }
+    requires before { IsReadTo (map lexeme tokens.now) at declared }
+    requires small { declared ≤ 1024 }
+    requires begun { BeginsStatement (drop at (map lexeme tokens.now)) }
+    ensures statement { IfOk result (λ s. StartsWith (drop at (map lexeme tokens.now)) (statement_of s)) }
+    ensures room { IfOk result (λ s. declared + pointers_of (statement_of s) ≤ 1024) }
+    ensures refused { IfErr result (λ f. RefusedFor f.kind (map lexeme tokens.now) f) }
+{
+    let rest = &tokens[at..];
+    if declared == MOST_LOCALS && begins_with(INT, rest) {
+        return Err(one_too_many(tokens, at));
+    }
+    match read_statement(rest) {
+        Ok(statement) => Ok(statement),
+        Err(k) => Err(fault_at(FaultKind::Syntax, tokens, at + k)),
     }
 }
 
@@ -222,34 +335,25 @@ pub(crate) fn read<'a>(alloc: Global, tokens: &[Token<'a>]) -> Result<Tree<'a>, 
     ensures refused { IfErr result (λ f. RefusedFor f.kind (map lexeme tokens.now) f) }
 {
     if let Err(k) = follow(&HEADER, tokens) {
-        return Err(syntax(tokens, k));
+        return Err(fault_at(FaultKind::Syntax, tokens, k));
     }
-    let mut rest = &tokens[HEADER.len()..];
+    let mut at = HEADER.len();
     let mut statements = Vec::new(alloc);
     let mut declared = 0;
-    for _statement in 0..tokens.len() {
-        let at = tokens.len() - rest.len();
-        if begins_declaration(rest) {
-            if declared == MOST_LOCALS {
-                return Err(one_too_many(tokens, at));
-            }
-            declared += 1;
-        }
-        match read_statement(rest) {
-            Ok(Some(statement)) => {
-                statements.push(statement)?;
-                rest = &rest[statement.width()..];
-            }
-            Ok(None) => break,
-            Err(k) => return Err(syntax(tokens, at + k)),
-        }
+    while begins_statement(&tokens[at..]) {
+        let statement = match next_statement(tokens, at, declared) {
+            Ok(statement) => statement,
+            Err(fault) => return Err(fault),
+        };
+        at += statement.width();
+        declared += statement.pointers();
+        statements.push(statement)?;
     }
-    let at = tokens.len() - rest.len();
-    match read_returned(rest) {
+    match read_returned(&tokens[at..]) {
         Ok(returned) => Ok(Tree {
             statements,
             returned,
         }),
-        Err(k) => Err(syntax(tokens, at + k)),
+        Err(k) => Err(fault_at(FaultKind::Syntax, tokens, at + k)),
     }
 }
