@@ -215,3 +215,21 @@ fn signs_and_keywords(rt: HostRuntime) -> Result<(), Fail> {
         ],
     )
 }
+
+#[test]
+fn long_texts(rt: HostRuntime) -> Result<(), Fail> {
+    let signs = vec![in rt.alloc(); b'%'; 65_536]?;
+    let source = Source::new(rt.alloc(), &signs)?;
+    let tokens = lex(rt.alloc(), &source)?;
+    assert_eq!(rt; tokens.len(), 65_537);
+    let mut comments = Vec::new(rt.alloc());
+    for _ in 0..MOST_BYTES / 2 {
+        comments.push(b'/')?;
+        comments.push(b'*')?;
+    }
+    assert_eq!(rt;
+        fault_of(&rt, rt.alloc(), &comments)?,
+        Fault::at(FaultKind::OpenComment, 0)
+    );
+    Ok(())
+}

@@ -17,6 +17,7 @@ before k Nil = 0
 before zero (Cons t ts) = 0
 before (suc k) (Cons t ts) = length (flat t) + before k ts
 
+-- the cells in front of a part, by the way to it
 abbrev pub offset : List ℕ → Tree → ℕ
 offset [] a = 0
 offset (k ∷ path) a = before k (parts a) + offset path (part k (parts a))

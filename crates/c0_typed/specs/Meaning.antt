@@ -50,14 +50,17 @@ local x s = get_or s.locals x Void
 
 -- ---- operators
 
+-- the value of an operator on one value
 abbrev pub unary_value : UnaryOp → Value → Value
 unary_value Negate v = Number (wrap32 (neg_ℤ (as_number v)))
 unary_value Complement v = Number (int_bit_not w32 (as_number v))
 unary_value Not v = Truth (not (as_truth v))
 
+-- the value of an operator on two numbers, or none where it is an arithmetic fault
 abbrev pub binary_value : Int32Op → Value → Value → Option Value
 binary_value o v w = elim (op_value o (as_number v) (as_number w)) [ None ↦ None | Some z ↦ Some (Number z) ]
 
+-- the value of a comparison
 abbrev pub relation_value : Relation → Value → Value → Bool
 relation_value Equal v w = same_value v w
 relation_value Unequal v w = not (same_value v w)
@@ -88,6 +91,7 @@ default structs (StructTy k) = get_or structs k (Leaf Void)
 default structs (PointerTy t) = Leaf (Ref 0)
 default structs (ArrayTy t) = Leaf (Ref 0)
 
+-- what fresh memory of these fields holds
 abbrev pub fields : List Tree → List Ty → Trees
 fields structs [] = Nil
 fields structs (t ∷ ts) = Cons (default structs t) (fields structs ts)
@@ -101,6 +105,7 @@ struct_defaults structs (ts ∷ rest) = struct_defaults (structs ++ Node (fields
 abbrev pub allocate : Tree → State → Outcome Value
 allocate t s = Done (Ref (suc (length s.heap))) (record s { heap = s.heap ++ t ∷ [] })
 
+-- a fresh array of n elements, or a fault where n is below 0
 abbrev pub allocate_array : Tree → ℤ → State → Outcome Value
 allocate_array t (pos n) s = allocate (Node (copies n t)) s
 allocate_array t (negsuc n) s = stop LengthFault s
@@ -195,6 +200,7 @@ module _ (checks : Bool) (structs : List Tree) (call : ℕ → List Value → St
   abbrev pub checked : Exps → State → Outcome Way
   checked es s = elim checks [ true ↦ all_hold es s | false ↦ Done Next s ]
 
+  -- what a statement does
   abbrev pub exec : Stmt → State → Outcome Way
   exec Skip s = Done Next s
   exec (Seq a b) s = and_then (exec a s) (exec b)
@@ -227,6 +233,7 @@ module _ (checks : Bool) (structs : List Tree) (call : ℕ → List Value → St
 
 -- ---- programs
 
+-- what stands where there is no function: it does nothing
 abbrev pub no_function : Function
 no_function = record { result = VoidTy; parameters = []; locals = []; requires = NoExp; ensures = NoExp; body = Skip }
 

@@ -14,11 +14,13 @@ pub data Ty : Type 0 where
   PointerTy : Ty → Ty
   ArrayTy : Ty → Ty
 
+-- operators on one value
 pub data UnaryOp : Type 0 where
   Negate : UnaryOp
   Complement : UnaryOp
   Not : UnaryOp
 
+-- comparisons
 pub data Relation : Type 0 where
   Equal : Relation
   Unequal : Relation
@@ -38,6 +40,7 @@ pub data Output : Type 0 where
 
 -- Locals are numbered from 1 in each function, the parameters first; local 0 is the function's result.
 mutual
+  -- an expression
   pub data Exp : Type 0 where
     Constant : Value → Exp
     Null : Ty → Exp
@@ -55,6 +58,7 @@ mutual
     AllocArray : Ty → Exp → Exp
     Length : Ty → Exp → Exp
 
+  -- expressions, one after another
   pub data Exps : Type 0 where
     NoExp : Exps
     More : Exp → Exps → Exps
@@ -82,6 +86,7 @@ pub data Stmt : Type 0 where
   Error : Exp → Stmt
   Check : Exps → Stmt
 
+-- a function: its parameters, its other locals, its contract and its body
 pub record Function : Type 0 where
   pub result : Ty
   pub parameters : List Ty
@@ -90,6 +95,7 @@ pub record Function : Type 0 where
   pub ensures : Exps
   pub body : Stmt
 
+-- a program
 pub record Program : Type 0 where
   pub structs : List (List Ty)  -- the types of the fields of each, in the order of their definitions
   pub functions : List Function

@@ -1,10 +1,12 @@
 -- Types: of trees, of values over a heap, and of whole states.
-use Rattle.std.specs.Prelude.{◌≡◌, ℕ, zero, suc, ◌<◌, ◌⊎◌, Bool, ℤ, pos, List, [], ◌∷◌, ◌++◌, length, slice_get, Some, FitsSigned}
+use Rattle.std.specs.Prelude.{◌≡◌, ℕ, zero, suc, ◌<◌, ◌≤◌, ◌⊎◌, Bool, ℤ, pos, List, [], ◌∷◌, ◌++◌, length, slice_get, Some, FitsSigned}
+use Rattle.std.specs.List.{All}
 use Rattle.std.specs.Int.{w32}
 use Rattle.c0_typed.specs.Values.{Value, Number, Truth, Letter, Text, Ref, Void, Tree, Leaf, Node, Trees, Nil, Cons, count, Spot, load, store}
 use Rattle.c0_typed.specs.Trees.{Ty, VoidTy, IntTy, BoolTy, CharTy, TextTy, StructTy, PointerTy, ArrayTy, UnaryOp, Not, Relation, Equal, Unequal, Output, Print, Println, Printint, Printbool, Printchar, Flush, Exp, Constant, Null, Local, Unary, Binary, Compare, And, Or, Choose, Call, Out, Read, Alloc, AllocArray, Length, Exps, NoExp, More, Place, Deref, Index, Field, Stmt, Skip, Seq, Set, Update, Store, StoreUpdate, Do, If, Loop, Return, ReturnValue, Assert, Error, Check, Function, Program}
 use Rattle.cells.specs.Outcomes.{Done, Stopped, Cut}
-use Rattle.c0_typed.specs.Meaning.{State, Outcome, Way, eval, locate, exec, call, default, struct_defaults}
+use Rattle.c0_typed.specs.Layouts.{flats}
+use Rattle.c0_typed.specs.Meaning.{State, Outcome, Way, eval, locate, exec, call, default, fields, struct_defaults}
 
 -- ---- types of trees
 
@@ -20,6 +22,7 @@ IsHeld n VoidTy = ⊥
 IsHeld n (StructTy k) = k < n
 IsHeld n _ = Unit {0}
 
+-- each of these types can stand in memory
 abbrev pub AreHeld : ℕ → List Ty → Type 0
 AreHeld n [] = Unit {0}
 AreHeld n (t ∷ ts) = IsHeld n t × AreHeld n ts
@@ -96,10 +99,12 @@ module _ (p : Program) (types : List Ty) where
     Holds (Index u a i) t = (t ≡ u) × Has a (ArrayTy u) × Has i IntTy
     Holds (Field j q k) t = Holds q (StructTy j) × IsField p.structs j k t
 
+  -- each of these expressions is a truth value
   abbrev pub AllBool : Exps → Type 0
   AllBool NoExp = Unit {0}
   AllBool (More a rest) = Has a BoolTy × AllBool rest
 
+  -- a statement is well typed
   abbrev pub Fits : Stmt → Type 0
   Fits Skip = Unit {0}
   Fits (Seq a b) = Fits a × Fits b
@@ -120,13 +125,16 @@ module _ (p : Program) (types : List Ty) where
 abbrev pub local_types : Function → List Ty
 local_types f = f.result ∷ f.parameters ++ f.locals
 
+-- each of these types is small
 abbrev pub AreSmall : List Ty → Type 0
 AreSmall [] = Unit {0}
 AreSmall (t ∷ ts) = IsSmall t × AreSmall ts
 
+-- a type that a function may give back
 abbrev pub IsResult : Ty → Type 0
 IsResult t = (t ≡ VoidTy) ⊎ IsSmall t
 
+-- a function is well typed
 abbrev pub FitsFunction : Program → Function → Type 0
 FitsFunction p f = IsResult f.result × AreSmall f.parameters × AreSmall f.locals × AllBool p (local_types f) f.requires × AllBool p (local_types f) f.ensures × Fits p (local_types f) f.body
 
@@ -135,10 +143,15 @@ abbrev pub FitsStructs : ℕ → List (List Ty) → Type 0
 FitsStructs n [] = Unit {0}
 FitsStructs n (ts ∷ rest) = AreHeld n ts × FitsStructs (suc n) rest
 
+-- a program is well typed
 pub record FitsProgram (p : Program) : Type 0 where
   pub structs : FitsStructs 0 p.structs
   pub functions : (k : ℕ) (f : Function) → slice_get p.functions k ≡ Some f → FitsFunction p f
   pub main : (f : Function) × (slice_get p.functions p.main ≡ Some f) × (f.parameters ≡ []) × (f.result ≡ IntTy)
+  -- texts are of ASCII
+  pub ascii : (k : ℕ) (text : List ℕ) → slice_get p.texts k ≡ Some text → All (λ b. b < 128) text
+  -- a struct has at most 4,096 cells
+  pub small : (k : ℕ) (ts : List Ty) → slice_get p.structs k ≡ Some ts → length (flats (fields (struct_defaults [] p.structs) ts)) ≤ 4096
 
 -- ---- types of values, over what each allocation was made for
 
@@ -153,6 +166,7 @@ IsMade made zero k = ⊥
 IsMade made (suc r) k = slice_get made r ≡ Some k
 
 module _ (p : Program) (made : List Kept) where
+  -- a value is of a small type: a number of 32 bits, a text of the program, a reference to what it says
   abbrev pub Is : Ty → Value → Type 0
   Is VoidTy v = v ≡ Void
   Is IntTy v = (z : ℤ) × (v ≡ Number z) × FitsSigned w32 z
@@ -163,6 +177,7 @@ module _ (p : Program) (made : List Kept) where
   Is (PointerTy t) v = (r : ℕ) × (v ≡ Ref r) × ((r ≡ 0) ⊎ IsMade made r (One t))
   Is (ArrayTy t) v = (r : ℕ) × (v ≡ Ref r) × ((r ≡ 0) ⊎ ((n : ℕ) × IsMade made r (Many n t)))
 
+  -- values are of these types, one by one
   abbrev pub AreAll : List Ty → List Value → Type 0
   AreAll [] [] = Unit {0}
   AreAll (t ∷ ts) (v ∷ vs) = Is t v × AreAll ts vs
@@ -179,14 +194,17 @@ module _ (p : Program) (made : List Kept) where
     GrownAll (t ∷ ts) (Cons a rest) = Grown t a × GrownAll ts rest
     GrownAll _ _ = ⊥
 
+  -- each part has been made for this type
   abbrev pub GrownEach : Ty → Trees → Type 0
   GrownEach t Nil = Unit {0}
   GrownEach t (Cons a rest) = Grown t a × GrownEach t rest
 
+  -- an allocation holds what it was made for
   abbrev pub IsObject : Kept → Tree → Type 0
   IsObject (One t) a = Grown t a
   IsObject (Many n t) a = (ts : Trees) × (a ≡ Node ts) × (count ts ≡ n) × FitsSigned w32 (pos n) × GrownEach t ts
 
+  -- each allocation does
   abbrev pub AreObjects : List Kept → List Tree → Type 0
   AreObjects [] [] = Unit {0}
   AreObjects (k ∷ ks) (a ∷ rest) = IsObject k a × AreObjects ks rest
@@ -209,6 +227,7 @@ abbrev pub IsWay : Program → Ty → List ℕ → Ty → Type 0
 IsWay p t [] u = t ≡ u
 IsWay p t (k ∷ path) u = (j : ℕ) × (w : Ty) × (t ≡ StructTy j) × IsField p.structs j k w × IsWay p w path u
 
+-- a way through an allocation leads to this type
 abbrev pub IsWayIn : Program → Kept → List ℕ → Ty → Type 0
 IsWayIn p (One t) path u = IsWay p t path u
 IsWayIn p (Many n t) [] u = ⊥
@@ -237,12 +256,15 @@ module _ (p : Program) (types : List Ty) where
   abbrev pub Gives : Ty → List Kept → Value → State → Type 0
   Gives t made v s = IsState p types made s × Is p made t v
 
+  -- the state is well typed, and so are these values
   abbrev pub GivesAll : List Ty → List Kept → List Value → State → Type 0
   GivesAll ts made vs s = IsState p types made s × AreAll p made ts vs
 
+  -- the state is well typed, and the place holds this type
   abbrev pub Finds : Ty → List Kept → Spot → State → Type 0
   Finds t made at s = IsState p types made s × IsPlace p made t at
 
+  -- the state is well typed
   abbrev pub Leaves : List Kept → Way → State → Type 0
   Leaves made w s = IsState p types made s
 
@@ -253,14 +275,17 @@ abbrev pub EvalSound : Type 0
 EvalSound = (p : Program) → FitsProgram p → (checks : Bool) (d : ℕ) (types : List Ty) (e : Exp) (t : Ty) (made : List Kept) (s : State) → Has p types e t → IsState p types made s
     → Fine made (Gives p types t) (eval (struct_defaults [] p.structs) (call checks p d) e s)
 
+-- a place that is found holds what its type says
 abbrev pub LocateSound : Type 0
 LocateSound = (p : Program) → FitsProgram p → (checks : Bool) (d : ℕ) (types : List Ty) (q : Place) (t : Ty) (made : List Kept) (s : State) → Holds p types q t → IsState p types made s
     → Fine made (Finds p types t) (locate (struct_defaults [] p.structs) (call checks p d) q s)
 
+-- a statement leaves a well-typed state
 abbrev pub ExecSound : Type 0
 ExecSound = (p : Program) → FitsProgram p → (checks : Bool) (d : ℕ) (types : List Ty) (b : Stmt) (made : List Kept) (s : State) → Fits p types b → IsState p types made s
     → Fine made (Leaves p types) (exec checks (struct_defaults [] p.structs) (call checks p d) b s)
 
+-- a call gives a value of its function's result, and leaves its caller's locals
 abbrev pub CallSound : Type 0
 CallSound = (p : Program) → FitsProgram p → (checks : Bool) (d : ℕ) → CallsFit p (call checks p d)
 
@@ -272,6 +297,7 @@ FreshSound = (p : Program) → FitsProgram p → (made : List Kept) (t : Ty) →
 abbrev pub LoadSound : Type 0
 LoadSound = (p : Program) (made : List Kept) (heap : List Tree) (u : Ty) (at : Spot) → IsHeap p made heap → IsPlace p made u at → IsSmall u → Is p made u (load heap at)
 
+-- a store of a value of the type of its place keeps the heap well typed
 abbrev pub StoreSound : Type 0
 StoreSound = (p : Program) (made : List Kept) (heap : List Tree) (u : Ty) (at : Spot) (v : Value) → IsHeap p made heap → IsPlace p made u at → IsSmall u → Is p made u v → IsHeap p made (store heap at v)
 

@@ -66,13 +66,13 @@ pub holds_write : (h : Heap) (numbers : List ℤ) (j : ℕ) (z : ℤ) → j < le
 holds_write h numbers j z lt holds r =
     elim (eqb_tells (suc r) (suc j)) [
       | inl e ↦
-        let same : r ≡ j = let s = e.1 in omega arith in
-        ap (λ b. cond b (upd (h (suc j)) 0 (of_int z)) (h (suc r)) 0) e.0
-        ∙ sym (ap (λ y. of_int (get_or (set numbers j z) y (pos 0))) same ∙ ap of_int (get_or-set_same numbers j z (pos 0) lt))
+          let same : r ≡ j = let s = e.1 in omega arith in
+          ap (λ b. cond b (upd (h (suc j)) 0 (of_int z)) (h (suc r)) 0) e.0
+          ∙ sym (ap (λ y. of_int (get_or (set numbers j z) y (pos 0))) same ∙ ap of_int (get_or-set_same numbers j z (pos 0) lt))
       | inr n ↦
-        let other : r ≢ j = let s = n.1 in omega arith in
-        ap (λ b. cond b (upd (h (suc j)) 0 (of_int z)) (h (suc r)) 0) n.0
-        ∙ holds r ∙ sym (ap of_int (get_or-set_other numbers j r z (pos 0) other))
+          let other : r ≢ j = let s = n.1 in omega arith in
+          ap (λ b. cond b (upd (h (suc j)) 0 (of_int z)) (h (suc r)) 0) n.0
+          ∙ holds r ∙ sym (ap of_int (get_or-set_other numbers j r z (pos 0) other))
     ]
 
 -- a number behind the last changes no reading
@@ -204,7 +204,7 @@ module _ (p : Program) (checks : Bool) (call : Calls) (turns : ℕ) (result : v.
       let heap : set (map whole numbers) (suc j - 1) (whole z) ≡ map whole numbers' = ap (λ a. set (map whole numbers) a (whole z)) index ∙ sym (map-set whole numbers j z) in
       let with : List v.Tree → m.State = λ trees. record { turns = turns; heap = trees; locals = result ∷ map v.Ref pointers; output = [] } in
       let told : told_of checks call (Write x value ∷ rest) answer (state turns numbers result pointers) ≡ told_of checks call rest answer (with (map whole numbers')) =
-        rw found (ap (λ trees. told_of checks call rest answer (with trees)) heap)
+      rw found (ap (λ trees. told_of checks call rest answer (with trees)) heap)
       in
       in_front p _ _ _ (null_passes p (i.Simple (i.Const 0 z) ∷ i.Aim 0 (suc x) None 0 ∷ i.Store 0 0 ∷ i.Leave 0 ∷ code_of rest answer) number pointers al h x k (Shut ∷ []) j e)
       (in_front p _ _ _ (constants p (i.Aim 0 (suc x) None 0 ∷ i.Store 0 0 ∷ i.Leave 0 ∷ code_of rest answer) number pointers al h 1 z)

@@ -1,6 +1,7 @@
 pub mod Body
 pub mod Both
 pub mod Constants
+pub mod Ending
 pub mod Instructions
 pub mod Places
 pub mod Resolving

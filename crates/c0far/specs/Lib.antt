@@ -1,5 +1,6 @@
 pub mod Compiled
 pub mod Correct
+pub mod Executed
 pub mod Fragment
 pub mod Reads
 pub mod Statuses

@@ -3,17 +3,15 @@ ghost use Rattle.std.specs.Prelude.{IfOk, IfErr};
 ghost use Rattle.code_form.specs.Form.{image_of};
 ghost use Rattle.c0far.specs.Compiled.{IsCompiled, IsRefusedText};
 
-use std::alloc::Global;
-
-use c0_lexer::lex::lex;
-use c0_source::fault::Fault;
-use c0_source::source::Source;
-use code_form::Image;
-
 use crate::generate::generate;
 use crate::laws::image_behaves;
 use crate::names::resolve;
 use crate::reader::read;
+use c0_lexer::lex::lex;
+use c0_source::fault::Fault;
+use c0_source::source::Source;
+use code_form::Image;
+use std::alloc::Global;
 
 /// The image of the program that a text is. `checks` tells whether contracts are checked; these programs have none. The fault is of
 /// the first stage that finds one: 10 or 22 of the text, 11 or 12 of its tokens, 20 or 22 of what the tokens are, 30 or 32 of

@@ -2,19 +2,17 @@
 ghost use Rattle.std.specs.Prelude.{◌≡◌, ◌≤◌};
 ghost use Rattle.c0far.specs.Statuses.{run_status};
 
-use std::alloc::Global;
-use std::io::Write;
-use std::sync::Wait;
-
-use c0_source::fault::{Fault, FaultKind};
-use c0_source::position::line_column;
-use cells::{Ended, Run, Stop};
-
 use crate::compile::compile;
 use crate::execute::execute;
 use crate::files::{FileError, Files};
 use crate::line::line;
 use crate::words::{Line, Usage};
+use c0_source::fault::{Fault, FaultKind};
+use c0_source::position::line_column;
+use cells::{Ended, Run, Stop};
+use std::alloc::Global;
+use std::io::Write;
+use std::sync::Wait;
 
 /// Some program has stopped otherwise than by a result.
 const STOPPED: u8 = 1;

@@ -1,10 +1,8 @@
 //! The files that a command works on.
 use std::alloc::Global;
 use std::collections::BTreeMap;
-use std::fs;
-use std::io;
 use std::rt::Files as SystemFiles;
-
+use std::{fs, io};
 use thiserror::Error;
 
 /// Why a file was not read or written.

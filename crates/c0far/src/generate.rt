@@ -5,11 +5,9 @@ ghost use Rattle.code_form.specs.Form.{Instruction as Meant, Simple, Const, Aim,
 ghost use Rattle.c0far.specs.Fragment.{IsWithin, StepWithin, AnswerWithin, code_of, code_of_step, code_of_answer, facts_of, image_of, main_code, touches};
 ghost use Rattle.c0far.specs.Views.{program_of};
 
-use std::alloc::{AllocError, Global};
-
-use code_form::{Block, Fact, Function, Image, Instruction, Kind};
-
 use crate::fragment::{Answer, Program, Step};
+use code_form::{Block, Fact, Function, Image, Instruction, Kind};
+use std::alloc::{AllocError, Global};
 
 /// The layout of one int.
 const INT: u32 = 0;

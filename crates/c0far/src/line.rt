@@ -1,10 +1,8 @@
 //! From words to a command.
-use std::alloc::{AllocError, Global};
-
+use crate::words::{Line, Usage};
 use clap::error::ErrorKind;
 use clap::{Arg, ArgAction, ArgMatches, Command, Error};
-
-use crate::words::{Line, Usage};
+use std::alloc::{AllocError, Global};
 
 /// The commands that there are.
 fn command<'a>(alloc: Global) -> Result<Command<'a>, AllocError> {

@@ -14,13 +14,11 @@ mod reader;
 mod tests;
 mod words;
 
-use std::alloc::{AllocError, Global};
-use std::env;
-use std::io;
-use std::process::ExitCode;
-
 use crate::drive::drive;
 use crate::files::FolderFiles;
+use std::alloc::{AllocError, Global};
+use std::process::ExitCode;
+use std::{env, io};
 
 fn main(rt: HostRuntime) -> io::Result<ExitCode> {
     let words: Vec<String> = env::args(&rt)?.collect(rt.alloc())?;

@@ -4,12 +4,10 @@ ghost use Rattle.c0far.specs.Fragment.{IsWithin};
 ghost use Rattle.c0far.specs.Trees.{IsAnswer, IsDeclared, IsStep, IsTaken, NameFault, Resolves, ReturnedFault, StatementFault, behind, behind_all};
 ghost use Rattle.c0far.specs.Views.{program_of, returned_of, statement_of, tree_of};
 
-use std::alloc::Global;
-
-use c0_source::fault::{Fault, FaultKind};
-
 use crate::fragment::{Answer, Program, Step};
 use crate::reader::{Name, Returned, Statement, Tree};
+use c0_source::fault::{Fault, FaultKind};
+use std::alloc::Global;
 
 /// Whether two names are the same.
 fn same(a: &[u8], b: &[u8]) -> bool

@@ -5,11 +5,10 @@ ghost use Rattle.c0_lexer.specs.Lexed.{lexeme};
 ghost use Rattle.c0far.specs.Reads.{AreTokens, IsSmall, IsTree, RefusedFor};
 ghost use Rattle.c0far.specs.Views.{tree_of};
 
-use std::alloc::Global;
-
 use c0_lexer::token::Token;
 use c0_source::fault::{Fault, FaultKind, Span};
 use c0_source::kind::{Base, Kind, Operator};
+use std::alloc::Global;
 
 /// The most pointers that `main` may declare.
 const MOST_LOCALS: usize = 1024;
@@ -25,15 +24,25 @@ pub(crate) enum Shape {
 }
 
 const INT: Shape = Shape::Exactly(Kind::Base(Base::Int));
+
 const STAR: Shape = Shape::Exactly(Kind::Infix(Operator::Multiply));
+
 const OPEN: Shape = Shape::Exactly(Kind::LParen);
+
 const CLOSE: Shape = Shape::Exactly(Kind::RParen);
+
 const SEMI: Shape = Shape::Exactly(Kind::Semi);
+
 const ASSIGN: Shape = Shape::Exactly(Kind::Assign);
+
 const ALLOC: Shape = Shape::Exactly(Kind::Alloc);
+
 const RETURN: Shape = Shape::Exactly(Kind::Return);
+
 const BEGIN: Shape = Shape::Exactly(Kind::LBrace);
+
 const END: Shape = Shape::Exactly(Kind::RBrace);
+
 const LAST: Shape = Shape::Exactly(Kind::EndOfText);
 
 /// `int main() {`

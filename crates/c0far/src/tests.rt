@@ -1,15 +1,14 @@
 #[cfg(test)]
 mod tests {
+    use crate::drive::drive;
+    use crate::files::{FileError, Files, MemFiles};
+    use crate::line::line;
+    use crate::words::{Line, Usage};
     use std::alloc::{AllocError, Global};
     use std::io;
     use std::io::Write;
     use std::sync::Wait;
     use std::test::Fail;
-
-    use crate::drive::drive;
-    use crate::files::{FileError, Files, MemFiles};
-    use crate::line::line;
-    use crate::words::{Line, Usage};
 
     /// What a command printed, and its status.
     #[derive(Drop)]
@@ -41,7 +40,12 @@ mod tests {
     }
 
     /// `c0far run NAME` with this text in the file.
-    fn run_file<W: Wait>(alloc: Global, rt: &W, name: &str, text: &[u8]) -> Result<Told, FileError> {
+    fn run_file<W: Wait>(
+        alloc: Global,
+        rt: &W,
+        name: &str,
+        text: &[u8],
+    ) -> Result<Told, FileError> {
         let mut files = MemFiles::new(alloc);
         files.write(alloc, name, text)?;
         let words = ["c0far", "run", name];
@@ -95,36 +99,68 @@ mod tests {
     fn faults(rt: HostRuntime) -> Result<(), Fail> {
         let text = b"int main() { int* p = alloc(int); *q = 1; return 0; }";
         let told = run_file(rt.alloc(), &rt, "q.c0", text)?;
-        assert_eq!(rt; told.err.as_slice(), b"q.c0:1:36: fault 30 UnknownName\n".as_slice());
+        assert_eq!(rt;
+            told.err.as_slice(),
+            b"q.c0:1:36: fault 30 UnknownName\n".as_slice()
+        );
         assert_eq!(rt; told.status, 2);
         assert_eq!(rt; told.out.len(), 0);
         let text = b"int main() { return 2147483649; }";
         let told = run_file(rt.alloc(), &rt, "k.c0", text)?;
-        assert_eq!(rt; told.err.as_slice(), b"k.c0:1:21: fault 11 BadToken\n".as_slice());
+        assert_eq!(rt;
+            told.err.as_slice(),
+            b"k.c0:1:21: fault 11 BadToken\n".as_slice()
+        );
         let text = b"int main() { int* p = alloc(int);\n int* p = alloc(int); return 0; }";
         let told = run_file(rt.alloc(), &rt, "d.c0", text)?;
-        assert_eq!(rt; told.err.as_slice(), b"d.c0:2:7: fault 32 DuplicateName\n".as_slice());
+        assert_eq!(rt;
+            told.err.as_slice(),
+            b"d.c0:2:7: fault 32 DuplicateName\n".as_slice()
+        );
         let told = run_file(rt.alloc(), &rt, "b.c0", b"int main() { break; return 0; }")?;
-        assert_eq!(rt; told.err.as_slice(), b"b.c0:1:14: fault 20 Syntax\n".as_slice());
+        assert_eq!(rt;
+            told.err.as_slice(),
+            b"b.c0:1:14: fault 20 Syntax\n".as_slice()
+        );
         Ok(())
     }
 
     #[test]
     fn bad_input(rt: HostRuntime) -> Result<(), Fail> {
         let told = run_file(rt.alloc(), &rt, "e.c0", b"")?;
-        assert_eq!(rt; told.err.as_slice(), b"e.c0:1:1: fault 20 Syntax\n".as_slice());
+        assert_eq!(rt;
+            told.err.as_slice(),
+            b"e.c0:1:1: fault 20 Syntax\n".as_slice()
+        );
         assert_eq!(rt; told.status, 2);
         let told = run_file(rt.alloc(), &rt, "h.c0", b"int main() { return 0; } \xff")?;
-        assert_eq!(rt; told.err.as_slice(), b"h.c0:1:26: fault 10 BadByte\n".as_slice());
+        assert_eq!(rt;
+            told.err.as_slice(),
+            b"h.c0:1:26: fault 10 BadByte\n".as_slice()
+        );
         let long = vec![in rt.alloc(); b' '; 1_048_577]?;
         let told = run_file(rt.alloc(), &rt, "l.c0", long.as_slice())?;
-        assert_eq!(rt; told.err.as_slice(), b"l.c0:1:1048577: fault 22 TooLarge\n".as_slice());
-        let told = run_file(rt.alloc(), &rt, "o.c0", b"/* /* */ int main() { return 0; }")?;
-        assert_eq!(rt; told.err.as_slice(), b"o.c0:1:1: fault 12 OpenComment\n".as_slice());
+        assert_eq!(rt;
+            told.err.as_slice(),
+            b"l.c0:1:1048577: fault 22 TooLarge\n".as_slice()
+        );
+        let told = run_file(
+            rt.alloc(),
+            &rt,
+            "o.c0",
+            b"/* /* */ int main() { return 0; }",
+        )?;
+        assert_eq!(rt;
+            told.err.as_slice(),
+            b"o.c0:1:1: fault 12 OpenComment\n".as_slice()
+        );
         let mut files = MemFiles::new(rt.alloc());
         let words = ["c0far", "run", "none.c0"];
         let told = command(rt.alloc(), &rt, &words, &mut files);
-        assert_eq!(rt; told.err.as_slice(), b"none.c0: cannot be read\n".as_slice());
+        assert_eq!(rt;
+            told.err.as_slice(),
+            b"none.c0: cannot be read\n".as_slice()
+        );
         assert_eq!(rt; told.status, 2);
         Ok(())
     }
@@ -152,10 +188,16 @@ mod tests {
         files.write(rt.alloc(), "a.c0", b"int main() { return 0; }")?;
         let words = ["c0far", "run", "a.c0"];
         let mut err: Vec<u8> = Vec::new(rt.alloc());
-        assert_eq!(rt; drive(rt.alloc(), &rt, &words, &mut files, &mut Closed, &mut err), 2);
+        assert_eq!(rt;
+            drive(rt.alloc(), &rt, &words, &mut files, &mut Closed, &mut err),
+            2
+        );
         let words = ["c0far", "run", "none.c0"];
         let mut out: Vec<u8> = Vec::new(rt.alloc());
-        assert_eq!(rt; drive(rt.alloc(), &rt, &words, &mut files, &mut out, &mut Closed), 2);
+        assert_eq!(rt;
+            drive(rt.alloc(), &rt, &words, &mut files, &mut out, &mut Closed),
+            2
+        );
         Ok(())
     }
 }

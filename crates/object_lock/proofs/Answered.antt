@@ -1,22 +1,25 @@
 -- What a begin tells, and what a seat has in its hands when it gives a berth back.
-use Rattle.std.proofs.Common.{◌≡◌, ◌<◌, ℕ, suc, ◌+◌, List, [], ◌∷◌, ◌++◌, arith, sym, refl, ap, ap₂, ◌∙◌, subst}
+use Rattle.std.proofs.Common.{◌<◌, ◌≡◌, ℕ, suc, ◌+◌, List, [], ◌∷◌, ◌++◌, arith, sym, refl, ap, ◌∙◌, subst, ap₂, Bool, cond, eq-eqb, ne_eqb}
 use Rattle.std.specs.Prelude.{Option, Some, None}
 use mathlib.Core.Path.{Path}
-use Rattle.atomic_table.specs.Table.{Me, rest}
-use Rattle.pointer_word.specs.Words.{Place, Away, Coming, Here, Leaving, framed}
-use Rattle.pointer_word.specs.Hands.{Hand, Note, listed, told, filling}
+use Rattle.atomic_table.specs.Table.{Me}
+use Rattle.pointer_word.specs.Words.{Place, Away, Coming, Here, Leaving, Word, face, framed}
+use Rattle.pointer_word.specs.Hands.{Hand, listed, told, filling}
 use Rattle.pointer_word.specs.Calls.{Filled}
 use Rattle.pointer_word.specs.Ordered.{IsFilled}
 use Rattle.pointer_word.proofs.Ordered.{filled_one}
 use Rattle.remote_store.specs.declared.berth.Berth.{Berth}
 use Rattle.object_lock.specs.declared.answers.Begin.{Begin}
-use Rattle.object_lock.specs.Seats.{View, note, with_note, with_hand}
+use Rattle.object_lock.specs.declared.answers.Begin.TheVariants as B
+use Rattle.object_lock.specs.Seats.{Sizes, View, note, with_note, with_hand}
 use Rattle.object_lock.specs.Rule.{PlaceIn}
 use Rattle.object_lock.specs.Kept.{slot_keeps, berth_keeps}
-use Rattle.object_lock.specs.Plays.{Confirms}
-use Rattle.object_lock.specs.SeatViews.{SeatView, InHand, Promises, carried}
+use Rattle.object_lock.specs.Plays.{Found, Confirms}
+use Rattle.object_lock.specs.SeatViews.{SeatView, InHand, Promises}
 use Rattle.object_lock.specs.Seating.{Brought}
-use Rattle.object_lock.specs.Telling.{begun, Begun}
+use Rattle.object_lock.specs.Telling.{begun, tried_at, tried, Begun}
+use Rattle.pointer_word.proofs.Bits.{is_away}
+use Rattle.object_lock.proofs.Mover.{plain}
 use Rattle.object_lock.proofs.Exact.{same_note}
 
 -- a note in which no frame is known stays when none is told
@@ -80,3 +83,17 @@ filled_on {C} old new ws i v b e is =
     let one : suc i ≡ i + 1 = omega arith in
     subst (λ (k : ℕ). IsFilled new.view.hand ws k) one (subst (λ (x : Hand). IsFilled x ws (suc i)) (sym (ap (λ (s : SeatView C). s.view.hand) b))
     (subst (λ (q : ℕ). IsFilled (filling old.view.hand i q) ws (suc i)) e (filled_one old.view.hand ws i is)))
+
+-- what a try to begin answers, by the word that it found
+pub tried_hit : (z : Sizes) (w : Word) (r c : ℕ) → c < 65536 → Found z w r → r ≡ c → B.Taken ≡ tried c w
+tried_hit z w r c low found hit = let q = is_away w.place w.count c found.1.0.1 found.1.0.0 low (sym found.0 ∙ (hit ∙ plain c)) in
+    sym (ap (tried_at c w.count) q.0 ∙ ap (λ (b : Bool). cond b B.Taken B.Busy) (eq-eqb w.count c q.1))
+
+missed_at : (n c : ℕ) (p : Place) → (p ≡ Away → n ≡ c → ⊥) → begun p ≡ tried_at c n p
+missed_at n c Away d = sym (ap (λ (b : Bool). cond b B.Taken B.Busy) (ne_eqb n c (d refl)))
+missed_at n c (Coming m) d = refl
+missed_at n c (Here f k) d = refl
+missed_at n c (Leaving f m k) d = refl
+
+pub tried_miss : (z : Sizes) (w : Word) (r c : ℕ) (b : Begin) → Found z w r → (r ≡ c → ⊥) → b ≡ begun w.place → b ≡ tried c w
+tried_miss z w r c b found miss is = is ∙ missed_at w.count c w.place (λ e d. miss (found.0 ∙ (ap₂ (λ (p : Place) (n : ℕ). face p n) e d ∙ sym (plain c))))

@@ -1,17 +1,16 @@
 -- How the list of seats grows as a table is made.
-use Rattle.std.proofs.Common.{◌≡◌, ℕ, zero, suc, ◌+◌, ◌-◌, ◌*◌, ◌<◌, ◌≤◌, Bool, true, List, [], ◌∷◌, ◌++◌, length, replicate, sym, refl, ap, ap₂, ◌∙◌, subst, arith, mul-le-mul_right, suc-mul, inl}
+use Rattle.std.proofs.Common.{◌≡◌, ℕ, zero, suc, ◌+◌, ◌-◌, ◌*◌, ◌<◌, ◌≤◌, Bool, true, List, [], ◌∷◌, ◌++◌, length, sym, refl, ap, ap₂, ◌∙◌, subst, arith, mul-le-mul_right, suc-mul, inl}
 use Rattle.std.specs.Prelude.{Option, None, map}
 use Rattle.std.specs.List.{All, range_with_len}
 use Rattle.std.proofs.lemmas.List.Elements.{All-append}
 use mathlib.Core.Path.{Path}
 use mathlib.Core.Option.{some}
 use lib.ListN.{get_elem?}
-use Rattle.atomic_table.specs.Seated.{TableId}
-use Rattle.pointer_word.specs.Hands.{empty_handed, blank}
+use Rattle.pointer_word.specs.Hands.{empty_handed}
 use Rattle.remote_store.specs.declared.berth.Berth.{Berth}
 use Rattle.object_lock.specs.Kept.{berth_keeps}
-use Rattle.object_lock.specs.Seats.{Sizes, View, first_part, next_owner, whole_part, next_mover}
-use Rattle.object_lock.specs.SeatViews.{TableView, SeatView, IsSeat}
+use Rattle.object_lock.specs.Seats.{View, first_part, next_owner, whole_part, next_mover}
+use Rattle.object_lock.specs.SeatViews.{TableView, SeatView}
 use Rattle.object_lock.specs.Fresh.{IsFresh, IsFreshOwner, IsFreshMover, IsLastOwner, IsLastMover, AreNumbered}
 
 counts_on : (a n : ℕ) → range_with_len a (suc n) ≡ range_with_len a n ++ (a + n) ∷ []

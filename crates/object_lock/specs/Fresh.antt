@@ -1,6 +1,6 @@
 -- Seats as a table is made with them.
 use Rattle.std.specs.Prelude.{◌≡◌, ℕ, suc, ◌+◌, ◌-◌, ◌*◌, ◌<◌, ◌≤◌, true, List, map, replicate, None}
-use Rattle.std.specs.List.{All, range_with_len}
+use Rattle.std.specs.List.{range_with_len}
 use Rattle.pointer_word.specs.Hands.{empty_handed, blank}
 use Rattle.remote_store.specs.Kept.{piece_cells}
 use Rattle.object_lock.specs.Seats.{Sizes}

@@ -1,6 +1,6 @@
 -- What the calls answer, and what they leave of the seat that made them.
-use Rattle.std.specs.Prelude.{◌≡◌, ℕ, ◌<◌, List, Bool, true, false, Option, Some, None}
-use Rattle.pointer_word.specs.Words.{Place, Away, Coming, Here, Leaving}
+use Rattle.std.specs.Prelude.{◌≡◌, ℕ, ◌<◌, ◌==◌, cond, List, Bool, true, false, Option, Some, None}
+use Rattle.pointer_word.specs.Words.{Place, Away, Coming, Here, Leaving, Word}
 use Rattle.pointer_word.specs.Hands.{opened, told, bringing, claiming}
 use Rattle.remote_store.specs.declared.berth.Berth.{Berth}
 use Rattle.object_lock.specs.declared.answers.Held.{Held}
@@ -24,6 +24,17 @@ begun Away = B.Busy
 begun (Coming m) = B.Busy
 begun (Here f k) = B.Here f
 begun (Leaving f m k) = B.Here f
+
+-- the answer of a try to begin with this count: the object is begun exactly where its word is that of an object away with this count
+abbrev pub tried_at : ℕ → ℕ → Place → Begin
+tried_at c n Away = cond (n == c) B.Taken B.Busy
+tried_at c n (Coming m) = begun (Coming m)
+tried_at c n (Here f k) = begun (Here f k)
+tried_at c n (Leaving f m k) = begun (Leaving f m k)
+
+-- the same of a word
+abbrev pub tried : ℕ → Word → Begin
+tried c w = tried_at c w.count w.place
 
 -- A hold of the object o was opened: its note has one hold more, and the frame that was told. A frame that the seat knew is told again
 abbrev pub Opened : {C : Type 0} → ℕ → SeatView C → SeatView C → Held → Type 0

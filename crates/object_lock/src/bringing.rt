@@ -2,10 +2,11 @@
 ghost use Rattle.std.specs.Prelude.{◌≡◌, ℕ, ◌<◌, ◌≤◌, ◌↔◌, true, false, Some, None};
 ghost use Rattle.pointer_word.specs.Hands.{told, filling, arriving};
 ghost use Rattle.pointer_word.specs.Calls.{Filled, Begins, Claims, Fills, Arrives};
+ghost use Rattle.pointer_word.specs.Asked.{HasNoFrame, HasNothing};
 ghost use Rattle.object_lock.specs.Seats.{Owns, note, with_note, with_hand};
 ghost use Rattle.object_lock.specs.Plays.{Steps};
 ghost use Rattle.object_lock.specs.SeatViews.{IsSeat};
-ghost use Rattle.object_lock.specs.Telling.{Begun, Claimed};
+ghost use Rattle.object_lock.specs.Telling.{tried, Begun, Claimed};
 
 use crate::answers::Begin;
 use crate::found::begin_of;
@@ -19,10 +20,10 @@ impl<S: RawStore> ObjectTable<S> {
     pub fn try_begin(&self, mover: &mut MoverSeat<S>, obj: usize, count: u64) -> Begin
         requires table { IsSeat self.now mover.old }
         requires hold { Owns mover.old.view obj × (0 < count) × (count ≡ (note mover.old.view obj).count) × (count ≤ 4) }
-        requires empty { (mover.old.view.hand.bringing ≡ None) × (mover.old.view.hand.leaving ≡ None) × (mover.old.view.hand.claimed ≡ None) × (mover.old.view.hand.freed ≡ None) }
+        requires empty { HasNothing mover.old.view.hand }
         ensures table { IsSeat self.now mover.new }
         ensures told { Begun S.content obj mover.old mover.new result }
-        ensures step { Steps S.honest (Begins mover.old.view.number obj count true) mover.old.view mover.new.view (λ _. Unit {0}) }
+        ensures step { Steps S.honest (Begins mover.old.view.number obj count true) mover.old.view mover.new.view (λ x. result ≡ tried count (x.word obj)) }
     {
         let coming = Word::coming(count, mover.number);
         let found = self
@@ -40,12 +41,14 @@ impl<S: RawStore> ObjectTable<S> {
     pub fn try_claim(&self, mover: &mut MoverSeat<S>, frame: usize, obj: usize) -> bool
         requires table { IsSeat self.now mover.old }
         requires low { (frame < self.now.sizes.frames) × (obj < self.now.sizes.objects) }
-        requires hands { (mover.old.view.hand.bringing ≡ Some obj) × (mover.old.view.hand.leaving ≡ None) × (mover.old.view.hand.claimed ≡ None) × (mover.old.view.hand.freed ≡ None) }
+        requires hands { (mover.old.view.hand.bringing ≡ Some obj) × (mover.old.view.hand.leaving ≡ None) × HasNoFrame mover.old.view.hand }
         ensures table { IsSeat self.now mover.new }
         ensures told { Claimed frame mover.old mover.new result }
         ensures step { Steps S.honest (Claims mover.old.view.number obj frame) mover.old.view mover.new.view (λ x. result ≡ true ↔ x.frame frame ≡ 0) }
     {
-        self.words.claim_word(&mut mover.seat, frame, obj as u64 + 1) == 0
+        self.words
+            .claim_word(&mut mover.seat, obj, frame, obj as u64 + 1)
+            == 0
     }
 
     /// Fills the cell `i` of the frame that the mover has claimed.
@@ -72,7 +75,10 @@ impl<S: RawStore> ObjectTable<S> {
         ensures step { Steps S.honest (Arrives mover.old.view.number obj frame false true) mover.old.view mover.new.view (λ _. Unit {0}) }
     {
         let berth = mover.brought.take();
-        self.words.table.shared.exchange(&mut mover.seat, obj, berth);
+        self.words
+            .table
+            .shared
+            .exchange(&mut mover.seat, obj, berth);
         let by = Word::arrival(mover.number, frame as u64);
         self.words.arrive_own_word(&mut mover.seat, obj, frame, by);
     }

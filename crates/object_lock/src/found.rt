@@ -4,7 +4,7 @@ ghost use Rattle.pointer_word.specs.Words.{Field};
 ghost use Rattle.object_lock.specs.Telling.{held, begun};
 
 use crate::answers::{Begin, Held};
-use pointer_word::Word;
+use pointer_word::{Word, WordState};
 
 /// Where the object is.
 pub(crate) fn held_of(bits: u64) -> Held
@@ -12,9 +12,9 @@ pub(crate) fn held_of(bits: u64) -> Held
 {
     let word = Word { bits };
     match word.state() {
-        2 => Held::Here(word.frame() as usize),
-        1 => Held::Coming,
-        _ => Held::Away,
+        WordState::Here => Held::Here(word.frame() as usize),
+        WordState::Coming => Held::Coming,
+        WordState::Away => Held::Away,
     }
 }
 
@@ -23,7 +23,7 @@ pub(crate) fn begin_of(bits: u64) -> Begin
     ensures { Field bits (λ w. result ≡ begun w.place) }
 {
     let word = Word { bits };
-    if word.state() == 2 {
+    if word.state() == WordState::Here {
         Begin::Here(word.frame() as usize)
     } else {
         Begin::Busy

@@ -1,11 +1,21 @@
 //! Laws of the views, for the proofs of callers.
 ghost use Rattle.std.specs.Prelude.{◌≡◌, ◌≢◌, ℕ, ◌<◌, length};
 ghost use Rattle.pointer_word.specs.Hands.{Note};
+ghost use Rattle.object_lock.specs.Kept.{slot_keeps, slot_has};
 ghost use Rattle.object_lock.specs.Seats.{View, note, with_note};
+ghost use Rattle.object_lock.specs.EachStep.{EachStep};
+
+use remote_store::RawStore;
 
 /// What a view says of each object after the note of one object was changed.
 pub fn changed_note()
     ensures here { (v : View) (o : ℕ) (x : Note) → o < length v.notes → note (with_note v o x) o ≡ x }
     ensures others { (v : View) (o p : ℕ) (x : Note) → p ≢ o → note (with_note v o x) p ≡ note v p }
     ensures length { (v : View) (o : ℕ) (x : Note) → length (with_note v o x).notes ≡ length v.notes }
+{}
+
+/// Each kind of step of the table is one call of the machine: it carries the rule of a table that shows a machine to the rule of
+/// the machine that the call leaves.
+pub fn each_step<S: RawStore>()
+    ensures { EachStep (slot_keeps S.content) slot_has S.honest }
 {}

@@ -1,5 +1,5 @@
 -- what a call asks of its caller keeps the machine sound
-use Rattle.std.proofs.Common.{◌≡◌, ℕ, ◌<◌, true}
+use Rattle.std.proofs.Common.{ℕ}
 use Rattle.pointer_word.specs.Machine.{State}
 use Rattle.pointer_word.specs.Calls.{Call, Opens, Closes, Clears, Stores, Begins, Claims, Fills, Arrives, Unclaims, Retreats, Marks, Copies, Puts, Commits, Aborts, Leaves, Releases, May}
 use Rattle.pointer_word.specs.Asked.{Asked}

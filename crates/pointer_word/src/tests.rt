@@ -1,6 +1,6 @@
 #[cfg(test)]
 mod tests {
-    use crate::{KEEP_COMING, KEEP_HERE, KEEP_PLAIN, Word};
+    use crate::{KEEP_COMING, KEEP_HERE, KEEP_PLAIN, Word, WordState};
 
     // The words of an object that is in frame 2, of which mover 2 copies the cells, while owner 1 writes it.
     #[test]
@@ -13,7 +13,7 @@ mod tests {
         assert!(rt; marked.marked());
         assert!(rt; marked.out());
         assert!(rt; !marked.clean());
-        assert_eq!(rt; marked.state(), 2);
+        assert_eq!(rt; marked.state(), WordState::Here);
         assert_eq!(rt; marked.frame(), 2);
         assert_eq!(rt; marked.mover(), 2);
         assert_eq!(rt; marked.count(), 0);
@@ -31,7 +31,7 @@ mod tests {
         assert_eq!(rt; Word::away(1).bits, 1);
         let coming = Word::coming(1, 1);
         assert_eq!(rt; coming.bits, 0x1000_0004_0001);
-        assert_eq!(rt; coming.state(), 1);
+        assert_eq!(rt; coming.state(), WordState::Coming);
         assert_eq!(rt; coming.mover(), 1);
         assert_eq!(rt; coming.bits & KEEP_COMING, 1);
         let here = coming.bits.wrapping_add(Word::arrival(1, 2));

@@ -1,12 +1,19 @@
-use Rattle.std.proofs.Common.{arith, subst, sym, ap, ◌∙◌, ◌≡◌, ◌<◌, ℕ, false}
-use Rattle.std.specs.Prelude.{Some}
-use Rattle.pointer_word.specs.Hands.{or_zero, Hand}
+use Rattle.std.proofs.Common.{arith, subst, sym, ap, false}
 use Rattle.pointer_word.specs.Calls.{Filled}
 use Rattle.object_lock.specs.declared.shape.Shape.{Shape}
-use Rattle.object_lock.specs.Seats.{Sizes, frame_word, cell_word}
 use Rattle.object_lock.proofs.Stored.{stored}
 use Rattle.object_lock.proofs.Own.{arrives_own}
+use mathlib.Core.Option.{none}
+use Rattle.atomic_table.specs.Table.{step}
+use Rattle.object_lock.specs.Kept.{slot_keeps, slot_has}
+use Rattle.object_lock.proofs.Exact.{arrives_step}
+use Rattle.object_lock.proofs.Asks.{asks_arrive}
 use Rattle.object_lock.proofs.table.LockWords.arrive_own_word.Goals as goal
 
 pub fetch_add-requires : goal.fetch_add-requires
 fetch_add-requires g c = let sized = c.args.self.now.sized.0 in let keyed = c.args.self.now.keyed in let zo = ap (λ (q : Shape). q.objects) keyed in let zf = ap (λ (q : Shape). q.frames) keyed in let same = c.requires.table.1 in let near = c.requires.hands.0 in let q = c.requires.hands.3 in let filled = subst (λ (q : Shape). Filled _ q.cells c.args.seat.now.me.0.hand) (sym keyed) c.requires.filled in (c.requires.table.0, omega arith, arrives_own _ _ _ _ false (λ e. cc) (stored _) _ _ _ _ _ _ q.0 c.requires.hold.0 c.requires.hold.1 c.requires.hands.1 c.requires.hands.2 filled q.1 q.2 c.requires.words)
+
+pub returns-clause-step : goal.returns-clause-step
+returns-clause-step g c =
+    let s = arrives_step g.S.RawStore.honest (slot_keeps g.S.RawStore.content) slot_has (step 0 c.args.obj c.args.by 0 none) c.args.seat.now.me c.fetch_add.result c.fetch_add.new.seat.me c.args.frame c.requires.hands.2 c.fetch_add.ensures.2 in
+    (s.0, s.1, asks_arrive g.S.RawStore.honest c.args.seat.now.me.0 s.0 s.1.knew c.args.obj c.args.frame c.requires.hold.0 s.1.may, tt)

@@ -2,6 +2,10 @@ use Rattle.std.proofs.Common.{subst, sym, ap, ◌∙◌, ◌≡◌, ◌<◌, ℕ
 use Rattle.pointer_word.specs.Hands.{or_zero}
 use Rattle.object_lock.specs.Seats.{Sizes, cell_word}
 use Rattle.object_lock.proofs.Frames.{fills, some_of}
+use mathlib.Core.Option.{none}
+use Rattle.atomic_table.specs.Table.{step}
+use Rattle.object_lock.proofs.Exact.{fills_step}
+use Rattle.object_lock.proofs.Asks.{asks_fill}
 use Rattle.object_lock.proofs.table.LockWords.fill_cell.Goals as goal
 
 pub store-requires : goal.store-requires
@@ -14,3 +18,10 @@ store-requires g c =
           (c.cell_at-cell.ensures.at ∙ ap (λ (q : Sizes). cell_word q c.args.frame c.args.i) (sym same) ∙ ap (λ (f : ℕ). cell_word v.sizes f c.args.i) (sym mine))
           (subst (λ (q : Sizes). c.args.i < q.cells) (sym same) l) (some_of v.hand.claimed _ c.requires.claimed),
     )
+
+pub returns-clause-step : goal.returns-clause-step
+returns-clause-step g c =
+    let v = c.args.seat.now.me.0 in let same = c.requires.table.1 in let l = c.requires.low.1 in
+    let s = fills_step g.S.RawStore.honest (step 0 c.cell_at-cell.result c.args.v 0 none) c.args.seat.now.me c.args.v c.store.new.seat.me c.args.frame c.args.i c.requires.claimed
+    (c.cell_at-cell.ensures.at ∙ ap (λ (q : Sizes). cell_word q c.args.frame c.args.i) (sym same)) c.store.ensures.2 in
+    (s.0, s.1, asks_fill g.S.RawStore.honest v s.0 s.1.knew c.args.frame c.args.i c.args.v (subst (λ (q : Sizes). c.args.i < q.cells) (sym same) l) c.requires.claimed, tt)

@@ -1,4 +1,4 @@
-use Rattle.std.proofs.Common.{arith, subst, ap, sym, refl, ◌∙◌, ◌≡◌, ℕ, List, length, get_or, ◌+◌, ◌*◌, replicate}
+use Rattle.std.proofs.Common.{ap, ◌∙◌, ◌≡◌, ℕ, List, get_or, ◌+◌, ◌*◌, replicate}
 use Rattle.object_lock.proofs.Opening.{opens_table, zero_row}
 use Rattle.object_lock.proofs.table.LockWords.lay.Goals as goal
 

@@ -1,4 +1,4 @@
-use Rattle.std.proofs.Common.{◌≡◌, ◌<◌, ◌∙◌, ap, sym, subst}
+use Rattle.std.proofs.Common.{◌<◌, ◌∙◌, ap, sym, subst}
 use Rattle.object_lock.specs.Seats.{Sizes, cell_word}
 use Rattle.object_lock.proofs.Frames.{loads}
 use Rattle.object_lock.proofs.table.LockWords.load_cell.Goals as goal

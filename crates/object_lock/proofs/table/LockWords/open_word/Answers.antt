@@ -3,6 +3,7 @@ use mathlib.Core.Option.{none}
 use Rattle.atomic_table.specs.Table.{step}
 use Rattle.object_lock.proofs.Owner.{opens}
 use Rattle.object_lock.proofs.Exact.{opens_exactly}
+use Rattle.object_lock.proofs.Asks.{asks_open}
 use Rattle.object_lock.proofs.table.LockWords.open_word.Goals as goal
 
 pub fetch_add-requires : goal.fetch_add-requires
@@ -10,3 +11,6 @@ fetch_add-requires g c = let own = c.requires.hold.0.1 in let within = c.require
 
 pub returns-clause-exactly : goal.returns-clause-exactly
 returns-clause-exactly g c = let e = opens_exactly _ (step 0 c.args.obj 0 0 none) _ _ _ c.requires.hold.0 c.fetch_add.ensures.2 in (e.0, e.1, e.2, λ i. (e.3 i, e.4 i))
+
+pub returns-clause-step : goal.returns-clause-step
+returns-clause-step g c = let t = c.fetch_add.ensures.2.0 in (t.0, t.2, asks_open g.S.RawStore.honest c.args.seat.now.me.0 t.0 t.2.knew c.args.obj c.requires.hold.0 c.requires.hold.1, t.1)

@@ -1,10 +1,6 @@
-use Rattle.std.proofs.Common.{arith, subst, sym, ap, ◌∙◌, ◌≡◌, ◌<◌, ℕ, false}
-use Rattle.std.specs.Prelude.{Some}
-use Rattle.pointer_word.specs.Hands.{or_zero, Hand}
-use Rattle.pointer_word.specs.Calls.{Filled}
+use Rattle.std.proofs.Common.{sym, ap, ◌∙◌}
 use Rattle.object_lock.specs.declared.shape.Shape.{Shape}
-use Rattle.object_lock.specs.Seats.{Sizes, frame_word, cell_word}
-use Rattle.object_lock.proofs.Stored.{stored}
+use Rattle.object_lock.specs.Seats.{Sizes, frame_word}
 use Rattle.object_lock.proofs.Frames.{releases}
 use Rattle.object_lock.proofs.table.LockWords.release_word.Goals as goal
 

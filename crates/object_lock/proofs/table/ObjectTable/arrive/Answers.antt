@@ -1,9 +1,11 @@
-use Rattle.std.proofs.Common.{◌≡◌, ◌<◌, ℕ, List, sym, ap, ◌∙◌, subst, arith}
+use Rattle.std.proofs.Common.{◌≡◌, sym, ap, ◌∙◌, subst, arith, true, false}
 use Rattle.std.specs.Prelude.{Option, Some}
 use mathlib.Core.Path.{Path}
 use Rattle.atomic_table.specs.Table.{Me}
 use Rattle.remote_store.specs.declared.berth.Berth.{Berth}
 use Rattle.object_lock.specs.Seats.{View}
+use Rattle.pointer_word.specs.Calls.{Arrives}
+use Rattle.object_lock.specs.Plays.{Steps}
 use Rattle.object_lock.specs.Kept.{slot_keeps}
 use Rattle.object_lock.specs.SeatViews.{TableView, SeatView}
 use Rattle.object_lock.proofs.Answered.{keeps_promised, put_back, filled_at}
@@ -29,3 +31,9 @@ arrive_own_word-requires-clause-filled g c κs within =
     let e : c.mover.inside.seat.me.0 ≡ c.args.mover.now.view = ap (λ (h : SeatView g.row.S-Cell.Denot). h.view) c.mover.view_is in
     let d : c.exchange.new.seat.me.0 ≡ c.mover.inside.seat.me.0 = ap (λ (m : Me (Option (Berth g.row.S-Cell.Denot)) View). m.0) c.exchange.ensures.3 in
     filled_at g.S.RawStore.honest _ _ _ _ (ap (λ (t : TableView). t.sizes.cells) c.self.view_is) (ap (λ (v : View). v.hand) (d ∙ e)) c.requires.filled
+
+pub returns-clause-step : goal.returns-clause-step
+returns-clause-step g c =
+    let e : c.mover.inside.seat.me.0 ≡ c.args.mover.now.view = ap (λ (h : SeatView g.row.S-Cell.Denot). h.view) c.mover.view_is in
+    let d : c.exchange.new.seat.me.0 ≡ c.mover.inside.seat.me.0 = ap (λ (m : Me (Option (Berth g.row.S-Cell.Denot)) View). m.0) c.exchange.ensures.3 in
+    subst (λ (v : View). Steps g.S.RawStore.honest (Arrives v.number c.args.obj c.args.frame false true) v c.arrive_own_word.new.seat.me.0 (λ _. Unit {0})) (d ∙ e) c.arrive_own_word.ensures.step

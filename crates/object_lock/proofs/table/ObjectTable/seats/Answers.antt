@@ -1,7 +1,7 @@
-use Rattle.std.proofs.Common.{◌≡◌, ℕ, suc, ◌+◌, ◌-◌, ◌<◌, ◌≤◌, List, [], ◌∷◌, ◌++◌, arith, sym, subst, ap, ◌∙◌}
+use Rattle.std.proofs.Common.{◌≡◌, ℕ, suc, ◌+◌, ◌-◌, List, [], ◌∷◌, ◌++◌, arith, sym, subst, ap, ◌∙◌}
 use Rattle.std.specs.List.{All}
 use Rattle.object_lock.specs.SeatViews.{SeatView}
-use Rattle.object_lock.specs.Fresh.{IsFreshOwner, IsFreshMover, AreNumbered}
+use Rattle.object_lock.specs.Fresh.{IsFreshOwner, AreNumbered}
 use Rattle.object_lock.proofs.SeatRows.{numbered_on, all_on, last_done}
 use Rattle.object_lock.proofs.table.ObjectTable.seats.Goals as goal
 

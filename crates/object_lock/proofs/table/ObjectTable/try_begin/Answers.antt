@@ -1,5 +1,5 @@
-use Rattle.std.proofs.Common.{◌≡◌, ◌<◌, ℕ, List, ◌∷◌, sym, ap, ◌∙◌, subst, arith}
-use Rattle.std.specs.Prelude.{Option, Some}
+use Rattle.std.proofs.Common.{true, arith, ◌≡◌, ℕ, sym, ap, ◌∙◌, subst}
+use Rattle.std.specs.Prelude.{Option}
 use mathlib.Core.Path.{Path}
 use Rattle.atomic_table.specs.Table.{Me}
 use Rattle.pointer_word.specs.Words.{counted}
@@ -7,8 +7,11 @@ use Rattle.pointer_word.specs.Hands.{bringing}
 use Rattle.remote_store.specs.declared.berth.Berth.{Berth}
 use Rattle.object_lock.specs.Seats.{View, note, with_hand}
 use Rattle.object_lock.specs.SeatViews.{SeatView}
-use Rattle.object_lock.specs.Telling.{Begun}
-use Rattle.object_lock.proofs.Answered.{not_begun, berth_in, first_slot}
+use Rattle.object_lock.specs.declared.answers.Begin.TheVariants as B
+use Rattle.pointer_word.specs.Calls.{Begins}
+use Rattle.object_lock.specs.Plays.{Steps}
+use Rattle.object_lock.specs.Telling.{tried, Begun}
+use Rattle.object_lock.proofs.Answered.{not_begun, berth_in, first_slot, tried_hit, tried_miss}
 use Rattle.object_lock.proofs.table.ObjectTable.try_begin.Goals as goal
 
 pub returns-else-found-count-clause-told : goal.returns-else-found-count-clause-told
@@ -38,3 +41,18 @@ returns-then-found-count-clause-told g c =
         refusals = ap (λ (h : SeatView g.row.S-Cell.Denot). h.refusals) v i;
       },
     )
+
+pub returns-then-found-count-clause-step : goal.returns-then-found-count-clause-step
+returns-then-found-count-clause-step g c =
+    let w = c.begin_own_word-found in let s = w.ensures.step in let o : ℕ = c.args.obj in let n : ℕ = c.args.count in let low = c.requires.hold.3 in
+    let e : c.mover.inside.seat.me.0 ≡ c.args.mover.now.view = ap (λ (h : SeatView g.row.S-Cell.Denot). h.view) c.mover.view_is in
+    let d : w.new.seat.me.0 ≡ c.exchange.new.seat.me.0 = sym (ap (λ (m : Me (Option (Berth g.row.S-Cell.Denot)) View). m.0) c.exchange.ensures.3) in
+    subst (λ (q : View × View). Steps g.S.RawStore.honest (Begins q.0.number o n true) q.0 q.1 (λ x. B.Taken ≡ tried n (x.word o))) (λ i. (e i, d i))
+    (s.0, s.1, s.2, tried_hit c.mover.inside.seat.me.0.sizes (s.0.word o) w.result n (omega arith) s.3 c.if-found-count.true)
+
+pub returns-else-found-count-clause-step : goal.returns-else-found-count-clause-step
+returns-else-found-count-clause-step g c =
+    let w = c.begin_own_word-found in let s = w.ensures.step in let o : ℕ = c.args.obj in let n : ℕ = c.args.count in
+    let e : c.mover.inside.seat.me.0 ≡ c.args.mover.now.view = ap (λ (h : SeatView g.row.S-Cell.Denot). h.view) c.mover.view_is in
+    subst (λ (q : View). Steps g.S.RawStore.honest (Begins q.number o n true) q w.new.seat.me.0 (λ x. c.begin_of.result ≡ tried n (x.word o))) e
+    (s.0, s.1, s.2, tried_miss c.mover.inside.seat.me.0.sizes (s.0.word o) w.result n c.begin_of.result s.3 c.if-found-count.false (c.begin_of.ensures (s.0.word o) s.3.1.0 s.3.0))

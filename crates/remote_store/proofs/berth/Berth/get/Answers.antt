@@ -1,4 +1,4 @@
-use Rattle.std.proofs.Common.{sym, ◌∙◌, List, ℕ}
+use Rattle.std.proofs.Common.{◌∙◌}
 use Rattle.remote_store.proofs.Reading.{gets}
 use Rattle.remote_store.proofs.berth.Berth.get.Goals as goal
 

@@ -1,0 +1,29 @@
+use Rattle.object_lock.specs.Kept.{slot_keeps, slot_has}
+use Rattle.object_lock.proofs.Stored.{stored}
+use Rattle.object_lock.proofs.Owner.{opens_on, closes_on, clears_on}
+use Rattle.object_lock.proofs.Mover.{begins_on, marks_on, commits_on, aborts_on, retreats_on, arrives_on}
+use Rattle.object_lock.proofs.Own.{arrives_own_on, begins_own_on}
+use Rattle.object_lock.proofs.Frames.{claims_on, unclaims_on, releases_on, fills_on, copies_on, loads_on, stores_on}
+use Rattle.object_lock.proofs.laws.each_step.Goals as goal
+
+pub returns : goal.returns
+returns g c = record {
+  opens = λ z. opens_on (slot_keeps g.S.RawStore.content) slot_has g.S.RawStore.honest z;
+  closes = λ z. closes_on (slot_keeps g.S.RawStore.content) slot_has g.S.RawStore.honest z;
+  clears = λ z. clears_on (slot_keeps g.S.RawStore.content) slot_has g.S.RawStore.honest z (stored g.S.RawStore.content);
+  loads = λ z. loads_on (slot_keeps g.S.RawStore.content) slot_has g.S.RawStore.honest z;
+  stores = λ z. stores_on (slot_keeps g.S.RawStore.content) slot_has g.S.RawStore.honest z;
+  begins = λ z. begins_on (slot_keeps g.S.RawStore.content) slot_has g.S.RawStore.honest z;
+  begins_own = λ z. begins_own_on (slot_keeps g.S.RawStore.content) slot_has g.S.RawStore.honest z;
+  claims = λ z. claims_on (slot_keeps g.S.RawStore.content) slot_has g.S.RawStore.honest z;
+  fills = λ z. fills_on (slot_keeps g.S.RawStore.content) slot_has g.S.RawStore.honest z;
+  arrives = λ z k clean. arrives_on (slot_keeps g.S.RawStore.content) slot_has g.S.RawStore.honest z k clean (stored g.S.RawStore.content);
+  arrives_own = λ z k clean. arrives_own_on (slot_keeps g.S.RawStore.content) slot_has g.S.RawStore.honest z k clean (stored g.S.RawStore.content);
+  marks = λ z. marks_on (slot_keeps g.S.RawStore.content) slot_has g.S.RawStore.honest z (stored g.S.RawStore.content);
+  copies = λ z. copies_on (slot_keeps g.S.RawStore.content) slot_has g.S.RawStore.honest z;
+  commits = λ z. commits_on (slot_keeps g.S.RawStore.content) slot_has g.S.RawStore.honest z;
+  aborts = λ z. aborts_on (slot_keeps g.S.RawStore.content) slot_has g.S.RawStore.honest z;
+  retreats = λ z. retreats_on (slot_keeps g.S.RawStore.content) slot_has g.S.RawStore.honest z;
+  unclaims = λ z. unclaims_on (slot_keeps g.S.RawStore.content) slot_has g.S.RawStore.honest z;
+  releases = λ z. releases_on (slot_keeps g.S.RawStore.content) slot_has g.S.RawStore.honest z;
+}
