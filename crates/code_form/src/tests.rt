@@ -1,7 +1,7 @@
 //! The touches of a program, in order.
 use crate::{
-    Block, Cell, Execution, Fact, Function, Image, Instruction, Kind, Touch, computed, run_laws,
-    stuck,
+    Block, Cell, Execution, Fact, Function, Image, Instruction, Kind, Touch, computed, effect_laws,
+    heap_laws, run_laws, stuck,
 };
 use cells::Stop;
 use std::alloc::{AllocError, Global};
