@@ -32,6 +32,7 @@ pub struct FolderFiles<'a, R: SystemFiles + AllocGlobal> {
 }
 
 impl<'a, R: SystemFiles + AllocGlobal> FolderFiles<'a, R> {
+    /// The files that the runtime reaches.
     pub fn new(rt: &'a R) -> FolderFiles<'a, R> {
         FolderFiles { rt }
     }
