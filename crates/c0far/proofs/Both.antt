@@ -1,6 +1,6 @@
 -- The image of a program and its bounded meaning agree both ways.
-use Rattle.std.proofs.Common.{◌≡◌, ◌≢◌, ◌⊎◌, inl, inr, ◌<◌, ◌≤◌, ℕ, zero, suc, ◌+◌, ◌-◌, Bool, true, false, cond, Option, Some, None, List, [], ◌∷◌, ◌++◌, length, map, get_or, replicate, refl, sym, ap, ◌∙◌, subst, arith}
-use Rattle.std.specs.Prelude.{ℤ, pos}
+use Rattle.std.proofs.Common.{lit≤, ◌≡◌, ◌≢◌, ◌⊎◌, inl, inr, ◌<◌, ◌≤◌, ℕ, zero, suc, ◌+◌, ◌-◌, Bool, true, false, cond, Option, Some, None, List, [], ◌∷◌, ◌++◌, length, map, get_or, replicate, refl, sym, ap, ◌∙◌, subst, arith}
+use Rattle.std.specs.Prelude.{ℤ, max, pos}
 use Rattle.std.proofs.lemmas.List.{length-replicate}
 use Rattle.cells.specs.Stops.{Stop}
 use Rattle.cells.specs.Outcomes.{Done, Stopped as Halted, Cut, then_do, Meant, IsPrefix, stops_with}
@@ -10,7 +10,7 @@ use Rattle.c0_typed.specs.Meaning as m
 use Rattle.code_form.specs.declared.form.Kind.TheVariants as kind
 use Rattle.code_form.specs.Effects.{Heap, step, steps, code_run}
 use Rattle.code_form.specs.declared.allocation.Allocation.{Allocation}
-use Rattle.code_form.specs.Code.{Core, Running, Shut, Stopped, Stuck, code, of_int, output_of}
+use Rattle.code_form.specs.Code.{Core, Covered, IsCovered, Running, Shut, Stopped, Stuck, code, most_scopes, of_int, output_of}
 use Rattle.code_form.specs.Laws.{StepsAdd, StoppedStays, StuckStays, OutputGrows}
 use Rattle.c0far.specs.declared.fragment.Step.{Step}
 use Rattle.c0far.specs.declared.fragment.Answer.{Answer}
@@ -79,7 +79,7 @@ scoped : (p : Program) → touches p.steps p.answer ≡ true → scopes_of p ≡
 scoped p e = ap (λ b. cond b 1 0) e
 
 -- with a turn at least, the meaning and the code stop alike
-pub both_end : (p : Program) (checks : Bool) (n : ℕ) → IsWithin p → AtEnd p (code_run (code (image_of p)) 0) (m.mean (typed_of p) checks (suc n))
+pub both_end : (p : Program) (checks : Bool) (n : ℕ) → IsWithin p → AtEnd p (scopes_of p) (code_run (code (image_of p)) 0) (m.mean (typed_of p) checks (suc n))
 both_end p checks n w =
     let kinds = replicate p.pointers (kind.Ptr 0) in
     let registers : suc (length kinds) - 0 ≡ suc p.pointers = omega (arith, length-replicate p.pointers (kind.Ptr 0)) in
@@ -88,11 +88,32 @@ both_end p checks n w =
     let wraps : (r : ℕ) → Wraps (get_or [] r (pos 0)) = λ r. subst Wraps (sym (no_numbers r)) refl in
     let ran = ends p checks (m.call checks (typed_of p) n) n (v.Number (pos 0)) p.steps p.answer w.0 w.1 (scopes_of p) 0 [] (replicate p.pointers 0) (λ _ _. 0) (scoped p) (long, holds, wraps, zeros_inside p.pointers 0) in
     let begins : ℕ → Core × Heap = λ a. (Running (record { function = main_code p; rest = code_of p.steps p.answer; registers = replicate a 0; scopes = replicate (scopes_of p) Shut; destination = None }) [] [] [], λ _ _. 0) in
-    at_as p _ _ _ (ap begins registers) (told_as p _ _ _ (meant_is p checks n) ran)
+    at_as p (scopes_of p) _ _ _ (ap begins registers) (told_as p (scopes_of p) _ _ _ (meant_is p checks n) ran)
+
+-- the scopes of the image are those of `main`
+scopes_are : (p : Program) → most_scopes (image_of p).functions ≡ scopes_of p
+scopes_are p = go (touches p.steps p.answer) refl
+  where
+    go : (b : Bool) → touches p.steps p.answer ≡ b → most_scopes (image_of p).functions ≡ scopes_of p
+    go true e = rw e refl
+    go false e = rw e refl
+
+few : (b : Bool) → max (cond b 1 0) 0 ≤ 4
+few true = lit≤ tt
+few false = lit≤ tt
+
+-- each state of the run is covered
+pub covers : (p : Program) → IsWithin p → Covered (image_of p)
+covers p w =
+    let same = scopes_are p in
+    record {
+      few = few (touches p.steps p.answer);
+      everywhere = λ k. subst (λ limit. IsCovered limit (code_run (code (image_of p)) k).0) (sym same) ((both_end p false 0 w).6 k);
+    }
 
 module _ (p : Program) (checks : Bool) (w : IsWithin p) (steps_add : StepsAdd) (stopped_stays : StoppedStays) (stuck_stays : StuckStays) (grows : OutputGrows) where
   -- k instructions and then all that lead to the end
-  lasts : (n k : ℕ) (a : AtEnd p (code_run (code (image_of p)) 0) (m.mean (typed_of p) checks (suc n))) → steps (code (image_of p)) a.0 (code_run (code (image_of p)) k) ≡ (Stopped a.1 a.2 [], a.3)
+  lasts : (n k : ℕ) (a : AtEnd p (scopes_of p) (code_run (code (image_of p)) 0) (m.mean (typed_of p) checks (suc n))) → steps (code (image_of p)) a.0 (code_run (code (image_of p)) k) ≡ (Stopped a.1 a.2 [], a.3)
   lasts n k a =
       let C = code (image_of p) in
       let z : Core × Heap = code_run C 0 in

@@ -1,16 +1,20 @@
 -- The end of a run.
-use Rattle.std.proofs.Common.{◌≡◌, ◌<◌, ◌≤◌, ◌+◌, ℕ, List, [], ◌∷◌, ◌++◌, length, get_or, sym, ap, ◌∙◌, subst, arith}
+use Rattle.std.proofs.Common.{◌≡◌, ◌≢◌, None, refl, ◌<◌, ◌≤◌, ◌+◌, ℕ, List, [], ◌∷◌, ◌++◌, length, get_or, sym, ap, ◌∙◌, subst, arith}
 use Rattle.std.proofs.lemmas.List.{length-append}
 use Rattle.std.proofs.Math.Seq.{get_or-append_seam}
 use Rattle.std.specs.declared.vec.Vec.{Vec}
 use Rattle.std.specs.declared.alloc.Global.{Global}
 use Rattle.cells.specs.declared.ending.Run.{Run}
-use Rattle.cells.specs.declared.ending.Ended.{Ended}
+use Rattle.cells.specs.declared.ending.Run.TheVariants.{Running, Stopped, Wanted}
+use Rattle.cells.specs.declared.ending.Want.{Want}
+use Rattle.cells.specs.declared.ending.Want.TheVariants.{OutOfMemory, NoObjects, StoreFailed}
 use Rattle.code_form.specs.Form.{Image}
 use Rattle.code_form.specs.Effects.{code_run}
 use Rattle.code_form.specs.Code.{Core, code, output_of}
-use Rattle.executor.specs.State.{State, IsAt}
-use Rattle.c0far.specs.Executed.{EndsAs, IsExecuted}
+use Rattle.code_form.specs.Placed.{next_object}
+use Rattle.remote_store.specs.Kept.{piece_cells}
+use Rattle.executor.specs.State.{Caused, IsAt, State, cells_in}
+use Rattle.c0far.specs.Executed.{EndsAs, IsExecuted, IsOver, WantsFor}
 
 -- what holds of all elements holds of the last
 pub last_of_all : {X : Type 0} (P : X → Type 0) (xs front : List X) (x : X) → xs ≡ front ++ x ∷ [] → ((k : ℕ) (d : X) → k < length xs → P (get_or xs k d)) → P x
@@ -19,9 +23,30 @@ last_of_all P xs front x e all =
     let inside : length front < length xs = omega arith in
     subst P (ap (λ ys. get_or ys (length front) x) e ∙ get_or-append_seam front x [] x) (all (length front) x inside)
 
+-- objects are counted from a program's first one on
+from_zero : (n base : ℕ) (cells : List ℕ) → next_object n base cells ≡ base + next_object n 0 cells
+from_zero n base [] = omega arith
+from_zero n base (c ∷ older) = let rest = from_zero n base older in omega arith
+
+-- why a session with 64 objects wants something
+wants_for : (t : State) (w : Want) → w ≢ StoreFailed → t.view.high ≡ t.view.low + 64 → Caused (record t { want = None }) w → WantsFor t.image t.core w
+wants_for t NoObjects other share c =
+    let from = from_zero piece_cells t.view.low (cells_in t) in
+    let full = c.2 in
+    (c.0, c.1, omega arith)
+wants_for t OutOfMemory other share c = c
+wants_for t StoreFailed other share c = absurd (other refl)
+
+ends_as : (t : State) (r : Run) → r ≢ Wanted StoreFailed → t.view.high ≡ t.view.low + 64 → IsOver t r → EndsAs t.image t.core r
+ends_as t Running other share over = over
+ends_as t (Stopped x) other share over = over
+ends_as t (Wanted w) other share over = (over.0, wants_for t w (λ e. other (ap Wanted e)) share over.1)
+
 -- what a session came to is what the code's run came to
-pub executed : (C : Image) (t : State) (out : Vec ℕ Global) (r : Run) (n : ℕ) → t.image ≡ C → IsAt t → out.items ≡ output_of t.core → n ≡ t.completed → EndsAs t.core r → IsExecuted C (record { output = out; run = r; completed = n })
-executed C t out r n image at printed count ends =
+pub executed : (C : Image) (t : State) (out : Vec ℕ Global) (r : Run) (n : ℕ) → t.image ≡ C → t.view.high ≡ t.view.low + 64 → IsAt t → out.items ≡ output_of t.core → n ≡ t.completed → IsOver t r → r ≢ Wanted StoreFailed
+    → IsExecuted C (record { output = out; run = r; completed = n })
+executed C t out r n image share at printed count over other =
     let reached : t.core ≡ (code_run (code C) n).0 = at.core ∙ ap (λ D. (code_run (code D) t.completed).0) image ∙ ap (λ k. (code_run (code C) k).0) (sym count) in
-    let Ends : Core → Type 0 = λ c. EndsAs c r in
-    record { output = printed ∙ ap output_of reached; ends = subst Ends reached ends }
+    let OfImage : Image → Type 0 = λ D. EndsAs D t.core r in
+    let OfCore : Core → Type 0 = λ c. EndsAs C c r in
+    record { output = printed ∙ ap output_of reached; ends = subst OfCore reached (subst OfImage image (ends_as t r other share over)) }

@@ -2,6 +2,7 @@ pub mod Body
 pub mod Both
 pub mod Constants
 pub mod Ending
+pub mod Found
 pub mod Instructions
 pub mod Places
 pub mod ReadingBodies

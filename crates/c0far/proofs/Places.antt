@@ -1,16 +1,16 @@
 -- Where the tokens of a text stand.
-use Rattle.std.proofs.Common.{◌≡◌, Bool, true, false, lit≤, ◌≤◌, ◌+◌, ℕ, zero, suc, List, [], ◌∷◌, ◌++◌, length, Some, ap, arith, subst, refl, sym, ◌∙◌}
-use Rattle.std.specs.Prelude.{slice_get, cond, max}
+use Rattle.std.proofs.Common.{◌≡◌, Bool, ◌≤◌, ◌+◌, ℕ, zero, suc, List, [], ◌∷◌, ◌++◌, length, Some, ap, arith, subst, refl, sym, ◌∙◌}
+use Rattle.std.specs.Prelude.{slice_get}
 use Rattle.c0_source.specs.SourceTexts.{IsSourceText}
 use Rattle.c0_source.specs.Spelling.{Lexeme, Rise}
 use Rattle.c0_lexer.specs.Lexed.{IsLexed}
 use Rattle.code_form.specs.Form.{Image}
-use Rattle.code_form.specs.Code.{most_scopes}
+use Rattle.code_form.specs.Code.{Covered}
 use Rattle.c0far.specs.declared.fragment.Program.{Program as RustProgram}
 use Rattle.c0far.specs.declared.reader.Tree.{Tree as RustTree}
 use Rattle.c0far.specs.Compiled.{HasTokens, HasTree, IsCompiled, Means}
 use Rattle.c0far.specs.Correct.{Behaves}
-use Rattle.c0far.specs.Fragment.{IsWithin, Program, image_of, touches, typed_of}
+use Rattle.c0far.specs.Fragment.{IsWithin, Program, image_of, typed_of}
 use Rattle.c0far.specs.Reads.{AreTokens, IsSmall, IsTree}
 use Rattle.c0far.specs.Trees.{Resolves}
 use Rattle.c0far.specs.Views.{program_of, tree_of}
@@ -44,19 +44,10 @@ has_tokens text bytes inside ts e f s l = let Lexes : List ℕ → Type 0 = λ b
 pub tokens_are : (text bytes inside : List ℕ) (ts us : List Lexeme) → bytes ≡ text → inside ≡ bytes → IsSourceText inside → IsLexed bytes ts → Rise 0 (length bytes) ts → us ≡ ts → AreTokens us
 tokens_are text bytes inside ts us e f s l r same = subst AreTokens (sym same) (are_tokens bytes ts (subst IsSourceText f s) l r)
 
-few : (b : Bool) → max (cond b 1 0) 0 ≤ 4
-few true = lit≤ tt
-few false = lit≤ tt
-
--- an image has one scope at most
-pub few_scopes : (p : Program) → most_scopes (image_of p).functions ≤ 4
-few_scopes p = few (touches p.steps p.answer)
-
 -- from the tokens to the image
 pub compiled : (text : List ℕ) (checks : Bool) (ts us : List Lexeme) (t : RustTree) (p : RustProgram) (C : Image) → HasTokens text ts → us ≡ ts → IsTree us (tree_of t) → IsSmall (tree_of t) → Resolves (tree_of t) (program_of p) → IsWithin (program_of p)
-    → ((q : Program) (b : Bool) → IsWithin q → Behaves (typed_of q) b (image_of q)) → C ≡ image_of (program_of p) → IsCompiled text checks C
-compiled text checks ts us t p C spelled same read small resolved within behaves is =
+    → ((q : Program) (b : Bool) → IsWithin q → Behaves (typed_of q) b (image_of q)) → ((q : Program) → IsWithin q → Covered (image_of q)) → C ≡ image_of (program_of p) → IsCompiled text checks C
+compiled text checks ts us t p C spelled same read small resolved within behaves covers is =
     let written : HasTree text (tree_of t) = record { tokens = us; spelled = subst (HasTokens text) (sym same) spelled; read = read; small = small } in
     let means : Means text (program_of p) = record { tree = tree_of t; written = written; resolved = resolved } in
-    let Few : Image → Type 0 = λ D. most_scopes D.functions ≤ 4 in
-    record { program = program_of p; meant = means; behaves = subst (Behaves (typed_of (program_of p)) checks) (sym is) (behaves (program_of p) checks within); few = subst Few (sym is) (few_scopes (program_of p)) }
+    record { program = program_of p; meant = means; behaves = subst (Behaves (typed_of (program_of p)) checks) (sym is) (behaves (program_of p) checks within); covered = subst Covered (sym is) (covers (program_of p) within) }

@@ -1,5 +1,5 @@
 -- What a text means, and why a text is refused: by the first stage that finds a fault.
-use Rattle.std.specs.Prelude.{◌≡◌, ◌≤◌, ℕ, Bool, List, ◌⊎◌}
+use Rattle.std.specs.Prelude.{◌≡◌, ℕ, Bool, List, ◌⊎◌}
 use Rattle.c0_source.specs.declared.fault.Fault.{Fault}
 use Rattle.c0_source.specs.declared.fault.FaultKind.{FaultKind}
 use Rattle.c0_source.specs.declared.fault.FaultKind.TheVariants as f
@@ -7,7 +7,7 @@ use Rattle.c0_source.specs.SourceTexts.{IsRefused, IsSourceText}
 use Rattle.c0_source.specs.Spelling.{Lexeme}
 use Rattle.c0_lexer.specs.Lexed.{IsFault, IsLexed}
 use Rattle.code_form.specs.Form.{Image}
-use Rattle.code_form.specs.Code.{most_scopes}
+use Rattle.code_form.specs.Code.{Covered}
 use Rattle.c0far.specs.Correct.{Behaves}
 use Rattle.c0far.specs.Fragment.{Program, typed_of}
 use Rattle.c0far.specs.Reads.{IsSmall, IsTree, RefusedFor}
@@ -36,8 +36,8 @@ pub record IsCompiled (text : List ℕ) (checks : Bool) (C : Image) : Type 0 whe
   pub program : Program
   pub meant : Means text program
   pub behaves : Behaves (typed_of program) checks C
-  -- no more scopes in a function than a session has
-  pub few : most_scopes C.functions ≤ 4
+  -- no function has more than four scopes, none of its runs gets stuck or allocates, calls or returns with a scope open
+  pub covered : Covered C
 
 -- a fault of the text itself
 abbrev pub IsSourceFault : List ℕ → Fault → Type 0

@@ -1,25 +1,48 @@
 -- How the run of an image ends.
-use Rattle.std.specs.Prelude.{◌≡◌, ◌≢◌, ℕ, List, Option, Some, None}
+use Rattle.std.specs.Prelude.{◌≡◌, ◌<◌, ◌+◌, ℕ, List, Option, Some, None}
 use Rattle.cells.specs.declared.ending.Run.{Run}
 use Rattle.cells.specs.declared.ending.Run.TheVariants.{Running, Stopped, Wanted}
 use Rattle.cells.specs.declared.ending.Ended.{Ended}
+use Rattle.cells.specs.declared.ending.Want.{Want}
+use Rattle.cells.specs.declared.ending.Want.TheVariants.{OutOfMemory, NoObjects, StoreFailed}
 use Rattle.cells.specs.Stops.{stop_of as stop_read}
 use Rattle.code_form.specs.Form.{Image}
 use Rattle.code_form.specs.Effects.{code_run}
-use Rattle.code_form.specs.Code.{Core, code, output_of, stop_of}
-use Rattle.executor.specs.State.{State}
+use Rattle.code_form.specs.Code.{Core, allocations_of, code, effect, output_of, sizes, stop_of}
+use Rattle.code_form.specs.Placed.{next_object, pieces}
+use Rattle.code_form.specs.Touches.{touch_of}
+use Rattle.code_form.specs.declared.touch.Touch.TheVariants.{Allocs}
+use Rattle.remote_store.specs.Kept.{piece_cells}
+use Rattle.executor.specs.State.{Caused, State}
 
--- the program has stopped so, or wants this and has not stopped
-abbrev pub EndsAs : Core → Run → Type 0
-EndsAs c Running = ⊥
-EndsAs c (Stopped x) = stop_of c ≡ Some (stop_read x)
-EndsAs c (Wanted w) = stop_of c ≡ None
+-- the next instruction allocates this many cells
+abbrev pub AllocatesNext : Image → Core → ℕ → Type 0
+AllocatesNext C c n = touch_of (effect C c) ≡ Allocs n
 
--- the session has come to its end
-abbrev pub IsOver : State → State → Run → Type 0
-IsOver s t r = (t.image ≡ s.image) × EndsAs t.core r
+-- the number of objects that allocations take
+abbrev pub objects_of : List ℕ → ℕ
+objects_of cells = next_object piece_cells 0 cells
+
+-- why a program wants something: its next instruction is an allocation, and that would take more than 64 objects in all, or a
+-- growth was refused
+abbrev pub WantsFor : Image → Core → Want → Type 0
+WantsFor C c NoObjects = (n : ℕ) × AllocatesNext C c n × (64 < objects_of (sizes (allocations_of c)) + pieces piece_cells n)
+WantsFor C c OutOfMemory = (n : ℕ) × AllocatesNext C c n
+WantsFor C c StoreFailed = ⊥
+
+-- the program has stopped so, or has not stopped and wants this
+abbrev pub EndsAs : Image → Core → Run → Type 0
+EndsAs C c Running = ⊥
+EndsAs C c (Stopped x) = stop_of c ≡ Some (stop_read x)
+EndsAs C c (Wanted w) = (stop_of c ≡ None) × WantsFor C c w
+
+-- a session at its end: its program has stopped so, or wants this for a cause
+abbrev pub IsOver : State → Run → Type 0
+IsOver t Running = ⊥
+IsOver t (Stopped x) = stop_of t.core ≡ Some (stop_read x)
+IsOver t (Wanted w) = (stop_of t.core ≡ None) × Caused (record t { want = None }) w
 
 -- what was printed, and how the program ended, are those of the code's run after the instructions that were completed
 pub record IsExecuted (C : Image) (e : Ended) : Type 0 where
   pub output : e.output.items ≡ output_of (code_run (code C) e.completed).0
-  pub ends : EndsAs (code_run (code C) e.completed).0 e.run
+  pub ends : EndsAs C (code_run (code C) e.completed).0 e.run

@@ -3,6 +3,7 @@ pub mod Correct
 pub mod Executed
 pub mod Fragment
 pub mod Reads
+pub mod Shell
 pub mod Statuses
 pub mod Trees
 pub mod Views

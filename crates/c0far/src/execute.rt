@@ -1,16 +1,18 @@
 //! Runs an image on the calling thread.
-ghost use Rattle.std.specs.Prelude.{◌≤◌, IfOk};
-ghost use Rattle.code_form.specs.Code.{most_scopes};
+ghost use Rattle.std.specs.Prelude.{◌≢◌, IfOk};
+ghost use Rattle.cells.specs.declared.ending.Run.TheVariants.{Wanted};
+ghost use Rattle.cells.specs.declared.ending.Want.TheVariants.{StoreFailed};
+ghost use Rattle.code_form.specs.Code.{Covered};
 ghost use Rattle.code_form.specs.Form.{image_of};
-ghost use Rattle.executor.specs.State.{IsAt};
+ghost use Rattle.executor.specs.State.{IsAt, IsGoing, SameProgram};
 ghost use Rattle.c0far.specs.Executed.{IsExecuted, IsOver};
 
-use cells::{Ended, Run, Want};
+use cells::{Ended, Run};
 use code_form::Image;
 use executor::Session;
 use object_lock::ObjectTable;
 use remote_store::{Config, FarHeap, RawStore};
-use std::alloc::Global;
+use std::alloc::{AllocError, Global};
 use std::sync::Wait;
 
 /// How many objects a run has, and a frame for each.
@@ -21,8 +23,11 @@ const QUANTUM: u64 = 1_000_000;
 
 /// Runs the session until its program has stopped or wants something.
 fn run_to_end<S: RawStore, W: Wait>(rt: &W, session: &mut Session<'_, S>) -> Run
+    requires { IsGoing session.old }
     ensures at { S.honest → IsAt session.new }
-    ensures over { IsOver session.old session.new result }
+    ensures same { SameProgram session.old session.new }
+    ensures over { IsOver session.new result }
+    ensures covered { S.honest → Covered session.old.image → result ≢ Wanted StoreFailed }
 {
     for _ in rt.forever() {
         if session.completed() <= u64::MAX - QUANTUM {
@@ -36,10 +41,10 @@ fn run_to_end<S: RawStore, W: Wait>(rt: &W, session: &mut Session<'_, S>) -> Run
     unreachable!()
 }
 
-/// Runs the image until it has stopped or wants something, over a store in memory. `Err` is `OutOfMemory`, where a growth for
-/// the table, the session or the output was refused.
-pub fn execute<W: Wait>(alloc: Global, rt: &W, image: &Image) -> Result<Ended, Want>
-    requires { most_scopes (image_of image.now).functions ≤ 4 }
+/// Runs the image until it has stopped or wants something, over a store in memory. `Err` where a growth for the table, the session or
+/// the output was refused.
+pub fn execute<W: Wait>(alloc: Global, rt: &W, image: &Image) -> Result<Ended, AllocError>
+    requires { Covered (image_of image.now) }
     ensures { IfOk result (λ e. IsExecuted (image_of image.now) e) }
 {
     let config = Config {
@@ -49,15 +54,17 @@ pub fn execute<W: Wait>(alloc: Global, rt: &W, image: &Image) -> Result<Ended, W
         fetchers: 0,
         stores: FarHeap,
     };
-    let (table, mut owners, _movers) = ObjectTable::new(alloc, 1, &config)?;
+    let Ok((table, mut owners, _movers)) = ObjectTable::new(alloc, 1, &config) else {
+        return Err(AllocError);
+    };
     let Some(seat) = owners.pop() else {
-        return Err(Want::OutOfMemory);
+        unreachable!()
     };
-    let mut session = Session::new(alloc, &table, image, seat)?;
+    let Ok(mut session) = Session::new(alloc, &table, image, seat) else {
+        return Err(AllocError);
+    };
     let run = run_to_end(rt, &mut session);
-    let Ok(output) = session.output().to_vec(alloc) else {
-        return Err(Want::OutOfMemory);
-    };
+    let output = session.output().to_vec(alloc)?;
     Ok(Ended {
         output,
         run,

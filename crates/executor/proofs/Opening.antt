@@ -156,4 +156,4 @@ never_stuck honest laws heaps s run q cover going cause =
 pub never_failed : (honest : Type 0) → Laws → HeapLaws → (n : ℕ) (s t : State) (r : Run) → IsRun honest t → Ran n s t r → honest → Covered s.image → IsGoing s → r ≢ Wanted StoreFailed
 never_failed honest laws heaps n s t r run told q cover going e =
     let w : Ran n s t (Wanted StoreFailed) = subst (Ran n s t) e told in
-    never_stuck honest laws heaps t run q (subst Covered (sym w.0) cover) w.3 (w.4 going)
+    never_stuck honest laws heaps t run q (subst Covered (sym w.0.0) cover) w.3 (w.4 going)

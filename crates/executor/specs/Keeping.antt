@@ -17,7 +17,7 @@ use Rattle.remote_store.specs.Kept.{piece_cells}
 use Rattle.object_lock.specs.Seats.{Owns, View, note, with_note}
 use Rattle.executor.specs.declared.hold.Hold.{Hold}
 use Rattle.executor.specs.Taken.{IsQuiet, Takes}
-use Rattle.executor.specs.State.{Caused, IsAt, IsGoing, ScopesHold, State, cells_in, hold_at, latest_in, next_touch, object_of}
+use Rattle.executor.specs.State.{Caused, IsAt, IsGoing, SameProgram, ScopesHold, State, cells_in, hold_at, latest_in, next_touch, object_of}
 
 -- allocations, the newest first, take their objects one behind the other, from low on; next is the object behind them
 abbrev pub IsPlaced : ℕ → List ℕ → List ℕ → ℕ → Type 0
@@ -189,8 +189,8 @@ HasWriter s k h = hold_at s.holds k ≡ Some (a_hold h.object h.frame true)
 
 -- one instruction: what is answered is so
 abbrev pub Went : State → State → Run → Type 0
-Went s t Running = (t.image ≡ s.image) × (t.completed ≡ s.completed + 1) × IsGoing t
-Went s t (Stopped x) = (t.image ≡ s.image) × (t.completed ≡ s.completed + 1) × (stop_of t.core ≡ Some (stop_read x))
+Went s t Running = SameProgram s t × (t.completed ≡ s.completed + 1) × IsGoing t
+Went s t (Stopped x) = SameProgram s t × (t.completed ≡ s.completed + 1) × (stop_of t.core ≡ Some (stop_read x))
 Went s t (Wanted w) = (t ≡ wants s w) × Caused s w
 
 -- why an allocation of n cells wants something

@@ -81,11 +81,15 @@ Caused s NoObjects = (n : ℕ) × (next_touch s ≡ touch.Allocs n) × (s.view.h
 Caused s OutOfMemory = (n : ℕ) × (next_touch s ≡ touch.Allocs n)
 Caused s StoreFailed = (next_touch s ≡ touch.Wrong) ⊎ ((next_touch s ≡ touch.Nothing) ⊎ (is_blocked s.core ≡ true))
 
+-- the program and its share of the objects are the same
+abbrev pub SameProgram : State → State → Type 0
+SameProgram s t = (t.image ≡ s.image) × (t.view.low ≡ s.view.low) × (t.view.high ≡ s.view.high)
+
 -- a run of at most n instructions from s to t: what it answers is so, and it answers a want for a cause
 abbrev pub Ran : ℕ → State → State → Run → Type 0
-Ran n s t Running = (t.image ≡ s.image) × (t.completed ≡ s.completed + n) × IsGoing t
-Ran n s t (Stopped x) = (t.image ≡ s.image) × (t.completed ≤ s.completed + n) × (stop_of t.core ≡ Some (stop_read x))
-Ran n s t (Wanted w) = (t.image ≡ s.image) × (t.completed ≤ s.completed + n) × (t.want ≡ Some w) × (stop_of t.core ≡ None) × (IsGoing s → Caused (record t { want = None }) w)
+Ran n s t Running = SameProgram s t × (t.completed ≡ s.completed + n) × IsGoing t
+Ran n s t (Stopped x) = SameProgram s t × (t.completed ≤ s.completed + n) × (stop_of t.core ≡ Some (stop_read x))
+Ran n s t (Wanted w) = SameProgram s t × (t.completed ≤ s.completed + n) × (t.want ≡ Some w) × (stop_of t.core ≡ None) × (IsGoing s → Caused (record t { want = None }) w)
 
 -- a session at its beginning
 abbrev pub begin : Image → View → State
