@@ -1,4 +1,5 @@
 pub mod Bytes
+pub mod FaultLines
 pub mod FaultNumbers
 pub mod Laws
 pub mod Lines

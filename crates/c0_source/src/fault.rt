@@ -1,9 +1,11 @@
 // What can be wrong with a program, and where.
 
-ghost use Rattle.std.specs.Prelude.{◌≡◌, ◌<◌};
+ghost use Rattle.std.specs.Prelude.{◌≡◌, ◌<◌, Some};
+ghost use Rattle.c0_source.specs.FaultLines.{fault_line, name_of_kind};
 ghost use Rattle.c0_source.specs.FaultNumbers.{byte_fault, fault_number, memory_fault};
 
 use std::alloc::{AllocError, AllocFailed};
+use std::fmt;
 use thiserror::Error;
 
 /// A part of a text: from the byte at `start` to before the byte at `end`.
@@ -75,11 +77,43 @@ impl FaultKind {
     {
         self as u8
     }
+
+    /// The name of the kind, by which it is shown.
+    pub fn name(self) -> &'static str
+        ensures { result.now ≡ name_of_kind self }
+    {
+        match self {
+            FaultKind::BadByte => "BadByte",
+            FaultKind::BadToken => "BadToken",
+            FaultKind::OpenComment => "OpenComment",
+            FaultKind::Syntax => "Syntax",
+            FaultKind::TooDeep => "TooDeep",
+            FaultKind::TooLarge => "TooLarge",
+            FaultKind::UnknownName => "UnknownName",
+            FaultKind::UnknownField => "UnknownField",
+            FaultKind::DuplicateName => "DuplicateName",
+            FaultKind::TypeMismatch => "TypeMismatch",
+            FaultKind::NotSmall => "NotSmall",
+            FaultKind::VoidUse => "VoidUse",
+            FaultKind::ArgumentCount => "ArgumentCount",
+            FaultKind::NotDestination => "NotDestination",
+            FaultKind::NotAssigned => "NotAssigned",
+            FaultKind::NoReturn => "NoReturn",
+            FaultKind::NotDefined => "NotDefined",
+            FaultKind::BadMain => "BadMain",
+            FaultKind::StructNotComplete => "StructNotComplete",
+            FaultKind::NullDereference => "NullDereference",
+            FaultKind::BadContract => "BadContract",
+            FaultKind::DeclMismatch => "DeclMismatch",
+            FaultKind::StepDeclares => "StepDeclares",
+            FaultKind::BadUse => "BadUse",
+            FaultKind::OutOfMemory => "OutOfMemory",
+        }
+    }
 }
 
 /// What is wrong with a program, and where. It is shown as `fault NUMBER NAME`.
 #[derive(Clone, Copy, Debug, PartialEq, Eq, Error)]
-#[error("fault {} {:?}", .kind.number(), .kind)]
 pub struct Fault {
     pub kind: FaultKind,
     pub span: Span,
@@ -108,6 +142,15 @@ impl Fault {
             kind: FaultKind::OutOfMemory,
             span: Span { start: 0, end: 0 },
         }
+    }
+}
+
+// By hand: a `Display` that the derive of `Error` writes does not state its text. With no message it writes none.
+impl fmt::Display for Fault {
+    ghost output = { λ fault. Some (fault_line fault) };
+
+    fn fmt<W: fmt::Write>(&self, f: &mut fmt::Formatter<W>) -> fmt::Result {
+        write!(f, "fault {} {}", self.kind.number(), self.kind.name())
     }
 }
 

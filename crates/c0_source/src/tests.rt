@@ -1,9 +1,30 @@
 // Texts and faults.
 
+ghost use Rattle.std.specs.Prelude.{◌≡◌, ◌++◌, codes, string_bytes, IfOk, OnOk};
+ghost use Rattle.std.specs.Io.KnownBytes.{Appends};
+ghost use Rattle.c0_source.specs.FaultLines.{fault_line};
+
 use crate::fault::{Fault, FaultKind};
 use crate::position::{Position, line_column};
 use crate::source::{MOST_BYTES, Source};
+use std::alloc::{AllocError, Global};
+use std::io;
 use std::test::Fail;
+
+// What a caller knows of the text of a fault.
+fn text_of(alloc: Global, fault: &Fault) -> Result<String, AllocError>
+    ensures { IfOk result (λ text. string_bytes text ≡ fault_line fault.now) }
+{
+    format!(in alloc; "{fault}")
+}
+
+// What a caller knows of a line that it writes.
+fn say<O: io::Write>(out: &mut O, fault: Fault) -> io::Result<()>
+    ensures { OnOk result (Appends (O.contents out.old) (O.contents out.new)
+        (fault_line fault ++ codes "\n")) }
+{
+    writeln!(out, "{fault}")
+}
 
 #[test]
 fn a_text_is_taken_as_it_is(rt: HostRuntime) -> Result<(), Fail> {
@@ -46,7 +67,44 @@ fn faults_are_shown_by_number_and_name(rt: HostRuntime) -> Result<(), Fail> {
     ] {
         assert_eq!(rt; kind.number(), number);
         let fault = Fault::at(kind, 3);
-        assert_eq!(rt; format!(in rt.alloc(); "{fault}")?.as_str(), text);
+        assert_eq!(rt; text_of(rt.alloc(), &fault)?.as_str(), text);
+    }
+    let mut out = Vec::new(rt.alloc());
+    say(&mut out, Fault::at(FaultKind::NoReturn, 3))?;
+    assert_eq!(rt; out.as_slice(), b"fault 39 NoReturn\n".as_slice());
+    Ok(())
+}
+
+#[test]
+fn a_kind_is_named_as_in_the_code(rt: HostRuntime) -> Result<(), Fail> {
+    for kind in [
+        FaultKind::BadByte,
+        FaultKind::BadToken,
+        FaultKind::OpenComment,
+        FaultKind::Syntax,
+        FaultKind::TooDeep,
+        FaultKind::TooLarge,
+        FaultKind::UnknownName,
+        FaultKind::UnknownField,
+        FaultKind::DuplicateName,
+        FaultKind::TypeMismatch,
+        FaultKind::NotSmall,
+        FaultKind::VoidUse,
+        FaultKind::ArgumentCount,
+        FaultKind::NotDestination,
+        FaultKind::NotAssigned,
+        FaultKind::NoReturn,
+        FaultKind::NotDefined,
+        FaultKind::BadMain,
+        FaultKind::StructNotComplete,
+        FaultKind::NullDereference,
+        FaultKind::BadContract,
+        FaultKind::DeclMismatch,
+        FaultKind::StepDeclares,
+        FaultKind::BadUse,
+        FaultKind::OutOfMemory,
+    ] {
+        assert_eq!(rt; format!(in rt.alloc(); "{kind:?}")?.as_str(), kind.name());
     }
     Ok(())
 }

@@ -1,5 +1,6 @@
 //! How a program ends, and what a run can want.
-ghost use Rattle.std.specs.Prelude.{◌≡◌, Some, codes};
+ghost use Rattle.std.specs.Prelude.{Some};
+ghost use Rattle.cells.specs.Lines.{run_line, stop_line, want_line};
 
 use std::fmt;
 use thiserror::Error;
@@ -27,13 +28,10 @@ pub enum Stop {
 #[derive(Clone, Copy, Debug, PartialEq, Eq, Error)]
 pub enum Want {
     /// A growth of memory was refused.
-    #[error("out of memory")]
     OutOfMemory = 1,
     /// An allocation's pieces don't fit in what is left of the program's share of objects.
-    #[error("no objects")]
     NoObjects = 2,
     /// A call of the program's own to the store failed.
-    #[error("store failed")]
     StoreFailed = 3,
 }
 
@@ -54,6 +52,8 @@ pub struct Ended {
 }
 
 impl fmt::Display for Stop {
+    ghost output = { λ stop. Some (stop_line stop) };
+
     fn fmt<W: fmt::Write>(&self, f: &mut fmt::Formatter<W>) -> fmt::Result {
         match self {
             Stop::Ended(number) => write!(f, "result: {number}"),
@@ -67,7 +67,22 @@ impl fmt::Display for Stop {
     }
 }
 
+// By hand: a `Display` that the derive of `Error` writes does not state its text. With no message it writes none.
+impl fmt::Display for Want {
+    ghost output = { λ want. Some (want_line want) };
+
+    fn fmt<W: fmt::Write>(&self, f: &mut fmt::Formatter<W>) -> fmt::Result {
+        match self {
+            Want::OutOfMemory => write!(f, "out of memory"),
+            Want::NoObjects => write!(f, "no objects"),
+            Want::StoreFailed => write!(f, "store failed"),
+        }
+    }
+}
+
 impl fmt::Display for Run {
+    ghost output = { λ run. Some (run_line run) };
+
     fn fmt<W: fmt::Write>(&self, f: &mut fmt::Formatter<W>) -> fmt::Result {
         match self {
             Run::Running => write!(f, "running"),
