@@ -3,6 +3,8 @@ pub mod Both
 pub mod Constants
 pub mod Ending
 pub mod Instructions
+pub mod OneProgram
+pub mod OneTree
 pub mod Places
 pub mod ReadingBodies
 pub mod ReadingEnds

@@ -1,6 +1,7 @@
 -- Where the tokens of a text stand.
 use Rattle.std.proofs.Common.{◌≡◌, Bool, true, false, lit≤, ◌≤◌, ◌+◌, ℕ, zero, suc, List, [], ◌∷◌, ◌++◌, length, Some, ap, arith, subst, refl, sym, ◌∙◌}
 use Rattle.std.specs.Prelude.{slice_get, cond, max}
+use Rattle.c0_source.specs.Laws.{OneSpelling}
 use Rattle.c0_source.specs.SourceTexts.{IsSourceText}
 use Rattle.c0_source.specs.Spelling.{Lexeme, Rise}
 use Rattle.c0_lexer.specs.Lexed.{IsLexed}
@@ -14,6 +15,7 @@ use Rattle.c0far.specs.Fragment.{IsWithin, Program, image_of, touches, typed_of}
 use Rattle.c0far.specs.Reads.{AreTokens, IsSmall, IsTree}
 use Rattle.c0far.specs.Trees.{Resolves}
 use Rattle.c0far.specs.Views.{program_of, tree_of}
+use Rattle.c0far.proofs.OneProgram.{one_program}
 
 some_lexeme : {a b : Lexeme} → Some a ≡ Some b → a ≡ b
 some_lexeme e = cc e
@@ -53,10 +55,10 @@ pub few_scopes : (p : Program) → most_scopes (image_of p).functions ≤ 4
 few_scopes p = few (touches p.steps p.answer)
 
 -- from the tokens to the image
-pub compiled : (text : List ℕ) (checks : Bool) (ts us : List Lexeme) (t : RustTree) (p : RustProgram) (C : Image) → HasTokens text ts → us ≡ ts → IsTree us (tree_of t) → IsSmall (tree_of t) → Resolves (tree_of t) (program_of p) → IsWithin (program_of p)
+pub compiled : OneSpelling → (text : List ℕ) (checks : Bool) (ts us : List Lexeme) (t : RustTree) (p : RustProgram) (C : Image) → HasTokens text ts → us ≡ ts → IsTree us (tree_of t) → IsSmall (tree_of t) → Resolves (tree_of t) (program_of p) → IsWithin (program_of p)
     → ((q : Program) (b : Bool) → IsWithin q → Behaves (typed_of q) b (image_of q)) → C ≡ image_of (program_of p) → IsCompiled text checks C
-compiled text checks ts us t p C spelled same read small resolved within behaves is =
+compiled law text checks ts us t p C spelled same read small resolved within behaves is =
     let written : HasTree text (tree_of t) = record { tokens = us; spelled = subst (HasTokens text) (sym same) spelled; read = read; small = small } in
     let means : Means text (program_of p) = record { tree = tree_of t; written = written; resolved = resolved } in
     let Few : Image → Type 0 = λ D. most_scopes D.functions ≤ 4 in
-    record { program = program_of p; meant = means; behaves = subst (Behaves (typed_of (program_of p)) checks) (sym is) (behaves (program_of p) checks within); few = subst Few (sym is) (few_scopes (program_of p)) }
+    record { program = program_of p; meant = means; only = λ q other. one_program law text q (program_of p) other means; behaves = subst (Behaves (typed_of (program_of p)) checks) (sym is) (behaves (program_of p) checks within); few = subst Few (sym is) (few_scopes (program_of p)) }
