@@ -4,6 +4,8 @@ pub mod Constants
 pub mod Ending
 pub mod Found
 pub mod Instructions
+pub mod OneProgram
+pub mod OneTree
 pub mod Places
 pub mod ReadingBodies
 pub mod ReadingEnds

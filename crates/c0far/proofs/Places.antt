@@ -1,6 +1,7 @@
 -- Where the tokens of a text stand.
 use Rattle.std.proofs.Common.{◌≡◌, Bool, ◌≤◌, ◌+◌, ℕ, zero, suc, List, [], ◌∷◌, ◌++◌, length, Some, ap, arith, subst, refl, sym, ◌∙◌}
 use Rattle.std.specs.Prelude.{slice_get}
+use Rattle.c0_source.specs.Laws.{OneSpelling}
 use Rattle.c0_source.specs.SourceTexts.{IsSourceText}
 use Rattle.c0_source.specs.Spelling.{Lexeme, Rise}
 use Rattle.c0_lexer.specs.Lexed.{IsLexed}
@@ -14,6 +15,7 @@ use Rattle.c0far.specs.Fragment.{IsWithin, Program, image_of, typed_of}
 use Rattle.c0far.specs.Reads.{AreTokens, IsSmall, IsTree}
 use Rattle.c0far.specs.Trees.{Resolves}
 use Rattle.c0far.specs.Views.{program_of, tree_of}
+use Rattle.c0far.proofs.OneProgram.{one_program}
 
 some_lexeme : {a b : Lexeme} → Some a ≡ Some b → a ≡ b
 some_lexeme e = cc e
@@ -45,9 +47,9 @@ pub tokens_are : (text bytes inside : List ℕ) (ts us : List Lexeme) → bytes 
 tokens_are text bytes inside ts us e f s l r same = subst AreTokens (sym same) (are_tokens bytes ts (subst IsSourceText f s) l r)
 
 -- from the tokens to the image
-pub compiled : (text : List ℕ) (checks : Bool) (ts us : List Lexeme) (t : RustTree) (p : RustProgram) (C : Image) → HasTokens text ts → us ≡ ts → IsTree us (tree_of t) → IsSmall (tree_of t) → Resolves (tree_of t) (program_of p) → IsWithin (program_of p)
+pub compiled : OneSpelling → (text : List ℕ) (checks : Bool) (ts us : List Lexeme) (t : RustTree) (p : RustProgram) (C : Image) → HasTokens text ts → us ≡ ts → IsTree us (tree_of t) → IsSmall (tree_of t) → Resolves (tree_of t) (program_of p) → IsWithin (program_of p)
     → ((q : Program) (b : Bool) → IsWithin q → Behaves (typed_of q) b (image_of q)) → ((q : Program) → IsWithin q → Covered (image_of q)) → C ≡ image_of (program_of p) → IsCompiled text checks C
-compiled text checks ts us t p C spelled same read small resolved within behaves covers is =
+compiled law text checks ts us t p C spelled same read small resolved within behaves covers is =
     let written : HasTree text (tree_of t) = record { tokens = us; spelled = subst (HasTokens text) (sym same) spelled; read = read; small = small } in
     let means : Means text (program_of p) = record { tree = tree_of t; written = written; resolved = resolved } in
-    record { program = program_of p; meant = means; behaves = subst (Behaves (typed_of (program_of p)) checks) (sym is) (behaves (program_of p) checks within); covered = subst Covered (sym is) (covers (program_of p) within) }
+    record { program = program_of p; meant = means; only = λ q other. one_program law text q (program_of p) other means; behaves = subst (Behaves (typed_of (program_of p)) checks) (sym is) (behaves (program_of p) checks within); covered = subst Covered (sym is) (covers (program_of p) within) }

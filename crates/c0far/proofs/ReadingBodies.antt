@@ -51,7 +51,7 @@ star_not_return : (ts : List Lexeme) → FirstFits STAR ts → FirstFits RETURN 
 star_not_return [] a b = a
 star_not_return (t ∷ ts) a b = absurd (cc (a, b))
 
-int_first : (a x ts : List Lexeme) → AllFit DECLARATION a → ts ≡ a ++ x → FirstFits INT ts
+pub int_first : (a x ts : List Lexeme) → AllFit DECLARATION a → ts ≡ a ++ x → FirstFits INT ts
 int_first a x ts h e = first_fits INT (drop 1 DECLARATION) a x ts h e
 
 pub star_first : (a x ts : List Lexeme) → AllFit WRITE a → ts ≡ a ++ x → FirstFits STAR ts

@@ -145,7 +145,7 @@ number_stops ts i all never second (inr over) =
       none = none_returned ts i (omega arith) never (λ rest x. over_none (drop 1 RETURN_NUMBER) STAR (drop 2 RETURN_READ) ts i rest over second x);
     }
 
-star_not_number : (ts : List Lexeme) → SecondFits STAR ts → SecondFits AnyNumber ts → ⊥
+pub star_not_number : (ts : List Lexeme) → SecondFits STAR ts → SecondFits AnyNumber ts → ⊥
 star_not_number [] a b = a
 star_not_number (t ∷ []) a b = a
 star_not_number (t ∷ u ∷ ts) a b = absurd (let n = b.1 in cc (a, n))

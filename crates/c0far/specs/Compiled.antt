@@ -31,10 +31,12 @@ pub record Means (text : List ℕ) (p : Program) : Type 0 where
   pub written : HasTree text tree
   pub resolved : Resolves tree p
 
--- the image is that of a program that the text means: it does what that means, both ways
+-- the image is that of the one program that the text means: it does what that means, both ways
 pub record IsCompiled (text : List ℕ) (checks : Bool) (C : Image) : Type 0 where
   pub program : Program
   pub meant : Means text program
+  -- and no other program
+  pub only : (other : Program) → Means text other → other ≡ program
   pub behaves : Behaves (typed_of program) checks C
   -- no function has more than four scopes, none of its runs gets stuck or allocates, calls or returns with a scope open
   pub covered : Covered C

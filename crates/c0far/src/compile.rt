@@ -9,6 +9,7 @@ use crate::names::resolve;
 use crate::reader::read;
 use c0_lexer::lex::lex;
 use c0_source::fault::Fault;
+use c0_source::laws::one_spelling;
 use c0_source::source::Source;
 use code_form::Image;
 use std::alloc::Global;
@@ -21,6 +22,7 @@ pub fn compile(alloc: Global, text: &[u8], _checks: bool) -> Result<Image, Fault
     ensures refused { IfErr result (λ f. IsRefusedText text.now f) }
 {
     image_behaves();
+    one_spelling();
     let source = Source::new(alloc, text)?;
     let tokens = lex(alloc, &source)?;
     let tree = read(alloc, &tokens)?;

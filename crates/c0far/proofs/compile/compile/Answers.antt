@@ -17,5 +17,5 @@ pub returns-clause-compiled : goal.returns-clause-compiled
 returns-clause-compiled c =
     let e = c.in_ok-tokens.ensures in
     let spelled = has_tokens c.args.text.now c.in_ok-source.source _ _ c.in_ok-source.ensures c.source.view_is c.source.invariant e.spelled in
-    compiled c.args.text.now c.args._checks _ _ c.in_ok-tree.tree c.in_ok-program.program (form.image_of c.in_ok-generate.field-0) spelled (ap (map lexeme) c.deref.ensures.value) c.in_ok-tree.ensures.found c.in_ok-tree.ensures.small
+    compiled c.one_spelling.ensures c.args.text.now c.args._checks _ _ c.in_ok-tree.tree c.in_ok-program.program (form.image_of c.in_ok-generate.field-0) spelled (ap (map lexeme) c.deref.ensures.value) c.in_ok-tree.ensures.found c.in_ok-tree.ensures.small
     c.in_ok-program.ensures.resolved c.in_ok-program.ensures.within.0 c.image_behaves.ensures.behaves c.image_behaves.ensures.covered c.in_ok-generate.ensures
