@@ -1,14 +1,12 @@
 -- The body of `main` and its code come to the same end.
-use Rattle.std.proofs.Common.{◌≡◌, ◌≢◌, ◌⊎◌, inl, inr, ◌<◌, ◌≤◌, ℕ, zero, suc, ◌+◌, ◌-◌, Bool, true, false, not, cond, Option, Some, None, List, [], ◌∷◌, ◌++◌, length, map, set, get_or, replicate, refl, sym, ap, ◌∙◌, subst, arith}
+use Rattle.std.proofs.Common.{◌≡◌, ◌≢◌, inl, inr, ◌<◌, ◌≤◌, ℕ, zero, suc, ◌+◌, ◌-◌, Bool, true, false, not, cond, Some, None, List, [], ◌∷◌, ◌++◌, length, map, set, get_or, replicate, refl, sym, ap, ◌∙◌, subst, arith}
 use Rattle.std.specs.Prelude.{ℤ, pos, slice_get}
-use Rattle.std.proofs.lemmas.List.{get_or-replicate, get_or-map, get_or-set_same, get_or-set_other, length-set, length-map, length-append, length-replicate, map-set, map-append, get_or_push, get_or_append_left}
+use Rattle.std.proofs.lemmas.List.{get_or-map, get_or-set_same, get_or-set_other, length-set, length-map, length-append, length-replicate, map-set, map-append}
 use Rattle.std.proofs.lemmas.Bool.Decides.{eqb_tells}
-use Rattle.std.proofs.lemmas.Bool.{cases_eq}
 use Rattle.cells.specs.Numbers.{wrap32}
 use Rattle.cells.specs.Stops.{Stop, Ended, NullFault}
 use Rattle.cells.specs.Outcomes.{Done, then_do, Meant, stops_with}
 use Rattle.c0_typed.specs.Values as v
-use Rattle.c0_typed.specs.Trees as t
 use Rattle.c0_typed.specs.Meaning as m
 use Rattle.code_form.specs.declared.form.Kind.TheVariants as kind
 use Rattle.code_form.specs.Form as i

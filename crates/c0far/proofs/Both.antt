@@ -1,6 +1,6 @@
 -- The image of a program and its bounded meaning agree both ways.
-use Rattle.std.proofs.Common.{lit≤, ◌≡◌, ◌≢◌, ◌⊎◌, inl, inr, ◌<◌, ◌≤◌, ℕ, zero, suc, ◌+◌, ◌-◌, Bool, true, false, cond, Option, Some, None, List, [], ◌∷◌, ◌++◌, length, map, get_or, replicate, refl, sym, ap, ◌∙◌, subst, arith}
-use Rattle.std.specs.Prelude.{ℤ, max, pos}
+use Rattle.std.proofs.Common.{lit≤, ◌≡◌, ◌≢◌, ◌≤◌, ℕ, zero, suc, ◌+◌, ◌-◌, Bool, true, false, cond, Some, None, List, [], ◌∷◌, length, map, get_or, replicate, refl, sym, ap, ◌∙◌, subst, arith}
+use Rattle.std.specs.Prelude.{max, pos}
 use Rattle.std.proofs.lemmas.List.{length-replicate}
 use Rattle.cells.specs.Stops.{Stop}
 use Rattle.cells.specs.Outcomes.{Done, Stopped as Halted, Cut, then_do, Meant, IsPrefix, stops_with}
@@ -8,12 +8,10 @@ use Rattle.c0_typed.specs.Values as v
 use Rattle.c0_typed.specs.Trees as t
 use Rattle.c0_typed.specs.Meaning as m
 use Rattle.code_form.specs.declared.form.Kind.TheVariants as kind
-use Rattle.code_form.specs.Effects.{Heap, step, steps, code_run}
+use Rattle.code_form.specs.Effects.{Heap, steps, code_run}
 use Rattle.code_form.specs.declared.allocation.Allocation.{Allocation}
 use Rattle.code_form.specs.Code.{Core, Covered, IsCovered, Running, Shut, Stopped, Stuck, code, most_scopes, of_int, output_of}
 use Rattle.code_form.specs.Laws.{StepsAdd, StoppedStays, StuckStays, OutputGrows}
-use Rattle.c0far.specs.declared.fragment.Step.{Step}
-use Rattle.c0far.specs.declared.fragment.Answer.{Answer}
 use Rattle.c0far.specs.Correct.{Behaves}
 use Rattle.c0far.specs.Fragment.{Program, IsWithin, code_of, touches, scopes_of, main_code, main_of, typed_of, image_of}
 use Rattle.c0far.proofs.Body.{Calls, AtEnd, Inside, Wraps, at_as, state, then_result, told_as, told_of, ends}

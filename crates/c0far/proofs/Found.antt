@@ -1,5 +1,5 @@
 -- What clap found, read as the words' meaning.
-use Rattle.std.proofs.Common.{◌≡◌, ◌∙◌, ℕ, Bool, true, false, List, [], ◌∷◌, Option, Some, None, map, find, refl, sym, ap}
+use Rattle.std.proofs.Common.{◌≡◌, ◌∙◌, Bool, true, false, List, [], ◌∷◌, Option, Some, None, map, find, refl, ap}
 use Rattle.std.specs.Prelude.{Box, codes, cond, option_map, option_and_then, slice_get}
 use Rattle.std.specs.Box.{box_value}
 use Rattle.std.specs.Str.{bytes_eq}

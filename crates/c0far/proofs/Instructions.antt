@@ -1,6 +1,6 @@
 -- What each instruction of the first programs does, where its operands are as the generated code has them.
-use Rattle.std.proofs.Common.{◌≡◌, ◌<◌, ℕ, zero, suc, ◌+◌, ◌-◌, Bool, true, false, cond, Option, Some, None, List, [], ◌∷◌, length, map, set, get_or, replicate, refl, sym, ap, ◌∙◌, subst, arith, ◌≢◌, ◌⊎◌, inl, inr, mod-eq_of_lt}
-use Rattle.std.specs.Prelude.{slice_get, ℤ, nat_lt}
+use Rattle.std.proofs.Common.{◌≡◌, ◌<◌, ℕ, zero, suc, cond, Some, None, List, [], ◌∷◌, length, map, set, get_or, replicate, refl, ap, ◌∙◌, arith, ◌≢◌, inl, inr, mod-eq_of_lt}
+use Rattle.std.specs.Prelude.{slice_get, ℤ}
 use Rattle.std.proofs.lemmas.List.{get_or-replicate, length-replicate, length-map}
 use Rattle.std.proofs.lemmas.Option.{slice_get-get_or}
 use Rattle.std.proofs.lemmas.Bool.Decides.{eqb_tells}
@@ -9,12 +9,11 @@ use Rattle.std.proofs.lemmas.Int.{SFits-int_wrap, to_z-of_z}
 use Rattle.std.proofs.Math.Facts.{Fits-of_z}
 use Rattle.cells.specs.Numbers.{wrap32}
 use Rattle.cells.specs.Stops.{NullFault, Ended}
-use Rattle.code_form.specs.declared.form.Kind.{Kind}
 use Rattle.code_form.specs.declared.form.Kind.TheVariants as kind
 use Rattle.code_form.specs.Form as i
 use Rattle.code_form.specs.Effects.{Heap, step, saved}
 use Rattle.code_form.specs.declared.allocation.Allocation.{Allocation}
-use Rattle.code_form.specs.Code.{Core, Frame, Running, Scope, Shut, Aimed, Stopped, code, cells_of, int_of, of_int, sizes, written}
+use Rattle.code_form.specs.Code.{Core, Running, Scope, Shut, Aimed, Stopped, code, cells_of, int_of, of_int, sizes, written}
 use Rattle.c0far.specs.Fragment.{Program, image_of, main_code}
 
 -- `main` before these instructions

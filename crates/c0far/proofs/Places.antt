@@ -1,5 +1,5 @@
 -- Where the tokens of a text stand.
-use Rattle.std.proofs.Common.{◌≡◌, Bool, ◌≤◌, ◌+◌, ℕ, zero, suc, List, [], ◌∷◌, ◌++◌, length, Some, ap, arith, subst, refl, sym, ◌∙◌}
+use Rattle.std.proofs.Common.{◌≡◌, Bool, ◌≤◌, ◌+◌, ℕ, zero, suc, List, [], ◌∷◌, length, Some, arith, subst, refl, sym, ◌∙◌}
 use Rattle.std.specs.Prelude.{slice_get}
 use Rattle.c0_source.specs.Laws.{OneSpelling}
 use Rattle.c0_source.specs.SourceTexts.{IsSourceText}

@@ -1,11 +1,9 @@
 -- The statements of a tree, one by one.
-use Rattle.std.proofs.Common.{◌≡◌, ◌<◌, ◌≤◌, ◌+◌, ◌-◌, ◌++◌, ℕ, zero, suc, List, [], ◌∷◌, length, map, get_or, take, drop, Some, None, Option, refl, sym, ap, ◌∙◌, subst, arith, ◌⊎◌, inl, inr}
-use Rattle.std.specs.Prelude.{slice_get}
+use Rattle.std.proofs.Common.{◌≡◌, ◌<◌, ◌≤◌, ◌+◌, ◌++◌, ℕ, zero, suc, List, [], ◌∷◌, length, map, get_or, take, drop, refl, sym, ap, ◌∙◌, subst, arith, inl, inr}
 use Rattle.std.proofs.lemmas.Option.{slice_get_within}
-use Rattle.std.proofs.lemmas.List.{length-append, take_more, drop_more, append_assoc, length-map, take_all}
+use Rattle.std.proofs.lemmas.List.{length-append, take_all}
 use Rattle.c0_source.specs.declared.fault.Fault.{Fault}
 use Rattle.c0far.specs.declared.fragment.Step.{Step}
-use Rattle.c0far.specs.declared.fragment.Step.TheVariants.{Allocate, Write}
 use Rattle.c0far.specs.declared.fragment.Answer.{Answer}
 use Rattle.c0far.specs.Fragment.{StepWithin, StepsWithin, AnswerWithin}
 use Rattle.c0far.specs.Trees.{Scope, Statement, Declares, Writes, Returned, Constant, Reads, Tree, AreSteps, IsAnswer, IsStep, NameFault, Resolves, ReturnedFault, StatementFault, behind, behind_all}

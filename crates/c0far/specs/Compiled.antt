@@ -1,7 +1,6 @@
 -- What a text means, and why a text is refused: by the first stage that finds a fault.
 use Rattle.std.specs.Prelude.{◌≡◌, ℕ, Bool, List, ◌⊎◌}
 use Rattle.c0_source.specs.declared.fault.Fault.{Fault}
-use Rattle.c0_source.specs.declared.fault.FaultKind.{FaultKind}
 use Rattle.c0_source.specs.declared.fault.FaultKind.TheVariants as f
 use Rattle.c0_source.specs.SourceTexts.{IsRefused, IsSourceText}
 use Rattle.c0_source.specs.Spelling.{Lexeme}

@@ -1,5 +1,5 @@
 -- What it means that an image does what a program means.
-use Rattle.std.specs.Prelude.{◌≡◌, ◌≢◌, ℕ, List, Bool, Option, Some, None}
+use Rattle.std.specs.Prelude.{◌≡◌, ◌≢◌, ℕ, List, Bool, Some}
 use Rattle.cells.specs.Stops.{Stop}
 use Rattle.cells.specs.Outcomes.{IsPrefix, stops_with}
 use Rattle.c0_typed.specs.Trees.{Program}

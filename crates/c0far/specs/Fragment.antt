@@ -1,5 +1,5 @@
 -- The first programs, once names are numbers: what they are as typed programs, and the image that is made of them.
-use Rattle.std.specs.Prelude.{ℕ, zero, suc, ◌<◌, pos, Bool, true, false, cond, Option, Some, None, List, [], ◌∷◌, replicate}
+use Rattle.std.specs.Prelude.{ℕ, zero, suc, ◌<◌, pos, Bool, true, false, cond, Some, None, List, [], ◌∷◌, replicate}
 use Rattle.cells.specs.Numbers.{wrap32}
 use Rattle.c0_typed.specs.Values as v
 use Rattle.c0_typed.specs.Trees as t

@@ -1,7 +1,10 @@
 pub mod Compiled
 pub mod Correct
+pub mod Driven
 pub mod Executed
+pub mod FileTexts
 pub mod Fragment
+pub mod MemTexts
 pub mod Reads
 pub mod Shell
 pub mod Statuses

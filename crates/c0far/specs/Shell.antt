@@ -1,5 +1,5 @@
 -- The command line: what clap is told of it, and what words mean.
-use Rattle.std.specs.Prelude.{Bool, true, List, [], ◌∷◌, Option, Some, None, codes, cond, ◌≡◌}
+use Rattle.std.specs.Prelude.{true, List, [], Option, Some, None, codes, cond, ◌≡◌}
 use Rattle.std.specs.Str.{bytes_eq}
 use Rattle.clap.specs.Words.{App, Row, Rule, Shape, Text, first_of, new_app, new_rule, subcommand_of, with_rule, with_subcommand}
 use Rattle.clap.specs.declared.builder.ArgAction.TheVariants.{Set}
@@ -31,6 +31,10 @@ run_file (Some p) = cond (bytes_eq p.0 (codes "run")) (first_of (codes "file") p
 abbrev pub file_in : Line → Text
 file_in (line.Run file) = file.now
 
--- the words are this command, as clap reads them
+-- the words are `run` and this file, as clap reads them
+abbrev pub NamesRun : List Text → Text → Type 0
+NamesRun words file = run_file (subcommand_of shell words) ≡ Some file
+
+-- the words are this command
 abbrev pub Names : List Text → Line → Type 0
-Names words l = run_file (subcommand_of shell words) ≡ Some (file_in l)
+Names words l = NamesRun words (file_in l)

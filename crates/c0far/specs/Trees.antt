@@ -1,14 +1,10 @@
 -- Trees of the first programs, the tokens that they are, and what their names stand for.
-use Rattle.std.specs.Prelude.{◌≡◌, ◌⊎◌, ℕ, ◌+◌, List, [], ◌∷◌, ◌++◌, length, Option, Some, slice_get, codes}
-use Rattle.c0_source.specs.declared.kind.Kind.TheVariants as k
-use Rattle.c0_source.specs.declared.kind.Base.TheVariants as b
-use Rattle.c0_source.specs.declared.kind.Operator.TheVariants as o
+use Rattle.std.specs.Prelude.{◌≡◌, ◌⊎◌, ℕ, List, [], ◌∷◌, ◌++◌, length, Some, slice_get, codes}
 use Rattle.c0_source.specs.declared.fault.Fault.{Fault}
 use Rattle.c0_source.specs.declared.fault.Span.{Span}
 use Rattle.c0_source.specs.declared.fault.FaultKind.{FaultKind}
 use Rattle.c0_source.specs.declared.fault.FaultKind.TheVariants as f
 use Rattle.c0_source.specs.FaultNumbers.{memory_fault}
-use Rattle.c0_source.specs.Terminals.{Terminal, Word, Sign}
 use Rattle.c0far.specs.declared.fragment.Step.{Step}
 use Rattle.c0far.specs.declared.fragment.Step.TheVariants.{Allocate, Write}
 use Rattle.c0far.specs.declared.fragment.Answer.{Answer}

@@ -1,5 +1,5 @@
 -- First programs as code holds them.
-use Rattle.std.specs.Prelude.{ℕ, List, map}
+use Rattle.std.specs.Prelude.{map}
 use Rattle.c0far.specs.declared.fragment.Program.{Program as RustProgram}
 use Rattle.c0far.specs.declared.reader.Statement.{Statement as RustStatement}
 use Rattle.c0far.specs.declared.reader.Statement.TheVariants as s

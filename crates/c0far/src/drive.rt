@@ -1,5 +1,8 @@
 //! The commands, over files and two writers.
-ghost use Rattle.std.specs.Prelude.{◌≡◌, ◌≤◌};
+ghost use Rattle.std.specs.Prelude.{◌≡◌, ◌++◌, ℕ, [], IsTrue, MatchResult, codes, cond, map};
+ghost use Rattle.std.specs.Io.KnownBytes.{Appends};
+ghost use Rattle.c0far.specs.Driven.{IsDriven, Runs, Says, StandsAt, is_open, newline, shown_end, shown_fault, writes};
+ghost use Rattle.c0far.specs.FileTexts.{HasText, Known};
 ghost use Rattle.c0far.specs.Statuses.{run_status};
 
 use crate::compile::compile;
@@ -8,7 +11,7 @@ use crate::files::{FileError, Files};
 use crate::line::line;
 use crate::words::{Line, Usage};
 use c0_source::fault::{Fault, FaultKind};
-use c0_source::position::line_column;
+use c0_source::position::{Position, line_column};
 use cells::{Ended, Run, Stop};
 use std::alloc::Global;
 use std::io::Write;
@@ -23,8 +26,7 @@ const WANTED: u8 = 3;
 
 /// The status where a write succeeded, else that of a failed write.
 fn after<T: Drop, E: Drop>(written: Result<T, E>, status: u8) -> u8
-    requires { status ≤ 3 }
-    ensures { result ≤ 3 }
+    ensures { MatchResult written (λ _. result ≡ status) (λ _. result ≡ 2) }
 {
     match written {
         Ok(_) => status,
@@ -34,32 +36,42 @@ fn after<T: Drop, E: Drop>(written: Result<T, E>, status: u8) -> u8
 
 /// Says that a growth was refused.
 fn say_memory<E: Write>(err: &mut E) -> u8
-    ensures { result ≤ 3 }
+    ensures { Says (writes (E.contents err.old) (E.contents err.new)) (codes "out of memory" ++ newline) 3 result }
 {
     after(writeln!(err, "out of memory"), WANTED)
 }
 
-/// Says why a text is refused.
-fn say_fault<E: Write>(err: &mut E, file: &str, text: &[u8], fault: Fault) -> u8
-    ensures { result ≤ 3 }
+/// Says why a text is refused, and where.
+fn say_at<E: Write>(err: &mut E, file: &str, position: Position, fault: Fault) -> u8
+    ensures { Says (writes (E.contents err.old) (E.contents err.new)) (shown_fault file.now position.line position.column fault) 2 result }
 {
-    if fault.kind == FaultKind::OutOfMemory {
-        return say_memory(err);
-    }
-    let position = line_column(text, fault.span.start);
     let line = position.line;
     let column = position.column;
     after(writeln!(err, "{file}:{line}:{column}: {fault}"), REFUSED)
 }
 
-/// Says why a file was not read.
-fn say_unread<E: Write>(err: &mut E, file: &str, error: FileError) -> u8
-    ensures { result ≤ 3 }
+/// Says why a text is refused, at the line and column of the fault.
+fn say_fault<E: Write>(err: &mut E, file: &str, text: &[u8], fault: Fault) -> u8
+    ensures { (line : ℕ) × (column : ℕ) × StandsAt text.now fault.span.start line column
+        × Says (writes (E.contents err.old) (E.contents err.new)) (shown_fault file.now line column fault) 2 result }
 {
-    match error {
-        FileError::Cannot => after(writeln!(err, "{file}: cannot be read"), REFUSED),
-        FileError::OutOfMemory => say_memory(err),
-    }
+    let position = line_column(text, fault.span.start);
+    say_at(err, file, position, fault)
+}
+
+/// Says that a file was not read.
+fn say_unread<E: Write>(err: &mut E, file: &str) -> u8
+    ensures { Says (writes (E.contents err.old) (E.contents err.new)) (file.now ++ (codes ": cannot be read" ++ newline)) 2 result }
+{
+    after(writeln!(err, "{file}: cannot be read"), REFUSED)
+}
+
+/// Says how the words are to be.
+fn say_usage<E: Write>(err: &mut E) -> u8
+    ensures { Says (writes (E.contents err.old) (E.contents err.new)) (codes "usage: c0far run FILE" ++ newline) 2 result }
+{
+    let usage = Usage::Refused;
+    after(writeln!(err, "{usage}"), REFUSED)
 }
 
 /// The status of a run that has ended so.
@@ -73,26 +85,64 @@ fn status_of(run: &Run) -> u8
     }
 }
 
-/// Says what a program printed and how it ended: a newline stands between them where the output doesn't end in one.
-fn say_end<O: Write>(out: &mut O, ended: &Ended) -> u8
-    ensures { result ≤ 3 }
+/// Whether these bytes end in a line that is not finished.
+fn ends_open(bytes: &[u8]) -> bool
+    ensures { result ≡ is_open bytes.now }
 {
-    let status = status_of(&ended.run);
-    if out.write_all(&ended.output).is_err() {
-        return REFUSED;
-    }
-    let open = match ended.output.last() {
+    match bytes.last() {
         Some(byte) => *byte != b'\n',
         None => false,
-    };
-    if open && writeln!(out).is_err() {
+    }
+}
+
+/// Writes what a program printed, with its last line finished, and tells whether that was written.
+fn write_output<O: Write>(out: &mut O, output: &[u8]) -> bool
+    ensures { IsTrue result → Appends (O.contents out.old) (O.contents out.new) (output.now ++ cond (is_open output.now) newline []) }
+{
+    if out.write_all(output).is_err() {
+        return false;
+    }
+    if !ends_open(output) {
+        return true;
+    }
+    writeln!(out).is_ok()
+}
+
+/// Says what a program printed and how it ended: a newline stands between them where the output doesn't end in one.
+fn say_end<O: Write>(out: &mut O, ended: &Ended) -> u8
+    ensures { Says (writes (O.contents out.old) (O.contents out.new)) (shown_end ended.now) (run_status ended.now.run) result }
+{
+    let status = status_of(&ended.run);
+    if !write_output(out, &ended.output) {
         return REFUSED;
     }
     let run = &ended.run;
     after(writeln!(out, "{run}"), status)
 }
 
-/// Runs the program of a text.
+/// Runs the program of a text, which stands in this file.
+fn run_text<W: Wait, O: Write, E: Write>(
+    alloc: Global,
+    rt: &W,
+    file: &str,
+    text: &[u8],
+    out: &mut O,
+    err: &mut E,
+) -> u8
+    ensures { (held : Known) → HasText held text.now → Runs file.now held (writes (O.contents out.old) (O.contents out.new)) (writes (E.contents err.old) (E.contents err.new)) result }
+{
+    let image = match compile(alloc, text, false) {
+        Ok(image) => image,
+        Err(fault) if fault.kind == FaultKind::OutOfMemory => return say_memory(err),
+        Err(fault) => return say_fault(err, file, text, fault),
+    };
+    match execute(alloc, rt, &image) {
+        Ok(ended) => say_end(out, &ended),
+        Err(_refused) => say_memory(err),
+    }
+}
+
+/// Runs the program of a file's text.
 fn run<W: Wait, F: Files, O: Write, E: Write>(
     alloc: Global,
     rt: &W,
@@ -101,18 +151,12 @@ fn run<W: Wait, F: Files, O: Write, E: Write>(
     out: &mut O,
     err: &mut E,
 ) -> u8
-    ensures { result ≤ 3 }
+    ensures { Runs file.now (F.holds files.old file.now) (writes (O.contents out.old) (O.contents out.new)) (writes (E.contents err.old) (E.contents err.new)) result }
 {
-    let text = match files.read(alloc, file) {
-        Ok(text) => text,
-        Err(error) => return say_unread(err, file, error),
-    };
-    match compile(alloc, &text, false) {
-        Ok(image) => match execute(alloc, rt, &image) {
-            Ok(ended) => say_end(out, &ended),
-            Err(_want) => say_memory(err),
-        },
-        Err(fault) => say_fault(err, file, &text, fault),
+    match files.read(alloc, file) {
+        Ok(text) => run_text(alloc, rt, file, &text, out, err),
+        Err(FileError::Cannot) => say_unread(err, file),
+        Err(FileError::OutOfMemory) => say_memory(err),
     }
 }
 
@@ -127,14 +171,11 @@ pub fn drive<W: Wait, F: Files, O: Write, E: Write>(
     out: &mut O,
     err: &mut E,
 ) -> u8
-    ensures { result ≤ 3 }
+    ensures { IsDriven (F.holds files.old) (map (λ w. w.now) words.now) (writes (O.contents out.old) (O.contents out.new)) (writes (E.contents err.old) (E.contents err.new)) result }
 {
     match line(alloc, words) {
         Ok(Line::Run { file }) => run(alloc, rt, file, files, out, err),
-        Err(Usage::Refused) => {
-            let usage = Usage::Refused;
-            after(writeln!(err, "{usage}"), REFUSED)
-        }
+        Err(Usage::Refused) => say_usage(err),
         Err(Usage::OutOfMemory) => say_memory(err),
     }
 }

@@ -1,4 +1,7 @@
 //! The files that a command works on.
+ghost use Rattle.std.specs.Prelude.{◌≡◌, ℕ, IfErr, IfOk, List, [], None, OnOk, Option};
+ghost use Rattle.c0far.specs.FileTexts.{HasText, IsMissing};
+
 use std::alloc::Global;
 use std::collections::BTreeMap;
 use std::rt::Files as SystemFiles;
@@ -18,11 +21,18 @@ pub enum FileError {
 
 /// Files by their names.
 pub trait Files {
-    /// The bytes of a file.
-    fn read(&mut self, alloc: Global, name: &str) -> Result<Vec<u8>, FileError>;
+    // What the file of a name holds, where it is known.
+    ghost holds: { Self → List ℕ → Option (Option (List ℕ)) } = { λ _ _. None };
+
+    /// The bytes of a file. `Cannot` where it is not there or the system refuses, `OutOfMemory` where a growth is refused.
+    fn read(&mut self, alloc: Global, name: &str) -> Result<Vec<u8>, FileError>
+        ensures text { IfOk result (λ v. HasText (holds self.old name.now) v.items) }
+        ensures missing { IfErr result (λ e. e ≡ FileError.Cannot → IsMissing (holds self.old name.now)) }
+        ensures same { (n : List ℕ) → holds self.new n ≡ holds self.old n };
 
     /// Makes these bytes the whole of a file, which need not be there.
-    fn write(&mut self, alloc: Global, name: &str, bytes: &[u8]) -> Result<(), FileError>;
+    fn write(&mut self, alloc: Global, name: &str, bytes: &[u8]) -> Result<(), FileError>
+        ensures { OnOk result (HasText (holds self.new name.now) bytes.now) };
 }
 
 /// The files of the folder in which the program works.
@@ -33,7 +43,9 @@ pub struct FolderFiles<'a, R: SystemFiles + AllocGlobal> {
 
 impl<'a, R: SystemFiles + AllocGlobal> FolderFiles<'a, R> {
     /// The files that the runtime reaches.
-    pub fn new(rt: &'a R) -> FolderFiles<'a, R> {
+    pub fn new(rt: &'a R) -> FolderFiles<'a, R>
+        ensures { result.rt.now ≡ rt.entry.now }
+    {
         FolderFiles { rt }
     }
 }
@@ -63,7 +75,9 @@ pub struct MemFiles {
 
 impl MemFiles {
     /// No files.
-    pub fn new(alloc: Global) -> MemFiles {
+    pub fn new(alloc: Global) -> MemFiles
+        ensures { result.files.entries ≡ [] }
+    {
         MemFiles {
             files: BTreeMap::new(alloc),
         }
@@ -71,6 +85,10 @@ impl MemFiles {
 }
 
 impl Files for MemFiles {
+    ghost use Rattle.c0far.specs.MemTexts.{held_in};
+
+    ghost holds = { λ m name. held_in m.files.entries name };
+
     fn read(&mut self, alloc: Global, name: &str) -> Result<Vec<u8>, FileError> {
         match self.files.get(name) {
             Some(bytes) => bytes.to_vec(alloc).map_err(|_| FileError::OutOfMemory),

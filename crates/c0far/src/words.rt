@@ -1,4 +1,5 @@
 //! What a command line asks for.
+use std::fmt;
 use thiserror::Error;
 
 /// A command, with its files and options.
@@ -12,9 +13,21 @@ pub enum Line<'a> {
 #[derive(Clone, Copy, Debug, PartialEq, Eq, Error)]
 pub enum Usage {
     /// They name no command, or help was asked for.
-    #[error("usage: c0far run FILE")]
     Refused = 1,
     /// A growth was refused.
-    #[error("out of memory")]
     OutOfMemory = 2,
+}
+
+impl fmt::Display for Usage {
+    ghost use Rattle.std.specs.Prelude.{Some};
+    ghost use Rattle.c0far.specs.Driven.{usage_line};
+
+    ghost output = { λ usage. Some (usage_line usage) };
+
+    fn fmt<W: fmt::Write>(&self, f: &mut fmt::Formatter<W>) -> fmt::Result {
+        match self {
+            Usage::Refused => write!(f, "usage: c0far run FILE"),
+            Usage::OutOfMemory => write!(f, "out of memory"),
+        }
+    }
 }

@@ -1,10 +1,6 @@
-use Rattle.std.proofs.Common.{ap, map, subst, sym}
+use Rattle.std.proofs.Common.{ap, map}
 use Rattle.c0_lexer.specs.Lexed.{lexeme}
 use Rattle.code_form.specs.Form as form
-use Rattle.c0far.specs.Compiled.{HasTokens}
-use Rattle.c0far.specs.Correct.{Behaves}
-use Rattle.c0far.specs.Fragment.{typed_of}
-use Rattle.c0far.specs.Views.{program_of, tree_of}
 use Rattle.c0far.proofs.Places.{compiled, has_tokens, tokens_are}
 use Rattle.c0far.proofs.compile.compile.Goals as goal
 

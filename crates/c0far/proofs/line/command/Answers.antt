@@ -1,7 +1,7 @@
-use Rattle.std.proofs.Common.{rules, ap, ap₂, refl, codes, ◌≡◌, ◌∙◌, sym, []}
+use Rattle.std.proofs.Common.{rules, ap, ap₂, ◌≡◌, ◌∙◌, []}
 use Rattle.std.proofs.lemmas.Result.{IfOk-weaker}
-use Rattle.clap.specs.Words.{App, Rule, app_of, new_app, rule_of, with_rule, with_subcommand}
-use Rattle.c0far.specs.Shell.{file_rule, run_shape, shell, top_shape}
+use Rattle.clap.specs.Words.{App, app_of, rule_of, with_rule, with_subcommand}
+use Rattle.c0far.specs.Shell.{file_rule, shell, top_shape}
 use Rattle.c0far.proofs.line.command.Goals as goal
 
 pub returns : goal.returns

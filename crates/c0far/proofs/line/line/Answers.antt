@@ -1,4 +1,4 @@
-use Rattle.std.proofs.Common.{rules, ◌≡◌, ◌∙◌, ap, map, sym}
+use Rattle.std.proofs.Common.{◌∙◌, ap, map, sym}
 use Rattle.c0far.specs.Shell.{run_file}
 use Rattle.c0far.proofs.Found.{none_some, rows_are}
 use Rattle.c0far.proofs.line.line.Goals as goal

@@ -1,0 +1,119 @@
+-- What a command writes, and its exit status.
+use Rattle.std.specs.Prelude.{◌≡◌, ◌≢◌, ◌⊎◌, ℕ, ◌+◌, ◌-◌, ◌==◌, min, Bool, true, false, not, List, [], ◌∷◌, ◌++◌, length, take, count_by, Option, Some, None, slice_get, codes, cond, decimal}
+use Rattle.std.specs.Io.KnownBytes.{Appends}
+use Rattle.cells.specs.declared.ending.Ended.{Ended}
+use Rattle.cells.specs.Lines.{run_line}
+use Rattle.c0_source.specs.declared.fault.Fault.{Fault}
+use Rattle.c0_source.specs.declared.fault.FaultKind.TheVariants as f
+use Rattle.c0_source.specs.FaultLines.{fault_line}
+use Rattle.c0_source.specs.Lines.{BeginsLine}
+use Rattle.code_form.specs.Form.{Image}
+use Rattle.clap.specs.Words.{Text, takes}
+use Rattle.c0far.specs.Compiled.{IsCompiled, IsRefusedText}
+use Rattle.c0far.specs.Executed.{IsExecuted}
+use Rattle.c0far.specs.FileTexts.{HasText, IsMissing, Known}
+use Rattle.c0far.specs.declared.words.Usage.{Usage}
+use Rattle.c0far.specs.declared.words.Usage.TheVariants as usage
+use Rattle.c0far.specs.Shell.{NamesRun, shell}
+use Rattle.c0far.specs.Statuses.{run_status}
+
+-- ---- what is shown
+
+-- the end of a line
+abbrev pub newline : List ℕ
+newline = 10 ∷ []
+
+-- the last byte is there, and is no newline
+abbrev pub is_open_at : Option ℕ → Bool
+is_open_at None = false
+is_open_at (Some byte) = not (byte == 10)
+
+-- these bytes end in an unfinished line
+abbrev pub is_open : List ℕ → Bool
+is_open bytes = is_open_at (slice_get bytes (length bytes - 1))
+
+-- what a program printed, with its last line finished, and then the line of its end
+abbrev pub shown_end : Ended → List ℕ
+shown_end e = e.output.items ++ (cond (is_open e.output.items) newline [] ++ (run_line e.run ++ newline))
+
+-- the line of a fault in a file: FILE:LINE:COLUMN: fault NUMBER NAME
+abbrev pub shown_fault : Text → ℕ → ℕ → Fault → List ℕ
+shown_fault file line column fault = file ++ (codes ":" ++ (decimal line ++ (codes ":" ++ (decimal column ++ (codes ": " ++ (fault_line fault ++ newline))))))
+
+-- a place in a text stands in this line, at this column, both counted from 1
+abbrev pub StandsAt : List ℕ → ℕ → ℕ → ℕ → Type 0
+StandsAt text at line column = (line ≡ count_by (λ b. b == 10) (take at text) + 1)
+    × ((start : ℕ) × BeginsLine text (min at (length text)) start × (column ≡ min at (length text) - start + 1))
+
+-- ---- what is done
+
+-- what a writer holds before and after, where it tells
+pub record Writes : Type 0 where
+  pub before : Option (List ℕ)
+  pub after : Option (List ℕ)
+
+-- what a writer held, and holds
+abbrev pub writes : Option (List ℕ) → Option (List ℕ) → Writes
+writes old new = record { before = old; after = new }
+
+-- these bytes were written, and the command answers so; or a write failed, and it answers 2
+abbrev pub Says : Writes → List ℕ → ℕ → ℕ → Type 0
+Says w bytes status result = (result ≡ 2) ⊎ ((result ≡ status) × Appends w.before w.after bytes)
+
+-- nothing was written
+abbrev pub IsQuiet : Writes → Type 0
+IsQuiet w = w.after ≡ w.before
+
+-- the program of the file's text ran: what it printed and its end are shown
+pub record HasRun (held : Known) (out err : Writes) (result : ℕ) : Type 0 where
+  pub text : List ℕ
+  pub read : HasText held text
+  pub image : Image
+  pub ended : Ended
+  pub compiled : IsCompiled text false image
+  pub executed : IsExecuted image ended
+  pub shown : Says out (shown_end ended) (run_status ended.run) result
+  pub quiet : IsQuiet err
+
+-- the file's text is refused: its fault is shown, and where it stands
+pub record HasRefused (file : Text) (held : Known) (out err : Writes) (result : ℕ) : Type 0 where
+  pub text : List ℕ
+  pub read : HasText held text
+  pub fault : Fault
+  pub cause : IsRefusedText text fault
+  pub other : fault.kind ≢ f.OutOfMemory
+  pub line : ℕ
+  pub column : ℕ
+  pub place : StandsAt text fault.span.start line column
+  pub shown : Says err (shown_fault file line column fault) 2 result
+  pub quiet : IsQuiet out
+
+-- the file was not read
+pub record IsUnread (file : Text) (held : Known) (out err : Writes) (result : ℕ) : Type 0 where
+  pub missing : IsMissing held
+  pub shown : Says err (file ++ (codes ": cannot be read" ++ newline)) 2 result
+  pub quiet : IsQuiet out
+
+-- a growth was refused before anything ran to its end
+pub record LacksMemory (out err : Writes) (result : ℕ) : Type 0 where
+  pub shown : Says err (codes "out of memory" ++ newline) 3 result
+  pub quiet : IsQuiet out
+
+-- the command `run` of this file, which holds this
+abbrev pub Runs : Text → Known → Writes → Writes → ℕ → Type 0
+Runs file held out err result = HasRun held out err result ⊎ (HasRefused file held out err result ⊎ (IsUnread file held out err result ⊎ LacksMemory out err result))
+
+-- what is said of words that are refused
+abbrev pub usage_line : Usage → List ℕ
+usage_line usage.Refused = codes "usage: c0far run FILE"
+usage_line usage.OutOfMemory = codes "out of memory"
+
+-- the words are no command
+pub record IsUsage (words : List Text) (out err : Writes) (result : ℕ) : Type 0 where
+  pub none : takes shell words ≡ true → (file : Text) → NamesRun words file → ⊥
+  pub shown : Says err (codes "usage: c0far run FILE" ++ newline) 2 result
+  pub quiet : IsQuiet out
+
+-- what the words ask for was done, where files hold this
+abbrev pub IsDriven : (Text → Known) → List Text → Writes → Writes → ℕ → Type 0
+IsDriven held words out err result = ((file : Text) × NamesRun words file × Runs file (held file) out err result) ⊎ (IsUsage words out err result ⊎ LacksMemory out err result)
