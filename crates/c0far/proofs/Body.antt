@@ -1,5 +1,5 @@
 -- The body of `main` and its code come to the same end.
-use Rattle.std.proofs.Common.{◌≡◌, ◌≢◌, inl, inr, ◌<◌, ◌≤◌, ℕ, zero, suc, ◌+◌, ◌-◌, Bool, true, false, not, cond, Some, None, List, [], ◌∷◌, ◌++◌, length, map, set, get_or, replicate, refl, sym, ap, ◌∙◌, subst, arith}
+use Rattle.std.proofs.Common.{lit≤, ◌≡◌, ◌≢◌, inl, inr, ◌<◌, ◌≤◌, ℕ, zero, suc, ◌+◌, ◌-◌, Bool, true, false, not, cond, Some, None, List, [], ◌∷◌, ◌++◌, length, map, set, get_or, replicate, refl, sym, ap, ◌∙◌, subst, arith}
 use Rattle.std.specs.Prelude.{ℤ, pos, slice_get}
 use Rattle.std.proofs.lemmas.List.{get_or-map, get_or-set_same, get_or-set_other, length-set, length-map, length-append, length-replicate, map-set, map-append}
 use Rattle.std.proofs.lemmas.Bool.Decides.{eqb_tells}
@@ -153,7 +153,7 @@ module _ (p : Program) (checks : Bool) (call : Calls) (turns : ℕ) (result : v.
       let k : slice_get (replicate p.pointers (kind.Ptr 0)) x ≡ Some (kind.Ptr 0) = pointer_kind p.pointers x lt in
       let al : List Allocation = replicate (length numbers) one in
       let found : get_or (map v.Ref pointers) x v.Void ≡ v.Ref 0 = pointer_is pointers x 0 long e in
-      in_front p 1 _ _ _ (null_stops p (i.Aim 0 (suc x) None 0 ∷ i.Load 0 0 ∷ i.Leave 0 ∷ i.Return 0 ∷ []) number pointers al h x k (Shut ∷ []) e) (omega arith, refl)
+      in_front p 1 _ _ _ (null_stops p (i.Aim 0 (suc x) None 0 ∷ i.Load 0 0 ∷ i.Leave 0 ∷ i.Return 0 ∷ []) number pointers al h x k (Shut ∷ []) e) (lit≤ tt, refl)
       (0, NullFault, al, h, rw found refl, refl, stopped_covers p 1 NullFault al h)
   returns_read x number (suc j) numbers pointers h lt long e le holds wraps =
       let k : slice_get (replicate p.pointers (kind.Ptr 0)) x ≡ Some (kind.Ptr 0) = pointer_kind p.pointers x lt in
@@ -163,11 +163,11 @@ module _ (p : Program) (checks : Bool) (call : Calls) (turns : ℕ) (result : v.
       let held : get_or (map whole numbers) j (v.Leaf v.Void) ≡ whole (get_or numbers j (pos 0)) = number_is numbers j there in
       let cell = one_cell (length numbers) j there in
       let same : int_of (h (suc j) 0) ≡ get_or numbers j (pos 0) = ap int_of (holds j) ∙ wraps j in
-      in_front p 1 _ _ _ (null_passes p (i.Aim 0 (suc x) None 0 ∷ i.Load 0 0 ∷ i.Leave 0 ∷ i.Return 0 ∷ []) number pointers al h x k (Shut ∷ []) j e) (omega arith, refl)
-      (in_front p 1 _ _ _ (aims p (i.Load 0 0 ∷ i.Leave 0 ∷ i.Return 0 ∷ []) number pointers al h x k (suc j) e) (omega arith, refl)
-      (in_front p 1 _ _ _ (loads p (i.Leave 0 ∷ i.Return 0 ∷ []) number pointers al h x k (suc j) cell) (omega arith, refl)
+      in_front p 1 _ _ _ (null_passes p (i.Aim 0 (suc x) None 0 ∷ i.Load 0 0 ∷ i.Leave 0 ∷ i.Return 0 ∷ []) number pointers al h x k (Shut ∷ []) j e) (lit≤ tt, refl)
+      (in_front p 1 _ _ _ (aims p (i.Load 0 0 ∷ i.Leave 0 ∷ i.Return 0 ∷ []) number pointers al h x k (suc j) e) (lit≤ tt, refl)
+      (in_front p 1 _ _ _ (loads p (i.Leave 0 ∷ i.Return 0 ∷ []) number pointers al h x k (suc j) cell) (lit≤ tt, refl)
       (in_front p 1 _ _ _ (leaves p (i.Return 0 ∷ []) (h (suc j) 0) pointers al h (written 0 (Aimed (suc x) None 0 (suc j) 0))) (one_open (written 0 (Aimed (suc x) None 0 (suc j) 0)), refl)
-      (in_front p 1 _ _ _ (answers p [] (h (suc j) 0) pointers al h (Shut ∷ [])) (omega arith, refl)
+      (in_front p 1 _ _ _ (answers p [] (h (suc j) 0) pointers al h (Shut ∷ [])) (lit≤ tt, refl)
       (0, Ended (int_of (h (suc j) 0)), al, h, rw (found, held) (ap (λ w. stops_with (Ended w) []) (sym same)), refl, stopped_covers p 1 (Ended (int_of (h (suc j) 0))) al h)))))
 
   -- what a run needs to know of where it is
@@ -211,7 +211,7 @@ module _ (p : Program) (checks : Bool) (call : Calls) (turns : ℕ) (result : v.
       let al : List Allocation = replicate (length numbers) one in
       let long : x < length pointers = let same = ready.0 in omega arith in
       let found : get_or (map v.Ref pointers) x v.Void ≡ v.Ref 0 = pointer_is pointers x 0 long e in
-      in_front p 1 _ _ _ (null_stops p (i.Simple (i.Const 0 (wrap32 (pos value))) ∷ i.Aim 0 (suc x) None 0 ∷ i.Store 0 0 ∷ i.Leave 0 ∷ code_of rest answer) number pointers al h x k (Shut ∷ []) e) (omega arith, refl)
+      in_front p 1 _ _ _ (null_stops p (i.Simple (i.Const 0 (wrap32 (pos value))) ∷ i.Aim 0 (suc x) None 0 ∷ i.Store 0 0 ∷ i.Leave 0 ∷ code_of rest answer) number pointers al h x k (Shut ∷ []) e) (lit≤ tt, refl)
       (0, NullFault, al, h, rw found refl, refl, stopped_covers p 1 NullFault al h)
   write_ends x value rest answer lt next number (suc j) numbers pointers h e ready =
       let z : ℤ = wrap32 (pos value) in
@@ -232,10 +232,10 @@ module _ (p : Program) (checks : Bool) (call : Calls) (turns : ℕ) (result : v.
       let told : told_of checks call (Write x value ∷ rest) answer (state turns numbers result pointers) ≡ told_of checks call rest answer (with (map whole numbers')) =
       rw found (ap (λ trees. told_of checks call rest answer (with trees)) heap)
       in
-      in_front p 1 _ _ _ (null_passes p (i.Simple (i.Const 0 z) ∷ i.Aim 0 (suc x) None 0 ∷ i.Store 0 0 ∷ i.Leave 0 ∷ code_of rest answer) number pointers al h x k (Shut ∷ []) j e) (omega arith, refl)
-      (in_front p 1 _ _ _ (constants p (i.Aim 0 (suc x) None 0 ∷ i.Store 0 0 ∷ i.Leave 0 ∷ code_of rest answer) number pointers al h 1 z) (omega arith, refl)
-      (in_front p 1 _ _ _ (aims p (i.Store 0 0 ∷ i.Leave 0 ∷ code_of rest answer) (of_int z) pointers al h x k (suc j) e) (omega arith, refl)
-      (in_front p 1 _ _ _ (stores p (i.Leave 0 ∷ code_of rest answer) (of_int z) pointers al h x k (suc j) cell) (omega arith, refl)
+      in_front p 1 _ _ _ (null_passes p (i.Simple (i.Const 0 z) ∷ i.Aim 0 (suc x) None 0 ∷ i.Store 0 0 ∷ i.Leave 0 ∷ code_of rest answer) number pointers al h x k (Shut ∷ []) j e) (lit≤ tt, refl)
+      (in_front p 1 _ _ _ (constants p (i.Aim 0 (suc x) None 0 ∷ i.Store 0 0 ∷ i.Leave 0 ∷ code_of rest answer) number pointers al h 1 z) (lit≤ tt, refl)
+      (in_front p 1 _ _ _ (aims p (i.Store 0 0 ∷ i.Leave 0 ∷ code_of rest answer) (of_int z) pointers al h x k (suc j) e) (lit≤ tt, refl)
+      (in_front p 1 _ _ _ (stores p (i.Leave 0 ∷ code_of rest answer) (of_int z) pointers al h x k (suc j) cell) (lit≤ tt, refl)
       (in_front p 1 _ _ _ (leaves p (code_of rest answer) (of_int z) pointers al (saved h (suc j) 0 (of_int z)) (Aimed (suc x) None 0 (suc j) 0)) (one_open (Aimed (suc x) None 0 (suc j) 0), refl)
       (at_as p 1 _ _ _ codes (told_as p 1 _ _ _ told ran))))))
 

@@ -1,5 +1,5 @@
 //! The commands, over files and two writers.
-ghost use Rattle.std.specs.Prelude.{◌≡◌, ◌++◌, ℕ, [], IsTrue, MatchResult, codes, cond, map};
+ghost use Rattle.std.specs.Prelude.{◌≡◌, ◌++◌, ℕ, List, [], IsTrue, MatchResult, codes, cond, map};
 ghost use Rattle.std.specs.Io.KnownBytes.{Appends};
 ghost use Rattle.c0far.specs.Driven.{IsDriven, Runs, Says, StandsAt, is_open, newline, shown_end, shown_fault, writes};
 ghost use Rattle.c0far.specs.FileTexts.{HasText, Known};
@@ -151,7 +151,8 @@ fn run<W: Wait, F: Files, O: Write, E: Write>(
     out: &mut O,
     err: &mut E,
 ) -> u8
-    ensures { Runs file.now (F.holds files.old file.now) (writes (O.contents out.old) (O.contents out.new)) (writes (E.contents err.old) (E.contents err.new)) result }
+    ensures files { (name : List ℕ) → F.holds files.new name ≡ F.holds files.old name }
+    ensures done { Runs file.now (F.holds files.old file.now) (writes (O.contents out.old) (O.contents out.new)) (writes (E.contents err.old) (E.contents err.new)) result }
 {
     match files.read(alloc, file) {
         Ok(text) => run_text(alloc, rt, file, &text, out, err),
@@ -171,7 +172,8 @@ pub fn drive<W: Wait, F: Files, O: Write, E: Write>(
     out: &mut O,
     err: &mut E,
 ) -> u8
-    ensures { IsDriven (F.holds files.old) (map (λ w. w.now) words.now) (writes (O.contents out.old) (O.contents out.new)) (writes (E.contents err.old) (E.contents err.new)) result }
+    ensures files { (name : List ℕ) → F.holds files.new name ≡ F.holds files.old name }
+    ensures done { IsDriven (F.holds files.old) (map (λ w. w.now) words.now) (writes (O.contents out.old) (O.contents out.new)) (writes (E.contents err.old) (E.contents err.new)) result }
 {
     match line(alloc, words) {
         Ok(Line::Run { file }) => run(alloc, rt, file, files, out, err),
