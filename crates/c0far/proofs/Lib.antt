@@ -4,6 +4,7 @@ pub mod Constants
 pub mod Ending
 pub mod Found
 pub mod Instructions
+pub mod NeverRefused
 pub mod OneProgram
 pub mod OneTree
 pub mod Places

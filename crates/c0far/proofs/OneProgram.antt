@@ -16,7 +16,7 @@ use Rattle.c0far.proofs.ReadingShapes.{some_is}
 use Rattle.c0far.proofs.Scopes.{declared_taken}
 
 -- a text has one list of tokens at most
-one_tokens : OneSpelling → (text : List ℕ) (ts us : List Lexeme) → HasTokens text ts → HasTokens text us → ts ≡ us
+pub one_tokens : OneSpelling → (text : List ℕ) (ts us : List Lexeme) → HasTokens text ts → HasTokens text us → ts ≡ us
 one_tokens law text ts us g h =
     let same = law text g.lexed.all h.lexed.all g.lexed.spelled h.lexed.spelled in
     g.lexed.given ∙ (ap (λ (all : List Lexeme). all ++ end_of_text text ∷ []) same ∙ sym h.lexed.given)
@@ -98,7 +98,7 @@ one_resolved t p q g h =
     ap WithPointers pointers ∙ (ap WithSteps steps ∙ ap WithAnswer answer)
 
 -- a text is one tree at most
-one_text : OneSpelling → (text : List ℕ) (t u : Tree) → HasTree text t → HasTree text u → t ≡ u
+pub one_text : OneSpelling → (text : List ℕ) (t u : Tree) → HasTree text t → HasTree text u → t ≡ u
 one_text law text t u g h =
     let Reading : List Lexeme → Type 0 = λ ts. IsTree ts u in
     one_tree g.tokens t u g.read (subst Reading (sym (one_tokens law text g.tokens h.tokens g.spelled h.spelled)) h.read)
