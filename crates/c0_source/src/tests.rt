@@ -4,10 +4,10 @@ ghost use Rattle.std.specs.Prelude.{◌≡◌, ◌++◌, codes, string_bytes, If
 ghost use Rattle.std.specs.Io.KnownBytes.{Appends};
 ghost use Rattle.c0_source.specs.FaultLines.{fault_line};
 
-use crate::fault::{Fault, FaultKind};
+use crate::fault::{Fault, FaultKind, Span};
 use crate::position::{Position, line_column};
 use crate::source::{MOST_BYTES, Source};
-use std::alloc::{AllocError, Global};
+use std::alloc::{AllocError, AllocFailed, Global};
 use std::io;
 use std::test::Fail;
 
@@ -53,6 +53,20 @@ fn bytes_over_127_are_found_first(rt: HostRuntime) -> Result<(), Fail> {
     let source = Source::new(rt.alloc(), &longest)?;
     assert_eq!(rt; source.bytes().len(), MOST_BYTES);
     Ok(())
+}
+
+#[test]
+fn faults_have_places(rt: HostRuntime) {
+    let fault = Fault::at(FaultKind::Syntax, 6);
+    assert_eq!(rt; fault.kind, FaultKind::Syntax);
+    assert_eq!(rt; fault.span, Span { start: 6, end: 7 });
+    let memory = Fault {
+        kind: FaultKind::OutOfMemory,
+        span: Span { start: 0, end: 0 },
+    };
+    assert_eq!(rt; Fault::out_of_memory(), memory);
+    assert_eq!(rt; Fault::from(AllocError), memory);
+    assert_eq!(rt; Fault::from(AllocFailed { value: 7u32 }), memory);
 }
 
 #[test]

@@ -25,15 +25,51 @@ fn say<O: io::Write>(out: &mut O, run: &Run) -> io::Result<()>
 }
 
 #[test]
-fn operators(rt: HostRuntime) -> Result<(), Fail> {
-    assert_eq!(rt; Int32Op::Add.apply(2147483647, 1), Ok(-2147483648));
-    assert_eq!(rt; Int32Op::Mul.apply(65536, 65536), Ok(0));
-    assert_eq!(rt; Int32Op::Div.apply(-7, 2), Ok(-3));
-    assert_eq!(rt; Int32Op::Mod.apply(-7, 2), Ok(-1));
-    assert_eq!(rt; Int32Op::Div.apply(-2147483648, -1), Err(Arith));
-    assert_eq!(rt; Int32Op::Shr.apply(-8, 1), Ok(-4));
-    assert_eq!(rt; Int32Op::Shl.apply(1, 32), Err(Arith));
-    Ok(())
+fn operators(rt: HostRuntime) {
+    for (op, a, b, value) in [
+        (Int32Op::Add, 2, 3, 5),
+        (Int32Op::Add, 2147483647, 1, -2147483648),
+        (Int32Op::Sub, 2, 3, -1),
+        (Int32Op::Sub, -2147483648, 1, 2147483647),
+        (Int32Op::Mul, -6, 7, -42),
+        (Int32Op::Mul, 65536, 65536, 0),
+        (Int32Op::Mul, 46341, 46341, -2147479015),
+        (Int32Op::Div, -7, 2, -3),
+        (Int32Op::Div, 7, -2, -3),
+        (Int32Op::Div, -2147483648, 1, -2147483648),
+        (Int32Op::Mod, -7, 2, -1),
+        (Int32Op::Mod, 7, -2, 1),
+        (Int32Op::And, 12, 10, 8),
+        (Int32Op::And, -1, 5, 5),
+        (Int32Op::Or, 12, 10, 14),
+        (Int32Op::Xor, 12, 10, 6),
+        (Int32Op::Xor, -1, 5, -6),
+        (Int32Op::Shl, 5, 0, 5),
+        (Int32Op::Shl, 3, 4, 48),
+        (Int32Op::Shl, 3, 31, -2147483648),
+        (Int32Op::Shr, 7, 1, 3),
+        (Int32Op::Shr, -7, 1, -4),
+        (Int32Op::Shr, -2147483648, 31, -1),
+    ] {
+        assert_eq!(rt; op.apply(a, b), Ok(value), "{op:?} of {a} and {b}");
+    }
+}
+
+#[test]
+fn arithmetic_faults(rt: HostRuntime) {
+    for (op, a, b) in [
+        (Int32Op::Div, 1, 0),
+        (Int32Op::Div, 0, 0),
+        (Int32Op::Div, -2147483648, -1),
+        (Int32Op::Mod, 1, 0),
+        (Int32Op::Mod, -2147483648, -1),
+        (Int32Op::Shl, 1, -1),
+        (Int32Op::Shl, 1, 32),
+        (Int32Op::Shr, 1, -1),
+        (Int32Op::Shr, 1, 32),
+    ] {
+        assert_eq!(rt; op.apply(a, b), Err(Arith), "{op:?} of {a} and {b}");
+    }
 }
 
 #[test]

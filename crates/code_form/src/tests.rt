@@ -138,3 +138,74 @@ fn blocked_by_an_open_scope(rt: HostRuntime) -> Result<(), Fail> {
     assert_eq!(rt; execution.is_blocked(), true);
     Ok(())
 }
+
+/// Writes -3 into a new struct, reads it back and returns it.
+#[test]
+fn a_cell_holds_its_number_modulo_2_to_the_32(rt: HostRuntime) -> Result<(), Fail> {
+    let aim = Instruction::Aim {
+        scope: 0,
+        register: 0,
+        offset: None,
+        displacement: 0,
+    };
+    let code = vec![in rt.alloc();
+        Instruction::Alloc { to: 0, layout: 0 },
+        Instruction::Const { to: 1, value: -3 },
+        aim,
+        Instruction::Store { scope: 0, from: 1 },
+        Instruction::Const { to: 1, value: 0 },
+        Instruction::Load { to: 1, scope: 0 },
+        Instruction::Leave { scope: 0 },
+        Instruction::Return { from: 1 },
+    ]?;
+    let image = image_with(rt.alloc(), code)?;
+    let mut execution = Execution::new(rt.alloc(), &image)?;
+    for _ in 0..3 {
+        step(&mut execution, 0)?;
+    }
+    let cell = Cell {
+        reference: 1,
+        index: 0,
+    };
+    assert_eq!(rt; execution.next(), Touch::Saves(0, cell, 4294967293));
+    for _ in 0..4 {
+        step(&mut execution, 4294967293)?;
+    }
+    assert_eq!(rt; execution.stop(), None);
+    step(&mut execution, 0)?;
+    assert_eq!(rt; execution.stop(), Some(Stop::Ended(-3)));
+    Ok(())
+}
+
+#[test]
+fn allocations_are_numbered(rt: HostRuntime) -> Result<(), Fail> {
+    let allocates = Instruction::Alloc { to: 0, layout: 0 };
+    let aim = Instruction::Aim {
+        scope: 0,
+        register: 0,
+        offset: None,
+        displacement: 0,
+    };
+    let code = vec![in rt.alloc(); allocates, allocates, aim]?;
+    let image = image_with(rt.alloc(), code)?;
+    let mut execution = Execution::new(rt.alloc(), &image)?;
+    step(&mut execution, 0)?;
+    step(&mut execution, 0)?;
+    let cell = Cell {
+        reference: 2,
+        index: 0,
+    };
+    assert_eq!(rt; execution.next(), Touch::Aims(0, Some(cell)));
+    Ok(())
+}
+
+#[test]
+fn code_without_an_instruction_is_stuck(rt: HostRuntime) -> Result<(), Fail> {
+    let image = image_with(rt.alloc(), Vec::new(rt.alloc()))?;
+    let mut execution = Execution::new(rt.alloc(), &image)?;
+    assert_eq!(rt; execution.next(), Touch::Wrong);
+    step(&mut execution, 0)?;
+    assert_eq!(rt; execution.next(), Touch::Nothing);
+    assert_eq!(rt; execution.stop(), None);
+    Ok(())
+}

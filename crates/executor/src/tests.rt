@@ -176,3 +176,17 @@ fn stop_with_an_open_scope(rt: HostRuntime) -> Result<(), Fail> {
     );
     Ok(())
 }
+
+#[test]
+fn code_without_an_instruction_is_stuck(rt: HostRuntime) -> Result<(), Fail> {
+    let image = image_with(rt.alloc(), Vec::new(rt.alloc()))?;
+    let ran = ran(&rt, rt.alloc(), &image, 5)?;
+    assert!(rt;
+        ran == (
+            Run::Wanted(Want::StoreFailed),
+            Run::Wanted(Want::StoreFailed),
+            0
+        )
+    );
+    Ok(())
+}
