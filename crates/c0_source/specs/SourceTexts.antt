@@ -25,7 +25,7 @@ pub record IsTooLong (bytes : List ℕ) (at : ℕ) : Type 0 where
 abbrev pub RefusedAt : FaultKind → List ℕ → ℕ → Type 0
 RefusedAt f.BadByte bytes at = FirstBadByte bytes at
 RefusedAt f.TooLarge bytes at = IsTooLong bytes at
-RefusedAt f.OutOfMemory bytes at = IsSourceText bytes
+RefusedAt f.OutOfMemory bytes at = IsSourceText bytes × (at ≡ 0)
 RefusedAt _ bytes at = ⊥
 
 -- how long the span of a refusal is: want of memory has no place

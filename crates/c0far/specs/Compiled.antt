@@ -3,6 +3,7 @@ use Rattle.std.specs.Prelude.{◌≡◌, ℕ, Bool, List, ◌⊎◌}
 use Rattle.c0_source.specs.declared.fault.Fault.{Fault}
 use Rattle.c0_source.specs.declared.fault.FaultKind.TheVariants as f
 use Rattle.c0_source.specs.SourceTexts.{IsRefused, IsSourceText}
+use Rattle.c0_source.specs.FaultNumbers.{memory_fault}
 use Rattle.c0_source.specs.Spelling.{Lexeme}
 use Rattle.c0_lexer.specs.Lexed.{IsFault, IsLexed}
 use Rattle.code_form.specs.Form.{Image}
@@ -58,7 +59,7 @@ IsNameFault text fault = (t : Tree) × HasTree text t × NameFault t fault
 
 -- want of memory, which each stage may meet
 abbrev pub IsMemoryFault : Fault → Type 0
-IsMemoryFault fault = fault.kind ≡ f.OutOfMemory
+IsMemoryFault fault = fault ≡ memory_fault
 
 -- the first stage that finds a fault
 abbrev pub IsRefusedText : List ℕ → Fault → Type 0
