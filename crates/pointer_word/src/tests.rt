@@ -37,4 +37,20 @@ mod tests {
         let here = coming.bits.wrapping_add(Word::arrival(1, 2));
         assert_eq!(rt; here, 0x28_0001);
     }
+
+    // A word that is clean in frame 1, and one in its store cell with two holds.
+    #[test]
+    fn clean_and_away(rt: HostRuntime) {
+        let clean = Word {
+            bits: 0x1000_0000_0018_0000,
+        };
+        assert!(rt; clean.clean());
+        assert!(rt; !clean.marked());
+        assert!(rt; !clean.out());
+        assert_eq!(rt; clean.state(), WordState::Here);
+        assert_eq!(rt; (clean.frame(), clean.mover(), clean.count()), (1, 0, 0));
+        let away = Word::away(2);
+        assert_eq!(rt; away.state(), WordState::Away);
+        assert_eq!(rt; (away.frame(), away.mover(), away.count()), (0, 0, 2));
+    }
 }

@@ -1,5 +1,5 @@
 -- A row whose header is as expected is what the last put wrote.
-use Rattle.std.proofs.Common.{◌≡◌, ◌≢◌, ℕ, zero, suc, ◌<◌, List, [], ◌∷◌, length, get_or, take, drop, refl, ap, ◌∙◌, ⊎_elim, arith}
+use Rattle.std.proofs.Common.{◌≡◌, ◌≢◌, ℕ, zero, suc, ◌<◌, List, [], ◌∷◌, length, get_or, take, drop, refl, sym, ap, ◌∙◌, ⊎_elim, arith}
 use Rattle.std.specs.Prelude.{Option, Some}
 use Rattle.remote_store.specs.Kept.{Reads, Keeps}
 
@@ -14,6 +14,13 @@ whole zero [] e = refl
 whole zero (x ∷ xs) e = absurd (omega arith)
 whole (suc n) [] e = absurd (omega arith)
 whole (suc n) (x ∷ xs) e = ap (λ (ys : List ℕ). x ∷ ys) (whole n xs (omega arith))
+
+-- a row is its header and what follows that
+pub split : (o v : ℕ) (row : List ℕ) → length row ≡ 67 → get_or row 0 0 ≡ o → get_or row 1 0 ≡ v → get_or row 2 0 ≡ 64 → row ≡ o ∷ v ∷ 64 ∷ take 64 (drop 3 row)
+split o v [] l a b c = absurd (omega arith)
+split o v (x ∷ []) l a b c = absurd (omega arith)
+split o v (x ∷ y ∷ []) l a b c = absurd (omega arith)
+split o v (x ∷ y ∷ w ∷ xs) l a b c = let e : take 64 xs ≡ xs = whole 64 xs (omega arith) in (λ i. a i ∷ b i ∷ c i ∷ sym e i)
 
 -- what follows the header is what the last put wrote
 pub gets : (o v : ℕ) (held : Option (List ℕ)) (row ws : List ℕ) → 0 < v → length row ≡ 67 → get_or row 0 0 ≡ o → get_or row 1 0 ≡ v → get_or row 2 0 ≡ 64

@@ -1,6 +1,8 @@
 -- What an honest store reads, and what a berth keeps for an object.
-use Rattle.std.specs.Prelude.{◌≡◌, ◌≢◌, ℕ, ◌+◌, ◌<◌, ◌==◌, cond, ◌⊎◌, List, ◌∷◌, length, take, Option, Some, slice_index_or}
+use Rattle.std.specs.Prelude.{◌≡◌, ◌≢◌, ℕ, ◌+◌, ◌<◌, ◌==◌, cond, ◌⊎◌, List, [], ◌∷◌, length, take, Option, Some, slice_index_or}
 use Rattle.remote_store.specs.declared.raw.TheConstants.{PIECE_CELLS}
+use Rattle.remote_store.specs.declared.port.Refusal.{Refusal}
+use Rattle.remote_store.specs.declared.port.Refusal.TheVariants as R
 
 -- the cells of a piece
 abbrev pub piece_cells : ℕ
@@ -18,3 +20,12 @@ Keeps n version held o ws = ((version ≡ 0) × ((i : ℕ) → i < n → slice_i
 -- the version after this one: versions begin at 0, and after the greatest comes 1
 abbrev pub next_version : ℕ → ℕ
 next_version v = cond (v == 18446744073709551615) 1 (v + 1)
+
+-- a get took the words of the object o at this version: a row that was read has their header, and they follow it
+abbrev pub Took : (List ℕ → Type 0) → ℕ → ℕ → List ℕ → Type 0
+Took gave version o ws = (row : List ℕ) × gave row × (row ≡ o ∷ version ∷ piece_cells ∷ ws)
+
+-- why a get of the object o at this version was refused: a read failed, or a row that was read has another header
+abbrev pub RefusedFor : Type 0 → (List ℕ → Type 0) → ℕ → ℕ → Refusal → Type 0
+RefusedFor failed gave version o R.Failed = failed
+RefusedFor failed gave version o R.Wrong = (row : List ℕ) × gave row × (take 3 row ≢ o ∷ version ∷ piece_cells ∷ [])

@@ -1,6 +1,6 @@
 //! An object's place in the store.
 ghost use Rattle.std.specs.Prelude.{◌≡◌, ℕ, ◌+◌, ◌%◌, ◌<◌, List, length, IfOk, MatchResult};
-ghost use Rattle.remote_store.specs.Kept.{Keeps, next_version, piece_cells};
+ghost use Rattle.remote_store.specs.Kept.{Keeps, Took, RefusedFor, next_version, piece_cells};
 
 use crate::port::{Failed, Port, Refusal};
 use crate::raw::{PIECE_CELLS, ROW_WORDS, RawStore};
@@ -51,8 +51,8 @@ impl<C: Drop> Berth<C> {
         written
     }
 
-    /// Gets the object's cells from the berth: those of its last put, where the store is honest. `Failed` where the store
-    /// failed, `Wrong` where what it read has another header. `words` then stay.
+    /// Gets the object's cells from the berth: those of its last put, where the store is honest. `Failed` exactly where the
+    /// store failed, `Wrong` exactly where what it read has another header. `words` then stay.
     pub fn get<S: RawStore<Cell = C>>(
         &self,
         port: &mut Port<S>,
@@ -64,6 +64,9 @@ impl<C: Drop> Berth<C> {
         ensures got { IfOk result (λ _. S.honest → (ws : List ℕ) → Keeps piece_cells self.now.version (S.content self.now.cell) obj ws → words.new ≡ ws) }
         ensures counted { MatchResult result (λ _. (port.new.refusals ≡ port.old.refusals) × (S.failures port.new.store ≡ S.failures port.old.store))
             (λ why. (words.new ≡ words.old) × (port.new.refusals ≡ (port.old.refusals + 1) % 18446744073709551616) × (why ≡ Refusal.Failed → S.failures port.new.store ≡ (S.failures port.old.store + 1) % 18446744073709551616)) }
+        ensures read { MatchResult result (λ _. Took (λ row. S.read_gives port.old.store self.now.cell row port.new.store) self.now.version obj words.new)
+            (λ why. RefusedFor (S.failures port.new.store ≡ (S.failures port.old.store + 1) % 18446744073709551616)
+            (λ row. S.read_gives port.old.store self.now.cell row port.new.store × (S.failures port.new.store ≡ S.failures port.old.store)) self.now.version obj why) }
     {
         let mut row = [0; ROW_WORDS];
         let Ok(()) = port.store.read(&self.cell, &mut row) else {

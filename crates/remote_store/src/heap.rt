@@ -1,5 +1,5 @@
 //! A store in memory.
-ghost use Rattle.std.specs.Prelude.{Some};
+ghost use Rattle.std.specs.Prelude.{◌≡◌, ◌≢◌, Some, IfErr, IsOk};
 
 use crate::config::Stores;
 use crate::port::Failed;
@@ -26,6 +26,8 @@ impl RawStore for FarHeap {
 
     ghost content = { λ c. Some c.row.value };
 
+    ghost read_gives = { λ _ c row _. row ≡ c.row.value };
+
     fn cell(&self, alloc: Global) -> Result<FarCell, Want> {
         match Box::new(alloc, [0; ROW_WORDS]) {
             Ok(row) => Ok(FarCell { row }),
@@ -48,7 +50,10 @@ impl RawStore for FarHeap {
 impl Stores for FarHeap {
     type S = FarHeap;
 
-    fn one(&self, _alloc: Global) -> Result<FarHeap, Want> {
+    fn one(&self, _alloc: Global) -> Result<FarHeap, Want>
+        ensures wants { IfErr result (λ want. want ≢ Want.NoObjects) }
+        ensures made { IsOk result }
+    {
         Ok(FarHeap)
     }
 }

@@ -13,7 +13,8 @@ pub const ROW_WORDS: usize = 67;
 
 /// One mover's way to the store. `content` is what a cell holds: the words of the last write of it, where that
 /// succeeded. An `honest` store reads back those words, or words of another header. `failures` counts the calls
-/// that failed through this value, modulo 2^64.
+/// that failed through this value, modulo 2^64. `read_gives` tells which words a read of a cell gave, by the store before
+/// it and after it.
 pub trait RawStore: Drop {
     type Cell: Send + Drop;
 
@@ -24,6 +25,8 @@ pub trait RawStore: Drop {
     ghost failures: { Self → ℕ };
 
     ghost content: { Self.Cell → Option (List ℕ) };
+
+    ghost read_gives: { Self → Self.Cell → List ℕ → Self → Type 0 };
 
     /// A new cell for `ROW_WORDS` words. `OutOfMemory` where its growth is refused, `StoreFailed` where the
     /// store has no more.
@@ -41,5 +44,6 @@ pub trait RawStore: Drop {
         requires { length w.old ≡ ROW_WORDS }
         ensures length { length w.new ≡ length w.old }
         ensures got { IfOk result (λ _. honest → (ws : List ℕ) → content c.now ≡ Some ws → Reads ws w.new) }
+        ensures gave { IfOk result (λ _. read_gives self.old c.now w.new self.new) }
         ensures counted { MatchResult result (λ _. failures self.new ≡ failures self.old) (λ _. failures self.new ≡ (failures self.old + 1) % 18446744073709551616) };
 }

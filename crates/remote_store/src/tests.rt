@@ -1,6 +1,10 @@
+ghost use Rattle.std.specs.Prelude.{None};
+
 #[cfg(test)]
 mod tests {
-    use crate::{Berth, FarHeap, PIECE_CELLS, Port, RawStore, Refusal, Stores};
+    use crate::{Berth, Failed, FarHeap, PIECE_CELLS, Port, ROW_WORDS, RawStore, Refusal, Stores};
+    use cells::Want;
+    use std::alloc::Global;
     use std::test::Fail;
 
     #[test]
@@ -31,5 +35,85 @@ mod tests {
         assert_eq!(rt; port.refusals(), 1);
         assert_eq!(rt; found[3], 7);
         Ok(())
+    }
+
+    #[test]
+    fn reads_what_was_written(rt: HostRuntime) -> Result<(), Fail> {
+        let mut store = FarHeap;
+        let made = store.cell(rt.alloc());
+        assert!(rt; made.is_ok());
+        let Ok(mut cell) = made else {
+            return Ok(());
+        };
+        let mut row = [5; ROW_WORDS];
+        row[66] = 8;
+        assert_eq!(rt; store.write(&mut cell, &row), Ok(()));
+        let mut found = [0; ROW_WORDS];
+        assert_eq!(rt; store.read(&cell, &mut found), Ok(()));
+        assert_eq!(rt; (found[0], found[65], found[66]), (5, 5, 8));
+        Ok(())
+    }
+
+    #[test]
+    fn gets_the_last_put(rt: HostRuntime) -> Result<(), Fail> {
+        let made = FarHeap.cell(rt.alloc());
+        assert!(rt; made.is_ok());
+        let Ok(cell) = made else {
+            return Ok(());
+        };
+        let mut port = Port::new(FarHeap);
+        let mut berth = Berth::new(cell);
+        assert_eq!(rt; berth.put(&mut port, 0, &[6; PIECE_CELLS]), Ok(()));
+        assert_eq!(rt; berth.put(&mut port, 0, &[4; PIECE_CELLS]), Ok(()));
+        assert_eq!(rt; berth.version, 2);
+        let mut found = [1; PIECE_CELLS];
+        assert_eq!(rt; berth.get(&mut port, 0, &mut found), Ok(()));
+        assert_eq!(rt; (found[0], found[63]), (4, 4));
+        assert_eq!(rt; port.refusals(), 0);
+        Ok(())
+    }
+
+    // A store of which each call fails.
+    #[derive(Drop)]
+    struct Broken {
+        failures: u64,
+    }
+
+    impl RawStore for Broken {
+        type Cell = ();
+
+        ghost honest = { Unit {0} };
+
+        ghost failures = { λ s. s.failures };
+
+        ghost content = { λ _. None };
+
+        ghost read_gives = { λ _ _ _ _. ⊥ };
+
+        fn cell(&self, _alloc: Global) -> Result<(), Want> {
+            Ok(())
+        }
+
+        fn write(&mut self, _c: &mut (), _w: &[u64]) -> Result<(), Failed> {
+            self.failures = self.failures.wrapping_add(1);
+            Err(Failed)
+        }
+
+        fn read(&mut self, _c: &(), _w: &mut [u64]) -> Result<(), Failed> {
+            self.failures = self.failures.wrapping_add(1);
+            Err(Failed)
+        }
+    }
+
+    #[test]
+    fn counts_failures(rt: HostRuntime) {
+        let mut port = Port::new(Broken { failures: 0 });
+        let mut berth = Berth::new(());
+        assert_eq!(rt; berth.put(&mut port, 9, &[6; PIECE_CELLS]), Err(Failed));
+        assert_eq!(rt; (port.refusals(), port.store().failures), (1, 1));
+        let mut found = [1; PIECE_CELLS];
+        assert_eq!(rt; berth.get(&mut port, 9, &mut found), Err(Refusal::Failed));
+        assert_eq!(rt; (port.refusals(), port.store().failures), (2, 2));
+        assert_eq!(rt; (found[0], found[63]), (1, 1));
     }
 }
