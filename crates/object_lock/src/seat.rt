@@ -1,7 +1,7 @@
 //! A seat with its way to the store.
 ghost use Rattle.std.specs.Prelude.{◌≡◌, ℕ, ◌+◌, ◌%◌, ◌<◌, ◌==◌, not, false, Some, IfOk, MatchResult, length};
 ghost use Rattle.pointer_word.specs.Hands.{listed};
-ghost use Rattle.remote_store.specs.Kept.{piece_cells};
+ghost use Rattle.remote_store.specs.Kept.{Took, RefusedFor, piece_cells};
 ghost use Rattle.object_lock.specs.SeatViews.{version_of};
 
 use crate::table::Token;
@@ -79,6 +79,8 @@ impl<S: RawStore> MoverSeat<S> {
         ensures same { self.new ≡ record self.old { refusals = self.new.refusals } }
         ensures got { IfOk result (λ _. S.honest → words.new ≡ self.old.view.hand.promised) }
         ensures counted { MatchResult result (λ _. self.new.refusals ≡ self.old.refusals) (λ _. (words.new ≡ words.old) × (self.new.refusals ≡ (self.old.refusals + 1) % 18446744073709551616)) }
+        ensures read { (b : _) × (before : S) × (after : S) × (self.old.brought ≡ Some b) × MatchResult result (λ _. Took (λ row. S.read_gives before b.cell row after) b.version obj words.new)
+            (λ why. RefusedFor (S.failures after ≡ (S.failures before + 1) % 18446744073709551616) (λ row. S.read_gives before b.cell row after × (S.failures after ≡ S.failures before)) b.version obj why) }
     {
         match &self.brought {
             Some(berth) => berth.get(&mut self.port, obj, words),
