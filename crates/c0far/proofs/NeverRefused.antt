@@ -1,5 +1,5 @@
 -- A text that means a program is refused only for want of memory.
-use Rattle.std.proofs.Common.{◌≡◌, ◌+◌, ◌<◌, ◌++◌, ℕ, List, [], ◌∷◌, get_or, take, drop, refl, sym, subst, arith, inl, inr, Result, Ok, Err, IfErr}
+use Rattle.std.proofs.Common.{◌≡◌, ◌+◌, ◌<◌, ◌++◌, ℕ, List, [], ◌∷◌, get_or, take, drop, refl, ap, sym, subst, arith, inl, inr, Result, Ok, Err, IfErr}
 use Rattle.std.proofs.lemmas.List.{take-append-drop}
 use Rattle.std.proofs.lemmas.List.Elements.{All-get_or}
 use Rattle.c0_source.specs.declared.fault.Fault.{Fault}
@@ -127,7 +127,7 @@ never_names law text p fault m h =
 
 -- and so whichever stage refuses it
 never_refused : OneSpelling → FaultExcludes → (text : List ℕ) (p : Program) (fault : Fault) → Means text p → IsRefusedText text fault → fault.kind ≡ f.OutOfMemory
-never_refused law excludes text p fault m (inl h) = h
+never_refused law excludes text p fault m (inl h) = ap (λ (x : Fault). x.kind) h
 never_refused law excludes text p fault m (inr (inl h)) = never_source text p fault m h
 never_refused law excludes text p fault m (inr (inr (inl h))) = never_tokens excludes text p fault m h
 never_refused law excludes text p fault m (inr (inr (inr (inl h)))) = never_tree law text p fault m h
