@@ -1,8 +1,9 @@
-//! The store behind the frames: each mover's way to it, an object's place in it, and a store in memory.
+//! The store behind the frames: each mover's way to it, an object's place in it, a store in memory, and one that fails by plan.
 #![tactic(auto)]
 
 mod berth;
 mod config;
+mod fault;
 mod heap;
 mod port;
 mod raw;
@@ -10,6 +11,7 @@ mod tests;
 
 pub use berth::Berth;
 pub use config::{Config, Stores};
+pub use fault::{FaultPlan, FaultStore, FaultStores};
 pub use heap::{FarCell, FarHeap};
 pub use port::{Failed, Port, Refusal};
 pub use raw::{PIECE_CELLS, ROW_WORDS, RawStore};

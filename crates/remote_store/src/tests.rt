@@ -2,7 +2,10 @@ ghost use Rattle.std.specs.Prelude.{None};
 
 #[cfg(test)]
 mod tests {
-    use crate::{Berth, Failed, FarHeap, PIECE_CELLS, Port, ROW_WORDS, RawStore, Refusal, Stores};
+    use crate::{
+        Berth, Failed, FarCell, FarHeap, FaultPlan, FaultStore, FaultStores, PIECE_CELLS, Port,
+        ROW_WORDS, RawStore, Refusal, Stores,
+    };
     use cells::Want;
     use std::alloc::Global;
     use std::test::Fail;
@@ -115,5 +118,104 @@ mod tests {
         assert_eq!(rt; berth.get(&mut port, 9, &mut found), Err(Refusal::Failed));
         assert_eq!(rt; (port.refusals(), port.store().failures), (2, 2));
         assert_eq!(rt; (found[0], found[63]), (1, 1));
+    }
+
+    // Two ways to one store.
+    fn two_of<M: Stores>(alloc: Global, stores: &M) -> Result<(M::S, M::S), Want> {
+        let one = stores.one(alloc)?;
+        let other = stores.one(alloc)?;
+        Ok((one, other))
+    }
+
+    // Two ways to a store in memory that fails by this plan, and a cell.
+    fn two_ways(
+        alloc: Global,
+        plan: FaultPlan,
+    ) -> Result<(FaultStore<FarHeap>, FaultStore<FarHeap>, FarCell), Want> {
+        let Ok(stores) = FaultStores::new(alloc, FarHeap, plan) else {
+            return Err(Want::OutOfMemory);
+        };
+        let (one, other) = two_of(alloc, &stores)?;
+        let cell = one.cell(alloc)?;
+        Ok((one, other, cell))
+    }
+
+    #[test]
+    fn fails_at_one_call(rt: HostRuntime) {
+        let made = two_ways(rt.alloc(), FaultPlan::Only(2));
+        assert!(rt; made.is_ok());
+        let Ok((mut way, _other, mut cell)) = made else {
+            return;
+        };
+        let mut found = [1; ROW_WORDS];
+        assert_eq!(rt; way.write(&mut cell, &[5; ROW_WORDS]), Ok(()));
+        assert_eq!(rt; way.read(&cell, &mut found), Err(Failed));
+        assert_eq!(rt; way.failures(), 1);
+        assert_eq!(rt; way.read(&cell, &mut found), Ok(()));
+        assert_eq!(rt; (found[0], found[66]), (5, 5));
+        assert_eq!(rt; way.failures(), 1);
+    }
+
+    #[test]
+    fn fails_from_a_call_on(rt: HostRuntime) {
+        let made = two_ways(rt.alloc(), FaultPlan::From(2));
+        assert!(rt; made.is_ok());
+        let Ok((mut way, _other, mut cell)) = made else {
+            return;
+        };
+        let mut found = [1; ROW_WORDS];
+        assert_eq!(rt; way.write(&mut cell, &[5; ROW_WORDS]), Ok(()));
+        assert_eq!(rt; way.write(&mut cell, &[6; ROW_WORDS]), Err(Failed));
+        assert_eq!(rt; way.read(&cell, &mut found), Err(Failed));
+        assert_eq!(rt; way.failures(), 2);
+    }
+
+    #[test]
+    fn ways_share_the_count(rt: HostRuntime) {
+        let made = two_ways(rt.alloc(), FaultPlan::Only(2));
+        assert!(rt; made.is_ok());
+        let Ok((mut one, mut other, mut cell)) = made else {
+            return;
+        };
+        let mut found = [1; ROW_WORDS];
+        assert_eq!(rt; one.write(&mut cell, &[5; ROW_WORDS]), Ok(()));
+        assert_eq!(rt; other.write(&mut cell, &[6; ROW_WORDS]), Err(Failed));
+        assert_eq!(rt; one.read(&cell, &mut found), Ok(()));
+        assert_eq!(rt; (found[0], found[66]), (5, 5));
+        assert_eq!(rt; (one.failures(), other.failures()), (0, 1));
+    }
+
+    #[test]
+    fn never_fails_at_no_plan(rt: HostRuntime) {
+        for plan in [FaultPlan::Never, FaultPlan::Only(0), FaultPlan::From(0)] {
+            let made = two_ways(rt.alloc(), plan);
+            assert!(rt; made.is_ok());
+            let Ok((mut way, _other, mut cell)) = made else {
+                return;
+            };
+            let mut found = [1; ROW_WORDS];
+            assert_eq!(rt; way.write(&mut cell, &[5; ROW_WORDS]), Ok(()));
+            assert_eq!(rt; way.read(&cell, &mut found), Ok(()));
+            assert_eq!(rt; found[66], 5);
+        }
+    }
+
+    #[test]
+    fn a_put_fails_by_plan(rt: HostRuntime) {
+        let made = two_ways(rt.alloc(), FaultPlan::Only(1));
+        assert!(rt; made.is_ok());
+        let Ok((way, _other, cell)) = made else {
+            return;
+        };
+        let mut port = Port::new(way);
+        let mut berth = Berth::new(cell);
+        let mut found = [1; PIECE_CELLS];
+        assert_eq!(rt; berth.put(&mut port, 9, &[6; PIECE_CELLS]), Err(Failed));
+        assert_eq!(rt; (port.refusals(), port.store().failures()), (1, 1));
+        assert_eq!(rt; berth.get(&mut port, 9, &mut found), Err(Refusal::Wrong));
+        assert_eq!(rt; berth.put(&mut port, 9, &[4; PIECE_CELLS]), Ok(()));
+        assert_eq!(rt; berth.get(&mut port, 9, &mut found), Ok(()));
+        assert_eq!(rt; (found[0], found[63]), (4, 4));
+        assert_eq!(rt; (port.refusals(), port.store().failures()), (2, 1));
     }
 }
