@@ -1,0 +1,5 @@
+pub mod Expressions
+pub mod Levels
+pub mod Programs
+pub mod Statements
+pub mod Trees

@@ -1,0 +1,10 @@
+// How much of the language there is.
+
+/// Which statements are in the language.
+#[derive(Clone, Copy, Debug, PartialEq, Eq)]
+pub enum Level {
+    /// All but `break` and `continue`.
+    Core,
+    /// `break` and `continue`, too.
+    Loops,
+}
