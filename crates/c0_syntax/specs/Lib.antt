@@ -3,3 +3,4 @@ pub mod Levels
 pub mod Programs
 pub mod Statements
 pub mod Trees
+pub mod Views

@@ -1,5 +1,10 @@
 // Programs as trees: what they are, which tokens they read from, and how they are printed.
 #![tactic(auto)]
 
+pub mod expression;
 pub mod level;
+pub mod name;
 pub mod operator;
+pub mod program;
+pub mod statement;
+pub mod value_type;
