@@ -1,6 +1,9 @@
 pub mod Expressions
+pub mod Layouts
 pub mod Levels
+pub mod Marks
 pub mod Programs
+pub mod Spellings
 pub mod Statements
 pub mod Trees
 pub mod Views

@@ -2,7 +2,9 @@
 #![tactic(auto)]
 
 pub mod expression;
+mod layout;
 pub mod level;
+mod mark;
 pub mod name;
 pub mod operator;
 pub mod program;

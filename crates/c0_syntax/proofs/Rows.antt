@@ -1,0 +1,43 @@
+-- The parts of a tree that stand in a vector, as a list.
+use Rattle.std.proofs.Common.{◌≡◌, refl, ap, List, [], ◌∷◌, ◌++◌, Result, Ok, Err, ◌∙◌, rules}
+use Rattle.std.specs.Prelude.{IfOk}
+use mathlib.Core.List.{append_assoc}
+use Rattle.c0_syntax.specs.Layouts.{Mark}
+use Rattle.std.specs.declared.vec.Vec.{Vec}
+use Rattle.std.specs.declared.alloc.Global.{Global}
+use Rattle.c0_syntax.specs.declared.name.Name.{Name}
+use Rattle.c0_syntax.specs.declared.expression.Expression.{Expression}
+use Rattle.c0_syntax.specs.declared.expression.ExpressionKind.{Row_of-Expression, end_of-Expression, more_of-Expression, items-the_row-Expression, the_lemmas as expression_lemmas}
+use Rattle.c0_syntax.specs.declared.expression.ExpressionKind.TheViews.{Call}
+use Rattle.c0_syntax.specs.declared.statement.Statement.{Statement}
+use Rattle.c0_syntax.specs.declared.statement.StatementKind.{Row_of-Statement, end_of-Statement, more_of-Statement, items-the_row-Statement, the_lemmas as statement_lemmas}
+use Rattle.c0_syntax.specs.declared.statement.StatementKind.TheViews.{Block}
+use Rattle.c0_syntax.specs.Trees as t
+use Rattle.c0_syntax.specs.Views.{name_of, expression_of_kind, row_of, expressions_of, statement_of_kind, statement_row, statements_of}
+
+pub expressions_row : {n : _} (r : Row_of-Expression n) → row_of r ≡ expressions_of (items-the_row-Expression n r)
+expressions_row end_of-Expression = refl
+expressions_row (more_of-Expression e at rest) = ap (t.more (expression_of_kind e)) (expressions_row rest)
+
+pub call_is : (f : Name) (all : Vec Expression Global) → expression_of_kind (Call f all) ≡ t.Call (name_of f) (expressions_of all.items)
+call_is f all = search (rules, expression_lemmas, expressions_row)
+
+pub statements_row : {n : _} (r : Row_of-Statement n) → statement_row r ≡ statements_of (items-the_row-Statement n r)
+statements_row end_of-Statement = refl
+statements_row (more_of-Statement s at rest) = ap (t.also (statement_of_kind s)) (statements_row rest)
+
+pub block_is : (all : Vec Statement Global) → statement_of_kind (Block all) ≡ t.Block (statements_of all.items)
+block_is all = search (rules, statement_lemmas, statements_row)
+
+-- what an answer that is no error has for another reason
+pub when_ok : {A E P Q : Type 0} (r : Result A E) → (A → P → Q) → IfOk r (λ _. P) → IfOk r (λ _. Q)
+when_ok (Ok x) f h = f x h
+when_ok (Err e) f h = tt
+
+-- a mark, and more behind it
+pub two_parts : (a b d : List Mark) (x : Mark) (ms : List Mark) → b ≡ a ++ x ∷ [] → d ≡ b ++ ms → d ≡ a ++ x ∷ ms
+two_parts a b d x ms e g = g ∙ ap (λ (t : List Mark). t ++ ms) e ∙ append_assoc a (x ∷ []) ms
+
+-- a mark, another one, and more behind them
+pub three_parts : (a b c d : List Mark) (x y : Mark) (ms : List Mark) → b ≡ a ++ x ∷ [] → c ≡ b ++ y ∷ [] → d ≡ c ++ ms → d ≡ a ++ x ∷ y ∷ ms
+three_parts a b c d x y ms e f g = two_parts b c d y ms f g ∙ two_parts a b (b ++ y ∷ ms) x (y ∷ ms) e refl
