@@ -2,6 +2,7 @@ pub mod Expressions
 pub mod Layouts
 pub mod Levels
 pub mod Marks
+pub mod Printing
 pub mod Programs
 pub mod Spellings
 pub mod Statements

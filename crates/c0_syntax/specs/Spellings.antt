@@ -1,5 +1,5 @@
 -- How each token is written.
-use Rattle.std.specs.Prelude.{ℕ, Bool, true, false, ◌||◌, if◌then◌else◌, ◌==◌, nat_le, ◌^◌, List, [], ◌∷◌, ◌++◌, codes}
+use Rattle.std.specs.Prelude.{ℕ, Bool, true, false, ◌||◌, if◌then◌else◌, ◌==◌, nat_le, nat_lt, ◌^◌, List, [], ◌∷◌, ◌++◌, codes}
 use Rattle.std.specs.Fmt.{decimal, digits}
 use Rattle.c0_source.specs.declared.kind.Kind.{Kind}
 use Rattle.c0_source.specs.declared.kind.Kind.TheVariants as k
@@ -51,11 +51,12 @@ abbrev pub truth_text : Bool → List ℕ
 truth_text true = codes "true"
 truth_text false = codes "false"
 
--- what stands for a byte in a text or as a character: the escape for it where there is one, and else the byte
+-- What stands for a byte in a text or as a character: the escape for it where there is one, and else the byte. For one over 127, which no
+-- text of the language has, `?`.
 abbrev pub escaped : ℕ → List ℕ
 escaped b =
     if b == 0 then codes "\\0" else (if b == 10 then codes "\\n" else (if b == 9 then codes "\\t" else (if b == 11 then codes "\\v" else (if b == 8 then codes "\\b"
-    else (if b == 13 then codes "\\r" else (if b == 12 then codes "\\f" else (if b == 7 then codes "\\a" else (if b == 92 || b == 39 || b == 34 then 92 ∷ b ∷ [] else b ∷ []))))))))
+    else (if b == 13 then codes "\\r" else (if b == 12 then codes "\\f" else (if b == 7 then codes "\\a" else (if b == 92 || b == 39 || b == 34 then 92 ∷ b ∷ [] else (if nat_lt b 128 then b ∷ [] else codes "?")))))))))
 
 -- ... of each byte
 abbrev pub all_escaped : List ℕ → List ℕ

@@ -1,6 +1,6 @@
 // Laying out a program: its tokens in order, each with the gap before it.
 
-ghost use Rattle.std.specs.Prelude.{◌≡◌, [], ◌∷◌, ◌++◌, IfOk};
+ghost use Rattle.std.specs.Prelude.{◌≡◌, [], ◌∷◌, ◌++◌, map, IfOk};
 ghost use Rattle.c0_source.specs.Terminals.{Word, Sign};
 ghost use Rattle.c0_syntax.specs.Layouts.{behind, touching, spaced, layout_type};
 ghost use Rattle.c0_syntax.specs.Marks.{mark_of, terminal_of};
@@ -41,6 +41,13 @@ impl<'a> Layout<'a> {
         Layout {
             marks: Vec::new(alloc),
         }
+    }
+
+    /// The tokens so far.
+    pub fn marks(&self) -> &[Mark<'a>]
+        ensures { map mark_of result.now ≡ self.now }
+    {
+        &self.marks
     }
 
     fn push(&mut self, gap: Gap, terminal: Terminal<'a>) -> Result<(), AllocError>
