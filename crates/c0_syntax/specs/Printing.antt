@@ -17,7 +17,7 @@ doubles b = b == 43 || b == 45 || b == 38 || b == 124 || b == 60 || b == 62 || b
 -- Whether a token that begins with `b` may read as part of the one before it, which begins with `a`, if nothing stands between them: both
 -- are words, or the signs make another sign (`==`, `++`, `->`, `/*`).
 abbrev pub joins : ℕ → ℕ → Bool
-joins a b = (is_word a && is_word b) || b == 61 || (a == b && doubles a) || (a == 45 && b == 62) || (a == 47 && b == 42)
+joins a b = (is_word b && is_word a) || b == 61 || (doubles b && a == b) || (b == 62 && a == 45) || (b == 42 && a == 47)
 
 -- the first byte, or 0
 abbrev pub first_of : List ℕ → ℕ
@@ -41,7 +41,7 @@ gap_text g.EmptyLine joined = codes "\n\n"
 abbrev pub rendered : ℕ → List Mark → List ℕ
 rendered before [] = codes "\n"
 rendered before (m ∷ ms) =
-    gap_text m.gap (joins before (first_of (spelling m.token))) ++ spelling m.token ++ rendered (first_of (spelling m.token)) ms
+    gap_text m.gap (joins before (first_of (spelling m.token))) ++ (spelling m.token ++ rendered (first_of (spelling m.token)) ms)
 
 -- the text that a program is printed as
 abbrev pub printed : Program → List ℕ

@@ -27,11 +27,11 @@ fn doubles(byte: u8) -> bool
 fn joins(before: u8, next: u8) -> bool
     ensures { result ≡ p.joins before next }
 {
-    is_word(before) && is_word(next)
+    is_word(next) && is_word(before)
         || next == b'='
-        || before == next && doubles(before)
-        || before == b'-' && next == b'>'
-        || before == b'/' && next == b'*'
+        || doubles(next) && before == next
+        || next == b'>' && before == b'-'
+        || next == b'*' && before == b'/'
 }
 
 fn first_of(text: &str) -> u8
