@@ -125,7 +125,7 @@ cut_by mode (b ∷ bs) x us what h n j a = record {
 token_cut : (mode : Mode) (t : Terminal) (w : Written mode t) (rest : List ℕ) → Front (first_of (spelling t)) rest → Cut mode (spelling t ++ rest) (length (spelling t)) w.what
 token_cut mode t w rest f =
     subst (λ (r : List ℕ). Cut mode (spelling t ++ r) (length (spelling t)) w.what) (sym f.is)
-        (cut_by mode (spelling t) f.first f.others w.what w.shape (not_gap w.what w.kind w.token) f.apart (w.stands f.first f.others f.apart))
+    (cut_by mode (spelling t) f.first f.others w.what w.shape (not_gap w.what w.kind w.token) f.apart (w.stands f.first f.others f.apart))
 
 lexed : (w : Option Kind) (kind : Kind) (s : List ℕ) (at : ℕ) (ls : List Lexeme) (t : Terminal) (ts : List Terminal) → w ≡ Some kind → terminal_by kind s ≡ t → terminals ls ≡ ts
     → terminals (add_lexeme w s at ls) ≡ t ∷ ts
@@ -165,5 +165,5 @@ chain before (x ∷ ms) mode h =
     let tail = chain (first_of (spelling x.token)) ms (after mode h.1.what) h.2 in
     let front = begins (first_of (spelling x.token)) ms (after mode h.1.what) h.2 in
     add_gaps mode (gap_text x.gap (joins before (first_of (spelling x.token)))) (spelling x.token ++ rest) (map (λ (y : Mark). y.token) (x ∷ ms)) h.0
-        (gap_bytes x.gap (joins before (first_of (spelling x.token))))
-        (add_token mode x.token h.1 rest (map (λ (y : Mark). y.token) ms) front tail)
+    (gap_bytes x.gap (joins before (first_of (spelling x.token))))
+    (add_token mode x.token h.1 rest (map (λ (y : Mark). y.token) ms) front tail)

@@ -71,9 +71,10 @@ hex_one c false true c3 c4 c5 c6 e1 e2 e3 e4 e5 e6 h =
 hex_one c false false true c4 c5 c6 e1 e2 e3 e4 e5 e6 h = absurd (let g = rw (e1, e2, e3) at h in omega (arith, g))
 hex_one c false false false true c5 c6 e1 e2 e3 e4 e5 e6 h =
     let g = rw (e1, e2, e3, e4) at h in
-    let lo = ltb-false c 65 e3 in let hi = ltb-true c 91 e4 in
-    (rw (above 48 57 c (omega (arith, lo)), below 97 102 c (omega (arith, hi)), le-leb 65 c lo, le-leb c 70 (omega (arith, g, lo))) refl,
-    rw (e1, e2, e3, e4, lt-leb 97 c (omega (arith, hi)), le-leb 65 c lo) refl)
+    let lo = ltb-false c 65 e3 in let hi = ltb-true c 91 e4 in (
+      rw (above 48 57 c (omega (arith, lo)), below 97 102 c (omega (arith, hi)), le-leb 65 c lo, le-leb c 70 (omega (arith, g, lo))) refl,
+      rw (e1, e2, e3, e4, lt-leb 97 c (omega (arith, hi)), le-leb 65 c lo) refl,
+    )
 hex_one c false false false false true c6 e1 e2 e3 e4 e5 e6 h = absurd (let g = rw (e1, e2, e3, e4, e5) at h in omega (arith, g))
 hex_one c false false false false false true e1 e2 e3 e4 e5 e6 h =
     let g = rw (e1, e2, e3, e4, e5, e6) at h in

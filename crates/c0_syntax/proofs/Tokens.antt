@@ -123,23 +123,23 @@ mutual
       into_branches (layout_test gap k.If c) (layout_statement (gap_of_body level a) (level_of_body level a) a) (layout_statement (gap_behind_else level b) (level_behind_else level b) b) (behind (gap_of_else level a) (Sign k.Else)) rest
       ∙ into_test gap k.If c (into (layout_statement (gap_of_body level a) (level_of_body level a) a) (Sign k.Else ∷ into (layout_statement (gap_behind_else level b) (level_behind_else level b) b) rest))
       ∙ ap (λ (t : List Terminal). Sign k.If ∷ Sign k.LParen ∷ emit_expression c (Sign k.RParen ∷ t))
-          (first (Sign k.Else ∷ into (layout_statement (gap_behind_else level b) (level_behind_else level b) b) rest) ∙ ap (λ (t : List Terminal). emit_statement a (Sign k.Else ∷ t)) (second rest))
+      (first (Sign k.Else ∷ into (layout_statement (gap_behind_else level b) (level_behind_else level b) b) rest) ∙ ap (λ (t : List Terminal). emit_statement a (Sign k.Else ∷ t)) (second rest))
   into_statement gap level (While c notes s) rest =
       let body = layout_statement (gap_of_loop_body level notes s) (level_of_body level s) s in
       let ih = into_statement (gap_of_loop_body level notes s) (level_of_body level s) s in
       into_three (layout_test gap k.While c) (layout_annotations (deeper level) notes) body rest
       ∙ into_test gap k.While c (into (layout_annotations (deeper level) notes) (into body rest))
       ∙ ap (λ (t : List Terminal). Sign k.While ∷ Sign k.LParen ∷ emit_expression c (Sign k.RParen ∷ t))
-          (into_annotations (deeper level) notes (into body rest) ∙ ap (emit_annotations notes) (ih rest))
+      (into_annotations (deeper level) notes (into body rest) ∙ ap (emit_annotations notes) (ih rest))
   into_statement gap level (For first c third notes s) rest =
       let body = layout_statement (gap_of_loop_body level notes s) (level_of_body level s) s in
       let ih = into_statement (gap_of_loop_body level notes s) (level_of_body level s) s in
       into_four (layout_for_start gap first) (layout_for_end c third) (layout_annotations (deeper level) notes) body rest
       ∙ into_for_start gap first (into (layout_for_end c third) (into (layout_annotations (deeper level) notes) (into body rest)))
       ∙ ap (λ (t : List Terminal). Sign k.For ∷ Sign k.LParen ∷ emit_option first (Sign k.Semi ∷ t))
-          (into_for_end c third (into (layout_annotations (deeper level) notes) (into body rest))
-          ∙ ap (λ (t : List Terminal). emit_expression c (Sign k.Semi ∷ emit_option third (Sign k.RParen ∷ t)))
-              (into_annotations (deeper level) notes (into body rest) ∙ ap (emit_annotations notes) (ih rest)))
+      (into_for_end c third (into (layout_annotations (deeper level) notes) (into body rest))
+      ∙ ap (λ (t : List Terminal). emit_expression c (Sign k.Semi ∷ emit_option third (Sign k.RParen ∷ t)))
+      (into_annotations (deeper level) notes (into body rest) ∙ ap (emit_annotations notes) (ih rest)))
   into_statement gap level (Assert e) rest = into_check gap k.Assert e rest
   into_statement gap level (Error e) rest = into_check gap k.Error e rest
   into_statement gap level Break rest = refl
