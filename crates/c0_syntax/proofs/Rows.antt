@@ -37,7 +37,3 @@ when_ok (Err e) f h = tt
 -- a mark, and more behind it
 pub two_parts : (a b d : List Mark) (x : Mark) (ms : List Mark) → b ≡ a ++ x ∷ [] → d ≡ b ++ ms → d ≡ a ++ x ∷ ms
 two_parts a b d x ms e g = g ∙ ap (λ (t : List Mark). t ++ ms) e ∙ append_assoc a (x ∷ []) ms
-
--- a mark, another one, and more behind them
-pub three_parts : (a b c d : List Mark) (x y : Mark) (ms : List Mark) → b ≡ a ++ x ∷ [] → c ≡ b ++ y ∷ [] → d ≡ c ++ ms → d ≡ a ++ x ∷ y ∷ ms
-three_parts a b c d x y ms e f g = two_parts b c d y ms f g ∙ two_parts a b (b ++ y ∷ ms) x (y ∷ ms) e refl

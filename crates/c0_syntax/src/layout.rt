@@ -35,6 +35,7 @@ impl<'a> Model for Layout<'a> {
 }
 
 impl<'a> Layout<'a> {
+    /// No tokens.
     pub fn new(alloc: Global) -> Layout<'a>
         ensures { result ≡ [] }
     {

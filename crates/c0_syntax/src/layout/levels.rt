@@ -9,6 +9,7 @@ use crate::statement::{Annotation, Statement, StatementKind};
 
 const MOST_LEVELS: usize = 200;
 
+/// One level more, up to 200.
 pub fn deeper(level: usize) -> usize
     ensures { result ≡ l.deeper level }
 {
@@ -19,6 +20,7 @@ pub fn deeper(level: usize) -> usize
     }
 }
 
+/// What stands before the body of a statement of this level.
 pub fn gap_of_body(level: usize, body: &Statement) -> Gap
     ensures { result ≡ l.gap_of_body level (statement_of body.now) }
 {
@@ -28,6 +30,7 @@ pub fn gap_of_body(level: usize, body: &Statement) -> Gap
     }
 }
 
+/// The level of that body.
 pub fn level_of_body(level: usize, body: &Statement) -> usize
     ensures { result ≡ l.level_of_body level (statement_of body.now) }
 {
@@ -37,6 +40,7 @@ pub fn level_of_body(level: usize, body: &Statement) -> usize
     }
 }
 
+/// What stands before the body of a loop, behind the loop's annotations.
 pub fn gap_of_loop_body(level: usize, annotations: &[Annotation], body: &Statement) -> Gap
     ensures { result ≡ l.gap_of_loop_body level (map annotation_of annotations.now) (statement_of body.now) }
 {
@@ -46,6 +50,7 @@ pub fn gap_of_loop_body(level: usize, annotations: &[Annotation], body: &Stateme
     }
 }
 
+/// What stands before `else`, behind this statement.
 pub fn gap_of_else(level: usize, before: &Statement) -> Gap
     ensures { result ≡ l.gap_of_else level (statement_of before.now) }
 {
@@ -55,6 +60,7 @@ pub fn gap_of_else(level: usize, before: &Statement) -> Gap
     }
 }
 
+/// What stands behind `else`, before this statement.
 pub fn gap_behind_else(level: usize, body: &Statement) -> Gap
     ensures { result ≡ l.gap_behind_else level (statement_of body.now) }
 {
@@ -64,6 +70,7 @@ pub fn gap_behind_else(level: usize, body: &Statement) -> Gap
     }
 }
 
+/// The level of the statement behind `else`.
 pub fn level_behind_else(level: usize, body: &Statement) -> usize
     ensures { result ≡ l.level_behind_else level (statement_of body.now) }
 {

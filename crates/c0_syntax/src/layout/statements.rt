@@ -3,7 +3,9 @@
 ghost use Rattle.std.specs.Prelude.{◌≡◌, [], ◌∷◌, ◌++◌, map, option_map, IfOk};
 ghost use Rattle.c0_source.specs.Terminals.{Sign};
 ghost use Rattle.c0_source.specs.declared.kind.Kind.TheVariants as k;
-ghost use Rattle.c0_syntax.specs.Layouts.{behind, touching, layout_condition, layout_spec, layout_specs, layout_annotations, layout_simple, layout_option, layout_check, layout_test, layout_for_start, layout_for_end, layout_statement, layout_statements};
+ghost use Rattle.c0_syntax.specs.Layouts.{behind, touching, layout_expression, layout_condition, layout_spec, layout_specs, layout_annotations, layout_simple, layout_option, layout_check, layout_test, layout_for_start, layout_for_end, layout_statement, layout_statements};
+ghost use Rattle.c0_syntax.specs.declared.mark.Gap.TheVariants as g;
+ghost use Rattle.c0_syntax.specs.Layouts as l;
 ghost use Rattle.c0_syntax.specs.Statements.{change_sign as spec_change_sign};
 ghost use Rattle.c0_syntax.specs.Views.{expression_of, spec_of, annotation_of, simple_of, statement_of, statements_of};
 
@@ -166,7 +168,23 @@ impl<'a> Layout<'a> {
         self.touching(Kind::Semi)
     }
 
-    /// A statement that stands in `level` others.
+    // A simple statement and its semicolon.
+    fn simple_line(&mut self, gap: Gap, simple: &'a SimpleStatement) -> Result<(), AllocError>
+        ensures { IfOk result (λ _. self.new ≡ self.old ++ layout_simple gap (simple_of simple.now) ++ touching k.Semi ∷ []) }
+    {
+        self.simple(gap, simple)?;
+        self.touching(Kind::Semi)
+    }
+
+    fn return_value(&mut self, gap: Gap, value: &'a Expression) -> Result<(), AllocError>
+        ensures { IfOk result (λ _. self.new ≡ self.old ++ behind gap (Sign k.Return) ∷ layout_expression g.Blank (expression_of value.now) ++ touching k.Semi ∷ []) }
+    {
+        self.sign(gap, Kind::Return)?;
+        self.expression(Gap::Blank, value)?;
+        self.touching(Kind::Semi)
+    }
+
+    /// A statement that stands in `level` others, its first token behind this gap.
     #[cycle(statement)]
     pub fn statement(
         &mut self,
@@ -177,10 +195,7 @@ impl<'a> Layout<'a> {
         ensures { IfOk result (λ _. self.new ≡ self.old ++ layout_statement gap level (statement_of statement.now)) }
     {
         match &statement.kind {
-            StatementKind::Simple(simple) => {
-                self.simple(gap, simple)?;
-                self.touching(Kind::Semi)
-            }
+            StatementKind::Simple(simple) => self.simple_line(gap, simple),
             StatementKind::Block(statements) => {
                 self.sign(gap, Kind::LBrace)?;
                 self.statements(level, statements)
@@ -190,22 +205,14 @@ impl<'a> Layout<'a> {
                 self.specs(&annotation.specs)
             }
             StatementKind::Return => self.word(gap, Kind::Return),
-            StatementKind::ReturnValue(value) => {
-                self.sign(gap, Kind::Return)?;
-                self.expression(Gap::Blank, value)?;
-                self.touching(Kind::Semi)
-            }
+            StatementKind::ReturnValue(value) => self.return_value(gap, value),
             StatementKind::If(condition, body) => {
                 self.test(gap, Kind::If, condition)?;
-                self.statement(gap_of_body(level, body), level_of_body(level, body), body)
+                self.body(level, body)
             }
             StatementKind::IfElse(condition, first, second) => {
                 self.test(gap, Kind::If, condition)?;
-                self.statement(
-                    gap_of_body(level, first),
-                    level_of_body(level, first),
-                    first,
-                )?;
+                self.body(level, first)?;
                 self.sign(gap_of_else(level, first), Kind::Else)?;
                 self.statement(
                     gap_behind_else(level, second),
@@ -215,28 +222,44 @@ impl<'a> Layout<'a> {
             }
             StatementKind::While(condition, annotations, body) => {
                 self.test(gap, Kind::While, condition)?;
-                self.annotations(deeper(level), annotations)?;
-                self.statement(
-                    gap_of_loop_body(level, annotations, body),
-                    level_of_body(level, body),
-                    body,
-                )
+                self.loop_body(level, annotations, body)
             }
             StatementKind::For(first, condition, third, annotations, body) => {
                 self.for_start(gap, first)?;
                 self.for_end(condition, third)?;
-                self.annotations(deeper(level), annotations)?;
-                self.statement(
-                    gap_of_loop_body(level, annotations, body),
-                    level_of_body(level, body),
-                    body,
-                )
+                self.loop_body(level, annotations, body)
             }
             StatementKind::Assert(condition) => self.check(gap, Kind::Assert, condition),
             StatementKind::Error(text) => self.check(gap, Kind::Error, text),
             StatementKind::Break => self.word(gap, Kind::Break),
             StatementKind::Continue => self.word(gap, Kind::Continue),
         }
+    }
+
+    // What stands behind a condition.
+    #[cycle(statement)]
+    fn body(&mut self, level: usize, body: &'a Statement) -> Result<(), AllocError>
+        ensures { IfOk result (λ _. self.new ≡ self.old ++ layout_statement (l.gap_of_body level (statement_of body.now)) (l.level_of_body level (statement_of body.now)) (statement_of body.now)) }
+    {
+        self.statement(gap_of_body(level, body), level_of_body(level, body), body)
+    }
+
+    // What stands behind a loop's header.
+    #[cycle(statement)]
+    fn loop_body(
+        &mut self,
+        level: usize,
+        annotations: &'a [Annotation],
+        body: &'a Statement,
+    ) -> Result<(), AllocError>
+        ensures { IfOk result (λ _. self.new ≡ self.old ++ layout_annotations (l.deeper level) (map annotation_of annotations.now) ++ layout_statement (l.gap_of_loop_body level (map annotation_of annotations.now) (statement_of body.now)) (l.level_of_body level (statement_of body.now)) (statement_of body.now)) }
+    {
+        self.annotations(deeper(level), annotations)?;
+        self.statement(
+            gap_of_loop_body(level, annotations, body),
+            level_of_body(level, body),
+            body,
+        )
     }
 
     /// The statements of a block that stands in `level` others, and the closing brace.

@@ -1,0 +1,275 @@
+// What trees that are built by hand are printed as.
+
+use crate::expression::{Expression, ExpressionKind};
+use crate::name::Name;
+use crate::operator::{Change, PrefixOperator};
+use crate::print::print;
+use crate::program::{Declaration, DeclarationKind, Header, Program, TypedName};
+use crate::statement::{
+    Annotation, SimpleKind, SimpleStatement, Spec, SpecKind, Statement, StatementKind,
+};
+use crate::value_type::{TypeKind, ValueType};
+use c0_source::fault::Span;
+use c0_source::kind::{Base, Clause, Operator};
+use std::alloc::{AllocError, Global};
+use std::process::Abort;
+use std::test::Fail;
+
+const NOWHERE: Span = Span { start: 0, end: 0 };
+
+type Made<T> = Result<T, AllocError>;
+
+fn name(alloc: Global, text: &str) -> Made<Name> {
+    Ok(Name {
+        text: String::from_str(alloc, text)?,
+        span: NOWHERE,
+    })
+}
+
+fn expression(kind: ExpressionKind) -> Expression {
+    Expression {
+        kind,
+        span: NOWHERE,
+    }
+}
+
+fn number(value: u32) -> Expression {
+    expression(ExpressionKind::Number(value))
+}
+
+fn variable(alloc: Global, text: &str) -> Made<Expression> {
+    Ok(expression(ExpressionKind::Variable(name(alloc, text)?)))
+}
+
+fn text(alloc: Global, text: &str) -> Made<Expression> {
+    Ok(expression(ExpressionKind::Text(String::from_str(alloc, text)?)))
+}
+
+fn unary(alloc: Global, operator: PrefixOperator, operand: Expression) -> Made<Expression> {
+    Ok(expression(ExpressionKind::Unary(operator, Box::new(alloc, operand)?)))
+}
+
+fn binary(
+    alloc: Global,
+    left: Expression,
+    operator: Operator,
+    right: Expression,
+) -> Made<Expression> {
+    Ok(expression(ExpressionKind::Binary(
+        operator,
+        Box::new(alloc, left)?,
+        Box::new(alloc, right)?,
+    )))
+}
+
+fn parenthesized(alloc: Global, inner: Expression) -> Made<Expression> {
+    Ok(expression(ExpressionKind::Parenthesized(Box::new(alloc, inner)?)))
+}
+
+fn call(alloc: Global, function: &str, arguments: Vec<Expression>) -> Made<Expression> {
+    Ok(expression(ExpressionKind::Call(name(alloc, function)?, arguments)))
+}
+
+fn index(alloc: Global, array: Expression, at: Expression) -> Made<Expression> {
+    Ok(expression(ExpressionKind::Index(Box::new(alloc, array)?, Box::new(alloc, at)?)))
+}
+
+fn arrow(alloc: Global, of: Expression, field: &str) -> Made<Expression> {
+    Ok(expression(ExpressionKind::PointerField(Box::new(alloc, of)?, name(alloc, field)?)))
+}
+
+fn basic(base: Base) -> ValueType {
+    ValueType {
+        kind: TypeKind::Basic(base),
+        span: NOWHERE,
+    }
+}
+
+fn pointer(alloc: Global, to: ValueType) -> Made<ValueType> {
+    Ok(ValueType {
+        kind: TypeKind::Pointer(Box::new(alloc, to)?),
+        span: NOWHERE,
+    })
+}
+
+fn array(alloc: Global, of: ValueType) -> Made<ValueType> {
+    Ok(ValueType {
+        kind: TypeKind::Array(Box::new(alloc, of)?),
+        span: NOWHERE,
+    })
+}
+
+fn typed(alloc: Global, value_type: ValueType, text: &str) -> Made<TypedName> {
+    Ok(TypedName {
+        value_type,
+        name: name(alloc, text)?,
+    })
+}
+
+fn statement(kind: StatementKind) -> Statement {
+    Statement {
+        kind,
+        span: NOWHERE,
+    }
+}
+
+fn simple(kind: SimpleKind) -> SimpleStatement {
+    SimpleStatement {
+        kind,
+        span: NOWHERE,
+    }
+}
+
+fn line(kind: SimpleKind) -> Statement {
+    statement(StatementKind::Simple(simple(kind)))
+}
+
+fn returned(value: Expression) -> Statement {
+    statement(StatementKind::ReturnValue(value))
+}
+
+fn note(alloc: Global, kind: SpecKind, condition: Expression) -> Made<Annotation> {
+    Ok(Annotation {
+        specs: vec![in alloc;
+            Spec {
+                kind,
+                word: NOWHERE,
+                condition,
+                span: NOWHERE
+            },
+        ]?,
+        span: NOWHERE,
+    })
+}
+
+fn declaration(kind: DeclarationKind) -> Declaration {
+    Declaration {
+        kind,
+        span: NOWHERE,
+    }
+}
+
+fn header(
+    alloc: Global,
+    result: ValueType,
+    function: &str,
+    parameters: Vec<TypedName>,
+    annotations: Vec<Annotation>,
+) -> Made<Header> {
+    Ok(Header {
+        result,
+        name: name(alloc, function)?,
+        parameters,
+        annotations,
+        span: NOWHERE,
+    })
+}
+
+/// The program of one function `main` with these statements.
+fn program(alloc: Global, body: Vec<Statement>) -> Made<Program> {
+    let main = header(
+        alloc,
+        basic(Base::Int),
+        "main",
+        Vec::new(alloc),
+        Vec::new(alloc),
+    )?;
+    Ok(Program {
+        declarations: vec![in alloc; declaration(DeclarationKind::DefineFunction(main, body))]?,
+    })
+}
+
+fn expect_printed(
+    rt: &impl Abort,
+    alloc: Global,
+    program: &Program,
+    want: &str,
+) -> Result<(), Fail> {
+    let Ok(printed) = print(alloc, program) else {
+        panic!(rt; "a program isn't printed");
+    };
+    assert_eq!(rt; printed.as_str(), want);
+    Ok(())
+}
+
+#[test]
+fn a_program_is_printed(rt: HostRuntime) -> Result<(), Fail> {
+    let alloc = rt.alloc();
+    let printed = print(
+        alloc,
+        &program(alloc, vec![in alloc; returned(number(0))]?)?,
+    );
+    assert!(&rt; printed.is_ok());
+    expect_printed(
+        &rt,
+        alloc,
+        &program(alloc, vec![in alloc; returned(number(0))]?)?,
+        "int main() {\n    return 0;\n}\n",
+    )
+}
+
+#[test]
+fn expressions_have_blanks_round_infix_operators(rt: HostRuntime) -> Result<(), Fail> {
+    let alloc = rt.alloc();
+    let sum = parenthesized(
+        alloc,
+        binary(alloc, variable(alloc, "a")?, Operator::Add, number(1))?,
+    )?;
+    let called = call(
+        alloc,
+        "f",
+        vec![in alloc; variable(alloc, "x")?, number(2)]?,
+    )?;
+    let field = arrow(alloc, index(alloc, called, variable(alloc, "i")?)?, "g")?;
+    let negated = unary(alloc, PrefixOperator::Negate, field)?;
+    let product = binary(alloc, sum, Operator::Multiply, negated)?;
+    expect_printed(
+        &rt,
+        alloc,
+        &program(alloc, vec![in alloc; returned(product)]?)?,
+        "int main() {\n    return (a + 1) * -f(x, 2)[i]->g;\n}\n",
+    )
+}
+
+#[test]
+fn signs_that_would_be_one_have_a_blank_between(rt: HostRuntime) -> Result<(), Fail> {
+    let alloc = rt.alloc();
+    let twice = unary(
+        alloc,
+        PrefixOperator::Negate,
+        unary(alloc, PrefixOperator::Negate, variable(alloc, "x")?)?,
+    )?;
+    let followed = unary(
+        alloc,
+        PrefixOperator::Dereference,
+        unary(alloc, PrefixOperator::Dereference, variable(alloc, "p")?)?,
+    )?;
+    let body = vec![in alloc;
+        line(SimpleKind::Evaluate(twice)),
+        line(SimpleKind::Evaluate(followed)),
+    ]?;
+    expect_printed(
+        &rt,
+        alloc,
+        &program(alloc, body)?,
+        "int main() {\n    - -x;\n    **p;\n}\n",
+    )
+}
+
+#[test]
+fn numbers_and_texts_are_written_as_the_language_has_them(rt: HostRuntime) -> Result<(), Fail> {
+    let alloc = rt.alloc();
+    let body = vec![in alloc;
+        line(SimpleKind::Evaluate(number(2_147_483_648))),
+        line(SimpleKind::Evaluate(number(4_294_967_295))),
+        line(SimpleKind::Evaluate(expression(ExpressionKind::Character(0)))),
+        line(SimpleKind::Evaluate(expression(ExpressionKind::Character(39)))),
+        line(SimpleKind::Evaluate(text(alloc, "a\n\"b\\")?)),
+    ]?;
+    expect_printed(
+        &rt,
+        alloc,
+        &program(alloc, body)?,
+        "int main() {\n    2147483648;\n    0xffffffff;\n    '\\0';\n    '\\'';\n    \"a\\n\\\"b\\\\\";\n}\n",
+    )
+}
