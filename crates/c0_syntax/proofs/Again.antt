@@ -1,5 +1,5 @@
 -- Each token of a text is read again from what is written of it.
-use Rattle.std.proofs.Common.{◌≡◌, ℕ, zero, suc, ◌+◌, ◌*◌, ◌^◌, ◌<◌, ◌≤◌, Bool, true, false, not, ◌&&◌, ◌||◌, ◌==◌, cond, List, [], ◌∷◌, ◌++◌, length, drop, Option, Some, None, refl, sym, ap, subst, ◌∙◌, arith}
+use Rattle.std.proofs.Common.{◌≡◌, ℕ, ◌^◌, ◌<◌, Bool, true, false, not, ◌&&◌, ◌||◌, ◌==◌, cond, List, [], ◌∷◌, ◌++◌, length, drop, Option, Some, None, refl, sym, ap, subst, ◌∙◌, arith}
 use Rattle.std.proofs.lemmas.Bool.{eqb-true, leb-true, ltb-true}
 use Rattle.std.proofs.lemmas.List.{append_assoc}
 use Rattle.std.proofs.lemmas.Slice.Eq.{bytes_eq-Decides}
@@ -13,13 +13,13 @@ use Rattle.c0_source.specs.declared.kind.Mode.TheVariants as m
 use Rattle.c0_source.specs.declared.kind.Piece.{Piece}
 use Rattle.c0_source.specs.declared.kind.Piece.TheVariants as p
 use Rattle.c0_source.specs.Bytes.{is_letter, is_blank, not_newline, is_digit, is_hex, is_word, all_of}
-use Rattle.c0_source.specs.Spelling.{when, text_value, letter_value, value_from, hex_from, decimal_of, hex_of, number_of, begins_annotation, slash_of, Table, lookup, keywords, clauses, or_name, words_of, word_kind, signs, sign_of, token_of, backslash_of, at_of, angled, quoted, use_value, use_of, is_some, letter_piece, newline_of, closes, begun_by, piece_of, apart, after}
-use Rattle.c0_source.specs.Terminals.{Terminal, Word, Sign, terminal_by, use_terminal}
-use Rattle.c0_syntax.specs.Spellings.{spelling, kind_text, number_text, use_text, quoted_text, all_escaped, escaped}
+use Rattle.c0_source.specs.Spelling.{when, text_value, letter_value, value_from, hex_from, decimal_of, hex_of, number_of, begins_annotation, slash_of, Table, lookup, or_name, words_of, word_kind, signs, sign_of, token_of, backslash_of, at_of, angled, quoted, use_value, use_of, is_some, letter_piece, newline_of, closes, begun_by, piece_of, apart}
+use Rattle.c0_source.specs.Terminals.{Sign, terminal_by}
+use Rattle.c0_syntax.specs.Spellings.{spelling, kind_text, number_text, use_text, all_escaped}
 use Rattle.c0_syntax.specs.Printing.{joins, first_of}
-use Rattle.c0_syntax.proofs.Ends.{both, not_both, differs, digit_is_word, ending, when_is, some_of, letter_of, quoted_some, opposite}
+use Rattle.c0_syntax.proofs.Ends.{both, not_both, differs, digit_is_word, ending, when_is, some_of, letter_of, quoted_some}
 use Rattle.c0_syntax.proofs.Numbers.{number_written}
-use Rattle.c0_syntax.proofs.Texts.{writable, text_written, held, character_written, letter_held}
+use Rattle.c0_syntax.proofs.Texts.{text_written, held, character_written, letter_held}
 
 -- the mode in which a token is written: an annotation of a line becomes one that `@*/` ends
 abbrev pub blocked : Mode → Mode

@@ -6,14 +6,13 @@ use Rattle.std.specs.Str.{bytes_eq}
 use Rattle.std.specs.Prelude.{codes, nat_le}
 use Rattle.c0_source.specs.declared.kind.Kind.{Kind}
 use Rattle.c0_source.specs.declared.kind.Kind.TheVariants as k
-use Rattle.c0_source.specs.declared.kind.Operator.TheVariants as o
 use Rattle.c0_source.specs.declared.kind.Mode.{Mode}
 use Rattle.c0_source.specs.declared.kind.Mode.TheVariants as m
 use Rattle.c0_source.specs.declared.kind.Piece.{Piece}
 use Rattle.c0_source.specs.declared.kind.Piece.TheVariants as p
 use Rattle.c0_source.specs.Bytes.{is_letter, is_blank, not_newline, is_digit, is_hex, is_word, is_printable, all_of, escape}
 use Rattle.c0_source.specs.Laws.{NotGap}
-use Rattle.c0_source.specs.Spelling.{when, with_byte, text_value, letter_value, decimal_of, hex_of, number_of, begins_annotation, slash_of, Table, lookup, signs, sign_of, token_of, backslash_of, at_of, angled, quoted, use_value, use_of, is_some, letter_piece, begun_by, piece_of, apart, Cut}
+use Rattle.c0_source.specs.Spelling.{when, with_byte, text_value, letter_value, decimal_of, hex_of, number_of, begins_annotation, slash_of, Table, lookup, signs, sign_of, backslash_of, at_of, angled, quoted, use_value, use_of, is_some, letter_piece, begun_by, piece_of}
 use Rattle.c0_syntax.specs.Printing.{joins, doubles}
 
 -- Truth values.

@@ -1,19 +1,19 @@
 -- A number that is written is read as the number.
-use Rattle.std.proofs.Common.{◌≡◌, ℕ, zero, suc, ◌+◌, ◌-◌, ◌*◌, ◌^◌, ◌<◌, ◌≤◌, Bool, true, false, not, ◌&&◌, ◌||◌, ◌==◌, cond, List, [], ◌∷◌, ◌++◌, length, Option, Some, None, refl, sym, ap, subst, ◌∙◌, rules, arith}
-use Rattle.std.proofs.lemmas.Bool.{ne_eqb, eqb-true, eqb-false, leb-true, leb-false, ltb-true, ltb-false, le-leb, lt-leb, lt-ltb}
-use Rattle.std.proofs.lemmas.Fmt.{digits_is_IsNumeral, digits_decimal, digits_value-decimal, first_decimal, decimal_nonempty, decimal_digit}
+use Rattle.std.proofs.Common.{◌≡◌, ℕ, zero, suc, ◌+◌, ◌*◌, ◌^◌, ◌<◌, ◌≤◌, Bool, true, false, ◌&&◌, ◌==◌, cond, List, [], ◌∷◌, ◌++◌, length, Some, None, refl, sym, subst, ◌∙◌, rules, arith}
+use Rattle.std.proofs.lemmas.Bool.{ne_eqb, leb-true, ltb-true, ltb-false, le-leb, lt-leb, lt-ltb}
+use Rattle.std.proofs.lemmas.Fmt.{digits_is_IsNumeral, digits_decimal, digits_value-decimal, first_decimal, decimal_digit}
 use Rattle.std.proofs.lemmas.Str.Parse.{IsNumeralModel, numerals_by_fold}
 use Rattle.std.specs.Prelude.{nat_le, nat_lt, codes}
 use lib.ListN.{get_or}
 use Rattle.std.specs.Fmt.{decimal, digits}
 use Rattle.std.specs.Char.{digit_value}
-use Rattle.std.specs.Str.Parse.{AllDigits, digits_value, digits_value_after}
+use Rattle.std.specs.Str.Parse.{AllDigits, digits_value_after}
 use Rattle.c0_source.specs.declared.kind.Kind.TheVariants as k
 use Rattle.c0_source.specs.declared.kind.Mode.{Mode}
 use Rattle.c0_source.specs.declared.kind.Piece.{Piece}
 use Rattle.c0_source.specs.declared.kind.Piece.TheVariants as p
 use Rattle.c0_source.specs.Bytes.{is_blank, is_letter, is_digit, is_hex, all_of}
-use Rattle.c0_source.specs.Spelling.{value_from, hex_from, hex_digit, decimal_of, hex_of, number_of, begun_by, piece_of}
+use Rattle.c0_source.specs.Spelling.{value_from, hex_from, hex_digit, decimal_of, hex_of, number_of, piece_of}
 use Rattle.c0_syntax.specs.Spellings.{number_text}
 use Rattle.c0_syntax.specs.Printing.{first_of}
 use Rattle.c0_syntax.proofs.Ends.{both}

@@ -6,13 +6,13 @@ use Rattle.c0_source.specs.declared.kind.Mode.{Mode}
 use Rattle.c0_source.specs.declared.kind.Mode.TheVariants as m
 use Rattle.c0_source.specs.declared.kind.Piece.{Piece}
 use Rattle.c0_source.specs.declared.kind.Piece.TheVariants as p
-use Rattle.c0_source.specs.Spelling.{Pieces, Leads, Spells, Ends, ending, piece_of, after, kind_of_piece, add_lexeme, lexemes, Lexeme}
+use Rattle.c0_source.specs.Spelling.{Pieces, Leads, Ends, ending, after, kind_of_piece, add_lexeme, lexemes, Lexeme}
 use Rattle.c0_source.specs.Terminals.{Terminal, Sign, terminal_by, terminals}
 use Rattle.c0_syntax.specs.declared.mark.Gap.TheVariants as g
 use Rattle.c0_syntax.specs.Trees.{Program}
-use Rattle.c0_syntax.specs.Programs.{emit_program, Reads}
+use Rattle.c0_syntax.specs.Programs.{Reads}
 use Rattle.c0_syntax.specs.Layouts.{Mark, layout_program}
-use Rattle.c0_syntax.specs.Printing.{rendered, printed, ReadsBack, PrintsBack}
+use Rattle.c0_syntax.specs.Printing.{printed, ReadsBack, PrintsBack}
 use Rattle.c0_syntax.proofs.Again.{blocked, Again, Rewritten, rewritten}
 use Rattle.c0_syntax.proofs.Chains.{Written, NotLine, AllWritten, Chain, chain}
 use Rattle.c0_syntax.proofs.Tokens.{tokens_of_layout}

@@ -1,11 +1,11 @@
 -- A text or a character that is written is read as what it was.
-use Rattle.std.proofs.Common.{◌≡◌, ◌≢◌, ℕ, Bool, true, false, ◌&&◌, ◌||◌, ◌==◌, List, [], ◌∷◌, ◌++◌, length, Option, Some, None, refl, sym, ap, subst, ◌∙◌, arith}
+use Rattle.std.proofs.Common.{◌≡◌, ◌≢◌, ℕ, Bool, true, false, ◌&&◌, ◌||◌, ◌==◌, List, [], ◌∷◌, ◌++◌, length, Some, refl, sym, ap, subst, ◌∙◌, arith}
 use Rattle.std.proofs.lemmas.Bool.{eqb-true, eqb-false, leb-true, lt-ltb}
 use Rattle.std.specs.Prelude.{nat_le, nat_lt}
 use Rattle.c0_source.specs.Bytes.{is_printable, all_of, escape}
-use Rattle.c0_source.specs.Spelling.{with_byte, text_value, letter_value}
+use Rattle.c0_source.specs.Spelling.{text_value, letter_value}
 use Rattle.c0_syntax.specs.Spellings.{escaped, all_escaped}
-use Rattle.c0_syntax.proofs.Ends.{both, with_some, and_false}
+use Rattle.c0_syntax.proofs.Ends.{both, with_some}
 
 -- a byte that a text may have: printable, or one that an escape stands for
 abbrev pub writable : ℕ → Bool

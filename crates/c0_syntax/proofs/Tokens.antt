@@ -1,5 +1,5 @@
 -- The tokens of a layout are those that the tree reads from.
-use Rattle.std.proofs.Common.{◌≡◌, ℕ, Bool, true, false, List, [], ◌∷◌, ◌++◌, map, Option, Some, None, refl, sym, ap, ◌∙◌, rules}
+use Rattle.std.proofs.Common.{◌≡◌, ℕ, true, false, List, [], ◌∷◌, ◌++◌, map, Option, Some, None, refl, sym, ap, ◌∙◌, rules}
 use Rattle.c0_source.specs.declared.kind.Kind.TheVariants as k
 use Rattle.c0_source.specs.declared.kind.Kind.{Kind}
 use Rattle.c0_source.specs.Terminals.{Terminal, Sign}
@@ -9,7 +9,7 @@ use Rattle.c0_syntax.specs.Trees.{ValueType, Basic, StructType, NamedType, Point
 use Rattle.c0_syntax.specs.Expressions.{emit_type, emit_expression, emit_arguments, emit_more_arguments}
 use Rattle.c0_syntax.specs.Statements.{emit_spec, emit_specs, emit_annotations, emit_simple, emit_option, emit_statement, emit_statements}
 use Rattle.c0_syntax.specs.Programs.{emit_typed_name, emit_fields, emit_parameters, emit_more_parameters, emit_header, emit_declaration, emit_program}
-use Rattle.c0_syntax.specs.Layouts.{Mark, behind, layout_type, comma_unless, gap_of_item, layout_expression, layout_arguments, layout_condition, layout_spec, layout_specs, layout_annotations, layout_simple, layout_option, gap_of_body, level_of_body, gap_of_loop_body, gap_of_else, gap_behind_else, level_behind_else, deeper, layout_check, layout_test, layout_for_start, layout_for_end, layout_statement, layout_statements, layout_typed_name, layout_fields, layout_parameters, layout_header, gap_of_function_body, layout_declaration, layout_program}
+use Rattle.c0_syntax.specs.Layouts.{Mark, behind, layout_type, layout_expression, layout_arguments, layout_condition, layout_spec, layout_specs, layout_annotations, layout_simple, layout_option, gap_of_body, level_of_body, gap_of_loop_body, gap_of_else, gap_behind_else, level_behind_else, deeper, layout_check, layout_test, layout_for_start, layout_for_end, layout_statement, layout_statements, layout_typed_name, layout_fields, layout_parameters, layout_header, layout_declaration, layout_program}
 
 -- the tokens of marks, and after them `rest`
 abbrev pub into : List Mark → List Terminal → List Terminal

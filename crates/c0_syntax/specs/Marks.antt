@@ -1,5 +1,5 @@
 -- Tokens that are to be written, as code holds them.
-use Rattle.std.specs.Prelude.{true, false, List, map}
+use Rattle.std.specs.Prelude.{true, false}
 use Rattle.c0_source.specs.Terminals as s
 use Rattle.c0_syntax.specs.declared.mark.Terminal.{Terminal}
 use Rattle.c0_syntax.specs.declared.mark.Terminal.TheVariants as t

@@ -85,6 +85,13 @@ fn basic(base: Base) -> ValueType {
     }
 }
 
+fn structure(alloc: Global, text: &str) -> Made<ValueType> {
+    Ok(ValueType {
+        kind: TypeKind::Struct(name(alloc, text)?),
+        span: NOWHERE,
+    })
+}
+
 fn pointer(alloc: Global, to: ValueType) -> Made<ValueType> {
     Ok(ValueType {
         kind: TypeKind::Pointer(Box::new(alloc, to)?),
@@ -151,13 +158,13 @@ fn declaration(kind: DeclarationKind) -> Declaration {
 
 fn header(
     alloc: Global,
-    result: ValueType,
+    returned: ValueType,
     function: &str,
     parameters: Vec<TypedName>,
     annotations: Vec<Annotation>,
 ) -> Made<Header> {
     Ok(Header {
-        result,
+        result: returned,
         name: name(alloc, function)?,
         parameters,
         annotations,
@@ -271,5 +278,117 @@ fn numbers_and_texts_are_written_as_the_language_has_them(rt: HostRuntime) -> Re
         alloc,
         &program(alloc, body)?,
         "int main() {\n    2147483648;\n    0xffffffff;\n    '\\0';\n    '\\'';\n    \"a\\n\\\"b\\\\\";\n}\n",
+    )
+}
+
+#[test]
+fn declarations_have_empty_lines_between(rt: HostRuntime) -> Result<(), Fail> {
+    let alloc = rt.alloc();
+    let fields = vec![in alloc;
+        typed(alloc, basic(Base::Int), "value")?,
+        typed(alloc, pointer(alloc, structure(alloc, "node")?)?, "next")?,
+    ]?;
+    let parameters = vec![in alloc;
+        typed(alloc, array(alloc, basic(Base::Int))?, "a")?,
+        typed(alloc, basic(Base::Int), "n")?,
+    ]?;
+    let condition = binary(
+        alloc,
+        variable(alloc, "n")?,
+        Operator::Less,
+        expression(ExpressionKind::Length(Box::new(alloc, variable(alloc, "a")?)?)),
+    )?;
+    let notes = vec![in alloc; note(alloc, SpecKind::Contract(Clause::Requires), condition)?]?;
+    let sum = header(alloc, basic(Base::Int), "sum", parameters, notes)?;
+    let declared = header(
+        alloc,
+        basic(Base::Void),
+        "f",
+        Vec::new(alloc),
+        Vec::new(alloc),
+    )?;
+    let program = Program {
+        declarations: vec![in alloc;
+            declaration(DeclarationKind::UseName(String::from_str(alloc, "conio")?)),
+            declaration(DeclarationKind::DefineStruct(name(alloc, "node")?, fields)),
+            declaration(DeclarationKind::Typedef(
+                pointer(alloc, structure(alloc, "node")?)?,
+                name(alloc, "list")?
+            )),
+            declaration(DeclarationKind::DeclareFunction(declared)),
+            declaration(DeclarationKind::DefineFunction(sum, vec![in alloc; returned(number(1))]?)),
+        ]?,
+    };
+    expect_printed(
+        &rt,
+        alloc,
+        &program,
+        "#use <conio>\n\nstruct node {\n    int value;\n    struct node* next;\n};\n\ntypedef struct node* list;\n\nvoid f();\n\nint sum(int[] a, int n)\n    /*@ requires n < \\length(a); @*/\n{\n    return 1;\n}\n",
+    )
+}
+
+/// `for (int i = 0; i < n; i++)` with an invariant, and `total += i;` in braces.
+fn counting_loop(alloc: Global) -> Made<Statement> {
+    let first = simple(SimpleKind::Initialize(basic(Base::Int), name(alloc, "i")?, number(0)));
+    let condition = binary(
+        alloc,
+        variable(alloc, "i")?,
+        Operator::Less,
+        variable(alloc, "n")?,
+    )?;
+    let third = simple(SimpleKind::Step(variable(alloc, "i")?, Change::Increment));
+    let invariant = binary(alloc, number(0), Operator::LessEqual, variable(alloc, "i")?)?;
+    let notes = vec![in alloc; note(alloc, SpecKind::Contract(Clause::LoopInvariant), invariant)?]?;
+    let added = line(SimpleKind::Update(
+        variable(alloc, "total")?,
+        Operator::Add,
+        variable(alloc, "i")?,
+    ));
+    let body = statement(StatementKind::Block(vec![in alloc; added]?));
+    Ok(statement(StatementKind::For(
+        Some(first),
+        condition,
+        Some(third),
+        notes,
+        Box::new(alloc, body)?,
+    )))
+}
+
+/// `if (a) { return 0; } else if (b) error("no"); else assert(true);`.
+fn branches(alloc: Global) -> Made<Statement> {
+    let block = statement(StatementKind::Block(vec![in alloc; returned(number(0))]?));
+    let fails = statement(StatementKind::Error(text(alloc, "no")?));
+    let asserts = statement(StatementKind::Assert(expression(ExpressionKind::Truth(true))));
+    let inner = statement(StatementKind::IfElse(
+        variable(alloc, "b")?,
+        Box::new(alloc, fails)?,
+        Box::new(alloc, asserts)?,
+    ));
+    Ok(statement(StatementKind::IfElse(
+        variable(alloc, "a")?,
+        Box::new(alloc, block)?,
+        Box::new(alloc, inner)?,
+    )))
+}
+
+#[test]
+fn statements_stand_on_lines_of_their_own(rt: HostRuntime) -> Result<(), Fail> {
+    let alloc = rt.alloc();
+    let endless = statement(StatementKind::While(
+        expression(ExpressionKind::Truth(true)),
+        Vec::new(alloc),
+        Box::new(alloc, statement(StatementKind::Break))?,
+    ));
+    let noted = statement(StatementKind::Annotated(note(
+        alloc,
+        SpecKind::Assert,
+        variable(alloc, "b")?,
+    )?));
+    let body = vec![in alloc; counting_loop(alloc)?, branches(alloc)?, endless, noted]?;
+    expect_printed(
+        &rt,
+        alloc,
+        &program(alloc, body)?,
+        "int main() {\n    for (int i = 0; i < n; i++)\n        /*@ loop_invariant 0 <= i; @*/\n    {\n        total += i;\n    }\n    if (a) {\n        return 0;\n    } else if (b)\n        error(\"no\");\n    else\n        assert(true);\n    while (true)\n        break;\n    /*@ assert b; @*/\n}\n",
     )
 }
