@@ -1,5 +1,5 @@
 //! A seat with its way to the store.
-ghost use Rattle.std.specs.Prelude.{◌≡◌, ℕ, ◌+◌, ◌%◌, ◌<◌, ◌==◌, not, false, Some, IfOk, MatchResult, length};
+ghost use Rattle.std.specs.Prelude.{◌≡◌, ℕ, ◌+◌, ◌%◌, ◌<◌, ◌==◌, not, false, Some, IfOk, IsOk, MatchResult, length};
 ghost use Rattle.pointer_word.specs.Hands.{listed};
 ghost use Rattle.remote_store.specs.Kept.{Took, RefusedFor, next_version, piece_cells};
 ghost use Rattle.object_lock.specs.Kept.{berth_keeps};
@@ -80,6 +80,7 @@ impl<S: RawStore> MoverSeat<S> {
         ensures length { length words.new ≡ PIECE_CELLS }
         ensures same { self.new ≡ record self.old { refusals = self.new.refusals } }
         ensures got { IfOk result (λ _. S.honest → words.new ≡ self.old.view.hand.promised) }
+        ensures sure { S.reliable → IsOk result }
         ensures counted { MatchResult result (λ _. self.new.refusals ≡ self.old.refusals) (λ _. (words.new ≡ words.old) × (self.new.refusals ≡ (self.old.refusals + 1) % 18446744073709551616)) }
         ensures read { (b : _) × (before : S) × (after : S) × (self.old.brought ≡ Some b) × MatchResult result (λ _. Took (λ row. S.read_gives before b.cell row after) b.version obj words.new)
             (λ why. RefusedFor (S.failures after ≡ (S.failures before + 1) % 18446744073709551616) (λ row. S.read_gives before b.cell row after × (S.failures after ≡ S.failures before)) b.version obj why) }
@@ -97,6 +98,7 @@ impl<S: RawStore> MoverSeat<S> {
         requires words { length words.now ≡ PIECE_CELLS }
         ensures same { self.new ≡ record self.old { taken = self.new.taken; refusals = self.new.refusals } }
         ensures version { version_of self.new.taken ≡ next_version (version_of self.old.taken) }
+        ensures sure { S.reliable → IsOk result }
         ensures put { IfOk result (λ _. (b : _) × (self.new.taken ≡ Some b) × berth_keeps S.content b obj words.now) }
         ensures counted { MatchResult result (λ _. self.new.refusals ≡ self.old.refusals) (λ _. self.new.refusals ≡ (self.old.refusals + 1) % 18446744073709551616) }
         ensures failed { (before : S) × (after : S) × MatchResult result (λ _. S.failures after ≡ S.failures before) (λ _. S.failures after ≡ (S.failures before + 1) % 18446744073709551616) }
