@@ -28,25 +28,25 @@ from_zero : (n base : ℕ) (cells : List ℕ) → next_object n base cells ≡ b
 from_zero n base [] = omega arith
 from_zero n base (c ∷ older) = let rest = from_zero n base older in omega arith
 
--- why a session with 64 objects wants something
-wants_for : (t : State) (w : Want) → w ≢ StoreFailed → t.view.high ≡ t.view.low + 64 → Caused (record t { want = None }) w → WantsFor t.image t.core w
-wants_for t NoObjects other share c =
+-- why a session with 65,536 objects wants something
+wants_for : (reliable : Type 0) (before : ℕ) (t : State) (w : Want) → w ≢ StoreFailed → t.view.high ≡ t.view.low + 65536 → Caused reliable before t w → WantsFor t.image t.core w
+wants_for reliable before t NoObjects other share c =
     let from = from_zero piece_cells t.view.low (cells_in t) in
-    let full = c.2 in
-    (c.0, c.1, omega arith)
-wants_for t OutOfMemory other share c = c
-wants_for t StoreFailed other share c = absurd (other refl)
+    let full = c.1.2 in
+    (c.1.0, c.1.1, omega arith)
+wants_for reliable before t OutOfMemory other share c = c.1
+wants_for reliable before t StoreFailed other share c = absurd (other refl)
 
-ends_as : (t : State) (r : Run) → r ≢ Wanted StoreFailed → t.view.high ≡ t.view.low + 64 → IsOver t r → EndsAs t.image t.core r
-ends_as t Running other share over = over
-ends_as t (Stopped x) other share over = over
-ends_as t (Wanted w) other share over = (over.0, wants_for t w (λ e. other (ap Wanted e)) share over.1)
+ends_as : (reliable : Type 0) (before : ℕ) (t : State) (r : Run) → r ≢ Wanted StoreFailed → t.view.high ≡ t.view.low + 65536 → IsOver reliable before t r → EndsAs t.image t.core r
+ends_as reliable before t Running other share over = over
+ends_as reliable before t (Stopped x) other share over = over
+ends_as reliable before t (Wanted w) other share over = (over.0, wants_for reliable before t w (λ e. other (ap Wanted e)) share over.1)
 
 -- what a session came to is what the code's run came to
-pub executed : (C : Image) (t : State) (out : Vec ℕ Global) (r : Run) (n : ℕ) → t.image ≡ C → t.view.high ≡ t.view.low + 64 → IsAt t → out.items ≡ output_of t.core → n ≡ t.completed → IsOver t r → r ≢ Wanted StoreFailed
+pub executed : (reliable : Type 0) (before : ℕ) (C : Image) (t : State) (out : Vec ℕ Global) (r : Run) (n : ℕ) → t.image ≡ C → t.view.high ≡ t.view.low + 65536 → IsAt t → out.items ≡ output_of t.core → n ≡ t.completed → IsOver reliable before t r → r ≢ Wanted StoreFailed
     → IsExecuted C (record { output = out; run = r; completed = n })
-executed C t out r n image share at printed count over other =
+executed reliable before C t out r n image share at printed count over other =
     let reached : t.core ≡ (code_run (code C) n).0 = at.core ∙ ap (λ D. (code_run (code D) t.completed).0) image ∙ ap (λ k. (code_run (code C) k).0) (sym count) in
     let OfImage : Image → Type 0 = λ D. EndsAs D t.core r in
     let OfCore : Core → Type 0 = λ c. EndsAs C c r in
-    record { output = printed ∙ ap output_of reached; ends = subst OfCore reached (subst OfImage image (ends_as t r other share over)) }
+    record { output = printed ∙ ap output_of reached; ends = subst OfCore reached (subst OfImage image (ends_as reliable before t r other share over)) }

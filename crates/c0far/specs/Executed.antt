@@ -23,10 +23,10 @@ AllocatesNext C c n = touch_of (effect C c) ≡ Allocs n
 abbrev pub objects_of : List ℕ → ℕ
 objects_of cells = next_object piece_cells 0 cells
 
--- why a program wants something: its next instruction is an allocation, and that would take more than 64 objects in all, or a
--- growth was refused
+-- why a program wants something: its next instruction is an allocation, and that would take more than 65,536 objects in all,
+-- or a growth was refused
 abbrev pub WantsFor : Image → Core → Want → Type 0
-WantsFor C c NoObjects = (n : ℕ) × AllocatesNext C c n × (64 < objects_of (sizes (allocations_of c)) + pieces piece_cells n)
+WantsFor C c NoObjects = (n : ℕ) × AllocatesNext C c n × (65536 < objects_of (sizes (allocations_of c)) + pieces piece_cells n)
 WantsFor C c OutOfMemory = (n : ℕ) × AllocatesNext C c n
 WantsFor C c StoreFailed = ⊥
 
@@ -36,11 +36,11 @@ EndsAs C c Running = ⊥
 EndsAs C c (Stopped x) = stop_of c ≡ Some (stop_read x)
 EndsAs C c (Wanted w) = (stop_of c ≡ None) × WantsFor C c w
 
--- a session at its end: its program has stopped so, or wants this for a cause
-abbrev pub IsOver : State → Run → Type 0
-IsOver t Running = ⊥
-IsOver t (Stopped x) = stop_of t.core ≡ Some (stop_read x)
-IsOver t (Wanted w) = (stop_of t.core ≡ None) × Caused (record t { want = None }) w
+-- a session at its end, of which so many calls had been refused at its beginning: its program has stopped so, or wants this for a cause
+abbrev pub IsOver : Type 0 → ℕ → State → Run → Type 0
+IsOver reliable before t Running = ⊥
+IsOver reliable before t (Stopped x) = stop_of t.core ≡ Some (stop_read x)
+IsOver reliable before t (Wanted w) = (stop_of t.core ≡ None) × Caused reliable before t w
 
 -- what was printed, and how the program ended, are those of the code's run after the instructions that were completed
 pub record IsExecuted (C : Image) (e : Ended) : Type 0 where

@@ -15,8 +15,11 @@ use remote_store::{Config, FarHeap, RawStore};
 use std::alloc::{AllocError, Global};
 use std::sync::Wait;
 
-/// How many objects a run has, and a frame for each.
-const OBJECTS: u32 = 64;
+/// How many frames a run has.
+const FRAMES: u32 = 64;
+
+/// How many objects a run has. Those that don't fit in the frames stand in the store in memory.
+const OBJECTS: u32 = 65_536;
 
 /// How many instructions are run at once.
 const QUANTUM: u64 = 1_000_000;
@@ -26,8 +29,8 @@ fn run_to_end<S: RawStore, W: Wait>(rt: &W, session: &mut Session<'_, S>) -> Run
     requires { IsGoing session.old }
     ensures at { S.honest → IsAt session.new }
     ensures same { SameProgram session.old session.new }
-    ensures over { IsOver session.new result }
-    ensures covered { S.honest → Covered session.old.image → result ≢ Wanted StoreFailed }
+    ensures over { IsOver S.reliable session.old.refusals session.new result }
+    ensures covered { S.honest → S.reliable → Covered session.old.image → result ≢ Wanted StoreFailed }
 {
     for _ in rt.forever() {
         if session.completed() <= u64::MAX - QUANTUM {
@@ -48,7 +51,7 @@ pub fn execute<W: Wait>(alloc: Global, rt: &W, image: &Image) -> Result<Ended, A
     ensures { IfOk result (λ e. IsExecuted (image_of image.now) e) }
 {
     let config = Config {
-        frames: OBJECTS,
+        frames: FRAMES,
         objects: OBJECTS,
         evacuators: 0,
         fetchers: 0,

@@ -82,15 +82,32 @@ mod tests {
         Ok(())
     }
 
+    /// Makes so many structs, stores its number in each, from 0 on, and does this then.
+    fn stores(alloc: Global, count: u32, then: &str) -> Result<String, AllocError> {
+        let mut body = String::new(alloc);
+        for number in 0..count {
+            let made = format!(in alloc; "int* p{number} = alloc(int); *p{number} = {number}; ")?;
+            body.push_str(made.as_str())?;
+        }
+        body.push_str(then)?;
+        Ok(body)
+    }
+
     #[test]
-    fn objects(rt: HostRuntime) -> Result<(), Fail> {
+    fn more_objects_than_frames(rt: HostRuntime) -> Result<(), Fail> {
         let body = allocations(rt.alloc(), 65)?;
         let told = run_body(rt.alloc(), &rt, body.as_str())?;
-        assert_eq!(rt; told.out.as_slice(), b"no objects\n".as_slice());
-        assert_eq!(rt; told.status, 3);
-        let body = allocations(rt.alloc(), 64)?;
-        let told = run_body(rt.alloc(), &rt, body.as_str())?;
         assert_eq!(rt; told.out.as_slice(), b"result: 0\n".as_slice());
+        assert_eq!(rt; told.status, 0);
+        let body = stores(rt.alloc(), 1000, "*p0 = 41; *p1 = 42; return *p0;")?;
+        let told = run_body(rt.alloc(), &rt, body.as_str())?;
+        assert_eq!(rt; told.out.as_slice(), b"result: 41\n".as_slice());
+        let body = stores(rt.alloc(), 1000, "*p0 = 41; *p1 = 42; return *p1;")?;
+        let told = run_body(rt.alloc(), &rt, body.as_str())?;
+        assert_eq!(rt; told.out.as_slice(), b"result: 42\n".as_slice());
+        let body = stores(rt.alloc(), 1000, "*p0 = 41; return *p2;")?;
+        let told = run_body(rt.alloc(), &rt, body.as_str())?;
+        assert_eq!(rt; told.out.as_slice(), b"result: 2\n".as_slice());
         assert_eq!(rt; told.status, 0);
         Ok(())
     }

@@ -1,7 +1,9 @@
 mod Counts
 mod Filling
+mod Copying
 mod Holding
 mod Laws
+mod Missing
 mod Opening
 mod Places
 mod Running

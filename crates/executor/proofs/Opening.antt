@@ -1,10 +1,11 @@
 -- A session at its beginning is where the run of its code begins; and a covered image's code is never stuck.
-use Rattle.std.proofs.Common.{◌≡◌, ◌≢◌, inl, inr, ℕ, zero, suc, ◌+◌, ◌<◌, ◌≤◌, true, false, [], refl, sym, ap, ◌∙◌, subst, arith}
+use Rattle.std.proofs.Common.{◌≡◌, ◌≢◌, ◌⊎◌, ⊎_elim, inl, inr, ℕ, zero, suc, ◌+◌, ◌<◌, ◌≤◌, true, false, [], refl, sym, ap, ◌∙◌, subst, arith}
 use Rattle.std.specs.Prelude.{Option, Some, None, replicate, slice_get, slice_index_or}
 use Rattle.cells.specs.Stops.{Stop}
 use Rattle.cells.specs.declared.ending.Run.{Run}
 use Rattle.cells.specs.declared.ending.Run.TheVariants.{Wanted}
-use Rattle.cells.specs.declared.ending.Want.TheVariants.{StoreFailed}
+use Rattle.cells.specs.declared.ending.Want.{Want}
+use Rattle.cells.specs.declared.ending.Want.TheVariants.{OutOfMemory, NoObjects, StoreFailed}
 use Rattle.code_form.specs.Form.{Block, Function, Image}
 use Rattle.code_form.specs.Effects.{code_run}
 use Rattle.code_form.specs.Code.{Core, Covered, effect, IsCovered, IsStuck, Running, Shut, Stopped, Stuck, allocations_of, begins, cells_of, code, entered, held, held_by, is_blocked, most_scopes, sizes, stop_of}
@@ -16,10 +17,11 @@ use Rattle.object_lock.specs.Fresh.{IsFresh}
 use Rattle.object_lock.specs.SeatViews.{SeatView, TableView}
 use Rattle.object_lock.specs.Seats.{View}
 use Rattle.executor.specs.declared.hold.Hold.{Hold}
-use Rattle.executor.specs.State.{AllShut, Caused, IsGoing, Matches, Ran, State, begin, hold_at}
-use Rattle.executor.specs.Keeping.{IsBlank, IsHolding, IsNext, IsRun, IsSafe, count_of}
+use Rattle.executor.specs.Taken.{Refused}
+use Rattle.executor.specs.State.{AllShut, IsAt, IsGoing, IsHalted, Matches, Ran, State, begin, hold_at}
+use Rattle.executor.specs.Keeping.{IsBlank, IsHolding, IsNext, IsRun, IsSafe, IsSession, count_of}
 use Rattle.executor.proofs.Laws.{Ended, Laws, ended}
-use Rattle.executor.proofs.Running.{HeapLaws, next_run}
+use Rattle.executor.proofs.Running.{HeapLaws, live_session, next_run}
 
 at_all : {A : Type 0} (a : A) (n k : ℕ) → slice_index_or (replicate n a) k a ≡ a
 at_all a zero k = refl
@@ -62,8 +64,8 @@ blank_seat t s f low =
       quiet = (ap (λ h. h.bringing) hand, ap (λ h. h.leaving) hand, ap (λ h. h.claimed) hand, ap (λ h. h.freed) hand);
     }
 
-pub opened_run : (honest : Type 0) (C : Image) (v : View) → IsBlank v → most_scopes C.functions ≤ 4 → IsRun honest (begin C v)
-opened_run honest C v f few =
+pub opened_run : (honest : Type 0) (C : Image) (v : View) (n : ℕ) → IsBlank v → most_scopes C.functions ≤ 4 → IsRun honest (begin C v n)
+opened_run honest C v n f few =
     let b = begins_so (slice_get C.functions 0) in
     let none : Option Hold = None in
     record {
@@ -81,7 +83,7 @@ opened_run honest C v f few =
           few = few;
           quiet = f.quiet;
         };
-        scopes = λ k. subst (λ x. Matches (begin C v) (cell_option x) (hold_at (replicate 4 none) k)) (sym (b.holds k)) (subst (λ h. Matches (begin C v) None h) (sym (at_all none 4 k)) tt);
+        scopes = λ k. subst (λ x. Matches (begin C v n) (cell_option x) (hold_at (replicate 4 none) k)) (sym (b.holds k)) (subst (λ h. Matches (begin C v n) None h) (sym (at_all none 4 k)) tt);
         waits = b.waits;
       };
       at = λ q. record {
@@ -94,8 +96,8 @@ opened_run honest C v f few =
       };
     }
 
-pub fresh_run : {C : Type 0} (honest : Type 0) (t : TableView) (s : SeatView C) (image : Image) → IsFresh t s → s.view.low ≤ s.view.high → most_scopes image.functions ≤ 4 → IsRun honest (begin image s.view)
-fresh_run honest t s image f low few = opened_run honest image s.view (blank_seat t s f low) few
+pub fresh_run : {C : Type 0} (honest : Type 0) (t : TableView) (s : SeatView C) (image : Image) → IsFresh t s → s.view.low ≤ s.view.high → most_scopes image.functions ≤ 4 → IsSession honest (begin image s.view s.refusals)
+fresh_run honest t s image f low few = live_session honest (begin image s.view s.refusals) (opened_run honest image s.view s.refusals (blank_seat t s f low) few) refl
 
 -- where the program has stopped every scope is shut
 stopped_holds : (c : Core) (x : Stop) (k : ℕ) → stop_of c ≡ Some x → held c k ≡ None
@@ -107,9 +109,18 @@ unmatched : (s : State) (h : Option Hold) → Matches s None h → h ≡ None
 unmatched s None m = refl
 unmatched s (Some h) m = absurd m
 
-pub stopped_shut : (honest : Type 0) (s : State) (x : Stop) → IsRun honest s → stop_of s.core ≡ Some x → AllShut s
-stopped_shut honest s x run e k =
+run_shut : (honest : Type 0) (s : State) (x : Stop) → IsRun honest s → stop_of s.core ≡ Some x → AllShut s
+run_shut honest s x run e k =
     unmatched s (hold_at s.holds k) (subst (λ z. Matches s (cell_option z) (hold_at s.holds k)) (stopped_holds s.core x k e) (run.safe.scopes k))
+
+wants_failed : (w : Option Want) → (w ≡ Some StoreFailed) ⊎ (w ≢ Some StoreFailed)
+wants_failed None = inr (λ e. cc)
+wants_failed (Some OutOfMemory) = inr (λ e. cc)
+wants_failed (Some NoObjects) = inr (λ e. cc)
+wants_failed (Some StoreFailed) = inl refl
+
+pub stopped_shut : (honest : Type 0) (s : State) (x : Stop) → IsSession honest s → stop_of s.core ≡ Some x → AllShut s
+stopped_shut honest s x session e = ⊎_elim (λ f. session.failed f) (λ d. run_shut honest s x (session.live d) e) (wants_failed s.want)
 
 -- ---- a covered image
 
@@ -132,11 +143,11 @@ false_true : {A : Type 0} → false ≡ true → A
 false_true e = cc
 
 -- the run of a covered image is never stuck, and never blocked
-pub never_stuck : (honest : Type 0) → Laws → HeapLaws → (s : State) → IsRun honest s → honest → Covered s.image → stop_of s.core ≡ None → Caused s StoreFailed → ⊥
-never_stuck honest laws heaps s run q cover going cause =
+pub never_halted : (honest : Type 0) → Laws → HeapLaws → (s : State) → (honest → IsAt s) → honest → Covered s.image → stop_of s.core ≡ None → IsHalted s → ⊥
+never_halted honest laws heaps s at q cover going cause =
     let C = s.image in
     let j = s.completed in
-    let a = run.at q in
+    let a = at q in
     let most = most_scopes C.functions in
     let here : IsCovered most s.core = subst (IsCovered most) (sym a.core) (cover.everywhere j) in
     elim cause [
@@ -153,7 +164,8 @@ never_stuck honest laws heaps s run q cover going cause =
       ]
     ]
 
-pub never_failed : (honest : Type 0) → Laws → HeapLaws → (n : ℕ) (s t : State) (r : Run) → IsRun honest t → Ran n s t r → honest → Covered s.image → IsGoing s → r ≢ Wanted StoreFailed
-never_failed honest laws heaps n s t r run told q cover going e =
-    let w : Ran n s t (Wanted StoreFailed) = subst (Ran n s t) e told in
-    never_stuck honest laws heaps t run q (subst Covered (sym w.0.0) cover) w.3 (w.4 going)
+-- the session of a covered image wants StoreFailed only where the store refused a call
+pub never_failed : (honest reliable : Type 0) → Laws → HeapLaws → (n : ℕ) (s t : State) (r : Run) → IsSession honest t → Ran reliable n s t r → honest → Covered s.image → IsGoing s → r ≡ Wanted StoreFailed → Refused reliable s.refusals t.refusals
+never_failed honest reliable laws heaps n s t r session told q cover going e =
+    let w : Ran reliable n s t (Wanted StoreFailed) = subst (Ran reliable n s t) e told in
+    ⊎_elim (λ f. f) (λ (h : (t.refusals ≡ s.refusals) × IsHalted t). absurd (never_halted honest laws heaps t session.at q (subst Covered (sym w.0.0) cover) w.3 h.1)) (w.4 going)

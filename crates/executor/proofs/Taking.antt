@@ -1,19 +1,19 @@
 -- Opening a hold of an object and bringing the object in.
 use Rattle.std.proofs.Common.{◌≡◌, ℕ, ◌+◌, ◌<◌, List, [], ◌∷◌, ◌++◌, length, sym, ap, ◌∙◌, subst}
-use Rattle.std.specs.Prelude.{Some, None, slice_set}
+use Rattle.std.specs.Prelude.{Option, Some, None, slice_set}
 use Rattle.std.proofs.lemmas.List.{get_or-set_same, set-set}
-use Rattle.pointer_word.specs.Hands.{Hand, Note, blank, claiming, listed, opened, told}
+use Rattle.pointer_word.specs.Hands.{Hand, Note, blank, closed, listed, opened, told}
 use Rattle.pointer_word.specs.Calls.{Filled}
 use Rattle.object_lock.specs.Seats.{View, note, with_hand, with_note}
 use Rattle.object_lock.specs.SeatViews.{SeatView}
-use Rattle.executor.specs.Taken.{Brings, FilledBelow, FillsOnly, Takes}
+use Rattle.executor.specs.Taken.{Brings, ClosesAgain, FetchesOr, FilledBelow, FillsOnly, GivesUp, Refused, Takes, TakesOr}
 use Rattle.executor.proofs.Filling.{filled_next}
 
 pub filled_from : (honest : Type 0) (promised : List ℕ) (w : Hand) (ws : List ℕ) → w.promised ≡ promised → FilledBelow w.filled ws 64
     → (honest → (i : ℕ) → i < 64 → listed ws i ≡ listed promised i) → Filled honest 64 w
 filled_from honest promised w ws same h got i l = (listed ws i, h i l, λ t. got t i l ∙ ap (λ (ps : List ℕ). listed ps i) (sym same))
 
-pub taken : (o : ℕ) (v u w : View) (f : ℕ) → (note v o).frame ≡ None → u ≡ with_note v o (opened (note v o) None) → o < length v.notes → Brings o u w f → Takes o v w f
+taken : (o : ℕ) (v u w : View) (f : ℕ) → (note v o).frame ≡ None → u ≡ with_note v o (opened (note v o) None) → o < length v.notes → Brings o u w f → Takes o v w f
 taken o v u w f away e wide b =
     let n : Note = opened (note v o) None in
     let here : note (with_note v o n) o ≡ n = get_or-set_same v.notes o n blank wide in
@@ -35,7 +35,7 @@ fill_keeps {C} s t u i n e d =
     let put : SeatView C → List (ℕ × ℕ) → SeatView C = λ x ps. record x { view = with_hand x.view (record x.view.hand { filled = ps }) } in
     d ∙ ap (put t) (sym a) ∙ ap (λ (x : SeatView C). put x u.view.hand.filled) e
 
-pub same_view : {C : Type 0} (s t : SeatView C) → s ≡ t → s.view ≡ t.view
+same_view : {C : Type 0} (s t : SeatView C) → s ≡ t → s.view ≡ t.view
 same_view {C} s t e = ap (λ (x : SeatView C). x.view) e
 
 pub fill_more : {C : Type 0} (s t u : SeatView C) (ws : List ℕ) (i : ℕ) → FillsOnly s t → FilledBelow t.view.hand.filled ws i
@@ -44,10 +44,31 @@ pub fill_more : {C : Type 0} (s t u : SeatView C) (ws : List ℕ) (i : ℕ) → 
 fill_more {C} s t u ws i same below e =
     (fill_keeps s t u i (listed ws i) same e, filled_next t.view.hand.filled u.view.hand.filled ws i below (ap (λ (x : SeatView C). x.view.hand.filled) e))
 
-pub filled_hand : {C : Type 0} (honest : Type 0) (s t u w : SeatView C) (f cells : ℕ) (ws : List ℕ) → cells ≡ 64
-    → t ≡ record s { view = with_hand s.view (claiming s.view.hand f) } → u ≡ record t { refusals = u.refusals } → FillsOnly u w
+pub filled_hand : {C : Type 0} (honest : Type 0) (t u w : SeatView C) (cells : ℕ) (ws : List ℕ) → cells ≡ 64
+    → u ≡ record t { refusals = u.refusals } → FillsOnly u w
     → FilledBelow w.view.hand.filled ws 64 → (honest → (i : ℕ) → i < 64 → listed ws i ≡ listed t.view.hand.promised i) → Filled honest cells w.view.hand
-filled_hand {C} honest s t u w f cells ws size claimed read fills below got =
+filled_hand {C} honest t u w cells ws size read fills below got =
     let promised : SeatView C → List ℕ = λ x. x.view.hand.promised in
     let same : w.view.hand.promised ≡ t.view.hand.promised = ap promised fills ∙ ap promised read in
     subst (λ n. Filled honest n w.view.hand) (sym size) (filled_from honest t.view.hand.promised w.view.hand ws same below got)
+
+-- a hold that was opened is closed again
+given_up : (o : ℕ) (v u w : View) → (note v o).frame ≡ None → u ≡ with_note v o (opened (note v o) None) → o < length v.notes → ClosesAgain o u w → GivesUp o v w
+given_up o v u w away e wide b =
+    let n : Note = opened (note v o) None in
+    let here : note (with_note v o n) o ≡ n = get_or-set_same v.notes o n blank wide in
+    let at : note u o ≡ n = ap (λ (x : View). note x o) e ∙ here in
+    record {
+      unknown = away;
+      notes = b.notes ∙ (ap (λ (x : Note). slice_set u.notes o (closed x)) at ∙ (ap (λ (x : View). slice_set x.notes o (closed n)) e ∙ set-set v.notes o n (closed n)));
+      low = b.low ∙ ap (λ (x : View). x.low) e;
+      high = b.high ∙ ap (λ (x : View). x.high) e;
+      sizes = b.sizes ∙ ap (λ (x : View). x.sizes) e;
+      quiet = b.quiet;
+    }
+
+-- the object was fetched after a hold was opened, or the hold is closed again
+pub taken_or : {C : Type 0} (reliable : Type 0) (o : ℕ) (s t u : SeatView C) (r : Option ℕ) → (note s.view o).frame ≡ None → t ≡ record s { view = with_note s.view o (opened (note s.view o) None) } → o < length s.view.notes
+    → FetchesOr reliable o t u r → TakesOr reliable o s u r
+taken_or {C} reliable o s t u (Some f) away e wide k = (taken o s.view t.view u.view f away (same_view t _ e) wide k.0, k.1 ∙ ap (λ (x : SeatView C). x.refusals) e)
+taken_or {C} reliable o s t u None away e wide k = (given_up o s.view t.view u.view away (same_view t _ e) wide k.0, subst (λ n. Refused reliable n u.refusals) (ap (λ (x : SeatView C). x.refusals) e) k.1)

@@ -250,20 +250,21 @@ same_latest : (v w : View) → ((o : ℕ) → (note w o).history ≡ (note v o).
 same_latest v w h o i = ap (λ ps. latest_of ps i) (h o)
 
 pub moves_plain : (honest : Type 0) (s u : State) → u ≡ finished s 0 → Moves honest touch.Plain s u
-moves_plain honest s u e = subst (λ (y : State). Moves honest touch.Plain s y) (sym e) (record { image = refl; want = refl; value = 0; core = refl; loads = λ _. tt; stores = λ o i. refl; low = refl; high = refl; completed = refl })
+moves_plain honest s u e = subst (λ (y : State). Moves honest touch.Plain s y) (sym e) (record { image = refl; want = refl; refusals = refl; value = 0; core = refl; loads = λ _. tt; stores = λ o i. refl; low = refl; high = refl; completed = refl })
 
 pub moves_loaded : (honest : Type 0) → Laws → (s u : State) (k : ℕ) (a : Cell) (v i : ℕ) (h : Hold) → IsSafe s → IsNext (touch.Loads k a) s → hold_at s.holds k ≡ Some h → i ≡ a.index % piece_cells
     → (honest → v ≡ latest_in s.view h.object i) → u ≡ finished s v → Moves honest (touch.Loads k a) s u
 moves_loaded honest laws s u k a v i h safe next e p got f =
     let o = object_is s k a h safe (loads_cell laws s k a safe next) e in
     subst (λ (y : State). Moves honest (touch.Loads k a) s y) (sym f)
-    (record { image = refl; want = refl; value = v; core = refl; loads = λ q. got q ∙ (ap (λ z. latest_in s.view z i) o ∙ ap (latest_in s.view (object_of s a)) p); stores = λ o i. refl; low = refl; high = refl; completed = refl })
+    (record { image = refl; want = refl; refusals = refl; value = v; core = refl; loads = λ q. got q ∙ (ap (λ z. latest_in s.view z i) o ∙ ap (latest_in s.view (object_of s a)) p); stores = λ o i. refl; low = refl; high = refl; completed = refl })
 
 module _ (honest : Type 0) (s t u : State) (k : ℕ) (ch : Changes k s t) (e : u ≡ finished t 0) where
   pub moves_aimed : (w : Option Cell) → Moves honest (touch.Aims k w) s u
   moves_aimed w = record {
     image = ap (λ (y : State). y.image) e ∙ ch.image;
     want = ap (λ (y : State). y.want) e ∙ ch.want;
+    refusals = ap (λ (y : State). y.refusals) e ∙ ch.refusals;
     value = 0;
     core = core_of_changed s t u 0 ch.image ch.core e;
     loads = λ _. tt;
@@ -277,6 +278,7 @@ module _ (honest : Type 0) (s t u : State) (k : ℕ) (ch : Changes k s t) (e : u
   moves_left = record {
     image = ap (λ (y : State). y.image) e ∙ ch.image;
     want = ap (λ (y : State). y.want) e ∙ ch.want;
+    refusals = ap (λ (y : State). y.refusals) e ∙ ch.refusals;
     value = 0;
     core = core_of_changed s t u 0 ch.image ch.core e;
     loads = λ _. tt;
@@ -290,6 +292,7 @@ pub moves_ended : (honest : Type 0) (s t u : State) → Closes s t → u ≡ fin
 moves_ended honest s t u ch e = record {
   image = ap (λ (y : State). y.image) e ∙ ch.image;
   want = ap (λ (y : State). y.want) e ∙ ch.want;
+  refusals = ap (λ (y : State). y.refusals) e ∙ ch.refusals;
   value = 0;
   core = core_of_changed s t u 0 ch.image ch.core e;
   loads = λ _. tt;
@@ -300,7 +303,7 @@ moves_ended honest s t u ch e = record {
 }
 
 pub moves_extended : (honest : Type 0) (s u : State) (n : ℕ) → u ≡ extended s n → Moves honest (touch.Allocs n) s u
-moves_extended honest s u n e = subst (λ (y : State). Moves honest (touch.Allocs n) s y) (sym e) (record { image = refl; want = refl; value = 0; core = refl; loads = λ _. tt; stores = λ o i. refl; low = refl; high = refl; completed = refl })
+moves_extended honest s u n e = subst (λ (y : State). Moves honest (touch.Allocs n) s y) (sym e) (record { image = refl; want = refl; refusals = refl; value = 0; core = refl; loads = λ _. tt; stores = λ o i. refl; low = refl; high = refl; completed = refl })
 
 -- the latest stores, with one more
 latest_added : (v : View) (o x n : ℕ) → o < length v.notes → (p i : ℕ)
@@ -341,6 +344,7 @@ moves_saved honest laws s t v u k a n i h safe next e ok ch w p d f =
     record {
       image = ap (λ (y : State). y.image) f ∙ image;
       want = ap (λ (y : State). y.want) f ∙ (ap (λ (y : State). y.want) d ∙ ch.want);
+      refusals = ap (λ (y : State). y.refusals) f ∙ (ap (λ (y : State). y.refusals) d ∙ ch.refusals);
       value = 0;
       core = core_of_changed s v u 0 image core f;
       loads = λ _. tt;

@@ -16,8 +16,8 @@ use Rattle.pointer_word.specs.Hands.{added, blank, closed, writable}
 use Rattle.remote_store.specs.Kept.{piece_cells}
 use Rattle.object_lock.specs.Seats.{Owns, View, note, with_note}
 use Rattle.executor.specs.declared.hold.Hold.{Hold}
-use Rattle.executor.specs.Taken.{IsQuiet, Takes}
-use Rattle.executor.specs.State.{Caused, IsAt, IsGoing, SameProgram, ScopesHold, State, cells_in, hold_at, latest_in, next_touch, object_of}
+use Rattle.executor.specs.Taken.{GivesUp, IsQuiet, Refused, Takes}
+use Rattle.executor.specs.State.{AllShut, Caused, IsAt, IsGoing, SameProgram, ScopesHold, State, cells_in, hold_at, latest_in, next_touch, object_of}
 
 -- allocations, the newest first, take their objects one behind the other, from low on; next is the object behind them
 abbrev pub IsPlaced : ℕ → List ℕ → List ℕ → ℕ → Type 0
@@ -73,6 +73,13 @@ pub record IsRun (honest : Type 0) (s : State) : Type 0 where
   pub safe : IsSafe s
   pub at : honest → IsAt s
 
+-- a session as its caller has it: where its store failed, it has shut its scopes
+pub record IsSession (honest : Type 0) (s : State) : Type 0 where
+  pub holding : IsHolding s
+  pub at : honest → IsAt s
+  pub live : s.want ≢ Some StoreFailed → IsRun honest s
+  pub failed : s.want ≡ Some StoreFailed → AllShut s
+
 -- what the next instruction touches, which isn't blocked
 pub record IsNext (x : Touch) (s : State) : Type 0 where
   pub is : next_touch s ≡ x
@@ -101,6 +108,7 @@ Loads _ s w = Unit {0}
 pub record Moves (honest : Type 0) (x : Touch) (s t : State) : Type 0 where
   pub image : t.image ≡ s.image
   pub want : t.want ≡ s.want
+  pub refusals : t.refusals ≡ s.refusals
   pub value : ℕ
   pub core : t.core ≡ resumed (effect s.image s.core) s.core value
   pub loads : honest → Loads x s value
@@ -156,6 +164,7 @@ pub record Changes (k : ℕ) (s t : State) : Type 0 where
   pub next : t.next ≡ s.next
   pub completed : t.completed ≡ s.completed
   pub want : t.want ≡ s.want
+  pub refusals : t.refusals ≡ s.refusals
   pub low : t.view.low ≡ s.view.low
   pub high : t.view.high ≡ s.view.high
   pub stored : (o : ℕ) → (note t.view o).history ≡ (note s.view o).history
@@ -170,9 +179,24 @@ pub record Closes (s t : State) : Type 0 where
   pub next : t.next ≡ s.next
   pub completed : t.completed ≡ s.completed
   pub want : t.want ≡ s.want
+  pub refusals : t.refusals ≡ s.refusals
   pub low : t.view.low ≡ s.view.low
   pub high : t.view.high ≡ s.view.high
   pub stored : (o : ℕ) → (note t.view o).history ≡ (note s.view o).history
+
+-- The store refused a call: nothing else changed but holds that were shut
+abbrev pub Fails : Type 0 → State → State → Type 0
+Fails reliable s t = Closes (record s { refusals = t.refusals }) t × Refused reliable s.refusals t.refusals
+
+-- every scope was shut, and the session wants StoreFailed
+abbrev pub Halts : State → State → Type 0
+Halts s t = Closes (record s { want = Some StoreFailed }) t × AllShut t
+
+-- a hold of the object o was opened and closed again, as the store refused a call
+pub record Misses (reliable : Type 0) (o : ℕ) (s t : State) : Type 0 where
+  pub gives : GivesUp o s.view t.view
+  pub refused : Refused reliable s.refusals t.refusals
+  pub same : t ≡ record s { view = t.view; refusals = t.refusals }
 
 -- the hold is of this object
 abbrev pub has_object : Option Hold → ℕ → Bool
@@ -188,10 +212,10 @@ abbrev pub HasWriter : State → ℕ → Hold → Type 0
 HasWriter s k h = hold_at s.holds k ≡ Some (a_hold h.object h.frame true)
 
 -- one instruction: what is answered is so
-abbrev pub Went : State → State → Run → Type 0
-Went s t Running = SameProgram s t × (t.completed ≡ s.completed + 1) × IsGoing t
-Went s t (Stopped x) = SameProgram s t × (t.completed ≡ s.completed + 1) × (stop_of t.core ≡ Some (stop_read x))
-Went s t (Wanted w) = (t ≡ wants s w) × Caused s w
+abbrev pub Went : Type 0 → State → State → Run → Type 0
+Went reliable s t Running = SameProgram s t × (t.completed ≡ s.completed + 1) × IsGoing t × (t.refusals ≡ s.refusals)
+Went reliable s t (Stopped x) = SameProgram s t × (t.completed ≡ s.completed + 1) × (stop_of t.core ≡ Some (stop_read x)) × (t.refusals ≡ s.refusals)
+Went reliable s t (Wanted w) = SameProgram s t × (t.completed ≡ s.completed) × (t.want ≡ Some w) × (stop_of t.core ≡ None) × Caused reliable s.refusals t w
 
 -- why an allocation of n cells wants something
 abbrev pub AllocCause : State → ℕ → Want → Type 0
@@ -212,3 +236,8 @@ pub record IsBlank (v : View) : Type 0 where
   pub small : v.high ≤ 16777216
   pub cells : v.sizes.cells ≡ piece_cells
   pub quiet : IsQuiet v
+
+-- one instruction, which touches x, was completed; or the store refused a call
+abbrev pub Made : Type 0 → Type 0 → Touch → State → State → Bool → Type 0
+Made honest reliable x s t true = IsSafe t × Moves honest x s t
+Made honest reliable x s t false = IsHolding t × Fails reliable s t

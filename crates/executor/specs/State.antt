@@ -17,9 +17,11 @@ use Rattle.pointer_word.specs.Hands.{latest_of}
 use Rattle.remote_store.specs.Kept.{piece_cells}
 use Rattle.object_lock.specs.Seats.{View, note}
 use Rattle.executor.specs.declared.hold.Hold.{Hold}
+use Rattle.executor.specs.Taken.{Refused}
 
 -- A session: its image, where its program is, what each scope holds, the first object of each allocation, the newest first, the next
--- object, what its seat knows, how many instructions were completed, and what it wants if it wants anything
+-- object, what its seat knows, how many calls were refused through its port modulo 2^64, how many instructions were completed, and what it
+-- wants if it wants anything
 pub record State : Type 0 where
   pub image : Image
   pub core : Core
@@ -27,6 +29,7 @@ pub record State : Type 0 where
   pub firsts : List ℕ
   pub next : ℕ
   pub view : View
+  pub refusals : ℕ
   pub completed : ℕ
   pub want : Option Want
 
@@ -74,23 +77,29 @@ pub record IsAt (s : State) : Type 0 where
 abbrev pub IsGoing : State → Type 0
 IsGoing s = (stop_of s.core ≡ None) × (s.want ≡ None)
 
--- why a want is answered: the pieces of the allocation that is next don't fit in what is left of the share; memory was refused to an
--- allocation; or the code is stuck, or needs all scopes shut where one is open
-abbrev pub Caused : State → Want → Type 0
-Caused s NoObjects = (n : ℕ) × (next_touch s ≡ touch.Allocs n) × (s.view.high < next_object piece_cells s.view.low (cells_in s) + pieces piece_cells n)
-Caused s OutOfMemory = (n : ℕ) × (next_touch s ≡ touch.Allocs n)
-Caused s StoreFailed = (next_touch s ≡ touch.Wrong) ⊎ ((next_touch s ≡ touch.Nothing) ⊎ (is_blocked s.core ≡ true))
+-- the code is stuck, or needs all scopes shut where one is open
+abbrev pub IsHalted : State → Type 0
+IsHalted s = (next_touch s ≡ touch.Wrong) ⊎ ((next_touch s ≡ touch.Nothing) ⊎ (is_blocked s.core ≡ true))
+
+-- Why a want is answered, where so many calls had been refused before. NoObjects: the pieces of the allocation that is next don't fit in
+-- what is left of the share. OutOfMemory: memory was refused to an allocation. StoreFailed: one call was refused through the session's own port;
+-- or none was, and the code is halted
+abbrev pub Caused : Type 0 → ℕ → State → Want → Type 0
+Caused reliable before s NoObjects = (s.refusals ≡ before) × ((n : ℕ) × (next_touch s ≡ touch.Allocs n) × (s.view.high < next_object piece_cells s.view.low (cells_in s) + pieces piece_cells n))
+Caused reliable before s OutOfMemory = (s.refusals ≡ before) × ((n : ℕ) × (next_touch s ≡ touch.Allocs n))
+Caused reliable before s StoreFailed = Refused reliable before s.refusals ⊎ ((s.refusals ≡ before) × IsHalted s)
 
 -- the program and its share of the objects are the same
 abbrev pub SameProgram : State → State → Type 0
 SameProgram s t = (t.image ≡ s.image) × (t.view.low ≡ s.view.low) × (t.view.high ≡ s.view.high)
 
--- a run of at most n instructions from s to t: what it answers is so, and it answers a want for a cause
-abbrev pub Ran : ℕ → State → State → Run → Type 0
-Ran n s t Running = SameProgram s t × (t.completed ≡ s.completed + n) × IsGoing t
-Ran n s t (Stopped x) = SameProgram s t × (t.completed ≤ s.completed + n) × (stop_of t.core ≡ Some (stop_read x))
-Ran n s t (Wanted w) = SameProgram s t × (t.completed ≤ s.completed + n) × (t.want ≡ Some w) × (stop_of t.core ≡ None) × (IsGoing s → Caused (record t { want = None }) w)
+-- A run of at most n instructions from s to t: what it answers is so, and it answers a want for a cause. No call is refused through the session's
+-- port but one for which it wants StoreFailed
+abbrev pub Ran : Type 0 → ℕ → State → State → Run → Type 0
+Ran reliable n s t Running = SameProgram s t × (t.completed ≡ s.completed + n) × IsGoing t × (t.refusals ≡ s.refusals)
+Ran reliable n s t (Stopped x) = SameProgram s t × (t.completed ≤ s.completed + n) × (stop_of t.core ≡ Some (stop_read x)) × (t.refusals ≡ s.refusals)
+Ran reliable n s t (Wanted w) = SameProgram s t × (t.completed ≤ s.completed + n) × (t.want ≡ Some w) × (stop_of t.core ≡ None) × (IsGoing s → Caused reliable s.refusals t w)
 
 -- a session at its beginning
-abbrev pub begin : Image → View → State
-begin C v = record { image = C; core = (code C).start; holds = replicate 4 None; firsts = []; next = v.low; view = v; completed = 0; want = None }
+abbrev pub begin : Image → View → ℕ → State
+begin C v n = record { image = C; core = (code C).start; holds = replicate 4 None; firsts = []; next = v.low; view = v; refusals = n; completed = 0; want = None }

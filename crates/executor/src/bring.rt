@@ -1,13 +1,14 @@
 //! How a hold of an object is opened, and the object brought into a frame.
-ghost use Rattle.std.specs.Prelude.{◌≡◌, ◌<◌, ℕ, None, Some, length};
-ghost use Rattle.executor.specs.Taken.{Brings, ClaimsOne, FilledBelow, FillsOnly, HasOnly, IsQuiet, Takes};
+ghost use Rattle.std.specs.Prelude.{◌≡◌, ◌<◌, ℕ, None, Some, MatchOption, MatchResult, length};
+ghost use Rattle.executor.specs.Taken.{BringsOr, Claims, ClaimsOne, FilledBelow, FillsOnly, FetchesOr, HandOnly, HasOnly, IsQuiet, Refused, StillBrings, TakesOr};
 ghost use Rattle.object_lock.specs.SeatViews.{IsSeat};
 ghost use Rattle.object_lock.specs.Seats.{Owns, note};
 ghost use Rattle.pointer_word.specs.Hands.{listed};
 ghost use Rattle.remote_store.specs.Kept.{piece_cells};
 
+use crate::room::make_room;
 use object_lock::{Begin, Held, ObjectTable, OwnerSeat};
-use remote_store::{PIECE_CELLS, RawStore};
+use remote_store::{Failed, PIECE_CELLS, RawStore};
 use std::sync::Wait;
 
 /// Looks once at each frame, and claims one that is free for the object that is being brought in.
@@ -30,45 +31,48 @@ fn find_frame<S: RawStore>(
     None
 }
 
-/// Claims a free frame for the object that is being brought in, and waits until there is one.
+/// Claims a frame for the object that is being brought in: one that is free, or that another object is moved out of. Waits
+/// until there is one. `Err` where the store failed.
 fn claim<R: Wait, S: RawStore>(
     rt: &R,
     table: &ObjectTable<S>,
     owner: &mut OwnerSeat<S>,
     obj: usize,
-) -> usize
+) -> Result<usize, Failed>
     requires table { IsSeat table.now owner.old }
     requires own { Owns owner.old.view obj }
     requires hands { HasOnly obj owner.old.view }
     ensures table { IsSeat table.now owner.new }
-    ensures told { ClaimsOne owner.old owner.new (Some result) }
+    ensures told { MatchResult result (λ frame. Claims owner.old owner.new frame)
+        (λ _. HandOnly owner.old owner.new × StillBrings owner.old.view.hand owner.new.view.hand × Refused S.reliable owner.old.refusals owner.new.refusals) }
 {
     for _ in rt.forever() {
         if let Some(frame) = find_frame(table, owner, obj) {
-            return frame;
+            return Ok(frame);
+        }
+        if let Err(failed) = make_room(table, owner, obj) {
+            return Err(failed);
         }
     }
     unreachable!()
 }
 
-/// The words that the berth of the object keeps that is being brought in: zeros where nothing was put there. Asks the store again
-/// where that refuses.
-fn read<R: Wait, S: RawStore>(rt: &R, owner: &mut OwnerSeat<S>, obj: usize) -> [u64; PIECE_CELLS]
+/// The words that the berth of the object keeps that is being brought in: zeros where nothing was put there. `None` where the store
+/// refuses.
+fn read<S: RawStore>(owner: &mut OwnerSeat<S>, obj: usize) -> Option<[u64; PIECE_CELLS]>
     requires brings { owner.old.view.hand.bringing ≡ Some obj }
-    ensures length { length result ≡ PIECE_CELLS }
     ensures same { owner.new ≡ record owner.old { refusals = owner.new.refusals } }
-    ensures got { S.honest → (i : ℕ) → i < piece_cells → listed result i ≡ listed owner.old.view.hand.promised i }
+    ensures told { MatchOption result (Refused S.reliable owner.old.refusals owner.new.refusals)
+        (λ words. (owner.new.refusals ≡ owner.old.refusals) × (length words ≡ PIECE_CELLS) × (S.honest → (i : ℕ) → i < piece_cells → listed words i ≡ listed owner.old.view.hand.promised i)) }
 {
     let mut words = [0u64; PIECE_CELLS];
     if !owner.stored(obj) {
-        return words;
+        return Some(words);
     }
-    for _ in rt.forever() {
-        if owner.get(obj, &mut words).is_ok() {
-            return words;
-        }
+    match owner.get(obj, &mut words) {
+        Ok(()) => Some(words),
+        Err(_refusal) => None,
     }
-    unreachable!()
 }
 
 /// Fills the claimed frame with the words.
@@ -86,67 +90,100 @@ fn fill<S: RawStore>(table: &ObjectTable<S>, owner: &mut OwnerSeat<S>, frame: us
     }
 }
 
-/// Brings the object in that was begun; the frame that it is in then.
+/// Brings the object in that was begun; the frame that it is in then. `None` where the store failed: then it is given up.
 fn bring<R: Wait, S: RawStore>(
     rt: &R,
     table: &ObjectTable<S>,
     owner: &mut OwnerSeat<S>,
     obj: usize,
-) -> usize
+) -> Option<usize>
     requires table { IsSeat table.now owner.old }
     requires hold { Owns owner.old.view obj × (0 < (note owner.old.view obj).count) }
     requires hands { HasOnly obj owner.old.view }
     ensures table { IsSeat table.now owner.new }
-    ensures told { Brings obj owner.old.view owner.new.view result }
+    ensures told { BringsOr S.reliable obj owner.old owner.new result }
 {
-    let frame = claim(rt, table, owner, obj);
-    let words = read(rt, owner, obj);
+    let Ok(frame) = claim(rt, table, owner, obj) else {
+        table.retreat(owner, obj);
+        return None;
+    };
+    let Some(words) = read(owner, obj) else {
+        table.release(owner, frame);
+        table.retreat(owner, obj);
+        return None;
+    };
     fill(table, owner, frame, &words);
     table.arrive(owner, obj, frame);
-    frame
+    Some(frame)
 }
 
-/// Waits until the object is in a frame, and brings it in where nobody else does.
+/// Waits until the object is in a frame, and brings it in where nobody else does. `None` where the store failed.
 fn fetch<R: Wait, S: RawStore>(
     rt: &R,
     table: &ObjectTable<S>,
     owner: &mut OwnerSeat<S>,
     obj: usize,
     count: u64,
-) -> usize
+) -> Option<usize>
     requires table { IsSeat table.now owner.old }
     requires hold { Owns owner.old.view obj × (0 < count) × (count ≡ (note owner.old.view obj).count) × (count < 5) }
     requires quiet { IsQuiet owner.old.view }
     ensures table { IsSeat table.now owner.new }
-    ensures told { Brings obj owner.old.view owner.new.view result }
+    ensures told { BringsOr S.reliable obj owner.old owner.new result }
 {
     for _ in rt.forever() {
         match table.try_begin(owner, obj, count) {
             Begin::Taken => return bring(rt, table, owner, obj),
-            Begin::Here(frame) => return frame,
+            Begin::Here(frame) => return Some(frame),
             Begin::Busy => (),
         }
     }
     unreachable!()
 }
 
-/// Opens a hold of the object, of which there are `count` more, and tells the frame where it is.
+/// Waits until the object, of which a hold was just opened, is in a frame. `None` where the store failed: then the hold is closed
+/// again.
+fn fetch_or_close<R: Wait, S: RawStore>(
+    rt: &R,
+    table: &ObjectTable<S>,
+    owner: &mut OwnerSeat<S>,
+    obj: usize,
+    count: u64,
+) -> Option<usize>
+    requires table { IsSeat table.now owner.old }
+    requires hold { Owns owner.old.view obj × (0 < count) × (count ≡ (note owner.old.view obj).count) × (count < 5) }
+    requires quiet { IsQuiet owner.old.view }
+    ensures table { IsSeat table.now owner.new }
+    ensures told { FetchesOr S.reliable obj owner.old owner.new result }
+{
+    let fetched = fetch(rt, table, owner, obj, count);
+    match fetched {
+        Some(frame) => Some(frame),
+        None => {
+            table.close(owner, obj);
+            None
+        }
+    }
+}
+
+/// Opens a hold of the object, of which there are `count` more, and tells the frame where it is. `None` where the store failed:
+/// then no hold more is open.
 pub(crate) fn take<R: Wait, S: RawStore>(
     rt: &R,
     table: &ObjectTable<S>,
     owner: &mut OwnerSeat<S>,
     obj: usize,
     count: u64,
-) -> usize
+) -> Option<usize>
     requires table { IsSeat table.now owner.old }
     requires hold { Owns owner.old.view obj × (count < 4) × (count ≡ (note owner.old.view obj).count) }
     requires quiet { IsQuiet owner.old.view }
     ensures table { IsSeat table.now owner.new }
-    ensures told { Takes obj owner.old.view owner.new.view result }
+    ensures told { TakesOr S.reliable obj owner.old owner.new result }
 {
     match table.open(owner, obj) {
-        Held::Here(frame) => frame,
-        Held::Away => fetch(rt, table, owner, obj, count + 1),
-        Held::Coming => fetch(rt, table, owner, obj, count + 1),
+        Held::Here(frame) => Some(frame),
+        Held::Away => fetch_or_close(rt, table, owner, obj, count + 1),
+        Held::Coming => fetch_or_close(rt, table, owner, obj, count + 1),
     }
 }

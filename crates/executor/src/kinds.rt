@@ -1,6 +1,6 @@
 //! Each kind of instruction, by what it touches.
 ghost use Rattle.code_form.specs.declared.touch.Touch.TheVariants.{Aims, Allocs, Ends, Leaves, Loads, Plain, Saves};
-ghost use Rattle.executor.specs.Keeping.{Allocated, IsNext, IsSafe, IsSimple, Moves};
+ghost use Rattle.executor.specs.Keeping.{Allocated, IsNext, IsSafe, IsSimple, Made, Moves};
 ghost use Rattle.remote_store.specs.Kept.{piece_cells};
 ghost use Rattle.std.specs.Prelude.{◌≡◌, ◌+◌, ◌%◌, ◌<◌, ◌^◌};
 
@@ -29,16 +29,20 @@ impl<'a, S: RawStore> Machine<'a, S> {
         self.finish(0);
     }
 
-    fn aims<R: Wait>(&mut self, rt: &R, scope: usize, wanted: Option<Cell>)
+    /// False where the store failed.
+    fn aims<R: Wait>(&mut self, rt: &R, scope: usize, wanted: Option<Cell>) -> bool
         requires safe { IsSafe self.old }
         requires next { IsNext (Aims scope wanted) self.old }
         requires room { self.old.completed + 1 < 2 ^ 64 }
-        ensures safe { IsSafe self.new }
-        ensures moves { Moves S.honest (Aims scope wanted) self.old self.new }
+        ensures { Made S.honest S.reliable (Aims scope wanted) self.old self.new result }
     {
         effect_laws();
-        self.hold_wanted(rt, scope, wanted);
-        self.finish(0);
+        if self.hold_wanted(rt, scope, wanted) {
+            self.finish(0);
+            true
+        } else {
+            false
+        }
     }
 
     fn leaves(&mut self, scope: usize)
@@ -111,18 +115,17 @@ impl<'a, S: RawStore> Machine<'a, S> {
         }
     }
 
-    /// Completes an instruction that is no allocation and does not stop the program.
-    pub(crate) fn make<R: Wait>(&mut self, rt: &R, touch: Touch)
+    /// Completes an instruction that is no allocation and does not stop the program. False where the store failed.
+    pub(crate) fn make<R: Wait>(&mut self, rt: &R, touch: Touch) -> bool
         requires safe { IsSafe self.old }
         requires next { IsNext touch self.old }
         requires simple { IsSimple touch }
         requires room { self.old.completed + 1 < 2 ^ 64 }
-        ensures safe { IsSafe self.new }
-        ensures moves { Moves S.honest touch self.old self.new }
+        ensures { Made S.honest S.reliable touch self.old self.new result }
     {
         match touch {
+            Touch::Aims(scope, wanted) => return self.aims(rt, scope, wanted),
             Touch::Plain => self.goes(),
-            Touch::Aims(scope, wanted) => self.aims(rt, scope, wanted),
             Touch::Loads(scope, cell) => self.loads(scope, cell),
             Touch::Saves(scope, cell, value) => self.saves(scope, cell, value),
             Touch::Leaves(scope) => self.leaves(scope),
@@ -131,5 +134,6 @@ impl<'a, S: RawStore> Machine<'a, S> {
             Touch::Wrong => unreachable!(),
             Touch::Nothing => unreachable!(),
         }
+        true
     }
 }

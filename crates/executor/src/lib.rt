@@ -5,6 +5,7 @@ mod bring;
 mod hold;
 mod kinds;
 mod machine;
+mod room;
 mod run;
 mod session;
 #[cfg(test)]

@@ -5,13 +5,13 @@ ghost use Rattle.code_form.specs.Placed.{pieces as pieces_of};
 ghost use Rattle.code_form.specs.Touches.{IsCell, IsCellOrNone, IsWithin, cells_asked};
 ghost use Rattle.code_form.specs.declared.touch.Touch.TheVariants.{Allocs};
 ghost use Rattle.cells.specs.Stops.{stop_of as stop_read};
-ghost use Rattle.executor.specs.Keeping.{Changes, Closes, HasWriter, Holds, HoldsObject, IsHolding, cleared, count_of, extended, finished, first_of, has_object, shut, shut_at, wants, written};
+ghost use Rattle.executor.specs.Keeping.{Changes, Closes, Fails, HasWriter, Holds, HoldsObject, IsHolding, cleared, count_of, extended, finished, first_of, has_object, Misses, shut, shut_at, wants, written};
 ghost use Rattle.executor.specs.State.{AllShut, Matches, State, begin, hold_at, latest_in, next_touch, object_of};
 ghost use Rattle.executor.specs.Taken.{IsQuiet};
 ghost use Rattle.object_lock.specs.SeatViews.{IsSeat};
 ghost use Rattle.object_lock.specs.Seats.{Owns, note};
 ghost use Rattle.remote_store.specs.Kept.{piece_cells};
-ghost use Rattle.std.specs.Prelude.{◌≡◌, ◌≢◌, ◌+◌, ◌-◌, ◌/◌, ◌<◌, ◌≤◌, ◌^◌, ℕ, IfOk, MatchResult, None, Some, length, option_map, slice_index, true};
+ghost use Rattle.std.specs.Prelude.{◌≡◌, ◌≢◌, ◌+◌, ◌-◌, ◌/◌, ◌<◌, ◌≤◌, ◌^◌, ℕ, IfOk, MatchBool, MatchResult, None, Some, length, option_map, slice_index, true};
 
 use crate::bring::take;
 use crate::hold::Hold;
@@ -43,7 +43,7 @@ impl<'a, S: RawStore> Model for Machine<'a, S> {
 
     ghost Value = { State };
 
-    ghost view = { λ m. record { image = m.execution.image; core = m.execution.core; holds = m.holds.items; firsts = reverse m.firsts.items; next = m.next; view = m.owner.view; completed = m.completed; want = m.want } };
+    ghost view = { λ m. record { image = m.execution.image; core = m.execution.core; holds = m.holds.items; firsts = reverse m.firsts.items; next = m.next; view = m.owner.view; refusals = m.owner.refusals; completed = m.completed; want = m.want } };
 
     ghost invariant = { λ m. IsSeat m.table.now m.owner };
 }
@@ -56,7 +56,7 @@ impl<'a, S: RawStore> Machine<'a, S> {
         owner: OwnerSeat<S>,
     ) -> Result<Machine<'a, S>, AllocError>
         requires table { IsSeat table.now owner }
-        ensures { IfOk result (λ m. m ≡ begin (image_of image.now) owner.view) }
+        ensures { IfOk result (λ m. m ≡ begin (image_of image.now) owner.view owner.refusals) }
     {
         let execution = Execution::new(alloc, image)?;
         let holds = Vec::from_elem(alloc, None, 4)?;
@@ -141,18 +141,24 @@ impl<'a, S: RawStore> Machine<'a, S> {
         self.holds[scope] = None;
     }
 
-    fn open_hold<R: Wait>(&mut self, rt: &R, scope: usize, object: usize, count: u64)
+    /// Opens a hold of the object for the scope. False where the store failed.
+    fn open_hold<R: Wait>(&mut self, rt: &R, scope: usize, object: usize, count: u64) -> bool
         requires scope { scope < length self.old.holds }
         requires hold { Owns self.old.view object × (count < 4) × (count ≡ (note self.old.view object).count) }
         requires quiet { IsQuiet self.old.view }
-        ensures { Holds scope object self.old self.new }
+        ensures { MatchBool result (Holds scope object self.old self.new) (Misses S.reliable object self.old self.new) }
     {
-        let frame = take(rt, self.table, &mut self.owner, object, count);
-        self.holds[scope] = Some(Hold {
-            object,
-            frame,
-            writes: false,
-        });
+        match take(rt, self.table, &mut self.owner, object, count) {
+            Some(frame) => {
+                self.holds[scope] = Some(Hold {
+                    object,
+                    frame,
+                    writes: false,
+                });
+                true
+            }
+            None => false,
+        }
     }
 
     fn clear_hold(&mut self, scope: usize, hold: Hold)
@@ -270,47 +276,54 @@ impl<'a, S: RawStore> Machine<'a, S> {
         is_of(&self.holds[scope], object)
     }
 
-    /// Makes the scope, which held nothing, hold the object.
-    fn reopen<R: Wait>(&mut self, rt: &R, scope: usize, object: usize)
+    /// Makes the scope, which held nothing, hold the object. False where the store failed.
+    fn reopen<R: Wait>(&mut self, rt: &R, scope: usize, object: usize) -> bool
         requires holding { IsHolding self.old }
         requires scope { scope < length self.old.holds }
         requires free { hold_at self.old.holds scope ≡ None }
         requires own { Owns self.old.view object }
         ensures holding { IsHolding self.new }
-        ensures changes { Changes scope self.old self.new }
-        ensures held { HoldsObject self.new scope object }
+        ensures told { MatchBool result (Changes scope self.old self.new × HoldsObject self.new scope object) (Fails S.reliable self.old self.new) }
     {
         let count = self.count(object);
-        self.open_hold(rt, scope, object, count);
+        self.open_hold(rt, scope, object, count)
     }
 
-    /// Makes the scope hold the piece of the cell.
-    fn seize<R: Wait>(&mut self, rt: &R, scope: usize, cell: Cell)
+    /// Makes the scope hold the piece of the cell. False where the store failed.
+    fn seize<R: Wait>(&mut self, rt: &R, scope: usize, cell: Cell) -> bool
         requires holding { IsHolding self.old }
         requires scope { scope < length self.old.holds }
         requires cell { IsCell self.old.core cell }
         ensures holding { IsHolding self.new }
-        ensures changes { Changes scope self.old self.new }
-        ensures held { HoldsObject self.new scope (object_of self.old cell) }
+        ensures told { MatchBool result (Changes scope self.old self.new × HoldsObject self.new scope (object_of self.old cell)) (Fails S.reliable self.old self.new) }
     {
         let object = self.object_at(cell);
-        if !self.has(scope, object) {
+        if self.has(scope, object) {
+            true
+        } else {
             self.shut(scope);
-            self.reopen(rt, scope, object);
+            self.reopen(rt, scope, object)
         }
     }
 
-    /// Makes the scope hold the piece of the cell, or nothing.
-    pub(crate) fn hold_wanted<R: Wait>(&mut self, rt: &R, scope: usize, wanted: Option<Cell>)
+    /// Makes the scope hold the piece of the cell, or nothing. False where the store failed.
+    pub(crate) fn hold_wanted<R: Wait>(
+        &mut self,
+        rt: &R,
+        scope: usize,
+        wanted: Option<Cell>,
+    ) -> bool
         requires holding { IsHolding self.old }
         requires scope { scope < length self.old.holds }
         requires cell { IsCellOrNone self.old.core wanted }
         ensures holding { IsHolding self.new }
-        ensures changes { Changes scope self.old self.new }
-        ensures held { Matches self.old wanted (hold_at self.new.holds scope) }
+        ensures told { MatchBool result (Changes scope self.old self.new × Matches self.old wanted (hold_at self.new.holds scope)) (Fails S.reliable self.old self.new) }
     {
         match wanted {
-            None => self.shut(scope),
+            None => {
+                self.shut(scope);
+                true
+            }
             Some(cell) => self.seize(rt, scope, cell),
         }
     }

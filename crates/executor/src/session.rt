@@ -4,8 +4,9 @@ ghost use Rattle.cells.specs.declared.ending.Want.TheVariants.{OutOfMemory, Stor
 ghost use Rattle.cells.specs.Stops.{Stop};
 ghost use Rattle.code_form.specs.Code.{Covered, most_scopes, output_of, stop_of};
 ghost use Rattle.code_form.specs.Form.{image_of};
-ghost use Rattle.executor.specs.Keeping.{IsRun};
+ghost use Rattle.executor.specs.Keeping.{IsSession};
 ghost use Rattle.executor.specs.State.{AllShut, IsAt, IsGoing, Ran, ScopesHold, State, begin};
+ghost use Rattle.executor.specs.Taken.{IsQuiet, Refused};
 ghost use Rattle.object_lock.specs.Fresh.{IsFresh};
 ghost use Rattle.std.specs.Prelude.{◌≡◌, ◌≢◌, ◌+◌, ◌<◌, ◌≤◌, ◌^◌, IfOk, MatchResult, Some};
 
@@ -26,14 +27,14 @@ pub struct Session<'a, S: RawStore> {
 }
 
 impl<'a, S: RawStore> Model for Session<'a, S> {
-    ghost use Rattle.executor.specs.Keeping.{IsRun};
+    ghost use Rattle.executor.specs.Keeping.{IsSession};
     ghost use Rattle.executor.specs.State.{State};
 
     ghost Value = { State };
 
     ghost view = { λ s. s.machine };
 
-    ghost invariant = { λ s. IsRun S.honest s.machine };
+    ghost invariant = { λ s. IsSession S.honest s.machine };
 }
 
 impl<'a, S: RawStore> Session<'a, S> {
@@ -48,7 +49,7 @@ impl<'a, S: RawStore> Session<'a, S> {
         requires fresh { IsFresh table.now seat }
         requires own { seat.view.low ≤ seat.view.high }
         requires scopes { most_scopes (image_of image.now).functions ≤ 4 }
-        ensures begins { MatchResult result (λ s. s ≡ begin (image_of image.now) seat.view) (λ want. want ≡ OutOfMemory) }
+        ensures begins { MatchResult result (λ s. s ≡ begin (image_of image.now) seat.view seat.refusals) (λ want. want ≡ OutOfMemory) }
         ensures at { IfOk result (λ s. S.honest → IsAt s) }
     {
         match Machine::new(alloc, table, image, seat) {
@@ -58,18 +59,21 @@ impl<'a, S: RawStore> Session<'a, S> {
     }
 
     /// Completes `limit` instructions, unless the program stops or wants something; it may wait. Having answered a stop or a want it
-    /// answers the same from then on and changes nothing.
+    /// answers the same from then on and changes nothing. Where its frames are full it moves objects out by itself.
     ///
     /// `NoObjects`: the pieces of the allocation that is next don't fit in what is left of the program's share. `OutOfMemory`: memory
-    /// was refused to an allocation. `StoreFailed`: the code is stuck, or an allocation or a return finds a scope open, which is never
-    /// so where the store is honest and the image covered.
+    /// was refused to an allocation. `StoreFailed`: a call was refused through the session's own port; or the code is stuck, or an
+    /// allocation or a return finds a scope open, which is never so where the store is honest and the image covered. Then
+    /// the session has given back what it had in hand, and every scope is shut.
     pub fn run<R: Wait>(&mut self, rt: &R, limit: u64) -> Run
         requires { self.old.completed + limit < 2 ^ 64 }
         ensures at { S.honest → IsAt self.new }
-        ensures told { Ran limit self.old self.new result }
-        ensures scopes { ScopesHold self.new }
+        ensures told { Ran S.reliable limit self.old self.new result }
+        ensures scopes { self.new.want ≢ Some StoreFailed → ScopesHold self.new }
         ensures shut { (x : Stop) → stop_of self.new.core ≡ Some x → AllShut self.new }
-        ensures covered { S.honest → Covered self.old.image → IsGoing self.old → result ≢ Wanted StoreFailed }
+        ensures failed { self.new.want ≡ Some StoreFailed → AllShut self.new }
+        ensures quiet { IsQuiet self.new.view }
+        ensures covered { S.honest → Covered self.old.image → IsGoing self.old → result ≡ Wanted StoreFailed → Refused S.reliable self.old.refusals self.new.refusals }
         ensures ended { (IsGoing self.old → ⊥) → self.new ≡ self.old }
     {
         effect_laws();

@@ -7,7 +7,7 @@ use crate::Session;
 use cells::{Run, Stop, Want};
 use code_form::{Block, Fact, Function, Image, Instruction, Kind};
 use object_lock::ObjectTable;
-use remote_store::{Config, FarHeap};
+use remote_store::{Config, FarHeap, FaultPlan, FaultStore, FaultStores};
 use std::alloc::{AllocError, Global};
 use std::sync::Wait;
 use std::test::Fail;
@@ -41,6 +41,13 @@ fn writes_and_reads(alloc: Global) -> Result<Image, AllocError>
 fn image_with(alloc: Global, code: Vec<Instruction>) -> Result<Image, AllocError>
     ensures { IfOk result (λ image. most_scopes (image_of image).functions ≤ 4) }
 {
+    image_over(alloc, vec![in alloc; Kind::Ptr(0), Kind::Int]?, code)
+}
+
+/// One block with these instructions, over registers of these kinds.
+fn image_over(alloc: Global, kinds: Vec<Kind>, code: Vec<Instruction>) -> Result<Image, AllocError>
+    ensures { IfOk result (λ image. most_scopes (image_of image).functions ≤ 4) }
+{
     let mut blocks = Vec::new(alloc);
     blocks.push(Block {
         facts: vec![in alloc; Fact::Shut(0)]?,
@@ -50,7 +57,7 @@ fn image_with(alloc: Global, code: Vec<Instruction>) -> Result<Image, AllocError
     functions.push(Function {
         result: Some(Kind::Int),
         parameters: 0,
-        kinds: vec![in alloc; Kind::Ptr(0), Kind::Int]?,
+        kinds,
         scopes: 1,
         blocks,
     })?;
@@ -88,6 +95,77 @@ fn stops_with_an_open_scope(alloc: Global) -> Result<Image, AllocError>
         Instruction::CheckNull { register: 0 },
     ]?;
     image_with(alloc, code)
+}
+
+/// Writes its number, from 1 on, into each of three structs, and returns what the first one keeps.
+fn writes_three_and_reads_the_first(alloc: Global) -> Result<Image, AllocError>
+    ensures { IfOk result (λ image. most_scopes (image_of image).functions ≤ 4) }
+{
+    let mut code = Vec::new(alloc);
+    for (register, value) in [(0u32, 1), (1, 2), (2, 3)] {
+        code.push(Instruction::Alloc {
+            to: register,
+            layout: 0,
+        })?;
+        code.push(Instruction::Const { to: 3, value })?;
+        code.push(Instruction::CheckNull { register })?;
+        code.push(aim_at(register))?;
+        code.push(Instruction::Store { scope: 0, from: 3 })?;
+        code.push(Instruction::Leave { scope: 0 })?;
+    }
+    code.push(aim_at(0))?;
+    code.push(Instruction::Load { to: 3, scope: 0 })?;
+    code.push(Instruction::Leave { scope: 0 })?;
+    code.push(Instruction::Return { from: 3 })?;
+    let kinds = vec![in alloc; Kind::Ptr(0), Kind::Ptr(0), Kind::Ptr(0), Kind::Int]?;
+    image_over(alloc, kinds, code)
+}
+
+/// Aims at the struct that the register points to.
+fn aim_at(register: u32) -> Instruction {
+    Instruction::Aim {
+        scope: 0,
+        register,
+        offset: None,
+        displacement: 0,
+    }
+}
+
+/// What this program answers twice over three objects and one frame, where the store fails by the plan.
+fn ran_over_a_failing_store<R: Wait>(
+    rt: &R,
+    alloc: Global,
+    image: &Image,
+    plan: FaultPlan,
+) -> Result<(Run, Run), Fail>
+    requires image { most_scopes (image_of image.now).functions ≤ 4 }
+{
+    let Ok(stores) = FaultStores::new(alloc, FarHeap, plan) else {
+        return Err(Fail::from(AllocError));
+    };
+    let config = Config {
+        frames: 1,
+        objects: 3,
+        evacuators: 0,
+        fetchers: 0,
+        stores,
+    };
+    let Ok((table, mut owners, _movers)) = ObjectTable::<FaultStore<FarHeap>>::new(
+        alloc, 1, &config,
+    ) else {
+        return Err(Fail::from(AllocError));
+    };
+    let Some(seat) = owners.pop() else {
+        return Err(Fail::from(AllocError));
+    };
+    let Ok(mut session) = Session::new(alloc, &table, image, seat) else {
+        return Err(Fail::from(AllocError));
+    };
+    let first = session.run(rt, 100);
+    if session.completed() > 100 {
+        return Err(Fail::from(AllocError));
+    }
+    Ok((first, session.run(rt, 100)))
 }
 
 /// What a program answers twice that has one object and one frame, and how many instructions it completed.
@@ -188,5 +266,46 @@ fn code_without_an_instruction_is_stuck(rt: HostRuntime) -> Result<(), Fail> {
             0
         )
     );
+    Ok(())
+}
+
+// Each of the three objects needs the one frame: three are moved out, and the first is brought back.
+#[test]
+fn three_objects_in_one_frame(rt: HostRuntime) -> Result<(), Fail> {
+    let image = writes_three_and_reads_the_first(rt.alloc())?;
+    let ran = ran_over_a_failing_store(&rt, rt.alloc(), &image, FaultPlan::Never)?;
+    let plain = Run::Stopped(Stop::Ended(1));
+    assert!(rt; ran == (plain, Run::Stopped(Stop::Ended(1))));
+    Ok(())
+}
+
+// The store is called four times: a put for each object that is moved out, and a get of the first.
+#[test]
+fn each_call_of_the_store_fails_once(rt: HostRuntime) -> Result<(), Fail> {
+    let image = writes_three_and_reads_the_first(rt.alloc())?;
+    for number in 1..7 {
+        let ran = ran_over_a_failing_store(&rt, rt.alloc(), &image, FaultPlan::Only(number))?;
+        let failed = (
+            Run::Wanted(Want::StoreFailed),
+            Run::Wanted(Want::StoreFailed),
+        );
+        let plain = (Run::Stopped(Stop::Ended(1)), Run::Stopped(Stop::Ended(1)));
+        assert!(rt; ran == if number < 5 { failed } else { plain });
+    }
+    Ok(())
+}
+
+#[test]
+fn the_store_fails_from_a_call_on(rt: HostRuntime) -> Result<(), Fail> {
+    let image = writes_three_and_reads_the_first(rt.alloc())?;
+    for number in 1..7 {
+        let ran = ran_over_a_failing_store(&rt, rt.alloc(), &image, FaultPlan::From(number))?;
+        let failed = (
+            Run::Wanted(Want::StoreFailed),
+            Run::Wanted(Want::StoreFailed),
+        );
+        let plain = (Run::Stopped(Stop::Ended(1)), Run::Stopped(Stop::Ended(1)));
+        assert!(rt; ran == if number < 5 { failed } else { plain });
+    }
     Ok(())
 }

@@ -1,6 +1,6 @@
 -- What a begin tells, and what a seat has in its hands when it gives a berth back.
 use Rattle.std.proofs.Common.{◌<◌, ◌≡◌, ℕ, suc, ◌+◌, List, [], ◌∷◌, ◌++◌, arith, sym, refl, ap, ◌∙◌, subst, ap₂, Bool, cond, eq-eqb, ne_eqb}
-use Rattle.std.specs.Prelude.{Option, Some, None}
+use Rattle.std.specs.Prelude.{Option, Some, None, Result, Ok, Err, IfOk}
 use mathlib.Core.Path.{Path}
 use Rattle.atomic_table.specs.Table.{Me}
 use Rattle.pointer_word.specs.Words.{Place, Away, Coming, Here, Leaving, Word, face, framed}
@@ -13,11 +13,11 @@ use Rattle.object_lock.specs.declared.answers.Begin.{Begin}
 use Rattle.object_lock.specs.declared.answers.Begin.TheVariants as B
 use Rattle.object_lock.specs.Seats.{Sizes, View, note, with_note, with_hand}
 use Rattle.object_lock.specs.Rule.{PlaceIn}
-use Rattle.object_lock.specs.Kept.{slot_keeps, berth_keeps}
+use Rattle.object_lock.specs.Kept.{slot_keeps, slot_has, berth_keeps}
 use Rattle.object_lock.specs.Plays.{Found, Confirms}
 use Rattle.object_lock.specs.SeatViews.{SeatView, InHand, Promises}
 use Rattle.object_lock.specs.Seating.{Brought}
-use Rattle.object_lock.specs.Telling.{begun, tried_at, tried, Begun}
+use Rattle.object_lock.specs.Telling.{begun, tried_at, tried, Begun, Fetched}
 use Rattle.pointer_word.proofs.Bits.{is_away}
 use Rattle.object_lock.proofs.Mover.{plain}
 use Rattle.object_lock.proofs.Exact.{same_note}
@@ -44,6 +44,28 @@ module _ {C : Type 0} (content : C → Option (List ℕ)) (o : ℕ) (old new : S
   pub not_begun : (p : Place) (r : Begin) → r ≡ begun p → PlaceIn old.view.sizes p → Confirms old.view o p → Left p → Begun content o old new r
   not_begun p r is k c e = subst (Begun content o old new) (sym is) (answered p k c e)
 
+module _ {C : Type 0} (content : C → Option (List ℕ)) (o : ℕ) (old new : SeatView C) where
+  unfetched : (p : Place) → PlaceIn old.view.sizes p → Path (SeatView C) new old → Fetched content o old new (begun p)
+  unfetched Away k e = e
+  unfetched (Coming m) k e = e
+  unfetched (Here f b) k e = (k, e)
+  unfetched (Leaving f m b) k e = (k.0, e)
+
+  -- what a fetcher is answered of an object that was not begun
+  pub not_fetched : (p : Place) (r : Begin) → r ≡ begun p → PlaceIn old.view.sizes p → Path (SeatView C) new old → Fetched content o old new r
+  not_fetched p r is k e = subst (Fetched content o old new) (sym is) (unfetched p k e)
+
+-- the berth that a put left keeps what was put
+pub put_in : {C A E : Type 0} (content : C → Option (List ℕ)) (b : Berth C) (o : ℕ) (ws : List ℕ) (r : Result A E) → IfOk r (λ _. berth_keeps content b o ws)
+    → IfOk r (λ _. (x : Berth C) × Path (Option (Berth C)) (Some b) (Some x) × berth_keeps content x o ws)
+put_in content b o ws (Ok u) k = (b, refl, k)
+put_in content b o ws (Err e) k = tt
+
+-- a slot that has a berth
+pub berth_there : {C : Type 0} (b r : Option (Berth C)) → slot_has b → Path (Option (Berth C)) r b → (x : Berth C) × Path (Option (Berth C)) r (Some x)
+berth_there None r k e = absurd k
+berth_there (Some x) r k e = (x, e)
+
 module _ {C : Type 0} (content : C → Option (List ℕ)) (o : ℕ) (ws : List ℕ) where
   -- a slot that keeps something has a berth
   pub berth_in : (b r : Option (Berth C)) → slot_keeps content b o ws → Path (Option (Berth C)) r b → (x : Berth C) × berth_keeps content x o ws × Path (Option (Berth C)) r (Some x)
@@ -60,8 +82,8 @@ module _ {C : Type 0} (content : C → Option (List ℕ)) (o : ℕ) where
   promises (Some p) ws (Some b) e k = let h : p ≡ o = cc in subst (λ (i : ℕ). berth_keeps content b i ws) h k
 
   -- the berth that was brought in keeps what was promised
-  pub keeps_promised : (number low high : ℕ) (v : View) (slots : List (ℕ × Option (Berth C))) (brought taken : Option (Berth C)) → v.hand.bringing ≡ Some o → InHand content number low high v slots brought taken → slot_keeps content brought o v.hand.promised
-  keeps_promised number low high v slots brought taken e k = promises v.hand.bringing v.hand.promised brought e k.5
+  pub keeps_promised : (number low high source : ℕ) (v : View) (slots : List (ℕ × Option (Berth C))) (brought taken : Option (Berth C)) → v.hand.bringing ≡ Some o → InHand content number low high source v slots brought taken → slot_keeps content brought o v.hand.promised
+  keeps_promised number low high source v slots brought taken e k = promises v.hand.bringing v.hand.promised brought e k.5
 
   -- the berth was put back into the slot that is out
   pub put_back : (m : Me (Option (Berth C)) View) (v : View) (slots : List (ℕ × Option (Berth C))) (b : Option (Berth C)) → m ≡ (v, (o, b) ∷ slots) → slot_keeps content b o v.hand.promised → Brought (slot_keeps content) o m

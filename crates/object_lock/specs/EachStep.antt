@@ -30,7 +30,7 @@ module _ {S : Type 0} (kept : S → ℕ → List ℕ → Type 0) (there : S → 
     -- an owner tries to begin
     pub begins_own : (z : Sizes) (slots id : ℕ) (me : Me S View) (o c new : ℕ) → Owns me.0 o → 0 < (note me.0 o).count → c < 65536 → me.0.hand.bringing ≡ None → new ≡ face (Coming me.0.number) c → Carries kept there honest z slots id me o (λ n. either (eqb n c) new n) (λ x. act x (Begins me.0.number o c true)) (told_begin_own honest kept there (step slots o c new maybe.none) me)
     -- a mover tries to claim a frame
-    pub claims : (z : Sizes) (slots id : ℕ) (me : Me S View) (k g new : ℕ) → k ≡ frame_word me.0.sizes g → g < me.0.sizes.frames → me.0.hand.claimed ≡ None → new ≡ suc (or_zero me.0.hand.bringing) → Carries kept there honest z slots id me k (λ n. either (eqb n 0) new n) (λ x. act x (Claims me.0.number (or_zero me.0.hand.bringing) (frame_at me.0 k))) (told_claim honest (step slots k 0 new maybe.none) me)
+    pub claims : (z : Sizes) (slots id : ℕ) (me : Me S View) (k g o new : ℕ) → k ≡ frame_word me.0.sizes g → g < me.0.sizes.frames → me.0.hand.bringing ≡ Some o → me.0.hand.claimed ≡ None → new ≡ suc (or_zero me.0.hand.bringing) → Carries kept there honest z slots id me k (λ n. either (eqb n 0) new n) (λ x. act x (Claims me.0.number (or_zero me.0.hand.bringing) (frame_at me.0 k))) (told_claim honest (step slots k 0 new maybe.none) me)
     -- a mover fills a cell of its frame
     pub fills : (z : Sizes) (slots id : ℕ) (me : Me S View) (k i a : ℕ) → k ≡ cell_word me.0.sizes (mine me.0) i → i < me.0.sizes.cells → me.0.hand.claimed ≡ Some (mine me.0) → Carries kept there honest z slots id me k (λ _. a) (λ x. act x (Fills me.0.number (mine me.0) (index_at me.0 (mine me.0) k) a)) (λ _. told_fill honest (step slots k a 0 maybe.none) me a)
     -- a fetcher arrives

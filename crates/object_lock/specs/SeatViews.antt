@@ -52,9 +52,9 @@ module _ {C : Type 0} (content : C → Option (List ℕ)) where
   Matches (Some o) None = ⊥
 
   -- what the seat has in its hands is what its view says
-  abbrev pub InHand : ℕ → ℕ → ℕ → View → List (ℕ × Option (Berth C)) → Option (Berth C) → Option (Berth C) → Type 0
-  InHand number low high v slots brought taken = (number ≡ v.number) × (number < 65536) × (low ≡ v.low) × (high ≡ v.high)
-      × (slots ≡ carried v.hand.leaving v.hand.bringing) × Promises v.hand.bringing v.hand.promised brought × Matches v.hand.leaving taken
+  abbrev pub InHand : ℕ → ℕ → ℕ → ℕ → View → List (ℕ × Option (Berth C)) → Option (Berth C) → Option (Berth C) → Type 0
+  InHand number low high source v slots brought taken = (number ≡ v.number) × (number < 65536) × (low ≡ v.low) × (high ≡ v.high)
+      × (slots ≡ carried v.hand.leaving v.hand.bringing) × Promises v.hand.bringing v.hand.promised brought × Matches v.hand.leaving taken × (source ≡ v.hand.source) × (source < 16777216)
 
 -- the version of the berth in hand, 0 where there is none
 abbrev pub version_of : {C : Type 0} → Option (Berth C) → ℕ

@@ -1,7 +1,7 @@
 -- What the calls answer, and what they leave of the seat that made them.
-use Rattle.std.specs.Prelude.{◌≡◌, ℕ, ◌<◌, ◌==◌, cond, List, Bool, true, false, Option, Some, None}
+use Rattle.std.specs.Prelude.{◌≡◌, ℕ, zero, suc, ◌<◌, ◌==◌, cond, List, Bool, true, false, Option, Some, None}
 use Rattle.pointer_word.specs.Words.{Place, Away, Coming, Here, Leaving, Word}
-use Rattle.pointer_word.specs.Hands.{opened, told, bringing, claiming}
+use Rattle.pointer_word.specs.Hands.{seen, listed, opened, told, bringing, claiming, marking, committing}
 use Rattle.remote_store.specs.declared.berth.Berth.{Berth}
 use Rattle.object_lock.specs.declared.answers.Held.{Held}
 use Rattle.object_lock.specs.declared.answers.Held.TheVariants as H
@@ -53,3 +53,28 @@ module _ {C : Type 0} (content : C → Option (List ℕ)) where
 abbrev pub Claimed : {C : Type 0} → ℕ → SeatView C → SeatView C → Bool → Type 0
 Claimed f old new true = new ≡ record old { view = with_hand old.view (claiming old.view.hand f) }
 Claimed f old new false = new ≡ old
+
+-- the object that a frame's word names, if it names one
+abbrev pub named : ℕ → Option ℕ
+named zero = None
+named (suc o) = Some o
+
+-- A fetcher began the object o: its berth is in hand, and what that keeps is promised. Else nothing changed
+abbrev pub Fetched : {C : Type 0} → (C → Option (List ℕ)) → ℕ → SeatView C → SeatView C → Begin → Type 0
+Fetched {C} content o old new B.Taken = (b : Berth C) × (ws : List ℕ) × berth_keeps content b o ws × (new ≡ record old { view = with_hand old.view (bringing old.view.hand o ws); brought = Some b })
+Fetched content o old new (B.Here f) = (f < old.view.sizes.frames) × (new ≡ old)
+Fetched content o old new B.Busy = new ≡ old
+
+-- the object o was marked in the frame f, and its berth is in hand, or nothing changed
+abbrev pub Marked : {C : Type 0} → ℕ → ℕ → SeatView C → SeatView C → Bool → Type 0
+Marked {C} o f old new true = (b : Berth C) × (new ≡ record old { view = with_hand old.view (marking old.view.hand o f); taken = Some b })
+Marked o f old new false = new ≡ old
+
+-- the object that was moved out is away, and its frame freed, or nothing changed
+abbrev pub Committed : {C : Type 0} → SeatView C → SeatView C → Bool → Type 0
+Committed old new true = new ≡ record old { view = with_hand old.view (committing old.view.hand old.view.hand.source); taken = None }
+Committed old new false = new ≡ old
+
+-- the berth of the object o that is moved out keeps the n cells that were copied
+abbrev pub HasPut : {C : Type 0} → (C → Option (List ℕ)) → ℕ → ℕ → SeatView C → Type 0
+HasPut {C} content n o s = (b : Berth C) × (ws : List ℕ) × (s.taken ≡ Some b) × berth_keeps content b o ws × ((i : ℕ) → i < n → seen s.view.hand.copied i ≡ Some (listed ws i))

@@ -1,12 +1,12 @@
 //! The calls of a mover that brings an object into a frame.
-ghost use Rattle.std.specs.Prelude.{◌≡◌, ℕ, ◌<◌, ◌≤◌, ◌↔◌, true, false, Some, None};
-ghost use Rattle.pointer_word.specs.Hands.{told, filling, arriving};
-ghost use Rattle.pointer_word.specs.Calls.{Filled, Begins, Claims, Fills, Arrives};
+ghost use Rattle.std.specs.Prelude.{◌≡◌, ℕ, ◌<◌, ◌≤◌, ◌==◌, ◌↔◌, not, true, false, Some, None};
+ghost use Rattle.pointer_word.specs.Hands.{told, filling, arriving, retreating};
+ghost use Rattle.pointer_word.specs.Calls.{Filled, Begins, Claims, Fills, Arrives, Retreats};
 ghost use Rattle.pointer_word.specs.Asked.{HasNoFrame, HasNothing};
 ghost use Rattle.object_lock.specs.Seats.{Owns, note, with_note, with_hand};
-ghost use Rattle.object_lock.specs.Plays.{Steps};
+ghost use Rattle.object_lock.specs.Plays.{Steps, Holds, IsUnheld};
 ghost use Rattle.object_lock.specs.SeatViews.{IsSeat};
-ghost use Rattle.object_lock.specs.Telling.{tried, Begun, Claimed};
+ghost use Rattle.object_lock.specs.Telling.{tried, Begun, Fetched, Claimed};
 
 use crate::answers::Begin;
 use crate::found::begin_of;
@@ -16,19 +16,22 @@ use pointer_word::Word;
 use remote_store::RawStore;
 
 impl<S: RawStore> ObjectTable<S> {
-    /// Begins to bring in the object, where that is in its store cell and has `count` holds, those that its owner knows of.
+    /// Begins to bring in the object, where that is in its store cell and has `count` holds: those that its owner knows
+    /// of, or none for a fetcher. Where it is in a frame its owner is told of that.
     pub fn try_begin(&self, mover: &mut MoverSeat<S>, obj: usize, count: u64) -> Begin
         requires table { IsSeat self.now mover.old }
-        requires hold { Owns mover.old.view obj × (0 < count) × (count ≡ (note mover.old.view obj).count) × (count ≤ 4) }
+        requires low { (obj < self.now.sizes.objects) × (count ≤ 4) }
+        requires hold { 0 < count → Owns mover.old.view obj × (count ≡ (note mover.old.view obj).count) }
         requires empty { HasNothing mover.old.view.hand }
         ensures table { IsSeat self.now mover.new }
-        ensures told { Begun S.content obj mover.old mover.new result }
-        ensures step { Steps S.honest (Begins mover.old.view.number obj count true) mover.old.view mover.new.view (λ x. result ≡ tried count (x.word obj)) }
+        ensures told { 0 < count → Begun S.content obj mover.old mover.new result }
+        ensures fetched { count ≡ 0 → Fetched S.content obj mover.old mover.new result }
+        ensures step { Steps S.honest (Begins mover.old.view.number obj count (not (count == 0))) mover.old.view mover.new.view (λ x. result ≡ tried count (x.word obj)) }
     {
         let coming = Word::coming(count, mover.number);
         let found = self
             .words
-            .begin_own_word(&mut mover.seat, obj, count, coming.bits);
+            .begin_word(&mut mover.seat, obj, count, coming.bits);
         if found == count {
             mover.brought = self.words.table.shared.exchange(&mut mover.seat, obj, None);
             Begin::Taken
@@ -63,16 +66,18 @@ impl<S: RawStore> ObjectTable<S> {
         self.words.fill_cell(&mut mover.seat, frame, i, v);
     }
 
-    /// The object is in the claimed frame, all of whose cells were filled, and its berth is back in its slot.
+    /// The object is in the claimed frame, all of whose cells were filled, and its berth is back in its slot. An owner
+    /// that holds the object is told of the frame.
     pub fn arrive(&self, mover: &mut MoverSeat<S>, obj: usize, frame: usize)
         requires table { IsSeat self.now mover.old }
-        requires hold { Owns mover.old.view obj × (0 < (note mover.old.view obj).count) }
+        requires low { (obj < self.now.sizes.objects) × (frame < self.now.sizes.frames) }
         requires hands { (mover.old.view.hand.bringing ≡ Some obj) × (mover.old.view.hand.claimed ≡ Some frame) × (mover.old.view.hand.leaving ≡ None) }
-        requires low { frame < self.now.sizes.frames }
         requires filled { Filled S.honest self.now.sizes.cells mover.old.view.hand }
         ensures table { IsSeat self.now mover.new }
-        ensures arrived { mover.new ≡ record mover.old { view = with_note (with_hand mover.old.view (arriving mover.old.view.hand)) obj (told (note mover.old.view obj) (Some frame)); brought = None } }
-        ensures step { Steps S.honest (Arrives mover.old.view.number obj frame false true) mover.old.view mover.new.view (λ _. Unit {0}) }
+        ensures arrived { Holds mover.old.view obj → mover.new ≡ record mover.old { view = with_note (with_hand mover.old.view (arriving mover.old.view.hand)) obj (told (note mover.old.view obj) (Some frame)); brought = None } }
+        ensures brought { IsUnheld mover.old.view obj → mover.new ≡ record mover.old { view = with_hand mover.old.view (arriving mover.old.view.hand); brought = None } }
+        ensures step { Holds mover.old.view obj → Steps S.honest (Arrives mover.old.view.number obj frame false true) mover.old.view mover.new.view (λ _. Unit {0}) }
+        ensures unheld_step { IsUnheld mover.old.view obj → Steps S.honest (Arrives mover.old.view.number obj frame false false) mover.old.view mover.new.view (λ _. Unit {0}) }
     {
         let berth = mover.brought.take();
         self.words
@@ -80,6 +85,24 @@ impl<S: RawStore> ObjectTable<S> {
             .shared
             .exchange(&mut mover.seat, obj, berth);
         let by = Word::arrival(mover.number, frame as u64);
-        self.words.arrive_own_word(&mut mover.seat, obj, frame, by);
+        self.words.arrive_word(&mut mover.seat, obj, frame, by);
+    }
+
+    /// Gives up the object that the mover is bringing in, for which it has claimed no frame: it stays in its store cell, and
+    /// its berth is back in its slot.
+    pub fn retreat(&self, mover: &mut MoverSeat<S>, obj: usize)
+        requires table { IsSeat self.now mover.old }
+        requires low { obj < self.now.sizes.objects }
+        requires hands { (mover.old.view.hand.bringing ≡ Some obj) × (mover.old.view.hand.leaving ≡ None) × (mover.old.view.hand.claimed ≡ None) }
+        ensures table { IsSeat self.now mover.new }
+        ensures retreated { mover.new ≡ record mover.old { view = with_hand mover.old.view (retreating mover.old.view.hand); brought = None } }
+        ensures step { Steps S.honest (Retreats mover.old.view.number obj) mover.old.view mover.new.view (λ _. Unit {0}) }
+    {
+        let berth = mover.brought.take();
+        self.words
+            .table
+            .shared
+            .exchange(&mut mover.seat, obj, berth);
+        self.words.retreat_word(&mut mover.seat, obj);
     }
 }

@@ -1,7 +1,7 @@
 //! What a pointer word that was found tells its finder.
 ghost use Rattle.std.specs.Prelude.{◌≡◌};
 ghost use Rattle.pointer_word.specs.Words.{Field};
-ghost use Rattle.object_lock.specs.Telling.{held, begun};
+ghost use Rattle.object_lock.specs.Telling.{held, begun, named};
 
 use crate::answers::{Begin, Held};
 use pointer_word::{Word, WordState};
@@ -27,5 +27,16 @@ pub(crate) fn begin_of(bits: u64) -> Begin
         Begin::Here(word.frame() as usize)
     } else {
         Begin::Busy
+    }
+}
+
+/// Which object a frame's word names.
+pub(crate) fn named_by(word: u64) -> Option<usize>
+    ensures { result ≡ named word }
+{
+    if word == 0 {
+        None
+    } else {
+        Some(word as usize - 1)
     }
 }

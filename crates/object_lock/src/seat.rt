@@ -1,11 +1,12 @@
 //! A seat with its way to the store.
-ghost use Rattle.std.specs.Prelude.{◌≡◌, ℕ, ◌+◌, ◌%◌, ◌<◌, ◌==◌, not, false, Some, IfOk, MatchResult, length};
+ghost use Rattle.std.specs.Prelude.{◌≡◌, ℕ, ◌+◌, ◌%◌, ◌<◌, ◌==◌, not, false, Some, IfOk, IsOk, MatchResult, length};
 ghost use Rattle.pointer_word.specs.Hands.{listed};
-ghost use Rattle.remote_store.specs.Kept.{Took, RefusedFor, piece_cells};
+ghost use Rattle.remote_store.specs.Kept.{Took, RefusedFor, next_version, piece_cells};
+ghost use Rattle.object_lock.specs.Kept.{berth_keeps};
 ghost use Rattle.object_lock.specs.SeatViews.{version_of};
 
 use crate::table::Token;
-use remote_store::{Berth, PIECE_CELLS, Port, RawStore, Refusal};
+use remote_store::{Berth, Failed, PIECE_CELLS, Port, RawStore, Refusal};
 use std::marker::Model;
 
 /// A mover's seat at a table: its port, and the berths that it has in hand.
@@ -15,6 +16,7 @@ pub struct MoverSeat<S: RawStore> {
     pub(crate) seat: Token<S::Cell>,
     pub(crate) brought: Option<Berth<S::Cell>>,
     pub(crate) taken: Option<Berth<S::Cell>>,
+    pub(crate) source: usize,
     pub(crate) number: u64,
     pub(crate) low: usize,
     pub(crate) high: usize,
@@ -31,7 +33,7 @@ impl<S: RawStore> Model for MoverSeat<S> {
 
     ghost view = { λ s. record { table = s.seat.table_id; id = s.seat.id; view = s.seat.me.0; brought = s.brought; taken = s.taken; refusals = s.port.refusals } };
 
-    ghost invariant = { λ s. InHand S.content s.number s.low s.high s.seat.me.0 s.seat.me.1 s.brought s.taken };
+    ghost invariant = { λ s. InHand S.content s.number s.low s.high s.source s.seat.me.0 s.seat.me.1 s.brought s.taken };
 }
 
 impl<S: RawStore> MoverSeat<S> {
@@ -78,12 +80,31 @@ impl<S: RawStore> MoverSeat<S> {
         ensures length { length words.new ≡ PIECE_CELLS }
         ensures same { self.new ≡ record self.old { refusals = self.new.refusals } }
         ensures got { IfOk result (λ _. S.honest → words.new ≡ self.old.view.hand.promised) }
+        ensures sure { S.reliable → IsOk result }
         ensures counted { MatchResult result (λ _. self.new.refusals ≡ self.old.refusals) (λ _. (words.new ≡ words.old) × (self.new.refusals ≡ (self.old.refusals + 1) % 18446744073709551616)) }
         ensures read { (b : _) × (before : S) × (after : S) × (self.old.brought ≡ Some b) × MatchResult result (λ _. Took (λ row. S.read_gives before b.cell row after) b.version obj words.new)
             (λ why. RefusedFor (S.failures after ≡ (S.failures before + 1) % 18446744073709551616) (λ row. S.read_gives before b.cell row after × (S.failures after ≡ S.failures before)) b.version obj why) }
     {
         match &self.brought {
             Some(berth) => berth.get(&mut self.port, obj, words),
+            None => unreachable!(),
+        }
+    }
+
+    /// Puts the object's cells into the berth of the object that it is moving out, under the berth's next version. After a
+    /// failure nothing is known of what the berth keeps.
+    pub fn put(&mut self, obj: usize, words: &[u64]) -> Result<(), Failed>
+        requires leaves { self.old.view.hand.leaving ≡ Some obj }
+        requires words { length words.now ≡ PIECE_CELLS }
+        ensures same { self.new ≡ record self.old { taken = self.new.taken; refusals = self.new.refusals } }
+        ensures version { version_of self.new.taken ≡ next_version (version_of self.old.taken) }
+        ensures sure { S.reliable → IsOk result }
+        ensures put { IfOk result (λ _. (b : _) × (self.new.taken ≡ Some b) × berth_keeps S.content b obj words.now) }
+        ensures counted { MatchResult result (λ _. self.new.refusals ≡ self.old.refusals) (λ _. self.new.refusals ≡ (self.old.refusals + 1) % 18446744073709551616) }
+        ensures failed { (before : S) × (after : S) × MatchResult result (λ _. S.failures after ≡ S.failures before) (λ _. S.failures after ≡ (S.failures before + 1) % 18446744073709551616) }
+    {
+        match &mut self.taken {
+            Some(berth) => berth.put(&mut self.port, obj, words),
             None => unreachable!(),
         }
     }

@@ -7,6 +7,7 @@ mod tests {
     fn written_meanwhile(rt: HostRuntime) {
         let here = Word::here(0, 2);
         assert_eq!(rt; here.bits, 0x28_0000);
+        assert_eq!(rt; Word::leaving(2, 2).bits, 0x2000_002b_0000);
         let marked = Word {
             bits: 0x2000_002b_0000,
         };

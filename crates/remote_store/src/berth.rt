@@ -1,5 +1,5 @@
 //! An object's place in the store.
-ghost use Rattle.std.specs.Prelude.{◌≡◌, ℕ, ◌+◌, ◌%◌, ◌<◌, List, length, IfOk, MatchResult};
+ghost use Rattle.std.specs.Prelude.{◌≡◌, ℕ, ◌+◌, ◌%◌, ◌<◌, List, length, IfOk, IsOk, MatchResult};
 ghost use Rattle.remote_store.specs.Kept.{Keeps, Took, RefusedFor, next_version, piece_cells};
 
 use crate::port::{Failed, Port, Refusal};
@@ -31,6 +31,7 @@ impl<C: Drop> Berth<C> {
         requires { length words.now ≡ PIECE_CELLS }
         ensures version { self.new.version ≡ next_version self.old.version }
         ensures put { IfOk result (λ _. Keeps piece_cells self.new.version (S.content self.new.cell) obj words.now) }
+        ensures sure { S.reliable → IsOk result }
         ensures counted { MatchResult result (λ _. (port.new.refusals ≡ port.old.refusals) × (S.failures port.new.store ≡ S.failures port.old.store))
             (λ _. (port.new.refusals ≡ (port.old.refusals + 1) % 18446744073709551616) × (S.failures port.new.store ≡ (S.failures port.old.store + 1) % 18446744073709551616)) }
     {
@@ -61,6 +62,7 @@ impl<C: Drop> Berth<C> {
     ) -> Result<(), Refusal>
         requires { (length words.old ≡ PIECE_CELLS) × (0 < self.now.version) }
         ensures length { length words.new ≡ PIECE_CELLS }
+        ensures sure { S.reliable → (ws : List ℕ) → Keeps piece_cells self.now.version (S.content self.now.cell) obj ws → IsOk result }
         ensures got { IfOk result (λ _. S.honest → (ws : List ℕ) → Keeps piece_cells self.now.version (S.content self.now.cell) obj ws → words.new ≡ ws) }
         ensures counted { MatchResult result (λ _. (port.new.refusals ≡ port.old.refusals) × (S.failures port.new.store ≡ S.failures port.old.store))
             (λ why. (words.new ≡ words.old) × (port.new.refusals ≡ (port.old.refusals + 1) % 18446744073709551616) × (why ≡ Refusal.Failed → S.failures port.new.store ≡ (S.failures port.old.store + 1) % 18446744073709551616)) }

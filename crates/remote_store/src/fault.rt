@@ -1,5 +1,5 @@
 //! A store that fails by plan, for tests of what happens where the store fails.
-ghost use Rattle.std.specs.Prelude.{◌≡◌, ◌≢◌, ℕ, ◌+◌, ◌%◌, ◌⊎◌, true, List, length, Some, MatchBool, IfOk, IfErr, MatchResult};
+ghost use Rattle.std.specs.Prelude.{◌≡◌, ◌≢◌, ℕ, ◌+◌, ◌%◌, ◌⊎◌, true, List, length, Some, MatchBool, IfOk, IsOk, IfErr, MatchResult};
 ghost use Rattle.remote_store.specs.Faults.{FailsAt, MayFail};
 
 use crate::config::Stores;
@@ -78,6 +78,8 @@ impl<S: RawStore> RawStore for FaultStore<S> {
 
     ghost honest = { S.honest };
 
+    ghost reliable = { ⊥ };
+
     ghost failures = { λ s. s.failures };
 
     // A write that fails by plan leaves the cell as it was, so there is no new content to tell.
@@ -92,6 +94,7 @@ impl<S: RawStore> RawStore for FaultStore<S> {
     fn write(&mut self, c: &mut S::Cell, w: &[u64]) -> Result<(), Failed>
         requires { length w.now ≡ ROW_WORDS }
         ensures put { IfOk result (λ _. S.content c.new ≡ Some w.now) }
+        ensures sure { ⊥ → IsOk result }
         ensures counted { MatchResult result (λ _. self.new.failures ≡ self.old.failures) (λ _. self.new.failures ≡ (self.old.failures + 1) % 18446744073709551616) }
         ensures plan { self.new.calls ≡ self.old.calls }
         ensures cause { MatchResult result (λ _. S.failures self.new.store ≡ S.failures self.old.store)
@@ -113,6 +116,7 @@ impl<S: RawStore> RawStore for FaultStore<S> {
         ensures length { length w.new ≡ length w.old }
         ensures got { IfOk result (λ _. S.honest → (ws : List ℕ) → S.content c.now ≡ Some ws → Reads ws w.new) }
         ensures gave { IfOk result (λ _. S.read_gives self.old.store c.now w.new self.new.store) }
+        ensures sure { ⊥ → IsOk result × ((ws : List ℕ) → S.content c.now ≡ Some ws → w.new ≡ ws) }
         ensures counted { MatchResult result (λ _. self.new.failures ≡ self.old.failures) (λ _. self.new.failures ≡ (self.old.failures + 1) % 18446744073709551616) }
         ensures plan { self.new.calls ≡ self.old.calls }
         ensures cause { MatchResult result (λ _. S.failures self.new.store ≡ S.failures self.old.store)

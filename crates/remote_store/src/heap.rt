@@ -7,7 +7,7 @@ use crate::raw::{ROW_WORDS, RawStore};
 use cells::Want;
 use std::alloc::Global;
 
-/// A store in memory. It is honest, and no call of it fails.
+/// A store in memory. It is honest and reliable.
 #[derive(Clone, Copy)]
 pub struct FarHeap;
 
@@ -21,6 +21,8 @@ impl RawStore for FarHeap {
     type Cell = FarCell;
 
     ghost honest = { Unit {0} };
+
+    ghost reliable = { Unit {0} };
 
     ghost failures = { λ _. 0 };
 

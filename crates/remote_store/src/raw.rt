@@ -1,5 +1,5 @@
 //! One mover's way to the store.
-ghost use Rattle.std.specs.Prelude.{◌≡◌, ◌≢◌, ℕ, ◌+◌, ◌%◌, List, Option, Some, length, IfOk, IfErr, MatchResult};
+ghost use Rattle.std.specs.Prelude.{◌≡◌, ◌≢◌, ℕ, ◌+◌, ◌%◌, List, Option, Some, length, IfOk, IsOk, IfErr, MatchResult};
 
 use crate::port::Failed;
 use cells::Want;
@@ -14,13 +14,15 @@ pub const ROW_WORDS: usize = 67;
 /// One mover's way to the store. `content` is what a cell holds: the words of the last write of it, where that
 /// succeeded. An `honest` store reads back those words, or words of another header. `failures` counts the calls
 /// that failed through this value, modulo 2^64. `read_gives` tells which words a read of a cell gave, by the store before
-/// it and after it.
+/// it and after it. A `reliable` store fails no call, and reads just the words that a cell holds.
 pub trait RawStore: Drop {
     type Cell: Send + Drop;
 
     ghost use Rattle.remote_store.specs.Kept.{Reads};
 
     ghost honest: { Type 0 };
+
+    ghost reliable: { Type 0 };
 
     ghost failures: { Self → ℕ };
 
@@ -37,6 +39,7 @@ pub trait RawStore: Drop {
     fn write(&mut self, c: &mut Self::Cell, w: &[u64]) -> Result<(), Failed>
         requires { length w.now ≡ ROW_WORDS }
         ensures put { IfOk result (λ _. content c.new ≡ Some w.now) }
+        ensures sure { reliable → IsOk result }
         ensures counted { MatchResult result (λ _. failures self.new ≡ failures self.old) (λ _. failures self.new ≡ (failures self.old + 1) % 18446744073709551616) };
 
     /// Reads the cell's `ROW_WORDS` words. After a failure `w` may hold any words.
@@ -45,5 +48,6 @@ pub trait RawStore: Drop {
         ensures length { length w.new ≡ length w.old }
         ensures got { IfOk result (λ _. honest → (ws : List ℕ) → content c.now ≡ Some ws → Reads ws w.new) }
         ensures gave { IfOk result (λ _. read_gives self.old c.now w.new self.new) }
+        ensures sure { reliable → IsOk result × ((ws : List ℕ) → content c.now ≡ Some ws → w.new ≡ ws) }
         ensures counted { MatchResult result (λ _. failures self.new ≡ failures self.old) (λ _. failures self.new ≡ (failures self.old + 1) % 18446744073709551616) };
 }

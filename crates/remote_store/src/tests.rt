@@ -87,6 +87,8 @@ mod tests {
 
         ghost honest = { Unit {0} };
 
+        ghost reliable = { ⊥ };
+
         ghost failures = { λ s. s.failures };
 
         ghost content = { λ _. None };

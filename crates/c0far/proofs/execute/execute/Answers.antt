@@ -9,24 +9,24 @@ use Rattle.c0far.proofs.execute.execute.Goals as goal
 
 pub new-requires-2-clause-own : goal.new-requires-2-clause-own
 new-requires-2-clause-own g c κs =
-    let fresh : IsFreshOwner c.in-Ok.table 64 c.in-Some.seat = last_of_all (λ s. IsFreshOwner c.in-Ok.table 64 s) c.in-Ok.owners.items c.pop.new.self.items c.in-Some.seat c.in-Some.ensures.items c.in-Ok.ensures.made.2 in
-    let high : c.in-Some.seat.view.high ≡ c.in-Some.seat.view.low + 64 = fresh.2 in
-    subst (λ h. c.in-Some.seat.view.low ≤ h) (sym high) (le-add_right c.in-Some.seat.view.low 64)
+    let fresh : IsFreshOwner c.in-Ok.table 65536 c.in-Some.seat = last_of_all (λ s. IsFreshOwner c.in-Ok.table 65536 s) c.in-Ok.owners.items c.pop.new.self.items c.in-Some.seat c.in-Some.ensures.items c.in-Ok.ensures.made.2 in
+    let high : c.in-Some.seat.view.high ≡ c.in-Some.seat.view.low + 65536 = fresh.2 in
+    subst (λ h. c.in-Some.seat.view.low ≤ h) (sym high) (le-add_right c.in-Some.seat.view.low 65536)
 
 pub new-requires-2-clause-fresh : goal.new-requires-2-clause-fresh
 new-requires-2-clause-fresh g c κs =
-    let fresh : IsFreshOwner c.in-Ok.table 64 c.in-Some.seat = last_of_all (λ s. IsFreshOwner c.in-Ok.table 64 s) c.in-Ok.owners.items c.pop.new.self.items c.in-Some.seat c.in-Some.ensures.items c.in-Ok.ensures.made.2 in
+    let fresh : IsFreshOwner c.in-Ok.table 65536 c.in-Some.seat = last_of_all (λ s. IsFreshOwner c.in-Ok.table 65536 s) c.in-Ok.owners.items c.pop.new.self.items c.in-Some.seat c.in-Some.ensures.items c.in-Ok.ensures.made.2 in
     fresh.0
 
 pub returns : goal.returns
 returns g c =
     let copied : c.in_ok-output.output.items ≡ c.output.result.now = search rules in
-    let seat : IsFreshOwner c.in-Ok.table 64 c.in-Some.seat = last_of_all (λ s. IsFreshOwner c.in-Ok.table 64 s) c.in-Ok.owners.items c.pop.new.self.items c.in-Some.seat c.in-Some.ensures.items c.in-Ok.ensures.made.2 in
+    let seat : IsFreshOwner c.in-Ok.table 65536 c.in-Some.seat = last_of_all (λ s. IsFreshOwner c.in-Ok.table 65536 s) c.in-Ok.owners.items c.pop.new.self.items c.in-Some.seat c.in-Some.ensures.items c.in-Ok.ensures.made.2 in
     let begins = c.in-Ok-new.ensures.begins in
     let same = c.run_to_end-run.ensures.same in
     let image = same.0 ∙ ap (λ (s : State). s.image) begins in
     let low = same.1 ∙ ap (λ (s : State). s.view.low) begins in
     let high = same.2 ∙ ap (λ (s : State). s.view.high) begins in
-    let share = high ∙ (seat.2 ∙ ap (λ l. l + 64) (sym low)) in
+    let share = high ∙ (seat.2 ∙ ap (λ l. l + 65536) (sym low)) in
     let cover = subst Covered (sym (ap (λ (s : State). s.image) begins)) c.requires in
-    executed (form.image_of c.args.image.now) c.run_to_end-run.new.session c.in_ok-output.output c.run_to_end-run.result c.completed.result image share (c.run_to_end-run.ensures.at tt) (copied ∙ c.output.ensures) c.completed.ensures c.run_to_end-run.ensures.over (c.run_to_end-run.ensures.covered tt cover)
+    executed (Unit {0}) _ (form.image_of c.args.image.now) c.run_to_end-run.new.session c.in_ok-output.output c.run_to_end-run.result c.completed.result image share (c.run_to_end-run.ensures.at tt) (copied ∙ c.output.ensures) c.completed.ensures c.run_to_end-run.ensures.over (c.run_to_end-run.ensures.covered tt tt cover)

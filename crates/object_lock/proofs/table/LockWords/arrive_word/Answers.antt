@@ -1,9 +1,42 @@
 use Rattle.std.proofs.Common.{arith, subst, sym, ap, false}
+use mathlib.Core.Option.{none}
+use Rattle.atomic_table.specs.Table.{step}
 use Rattle.pointer_word.specs.Calls.{Filled}
 use Rattle.object_lock.specs.declared.shape.Shape.{Shape}
+use Rattle.object_lock.specs.Kept.{slot_keeps, slot_has}
 use Rattle.object_lock.proofs.Stored.{stored}
-use Rattle.object_lock.proofs.Mover.{arrives}
+use Rattle.object_lock.proofs.Either.{arrives_any}
+use Rattle.object_lock.proofs.Arrived.{arrives_kept, arrives_notes}
+use Rattle.object_lock.proofs.Exact.{arrives_exactly, arrives_step, brings_exactly, brings_step}
+use Rattle.object_lock.proofs.Asks.{asks_arrive, asks_bring}
 use Rattle.object_lock.proofs.table.LockWords.arrive_word.Goals as goal
 
 pub fetch_add-requires : goal.fetch_add-requires
-fetch_add-requires g c = let sized = c.args.self.now.sized.0 in let keyed = c.args.self.now.keyed in let zo = ap (λ (q : Shape). q.objects) keyed in let zf = ap (λ (q : Shape). q.frames) keyed in let same = c.requires.table.1 in let near = c.requires.hands.0 in let q = c.requires.hands.3 in let filled = subst (λ (q : Shape). Filled _ q.cells c.args.seat.now.me.0.hand) (sym keyed) c.requires.filled in (c.requires.table.0, omega arith, arrives _ _ _ _ false (λ e. cc) (stored _) _ _ _ _ _ _ q.0 c.requires.hands.1 c.requires.hands.2 filled q.1 q.2 c.requires.words)
+fetch_add-requires g c = let sized = c.args.self.now.sized.0 in let keyed = c.args.self.now.keyed in let zo = ap (λ (q : Shape). q.objects) keyed in let zf = ap (λ (q : Shape). q.frames) keyed in let same = c.requires.table.1 in let near = c.requires.hands.0 in let q = c.requires.hands.3 in
+    let filled = subst (λ (q : Shape). Filled _ q.cells c.args.seat.now.me.0.hand) (sym keyed) c.requires.filled in (c.requires.table.0, omega arith, arrives_any _ _ _ _ false (λ e. cc) (stored _) _ _ _ _ c.args.frame _ q.0 c.requires.hands.1 c.requires.hands.2 filled q.1 q.2 c.requires.words)
+
+pub returns-clause-kept : goal.returns-clause-kept
+returns-clause-kept g c = arrives_kept g.S.RawStore.honest (slot_keeps g.S.RawStore.content) slot_has (step 0 c.args.obj c.args.by 0 none) c.args.seat.now.me c.fetch_add.result c.fetch_add.new.seat.me c.args.frame c.requires.hands.2 c.fetch_add.ensures.2
+
+pub returns-clause-notes : goal.returns-clause-notes
+returns-clause-notes g c = arrives_notes g.S.RawStore.honest (slot_keeps g.S.RawStore.content) slot_has (step 0 c.args.obj c.args.by 0 none) c.args.seat.now.me c.fetch_add.result c.fetch_add.new.seat.me c.args.frame c.requires.hands.2 c.fetch_add.ensures.2
+
+pub returns-clause-held : goal.returns-clause-held
+returns-clause-held g c h =
+    let t = arrives_exactly g.S.RawStore.honest (slot_keeps g.S.RawStore.content) slot_has (step 0 c.args.obj c.args.by 0 none) c.args.seat.now.me c.fetch_add.result c.fetch_add.new.seat.me c.args.frame h.0 c.requires.hands.2 (c.fetch_add.ensures.2.0 h) in
+    λ i. (t.0 i, t.1 i)
+
+pub returns-clause-unheld : goal.returns-clause-unheld
+returns-clause-unheld g c h =
+    let t = brings_exactly g.S.RawStore.honest (step 0 c.args.obj c.args.by 0 none) c.args.seat.now.me c.fetch_add.result c.fetch_add.new.seat.me (c.fetch_add.ensures.2.1 h) in
+    λ i. (t.0 i, t.1 i)
+
+pub returns-clause-step : goal.returns-clause-step
+returns-clause-step g c h =
+    let s = arrives_step g.S.RawStore.honest (slot_keeps g.S.RawStore.content) slot_has (step 0 c.args.obj c.args.by 0 none) c.args.seat.now.me c.fetch_add.result c.fetch_add.new.seat.me c.args.frame c.requires.hands.2 (c.fetch_add.ensures.2.0 h) in
+    (s.0, s.1, asks_arrive g.S.RawStore.honest c.args.seat.now.me.0 s.0 s.1.knew c.args.obj c.args.frame h.0 s.1.may, tt)
+
+pub returns-clause-unheld_step : goal.returns-clause-unheld_step
+returns-clause-unheld_step g c h =
+    let s = brings_step g.S.RawStore.honest (step 0 c.args.obj c.args.by 0 none) c.args.seat.now.me c.fetch_add.result c.fetch_add.new.seat.me c.args.frame c.requires.hands.2 (c.fetch_add.ensures.2.1 h) in
+    (s.0, s.1, asks_bring g.S.RawStore.honest c.args.seat.now.me.0 s.0 s.1.knew c.args.obj c.args.frame s.1.may, tt)

@@ -1,9 +1,19 @@
 use Rattle.std.proofs.Common.{arith, subst, sym, ◌≡◌, ◌<◌, ℕ}
 use Rattle.std.specs.Prelude.{Some}
+use mathlib.Core.Option.{none}
+use Rattle.atomic_table.specs.Table.{step}
 use Rattle.pointer_word.specs.Hands.{seen, listed}
 use Rattle.object_lock.specs.declared.shape.Shape.{Shape}
 use Rattle.object_lock.proofs.Mover.{commits}
+use Rattle.object_lock.proofs.Exact.{commits_step}
+use Rattle.object_lock.proofs.Asks.{asks_commit}
 use Rattle.object_lock.proofs.table.LockWords.commit_word.Goals as goal
 
 pub compare_exchange-requires : goal.compare_exchange-requires
-compare_exchange-requires g c = let sized = c.args.self.now.sized.0 in let near = c.requires.hands.0 in let q = c.requires.copied in let keyed = c.args.self.now.keyed in (c.requires.table.0, omega arith, commits _ _ _ _ _ _ _ _ _ q.0 q.1 c.requires.hands.1 c.requires.hands.2 q.2 q.3 (subst (λ (y : Shape). (i : ℕ) → i < y.cells → seen c.args.seat.now.me.0.hand.copied i ≡ Some (listed q.1 i)) (sym keyed) q.4) c.requires.words)
+compare_exchange-requires g c = let sized = c.args.self.now.sized.0 in let near = c.requires.hands.0 in let q = c.requires.copied in let keyed = c.args.self.now.keyed in
+    (c.requires.table.0, omega arith, commits _ _ _ _ _ _ _ _ _ q.0 q.1 c.requires.hands.1 c.requires.hands.2.1 q.2 q.3 (subst (λ (y : Shape). (i : ℕ) → i < y.cells → seen c.args.seat.now.me.0.hand.copied i ≡ Some (listed q.1 i)) (sym keyed) q.4) c.requires.words)
+
+pub returns-clause-step : goal.returns-clause-step
+returns-clause-step g c =
+    let t = commits_step g.S.RawStore.honest (step 0 c.args.obj c.args.old 0 none) c.args.seat.now.me c.compare_exchange.result c.compare_exchange.new.seat.me c.compare_exchange.ensures.2 in
+    (t.0, t.1, asks_commit g.S.RawStore.honest c.args.seat.now.me.0 t.0 t.1.knew c.args.obj c.args.seat.now.me.0.hand.source c.requires.hands.2.0 t.1.may, t.2)

@@ -1,8 +1,36 @@
 use Rattle.std.proofs.Common.{sym, ap, ◌∙◌}
-use Rattle.object_lock.specs.declared.shape.Shape.{Shape}
+use mathlib.Core.Option.{none}
+use Rattle.std.specs.Prelude.{Some}
+use Rattle.atomic_table.specs.Table.{step}
 use Rattle.object_lock.specs.Seats.{Sizes, frame_word}
-use Rattle.object_lock.proofs.Frames.{releases}
+use Rattle.object_lock.proofs.Frames.{gives_up}
+use Rattle.object_lock.proofs.Exact.{frame_is, unclaims_exactly, unclaims_step, releases_exactly, releases_step}
+use Rattle.object_lock.proofs.Asks.{asks_unclaim, asks_release}
 use Rattle.object_lock.proofs.table.LockWords.release_word.Goals as goal
 
 pub store-requires : goal.store-requires
-store-requires g c = let sized = c.args.self.now.sized.0 in let keyed = c.args.self.now.keyed in let zo = ap (λ (q : Shape). q.objects) keyed in let zf = ap (λ (q : Shape). q.frames) keyed in let same = c.requires.table.1 in let at = c.frame_at-word.ensures.at ∙ ap (λ (q : Sizes). frame_word q c.args.frame) (sym same) in (c.requires.table.0, c.frame_at-word.ensures.inside, releases _ _ _ _ _ _ _ _ c.args.frame at c.requires.low.1)
+store-requires g c = let same = c.requires.table.1 in let at = c.frame_at-word.ensures.at ∙ ap (λ (q : Sizes). frame_word q c.args.frame) (sym same) in (c.requires.table.0, c.frame_at-word.ensures.inside, gives_up _ _ _ _ _ _ _ _ c.args.frame at c.requires.hands)
+
+pub returns-clause-unclaimed : goal.returns-clause-unclaimed
+returns-clause-unclaimed g c e =
+    let v = c.args.seat.now.me.0 in let at = c.frame_at-word.ensures.at ∙ ap (λ (q : Sizes). frame_word q c.args.frame) (sym c.requires.table.1) in
+    let t = unclaims_exactly g.S.RawStore.honest (step 0 c.frame_at-word.result 0 0 none) c.args.seat.now.me 0 c.store.new.seat.me (c.store.ensures.2.0 (e ∙ ap Some (sym (frame_is v c.frame_at-word.result c.args.frame at)))) in
+    λ i. (t.0 i, t.1 i)
+
+pub returns-clause-released : goal.returns-clause-released
+returns-clause-released g c e =
+    let v = c.args.seat.now.me.0 in let at = c.frame_at-word.ensures.at ∙ ap (λ (q : Sizes). frame_word q c.args.frame) (sym c.requires.table.1) in
+    let t = releases_exactly g.S.RawStore.honest (step 0 c.frame_at-word.result 0 0 none) c.args.seat.now.me 0 c.store.new.seat.me (c.store.ensures.2.1 (e ∙ ap Some (sym (frame_is v c.frame_at-word.result c.args.frame at)))) in
+    λ i. (t.0 i, t.1 i)
+
+pub returns-clause-unclaim_step : goal.returns-clause-unclaim_step
+returns-clause-unclaim_step g c e =
+    let v = c.args.seat.now.me.0 in let at = c.frame_at-word.ensures.at ∙ ap (λ (q : Sizes). frame_word q c.args.frame) (sym c.requires.table.1) in
+    let t = unclaims_step g.S.RawStore.honest (step 0 c.frame_at-word.result 0 0 none) c.args.seat.now.me 0 c.store.new.seat.me c.args.frame at (c.store.ensures.2.0 (e ∙ ap Some (sym (frame_is v c.frame_at-word.result c.args.frame at)))) in
+    (t.0, t.1, asks_unclaim g.S.RawStore.honest v t.0 t.1.knew c.args.frame t.1.may, tt)
+
+pub returns-clause-step : goal.returns-clause-step
+returns-clause-step g c e =
+    let v = c.args.seat.now.me.0 in let at = c.frame_at-word.ensures.at ∙ ap (λ (q : Sizes). frame_word q c.args.frame) (sym c.requires.table.1) in
+    let t = releases_step g.S.RawStore.honest (step 0 c.frame_at-word.result 0 0 none) c.args.seat.now.me 0 c.store.new.seat.me c.args.frame at (c.store.ensures.2.1 (e ∙ ap Some (sym (frame_is v c.frame_at-word.result c.args.frame at)))) in
+    (t.0, t.1, asks_release g.S.RawStore.honest v t.0 t.1.knew c.args.frame t.1.may, tt)

@@ -5,29 +5,29 @@ use Rattle.atomic_table.specs.Table.{Me}
 use Rattle.remote_store.specs.declared.berth.Berth.{Berth}
 use Rattle.object_lock.specs.Seats.{View}
 use Rattle.pointer_word.specs.Calls.{Arrives}
-use Rattle.object_lock.specs.Plays.{Steps}
+use Rattle.object_lock.specs.Plays.{Steps, Holds, IsUnheld}
 use Rattle.object_lock.specs.Kept.{slot_keeps}
 use Rattle.object_lock.specs.SeatViews.{TableView, SeatView}
 use Rattle.object_lock.proofs.Answered.{keeps_promised, put_back, filled_at}
 use Rattle.object_lock.proofs.table.ObjectTable.arrive.Goals as goal
 
-pub arrive_own_word-requires-clause-hands : goal.arrive_own_word-requires-clause-hands
-arrive_own_word-requires-clause-hands g c κs within =
+pub arrive_word-requires-clause-hands : goal.arrive_word-requires-clause-hands
+arrive_word-requires-clause-hands g c κs within =
     let e : c.mover.inside.seat.me.0 ≡ c.args.mover.now.view = ap (λ (h : SeatView g.row.S-Cell.Denot). h.view) c.mover.view_is in
     let x = c.exchange.ensures.3 in
     let d : c.exchange.new.seat.me.0 ≡ c.mover.inside.seat.me.0 = ap (λ (m : Me (Option (Berth g.row.S-Cell.Denot)) View). m.0) x in
     let bring : c.mover.inside.seat.me.0.hand.bringing ≡ Some c.args.obj = ap (λ (v : View). v.hand.bringing) e ∙ c.requires.hands.0 in
-    let kept = keeps_promised g.S.RawStore.content c.args.obj _ _ _ c.mover.inside.seat.me.0 c.mover.inside.seat.me.1 c.mover.inside.brought c.mover.inside.taken bring c.mover.invariant in
+    let kept = keeps_promised g.S.RawStore.content c.args.obj _ _ _ _ c.mover.inside.seat.me.0 c.mover.inside.seat.me.1 c.mover.inside.brought c.mover.inside.taken bring c.mover.invariant in
     let got : Path (Option (Berth g.row.S-Cell.Denot)) c.take-berth.result c.mover.inside.brought = c.take-berth.ensures.value in
-    let os = ap (λ (t : TableView). t.sizes.objects) c.self.view_is in let own = c.requires.hold.0.1 in let within = c.requires.table.2 in (
+    let os = ap (λ (t : TableView). t.sizes.objects) c.self.view_is in let near = c.requires.low.0 in (
       omega arith,
       ap (λ (v : View). v.hand.bringing) d ∙ bring,
       ap (λ (v : View). v.hand.claimed) (d ∙ e) ∙ c.requires.hands.1,
       put_back g.S.RawStore.content c.args.obj c.exchange.new.seat.me c.mover.inside.seat.me.0 _ c.take-berth.result x (subst (λ (b : Option (Berth g.row.S-Cell.Denot)). slot_keeps g.S.RawStore.content b c.args.obj c.mover.inside.seat.me.0.hand.promised) (sym got) kept),
     )
 
-pub arrive_own_word-requires-clause-filled : goal.arrive_own_word-requires-clause-filled
-arrive_own_word-requires-clause-filled g c κs within =
+pub arrive_word-requires-clause-filled : goal.arrive_word-requires-clause-filled
+arrive_word-requires-clause-filled g c κs within =
     let e : c.mover.inside.seat.me.0 ≡ c.args.mover.now.view = ap (λ (h : SeatView g.row.S-Cell.Denot). h.view) c.mover.view_is in
     let d : c.exchange.new.seat.me.0 ≡ c.mover.inside.seat.me.0 = ap (λ (m : Me (Option (Berth g.row.S-Cell.Denot)) View). m.0) c.exchange.ensures.3 in
     filled_at g.S.RawStore.honest _ _ _ _ (ap (λ (t : TableView). t.sizes.cells) c.self.view_is) (ap (λ (v : View). v.hand) (d ∙ e)) c.requires.filled
@@ -36,4 +36,10 @@ pub returns-clause-step : goal.returns-clause-step
 returns-clause-step g c =
     let e : c.mover.inside.seat.me.0 ≡ c.args.mover.now.view = ap (λ (h : SeatView g.row.S-Cell.Denot). h.view) c.mover.view_is in
     let d : c.exchange.new.seat.me.0 ≡ c.mover.inside.seat.me.0 = ap (λ (m : Me (Option (Berth g.row.S-Cell.Denot)) View). m.0) c.exchange.ensures.3 in
-    subst (λ (v : View). Steps g.S.RawStore.honest (Arrives v.number c.args.obj c.args.frame false true) v c.arrive_own_word.new.seat.me.0 (λ _. Unit {0})) (d ∙ e) c.arrive_own_word.ensures.step
+    subst (λ (v : View). Holds v c.args.obj → Steps g.S.RawStore.honest (Arrives v.number c.args.obj c.args.frame false true) v c.arrive_word.new.seat.me.0 (λ _. Unit {0})) (d ∙ e) c.arrive_word.ensures.step
+
+pub returns-clause-unheld_step : goal.returns-clause-unheld_step
+returns-clause-unheld_step g c =
+    let e : c.mover.inside.seat.me.0 ≡ c.args.mover.now.view = ap (λ (h : SeatView g.row.S-Cell.Denot). h.view) c.mover.view_is in
+    let d : c.exchange.new.seat.me.0 ≡ c.mover.inside.seat.me.0 = ap (λ (m : Me (Option (Berth g.row.S-Cell.Denot)) View). m.0) c.exchange.ensures.3 in
+    subst (λ (v : View). IsUnheld v c.args.obj → Steps g.S.RawStore.honest (Arrives v.number c.args.obj c.args.frame false false) v c.arrive_word.new.seat.me.0 (λ _. Unit {0})) (d ∙ e) c.arrive_word.ensures.unheld_step

@@ -1,0 +1,108 @@
+//! How an object is moved out of a frame, to make room for another.
+ghost use Rattle.std.specs.Prelude.{◌≡◌, ◌<◌, ℕ, None, Some, MatchResult, length};
+ghost use Rattle.executor.specs.Taken.{CopiesOnly, HandOnly, HasOnly, MovesOut, Refused, StillBrings, BringsSame};
+ghost use Rattle.object_lock.specs.SeatViews.{IsSeat};
+ghost use Rattle.object_lock.specs.Seats.{Owns};
+ghost use Rattle.object_lock.specs.Telling.{HasPut};
+ghost use Rattle.pointer_word.specs.Ordered.{IsCopied};
+ghost use Rattle.remote_store.specs.Kept.{piece_cells};
+
+use object_lock::{ObjectTable, OwnerSeat};
+use remote_store::{Failed, PIECE_CELLS, RawStore};
+
+/// The cells of the frame, which the owner has marked.
+fn copy<S: RawStore>(
+    table: &ObjectTable<S>,
+    owner: &mut OwnerSeat<S>,
+    obj: usize,
+    frame: usize,
+) -> [u64; PIECE_CELLS]
+    requires table { IsSeat table.now owner.old }
+    requires low { frame < table.now.sizes.frames }
+    requires hands { MovesOut obj frame owner.old.view.hand }
+    ensures table { IsSeat table.now owner.new }
+    ensures same { CopiesOnly owner.old owner.new }
+    ensures length { length result ≡ PIECE_CELLS }
+    ensures copied { IsCopied owner.new.view.hand result piece_cells }
+{
+    let _ = obj;
+    let mut words = [0; PIECE_CELLS];
+    for i in 0..PIECE_CELLS {
+        words[i] = table.copy_word(owner, frame, i);
+    }
+    words
+}
+
+/// Lets the object go whose cells were put into its berth: it leaves the frame, which is free then, or stays where it has changed
+/// since it was marked.
+fn let_go<S: RawStore>(table: &ObjectTable<S>, owner: &mut OwnerSeat<S>, obj: usize, frame: usize)
+    requires table { IsSeat table.now owner.old }
+    requires low { (obj < table.now.sizes.objects) × (frame < table.now.sizes.frames) }
+    requires hands { MovesOut obj frame owner.old.view.hand }
+    requires put { HasPut S.content table.now.sizes.cells obj owner.old }
+    ensures table { IsSeat table.now owner.new }
+    ensures same { HandOnly owner.old owner.new }
+    ensures brings { StillBrings owner.old.view.hand owner.new.view.hand }
+    ensures refusals { owner.new.refusals ≡ owner.old.refusals }
+{
+    if table.try_commit(owner, obj) {
+        table.release(owner, frame);
+    } else {
+        table.abort(owner, obj);
+    }
+}
+
+/// Moves the object, which the owner has marked, out of the frame, or leaves it there where it has changed since. `Err` where the
+/// store failed: then it stays.
+fn move_out<S: RawStore>(
+    table: &ObjectTable<S>,
+    owner: &mut OwnerSeat<S>,
+    obj: usize,
+    frame: usize,
+) -> Result<(), Failed>
+    requires table { IsSeat table.now owner.old }
+    requires low { (obj < table.now.sizes.objects) × (frame < table.now.sizes.frames) }
+    requires hands { MovesOut obj frame owner.old.view.hand }
+    ensures table { IsSeat table.now owner.new }
+    ensures same { HandOnly owner.old owner.new }
+    ensures brings { StillBrings owner.old.view.hand owner.new.view.hand }
+    ensures told { MatchResult result (λ _. owner.new.refusals ≡ owner.old.refusals) (λ _. Refused S.reliable owner.old.refusals owner.new.refusals) }
+{
+    let words = copy(table, owner, obj, frame);
+    match owner.put(obj, &words) {
+        Ok(()) => {
+            let_go(table, owner, obj, frame);
+            Ok(())
+        }
+        Err(failed) => {
+            table.abort(owner, obj);
+            Err(failed)
+        }
+    }
+}
+
+/// Looks once at each frame, and moves out the first object there that it can mark. `Err` where the store failed.
+pub(crate) fn make_room<S: RawStore>(
+    table: &ObjectTable<S>,
+    owner: &mut OwnerSeat<S>,
+    obj: usize,
+) -> Result<(), Failed>
+    requires table { IsSeat table.now owner.old }
+    requires own { Owns owner.old.view obj }
+    requires hands { HasOnly obj owner.old.view }
+    ensures table { IsSeat table.now owner.new }
+    ensures same { HandOnly owner.old owner.new }
+    ensures brings { StillBrings owner.old.view.hand owner.new.view.hand }
+    ensures told { MatchResult result (λ _. owner.new.refusals ≡ owner.old.refusals) (λ _. Refused S.reliable owner.old.refusals owner.new.refusals) }
+{
+    let _ = obj;
+    for frame in 0..table.frames() {
+        let Some(victim) = table.look(owner, frame) else {
+            return Ok(());
+        };
+        if table.try_mark(owner, victim, frame) {
+            return move_out(table, owner, victim, frame);
+        }
+    }
+    Ok(())
+}

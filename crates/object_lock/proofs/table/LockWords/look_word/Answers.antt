@@ -1,0 +1,12 @@
+use Rattle.std.proofs.Common.{sym, ap, ◌∙◌, arith}
+use Rattle.object_lock.specs.Seats.{Sizes, frame_word}
+use Rattle.object_lock.proofs.Frames.{looks}
+use Rattle.object_lock.proofs.Exact.{look_is}
+use Rattle.object_lock.proofs.table.LockWords.look_word.Goals as goal
+
+pub load-requires : goal.load-requires
+load-requires g c = let same = c.requires.table.1 in let at = c.frame_at-word.ensures.at ∙ ap (λ (q : Sizes). frame_word q c.args.frame) (sym same) in let fs = ap (λ (q : Sizes). q.frames) same in let l = c.requires.low in
+    (c.requires.table.0, c.frame_at-word.ensures.inside, looks _ _ _ _ _ _ _ _ c.args.frame at (omega arith))
+
+pub returns-clause-look : goal.returns-clause-look
+returns-clause-look g c = let same = c.requires.table.1 in look_is g.S.RawStore.honest c.args.seat.now.me.0 c.frame_at-word.result c.args.frame c.load.result (c.frame_at-word.ensures.at ∙ ap (λ (q : Sizes). frame_word q c.args.frame) (sym same)) c.load.ensures.2.3
