@@ -1,0 +1,10 @@
+pub mod Basics
+pub mod Types
+pub mod Turns
+pub mod Complete
+pub mod Sound
+pub mod Begins
+pub mod CompleteStatements
+pub mod SoundStatements
+pub mod CompletePrograms
+pub mod SoundPrograms

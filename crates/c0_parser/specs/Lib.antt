@@ -1,0 +1,4 @@
+pub mod Outcome
+pub mod ReadExpressions
+pub mod ReadStatements
+pub mod ReadPrograms
