@@ -8,3 +8,6 @@ pub mod CompleteStatements
 pub mod SoundStatements
 pub mod CompletePrograms
 pub mod SoundPrograms
+pub mod Cursors
+pub mod Turned
+pub mod Stepped

@@ -2,3 +2,5 @@ pub mod Outcome
 pub mod ReadExpressions
 pub mod ReadStatements
 pub mod ReadPrograms
+pub mod Tokens
+pub mod Found

@@ -38,6 +38,10 @@ pointer_to t = record { value_type = Pointer t.value_type; height = suc t.height
 abbrev pub array_of : ReadType → List Terminal → ReadType
 array_of t rest = record { value_type = Array t.value_type; height = suc t.height; rest = rest }
 
+-- the type with the `[]` whose `[` stands behind it
+abbrev pub array_behind : ReadType → Outcome ReadType
+array_behind t = rbracket (next t.rest) >>= λ rest. Ok (array_of t rest)
+
 -- one more `*` or `[]`, where the type may have this many levels
 abbrev pub suffix_by : ℕ → (ReadType → Outcome ReadType) → Kind → ReadType → Outcome ReadType
 suffix_by limit go_on (k.Infix o.Multiply) t = if nat_lt t.height limit then go_on (pointer_to t) else too_deep t.rest

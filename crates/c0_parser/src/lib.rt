@@ -1,4 +1,8 @@
 // From the tokens of a text to its tree.
 #![tactic(auto)]
 
-pub mod read_error;
+mod cursor;
+mod found;
+mod letters;
+mod read_error;
+mod type_names;
