@@ -3,12 +3,12 @@ use Rattle.std.proofs.Common.{◌≡◌, ◌≤◌, ◌<◌, ◌+◌, ℕ, zero,
 use Rattle.std.specs.Str.{bytes_eq}
 use Rattle.c0_source.specs.declared.kind.Kind.{Kind}
 use Rattle.c0_source.specs.declared.kind.Kind.TheVariants as k
-use Rattle.c0_source.specs.Terminals.{Terminal, terminal_by, terminals, use_terminal}
-use Rattle.c0_source.specs.Spelling.{use_of}
+use Rattle.c0_source.specs.Terminals.{Terminal, terminal_by, terminals, or_empty, use_terminal}
+use Rattle.c0_source.specs.Spelling.{text_value, use_of}
 use Rattle.c0_lexer.specs.declared.token.Token.{Token}
 use Rattle.c0_lexer.specs.Lexed.{lexeme}
 use Rattle.c0_syntax.specs.Expressions.{is_type_name}
-use Rattle.c0_parser.specs.Outcome.{plain_at}
+use Rattle.c0_parser.specs.Outcome.{bytes_at, plain_at}
 use Rattle.c0_parser.specs.Tokens.{last_first}
 
 kind_of_use : (o : Option (Bool × List ℕ)) (rest : List Terminal) → plain_at (use_terminal o ∷ rest) ≡ k.Use
@@ -23,6 +23,17 @@ kind_of_terminal _ text rest h = refl
 pub peek_first : (ts : List Token) (d : Token) → 1 ≤ length ts → ((get_or ts 0 d).kind ≡ k.TypeName → ⊥) → (get_or ts 0 d).kind ≡ plain_at (terminals (map lexeme ts))
 peek_first [] d le h = absurd (omega arith)
 peek_first (t ∷ ts) d le h = sym (kind_of_terminal t.kind t.text.now (terminals (map lexeme ts)) h)
+
+-- the bytes of a text that stands next
+text_of_terminal : (kind : Kind) (text : List ℕ) (rest : List Terminal) → plain_at (terminal_by kind text ∷ rest) ≡ k.Text → bytes_at (terminal_by kind text ∷ rest) ≡ or_empty (text_value false (drop 1 text))
+text_of_terminal k.Text text rest e = refl
+text_of_terminal k.Name text rest e = absurd (cc e)
+text_of_terminal k.Use text rest e = let u = kind_of_use (use_of (drop 1 text)) rest in absurd (cc (sym u ∙ e))
+text_of_terminal _ text rest e = absurd (cc e)
+
+pub text_first : (ts : List Token) (d : Token) (us : List Terminal) → 1 ≤ length ts → terminals (map lexeme ts) ≡ us → plain_at us ≡ k.Text → bytes_at us ≡ or_empty (text_value false (drop 1 (get_or ts 0 d).text.now))
+text_first [] d us le seen e = absurd (omega arith)
+text_first (t ∷ ts) d us le seen e = sym (ap bytes_at seen) ∙ text_of_terminal t.kind t.text.now (terminals (map lexeme ts)) (ap plain_at seen ∙ e)
 
 -- ---- names of types
 

@@ -11,3 +11,5 @@ pub mod SoundPrograms
 pub mod Cursors
 pub mod Turned
 pub mod Stepped
+pub mod TextValues
+pub mod ExpressionLoops

@@ -1,5 +1,6 @@
 -- What is asked of tokens, and the names of types.
-use Rattle.std.specs.Prelude.{ℕ, ◌+◌, ◌<◌, ◌≤◌, List, [], ◌∷◌, length, All}
+use Rattle.std.specs.Prelude.{ℕ, ◌+◌, ◌<◌, ◌≤◌, Bool, true, false, if◌then◌else◌, List, [], ◌∷◌, ◌++◌, length, All, Option, Some, None, option_map}
+use Rattle.c0_source.specs.Bytes.{escape, is_printable}
 use Rattle.c0_source.specs.Spelling.{Lexeme}
 
 -- a token of a text: its bytes are below 128, and it ends at most at the place where the longest text does
@@ -16,3 +17,8 @@ AreTokens (t ∷ ts) = IsToken t × AreTokens ts
 abbrev pub last_first : List (List ℕ) → List (List ℕ) → List (List ℕ)
 last_first before [] = before
 last_first before (x ∷ xs) = last_first (x ∷ before) xs
+
+-- the byte of a text that a byte stands for, behind `\` or not
+abbrev pub byte_value : Bool → ℕ → Option ℕ
+byte_value true b = escape b
+byte_value false b = if is_printable b then Some b else None

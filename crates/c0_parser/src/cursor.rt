@@ -1,14 +1,16 @@
 // Tokens that are still to be read.
 
-ghost use Rattle.std.specs.Prelude.{◌≡◌, ◌<◌, length, map, All};
+ghost use Rattle.std.specs.Prelude.{◌≡◌, ◌<◌, false, drop, length, map, All, MatchResult};
 ghost use Rattle.c0_source.specs.declared.kind.Kind.TheVariants as k;
-ghost use Rattle.c0_source.specs.Terminals.{terminals};
+ghost use Rattle.std.specs.String.{string_bytes};
+ghost use Rattle.c0_source.specs.Terminals.{or_empty, terminals};
+ghost use Rattle.c0_source.specs.Spelling.{text_value as spec_text_value};
 ghost use Rattle.c0_lexer.specs.Lexed.{lexeme};
 ghost use Rattle.c0_syntax.specs.Views.{name_of};
 ghost use Rattle.c0_parser.specs.Tokens.{AreTokens};
 ghost use Rattle.c0_parser.specs.Outcome.{Gives, any_name, bytes_at, colon, comma, kind_at, lparen, new_name, next, plain_at, rbracket, rparen, semi};
 
-use crate::letters::letters;
+use crate::letters::{letters, tail, text_value};
 use crate::read_error::ReadError;
 use crate::type_names::TypeNames;
 use c0_lexer::token::Token;
@@ -17,6 +19,7 @@ use c0_source::kind::Kind;
 use c0_syntax::name::Name;
 use std::alloc::Global;
 use std::marker::Model;
+
 
 mod value_types;
 
@@ -69,6 +72,7 @@ impl<'a> Cursor<'a> {
     /// The letters of the next token, if that is a name.
     fn letters(&self) -> &'a [u8]
         ensures letters { plain_at self.now ≡ k.Name → result.now ≡ bytes_at self.now }
+        ensures text { plain_at self.now ≡ k.Text → bytes_at self.now ≡ or_empty (spec_text_value false (drop 1 result.now)) }
         ensures ascii { All (λ b. b < 128) result.now }
     {
         match self.tokens {
@@ -162,6 +166,54 @@ impl<'a> Cursor<'a> {
         }
     }
 
+    fn rparen(&mut self) -> Result<(), ReadError>
+        ensures { Gives (λ _. self.new) result (rparen self.old) }
+    {
+        match self.peek() {
+            Kind::RParen => {
+                self.advance();
+                Ok(())
+            }
+            _ => Err(self.syntax()),
+        }
+    }
+
+    fn comma(&mut self) -> Result<(), ReadError>
+        ensures { Gives (λ _. self.new) result (comma self.old) }
+    {
+        match self.peek() {
+            Kind::Comma => {
+                self.advance();
+                Ok(())
+            }
+            _ => Err(self.syntax()),
+        }
+    }
+
+    fn colon(&mut self) -> Result<(), ReadError>
+        ensures { Gives (λ _. self.new) result (colon self.old) }
+    {
+        match self.peek() {
+            Kind::Colon => {
+                self.advance();
+                Ok(())
+            }
+            _ => Err(self.syntax()),
+        }
+    }
+
+    fn semi(&mut self) -> Result<(), ReadError>
+        ensures { Gives (λ _. self.new) result (semi self.old) }
+    {
+        match self.peek() {
+            Kind::Semi => {
+                self.advance();
+                Ok(())
+            }
+            _ => Err(self.syntax()),
+        }
+    }
+
     /// The name that the next token is.
     fn take_name(&mut self) -> Result<Name, ReadError>
         requires { plain_at self.old ≡ k.Name }
@@ -183,6 +235,27 @@ impl<'a> Cursor<'a> {
         match self.peek() {
             Kind::Name => self.take_name(),
             _ => Err(self.syntax()),
+        }
+    }
+
+    /// A name, which may be none of these names of types.
+    fn new_name(&mut self, types: &TypeNames<'_>) -> Result<Name, ReadError>
+        ensures { Gives (λ x. record { value = name_of x; rest = self.new }) result (new_name types.now self.old) }
+    {
+        match self.peek_among(types) {
+            Kind::Name => self.take_name(),
+            _ => Err(self.syntax()),
+        }
+    }
+
+    /// The value of the text that the next token is.
+    fn text(&self) -> Result<String, ReadError>
+        requires { plain_at self.now ≡ k.Text }
+        ensures { MatchResult result (λ text. string_bytes text ≡ bytes_at self.now) (λ e. e ≡ ReadError.OutOfMemory) }
+    {
+        match text_value(self.alloc, tail(self.letters()))? {
+            Some(text) => Ok(text),
+            None => Ok(String::new(self.alloc)),
         }
     }
 }

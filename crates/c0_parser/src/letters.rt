@@ -1,7 +1,10 @@
 // The letters of names and the values of texts.
 
-ghost use Rattle.std.specs.Prelude.{◌≡◌, ◌<◌, ◌++◌, ◌∷◌, [], All, IfOk};
+ghost use Rattle.std.specs.Prelude.{◌≡◌, ◌<◌, ◌++◌, ◌∷◌, [], false, drop, All, IfOk, IfSome, option_map};
 ghost use Rattle.std.specs.String.{string_bytes};
+ghost use Rattle.c0_source.specs.Bytes as bytes;
+ghost use Rattle.c0_source.specs.Spelling.{text_value as spec_text_value};
+ghost use Rattle.c0_parser.specs.Tokens.{byte_value as spec_byte_value};
 
 use std::alloc::{AllocError, Global};
 
@@ -22,4 +25,71 @@ pub(crate) fn letters(alloc: Global, bytes: &[u8]) -> Result<String, AllocError>
         push_byte(&mut text, *byte)?;
     }
     Ok(text)
+}
+
+/// What stands for a byte behind `\`.
+fn escape(byte: u8) -> Option<u8>
+    ensures value { result ≡ bytes.escape byte }
+    ensures small { IfSome result (λ b. b < 128) }
+{
+    match byte {
+        b'n' => Some(b'\n'),
+        b't' => Some(b'\t'),
+        b'v' => Some(11),
+        b'b' => Some(8),
+        b'r' => Some(b'\r'),
+        b'f' => Some(12),
+        b'a' => Some(7),
+        b'\\' | b'\'' | b'"' => Some(byte),
+        _ => None,
+    }
+}
+
+/// The byte of a text that a byte stands for, behind `\` or not.
+fn byte_value(escaped: bool, byte: u8) -> Option<u8>
+    ensures value { result ≡ spec_byte_value escaped byte }
+    ensures small { IfSome result (λ b. b < 128) }
+{
+    if escaped {
+        escape(byte)
+    } else if 32 <= byte && byte <= 126 {
+        Some(byte)
+    } else {
+        None
+    }
+}
+
+/// The value of a text, of which this stands behind the opening quote; none where it is no text.
+pub(crate) fn text_value(alloc: Global, bytes: &[u8]) -> Result<Option<String>, AllocError>
+    ensures { IfOk result (λ value. option_map string_bytes value ≡ spec_text_value false bytes.entry.now) }
+{
+    let mut rest = bytes;
+    let mut text = String::new(alloc);
+    let mut escaped = false;
+    while let [byte, others @ ..] = rest {
+        if !escaped && *byte == b'"' {
+            return if others.is_empty() { Ok(Some(text)) } else { Ok(None) };
+        }
+        if !escaped && *byte == b'\\' {
+            escaped = true;
+        } else {
+            let Some(value) = byte_value(escaped, *byte) else {
+                return Ok(None);
+            };
+            push_byte(&mut text, value)?;
+            escaped = false;
+        }
+        rest = others;
+    }
+    Ok(None)
+}
+
+/// The bytes behind the first one.
+pub(crate) fn tail(bytes: &[u8]) -> &[u8]
+    ensures { result.now ≡ drop 1 bytes.now }
+{
+    match bytes {
+        [] => bytes,
+        [_, rest @ ..] => rest,
+    }
 }
