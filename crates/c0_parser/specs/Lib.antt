@@ -4,3 +4,4 @@ pub mod ReadStatements
 pub mod ReadPrograms
 pub mod Tokens
 pub mod Found
+pub mod Laws

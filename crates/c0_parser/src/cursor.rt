@@ -20,7 +20,6 @@ use c0_syntax::name::Name;
 use std::alloc::Global;
 use std::marker::Model;
 
-
 mod value_types;
 
 /// The tokens that are left, and where the one before them ends.

@@ -68,7 +68,11 @@ pub(crate) fn text_value(alloc: Global, bytes: &[u8]) -> Result<Option<String>, 
     let mut escaped = false;
     while let [byte, others @ ..] = rest {
         if !escaped && *byte == b'"' {
-            return if others.is_empty() { Ok(Some(text)) } else { Ok(None) };
+            return if others.is_empty() {
+                Ok(Some(text))
+            } else {
+                Ok(None)
+            };
         }
         if !escaped && *byte == b'\\' {
             escaped = true;

@@ -3,6 +3,7 @@
 
 mod cursor;
 mod found;
+pub mod laws;
 mod letters;
 mod read_error;
 mod type_names;
