@@ -1,0 +1,15 @@
+pub mod Basics
+pub mod Types
+pub mod Turns
+pub mod Complete
+pub mod Sound
+pub mod Begins
+pub mod CompleteStatements
+pub mod SoundStatements
+pub mod CompletePrograms
+pub mod SoundPrograms
+pub mod Cursors
+pub mod Turned
+pub mod Stepped
+pub mod TextValues
+pub mod ExpressionLoops

@@ -1,0 +1,7 @@
+pub mod Outcome
+pub mod ReadExpressions
+pub mod ReadStatements
+pub mod ReadPrograms
+pub mod Tokens
+pub mod Found
+pub mod Laws

@@ -1,0 +1,13 @@
+// What holds of all tokens: each function computes nothing, and its contract is the law.
+
+ghost use Rattle.c0_parser.specs.Laws.{OneProgram, ReadsExactly};
+
+/// No tokens read as two programs.
+pub fn one_program()
+    ensures { OneProgram }
+{}
+
+/// What reading from left to right gives is what the tokens read as, and where it meets a fault they read as nothing.
+pub fn reads_exactly()
+    ensures { ReadsExactly }
+{}
