@@ -1,0 +1,4 @@
+pub mod Programs
+pub mod Turns
+pub mod Worlds
+pub mod Rows
