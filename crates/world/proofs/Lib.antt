@@ -1,1 +1,4 @@
 pub mod Schedules
+pub mod Calling
+pub mod Moving
+pub mod Programs

@@ -1,4 +1,5 @@
 pub mod Programs
 pub mod Turns
 pub mod Worlds
+pub mod InHand
 pub mod Rows
