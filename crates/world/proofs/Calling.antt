@@ -7,28 +7,9 @@ use Rattle.pointer_word.specs.Machine.{Far, Never, Kept, Unknown, content, conte
 use Rattle.pointer_word.specs.Calls.{Call, Opens, Closes, Clears, Stores, Begins, Claims, Fills, Arrives, Unclaims, Retreats, Marks, Copies, Puts, Commits, Aborts, Leaves, Releases, May, IsPut, Copied, told_where, begin_at, mark_at, commit_at, leave_at, act}
 use Rattle.pointer_word.specs.Sound.{Inv}
 use Rattle.world.specs.Programs.{Eviction, Copying, Stored, NotStored, Refused, Freed, Mode, Ready, Missing, Bringing, Reading, Filling, Evicting, Releasing, Retreating, Closing, Wanted}
+use Rattle.world.specs.Steps.{maker}
 use Rattle.world.specs.InHand.{WasPut, FitsEviction, FitsMode, FitsEvacuator}
 use Rattle.pointer_word.proofs.Upd.{upd-same, upd-other, upd_kept}
-
--- the mover of a call; none of an owner's
-abbrev pub maker : Call → Option ℕ
-maker (Opens o) = None
-maker (Closes o) = None
-maker (Clears o) = None
-maker (Stores o f i v) = None
-maker (Begins m o c own) = Some m
-maker (Claims m o f) = Some m
-maker (Fills m f i v) = Some m
-maker (Arrives m o f k own) = Some m
-maker (Unclaims m f) = Some m
-maker (Retreats m o) = Some m
-maker (Marks m o f) = Some m
-maker (Copies m f i) = Some m
-maker (Puts m o x) = Some m
-maker (Commits m o f) = Some m
-maker (Aborts m o f) = Some m
-maker (Leaves m o f) = Some m
-maker (Releases m f) = Some m
 
 -- the mover m has x in hand, and the store cells are as before
 pub record After (m : ℕ) (s t : State) (x : Hand) : Type 0 where

@@ -2,3 +2,4 @@ pub mod Schedules
 pub mod Calling
 pub mod Moving
 pub mod Programs
+pub mod Stepping

@@ -14,13 +14,9 @@ use Rattle.pointer_word.proofs.Legal.{legal_may}
 use Rattle.pointer_word.proofs.Ordered.{copied_one}
 use Rattle.world.specs.Programs.{Eviction, Copying, Stored, NotStored, Refused, Freed}
 use Rattle.world.specs.Turns.{Answer, Turn, NotEnabled, Alone, Calls, put_of, put_so, committed_so, evicts}
+use Rattle.world.specs.Steps.{maker, or_self}
 use Rattle.world.specs.InHand.{MovesOut, FitsEviction}
-use Rattle.world.proofs.Calling.{maker, commits, copies, aborts, releases}
-
--- the mover of a call, or m where it is an owner's
-abbrev pub or_self : Option ℕ → ℕ → ℕ
-or_self None m = m
-or_self (Some j) m = j
+use Rattle.world.proofs.Calling.{commits, copies, aborts, releases}
 
 -- what an actor's mode and hand say of its call: a mover's may be made; of those that ask for a hold the rest is the machine's own test
 abbrev pub Granted : Type 0 → ℕ → State → Call → Type 0

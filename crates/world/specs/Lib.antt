@@ -2,4 +2,5 @@ pub mod Programs
 pub mod Turns
 pub mod Worlds
 pub mod InHand
+pub mod Steps
 pub mod Rows

@@ -1,7 +1,11 @@
 //! The laws of the world, each as the contract of a function that does nothing.
-ghost use Rattle.std.specs.Prelude.{ℕ, ◌≡◌, ◌∷◌, ◌++◌, [], None, Some, pos};
+ghost use Rattle.std.specs.Prelude.{ℕ, ◌≡◌, ◌∷◌, ◌++◌, [], List, None, Some, pos};
 ghost use Rattle.cells.specs.Stops.{Ended};
 ghost use Rattle.cells.specs.declared.ending.Want.TheVariants.{StoreFailed};
+ghost use Rattle.code_form.specs.Form.{Image};
+ghost use Rattle.pointer_word.specs.Sound.{IsSafe};
+ghost use Rattle.world.specs.Steps.{IsSound, IsStep};
+ghost use Rattle.world.specs.Worlds.{Event, Follows, IsHonest, Sizes, World, event, start};
 ghost use Rattle.world.specs.Rows.{NoPuts, NoReads, Reliable, brought_back, counted_row, e0, e0_mark, get_failed, held_meanwhile, not_returned, p0, put_failed, read_meanwhile, row, written};
 
 /// What worked schedules of one program and one evacuator come to: how many lines they have, how the program has stopped or what
@@ -19,7 +23,14 @@ pub fn worked_schedules()
     ensures no_more { row 64 NoReads (get_failed 64 ++ p0 ∷ []) ≡ None }
 {}
 
-/// Whatever events whichever actors make in whichever order.
+/// Whatever events whichever actors make in whichever order, over any number of programs and evacuators, any images, frames and objects
+/// and pieces of any size: the machine is sound and each actor has in hand what its mode says, over a store that is honest and
+/// over one that isn't. Each event makes at most one call, which the actor may make and which changes words, frame words and
+/// cells lawfully; and it changes no other actor, whatever the store answers.
 pub fn every_schedule()
-    ensures nothing { (n : ℕ) → n ≡ n }
+    ensures sound { (z : Sizes) (images : ℕ → Image) (events : List Event) (v : World) → Follows (Unit {0}) z images (start images) events v → IsSound (Unit {0}) z v }
+    ensures safe { (z : Sizes) (images : ℕ → Image) (events : List Event) (v : World) → Follows (Unit {0}) z images (start images) events v → IsSafe (Unit {0}) z.cells v.lock }
+    ensures unsound_store { (z : Sizes) (images : ℕ → Image) (events : List Event) (v : World) → Follows ⊥ z images (start images) events v → IsSafe ⊥ z.cells v.lock }
+    ensures step { (z : Sizes) (images : ℕ → Image) (w u : World) (e : Event) → IsSound (Unit {0}) z w → IsHonest z w e.actor e.answer → event z images w e ≡ Some u → IsStep (Unit {0}) z w e u × IsSound (Unit {0}) z u }
+    ensures step_unsound { (z : Sizes) (images : ℕ → Image) (w u : World) (e : Event) → IsSound ⊥ z w → event z images w e ≡ Some u → IsStep ⊥ z w e u × IsSound ⊥ z u }
 {}
