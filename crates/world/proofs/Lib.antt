@@ -3,3 +3,5 @@ pub mod Calling
 pub mod Moving
 pub mod Programs
 pub mod Stepping
+pub mod Latest
+pub mod Going

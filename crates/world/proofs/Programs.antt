@@ -1,5 +1,5 @@
 -- a program's turn: its call is granted, and it has in hand what its mode says
-use Rattle.std.proofs.Common.{◌≡◌, ◌≢◌, ◌⊎◌, inl, inr, ℕ, suc, ◌<◌, ◌≤◌, Bool, true, false, cond, not, ◌&&◌, List, [], Option, Some, None, refl, sym, ap, ◌∙◌, subst, arith}
+use Rattle.std.proofs.Common.{◌≡◌, ◌≢◌, ◌⊎◌, inl, inr, ℕ, suc, ◌<◌, ◌≤◌, Bool, true, false, cond, not, ◌&&◌, List, [], length, Option, Some, None, refl, sym, ap, ◌∙◌, subst, arith}
 use Rattle.std.specs.Prelude.{◌==◌, ◌+◌, ◌%◌, nat_lt, nat_le}
 use Rattle.std.proofs.lemmas.Bool.Decides.{eqb_tells}
 use Rattle.code_form.specs.declared.touch.Touch.{Touch}
@@ -94,7 +94,7 @@ module _ (h : Type 0) (g : Setting) (s : State) (p : Program) (a : Answer) (inv 
 
     ready_ok : (x : Touch) → p.mode ≡ Ready → Ok (ready g s p a x)
     ready_ok touch.Plain e = grows_ok
-    ready_ok (touch.Aims k w) e = aims_ok k (hold_at p.holds k) (object_or_none g p w) e
+    ready_ok (touch.Aims k w) e = turn_cond h g.size s g.mover Fits (nat_lt k (length p.holds)) _ _ (λ _. aims_ok k (hold_at p.holds k) (object_or_none g p w) e) (λ _. tt)
     ready_ok (touch.Loads k x) e = loads_ok (hold_at p.holds k) (object_of g p x) (x.index % g.size)
     ready_ok (touch.Saves k x v) e = stores_ok k (hold_at p.holds k) (object_of g p x) (x.index % g.size) v e
     ready_ok (touch.Leaves k) e = leaves_ok k (hold_at p.holds k)

@@ -3,4 +3,5 @@ pub mod Turns
 pub mod Worlds
 pub mod InHand
 pub mod Steps
+pub mod Following
 pub mod Rows
