@@ -5,3 +5,4 @@ pub mod Programs
 pub mod Stepping
 pub mod Latest
 pub mod Going
+pub mod Following
