@@ -6,3 +6,4 @@ pub mod Stepping
 pub mod Latest
 pub mod Going
 pub mod Following
+pub mod Reached

@@ -136,7 +136,7 @@ both : (a b : Bool) → (a && b) ≡ true → (a ≡ true) × (b ≡ true)
 both true b e = (refl, e)
 both false b e = cc
 
-enabled : (b : Bool) (x : Option World) (u : World) → cond b x None ≡ Some u → (b ≡ true) × (x ≡ Some u)
+pub enabled : (b : Bool) (x : Option World) (u : World) → cond b x None ≡ Some u → (b ≡ true) × (x ≡ Some u)
 enabled true x u e = (refl, e)
 enabled false x u e = cc
 

@@ -4,4 +4,5 @@ pub mod Worlds
 pub mod InHand
 pub mod Steps
 pub mod Following
+pub mod Causes
 pub mod Rows

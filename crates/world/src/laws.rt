@@ -1,12 +1,15 @@
 //! The laws of the world, each as the contract of a function that does nothing.
-ghost use Rattle.std.specs.Prelude.{ℕ, ◌≡◌, ◌∷◌, ◌++◌, [], List, None, Some, pos};
+ghost use Rattle.std.specs.Prelude.{ℕ, ◌<◌, ◌≡◌, ◌∷◌, ◌++◌, [], List, None, Some, pos};
 ghost use Rattle.cells.specs.Stops.{Ended};
 ghost use Rattle.cells.specs.declared.ending.Want.TheVariants.{StoreFailed};
 ghost use Rattle.code_form.specs.Form.{Image};
 ghost use Rattle.pointer_word.specs.Sound.{IsSafe};
+ghost use Rattle.world.specs.Following.{IsAt};
 ghost use Rattle.world.specs.Steps.{IsSound, IsStep};
 ghost use Rattle.world.specs.Worlds.{Event, Follows, IsHonest, Sizes, World, event, start};
 ghost use Rattle.world.specs.Rows.{NoPuts, NoReads, Reliable, brought_back, counted_row, e0, e0_mark, get_failed, held_meanwhile, not_returned, p0, put_failed, read_meanwhile, row, written};
+
+use code_form::{effect_laws, heap_laws, run_laws};
 
 /// What worked schedules of one program and one evacuator come to: how many lines they have, how the program has stopped or what
 /// it wants, the bits of the object's word, and cell 0 of both frames. None where a line is refused.
@@ -34,3 +37,13 @@ pub fn every_schedule()
     ensures step { (z : Sizes) (images : ℕ → Image) (w u : World) (e : Event) → IsSound (Unit {0}) z w → IsHonest z w e.actor e.answer → event z images w e ≡ Some u → IsStep (Unit {0}) z w e u × IsSound (Unit {0}) z u }
     ensures step_unsound { (z : Sizes) (images : ℕ → Image) (w u : World) (e : Event) → IsSound ⊥ z w → event z images w e ≡ Some u → IsStep ⊥ z w e u × IsSound ⊥ z u }
 {}
+
+/// After any events over an honest store each program is where the run of its code is after as many instructions as it has completed, and its
+/// cells are read off the contents of its objects, wherever they are.
+pub fn programs_follow()
+    ensures at { (z : Sizes) (images : ℕ → Image) (events : List Event) (v : World) → 0 < z.cells → Follows (Unit {0}) z images (start images) events v → (k : ℕ) → IsAt z images v k }
+{
+    effect_laws();
+    heap_laws();
+    run_laws();
+}

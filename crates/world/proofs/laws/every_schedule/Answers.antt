@@ -1,6 +1,5 @@
 use Rattle.pointer_word.proofs.Safe.{safe}
 use Rattle.world.proofs.Stepping.{happened, stepped, reached}
-use Rattle.world.proofs.Following.{goes_on, not_in_both}
 use Rattle.world.proofs.laws.every_schedule.Goals as goal
 
 pub returns : goal.returns
