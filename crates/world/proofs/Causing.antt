@@ -185,27 +185,24 @@ module _ (z : Sizes) (images : ℕ → Image) where
       let there = (enabled (is_actor z e.actor && in_range z e.choice) (acted z images w e.actor e.choice e.answer) u b).1 in
       by_program w u k e.choice e.answer _ refl (subst (λ (who : Actor). acted z images w who e.choice e.answer ≡ Some u) own there)
 
+  by_other : (w u : World) (j k : ℕ) → k ≢ j → (x : Option (State × Program)) → with_program w j x ≡ Some u → u.programs k ≡ w.programs k
+  by_other w u j k d None q = cc
+  by_other w u j k d (Some r) q =
+      let v : World = record w { lock = r.0; programs = upd w.programs j r.1 } in
+      let same : v ≡ u = (let s : Some v ≡ Some u = q in cc) in
+      subst (λ (y : World). y.programs k ≡ w.programs k) same (upd-other w.programs j r.1 k d)
+
+  by_evacuator : (w u : World) (j k : ℕ) (x : Option (State × Option Eviction)) → with_evacuator w j x ≡ Some u → u.programs k ≡ w.programs k
+  by_evacuator w u j k None q = cc
+  by_evacuator w u j k (Some r) q =
+      let v : World = record w { lock = r.0; evacuators = upd w.evacuators j r.1 } in
+      let same : v ≡ u = (let s : Some v ≡ Some u = q in cc) in
+      subst (λ (y : World). y.programs k ≡ w.programs k) same refl
+
   -- an event of another leaves the program
   other_program : (w u : World) (who : Actor) (c : Choice) (a : Answer) (k : ℕ) → acted z images w who c a ≡ Some u → (who ≡ actor.Program k) ⊎ (u.programs k ≡ w.programs k)
-  other_program w u (actor.Program j) c a k e = elim (same_or k j) [
-    | inl d ↦ inl (ap actor.Program (sym d))
-    | inr d ↦ inr (by_other _ e)
-  ]
-    where
-      by_other : (x : Option (State × Program)) → with_program w j x ≡ Some u → u.programs k ≡ w.programs k
-      by_other None q = cc
-      by_other (Some r) q =
-          let v : World = record w { lock = r.0; programs = upd w.programs j r.1 } in
-          let same : v ≡ u = (let s : Some v ≡ Some u = q in cc) in
-          subst (λ (y : World). y.programs k ≡ w.programs k) same (upd-other w.programs j r.1 k d)
-  other_program w u (actor.Evacuator j) c a k e = inr (by_evacuator _ e)
-    where
-      by_evacuator : (x : Option (State × Option Eviction)) → with_evacuator w j x ≡ Some u → u.programs k ≡ w.programs k
-      by_evacuator None q = cc
-      by_evacuator (Some r) q =
-          let v : World = record w { lock = r.0; evacuators = upd w.evacuators j r.1 } in
-          let same : v ≡ u = (let s : Some v ≡ Some u = q in cc) in
-          subst (λ (y : World). y.programs k ≡ w.programs k) same refl
+  other_program w u (actor.Program j) c a k e = elim (same_or k j) [ inl d ↦ inl (ap actor.Program (sym d)) | inr d ↦ inr (by_other w u j k d _ e) ]
+  other_program w u (actor.Evacuator j) c a k e = inr (by_evacuator w u j k _ e)
 
   from_caused : (g : Setting) (p : Program) (a : Answer) (y : Mode) → IsCaused g p a y → HasFailed y → HasFailed p.mode ⊎ IsRefused g.size p.mode a
   from_caused g p a (Evicting o (NotStored v f)) is has = is

@@ -26,11 +26,11 @@ Leads s Q NotEnabled = Unit {0}
 Leads s Q (Alone a) = Q s a
 Leads s Q (Calls c go) = Q (act s c) (go (act s c))
 
-leads_cond : {A : Type 0} (s : State) (Q : State → A → Type 0) (b : Bool) (x y : Turn A) → (b ≡ true → Leads s Q x) → (b ≡ false → Leads s Q y) → Leads s Q (cond b x y)
+pub leads_cond : {A : Type 0} (s : State) (Q : State → A → Type 0) (b : Bool) (x y : Turn A) → (b ≡ true → Leads s Q x) → (b ≡ false → Leads s Q y) → Leads s Q (cond b x y)
 leads_cond s Q true x y f g = f refl
 leads_cond s Q false x y f g = g refl
 
-leads_next : {A : Type 0} (s : State) (Q : State → A → Type 0) (c : Choice) (x : Turn A) → Leads s Q x → Leads s Q (as_next c x)
+pub leads_next : {A : Type 0} (s : State) (Q : State → A → Type 0) (c : Choice) (x : Turn A) → Leads s Q x → Leads s Q (as_next c x)
 leads_next s Q choice.Next x ok = ok
 leads_next s Q (choice.Look f) x ok = tt
 leads_next s Q (choice.Claim f) x ok = tt

@@ -7,3 +7,4 @@ pub mod Latest
 pub mod Going
 pub mod Following
 pub mod Reached
+pub mod Causing

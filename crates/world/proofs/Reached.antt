@@ -32,7 +32,7 @@ called_leads {A} n s Q c go r true e ok =
     let q : (act s c, go (act s c)) ≡ r = (let k : Some (act s c, go (act s c)) ≡ Some r = e in cc) in
     subst (λ (z : State × A). Q z.0 z.1) q ok
 
-leads_taken : {A : Type 0} (n : ℕ) (s : State) (Q : State → A → Type 0) (x : Turn A) (r : State × A) → taken n s x ≡ Some r → Leads s Q x → Q r.0 r.1
+pub leads_taken : {A : Type 0} (n : ℕ) (s : State) (Q : State → A → Type 0) (x : Turn A) (r : State × A) → taken n s x ≡ Some r → Leads s Q x → Q r.0 r.1
 leads_taken n s Q NotEnabled r e ok = cc
 leads_taken {A} n s Q (Alone a) r e ok =
     let q : (s, a) ≡ r = (let k : Some (s, a) ≡ Some r = e in cc) in

@@ -1,4 +1,4 @@
-use Rattle.world.proofs.Schedules.{brought, not_yet, read, held, idle, no_frame, elsewhere, no_put, no_get, no_more}
+use Rattle.world.proofs.Schedules.{brought, not_yet, read, held, idle, no_frame, elsewhere, no_put, no_get, no_more, closes, stops, moves, fails}
 use Rattle.world.proofs.laws.worked_schedules.Goals as goal
 
 pub returns : goal.returns
@@ -13,4 +13,8 @@ returns c = record {
   put_failed = no_put;
   get_failed = no_get;
   no_more = no_more;
+  closes = closes;
+  stops = stops;
+  moved_itself = moves;
+  failed_itself = fails;
 }
