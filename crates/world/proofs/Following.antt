@@ -178,7 +178,7 @@ module _ (laws : Laws) (g : Setting) (some : 0 < g.size) (s : State) (p : Progra
       let heap : Heap = (code_run (code g.image) p.completed).1 in
       let tidy : Tidies x p.core q.core = tidy_next did.value x did.is did.core in
       let there : code_run (code g.image) q.completed ≡ (resumed e p.core (loaded heap x), heap_after heap x) =
-          ap (code_run (code g.image)) did.completed ∙ next_run laws.next g.image p.completed p.core x is.core did.is in
+      ap (code_run (code g.image)) did.completed ∙ next_run laws.next g.image p.completed p.core x is.core did.is in
       let value : SameValue (touch_of e) did.value (loaded heap x) = subst (λ (y : Touch). SameValue y did.value (loaded heap x)) (sym did.is) (value_is h sure inv x heap did.value did.loads tidy is.heap) in
       record {
         core = did.core ∙ (same_value e p.core did.value (loaded heap x) value ∙ sym (ap (λ z. z.0) there));

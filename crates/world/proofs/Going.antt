@@ -210,7 +210,7 @@ module _ (g : Setting) (s : State) (p : Program) (a : Answer) where
   saves_to k x v (Some h) is e =
       leads_cond s Q (h.object == object_of g p x) _ _
       (λ _. leads_cond s Q h.writes _ _ (λ _. stores_to_to k x v is (s.note (object_of g p x)).frame)
-        (λ _. stays (act s (Clears (object_of g p x))) (holding p k (Some (record { object = object_of g p x; writes = true }))) refl refl (same_call (Clears (object_of g p x)) refl) (ready_mode p.mode _ e)))
+      (λ _. stays (act s (Clears (object_of g p x))) (holding p k (Some (record { object = object_of g p x; writes = true }))) refl refl (same_call (Clears (object_of g p x)) refl) (ready_mode p.mode _ e)))
       (λ _. tt)
 
   leaves_to : (k : ℕ) (h : Option Hold) → next_touch g p ≡ touch.Leaves k → Leads s Q (leaves_by g p k h)
@@ -223,7 +223,16 @@ module _ (g : Setting) (s : State) (p : Program) (a : Answer) where
   allocates_to : (cells : ℕ) → next_touch g p ≡ touch.Allocs cells → Leads s Q (allocates g p a cells)
   allocates_to cells is = leads_cond s Q (nat_le (next_free g p + pieces g.size cells) g.limit) _ _
       (λ e. grows_to s (touch.Allocs cells) (inr (record {
-        touch = touch.Allocs cells; is = is; moving = tt; value = 0; core = refl; completed = refl; ready = refl; loads = tt; stores = still; room = fits_room (next_free g p + pieces g.size cells) g.limit e;
+        touch = touch.Allocs cells;
+        is = is;
+        moving = tt;
+        value = 0;
+        core = refl;
+        completed = refl;
+        ready = refl;
+        loads = tt;
+        stores = still;
+        room = fits_room (next_free g p + pieces g.size cells) g.limit e;
       })))
       (λ e. stays s (in_mode p (Wanted NoObjects)) refl refl still tt)
 
@@ -311,7 +320,7 @@ module _ (g : Setting) (s : State) (p : Program) (a : Answer) where
   mode_to (Evicting o d) e aims c =
       leads_next s Q c _
       (leads_evicts g.size s g.mover a (λ d. in_mode p (Evicting o d)) (in_mode p (Bringing o)) (in_mode p (Retreating o)) Q
-        (λ t d same. stays t (in_mode p (Evicting o d)) refl refl same (aiming_on _ o aims)) (λ t same. stays t _ refl refl same (aiming_on _ o aims)) (λ t same. stays t _ refl refl same (aiming_on _ o aims)) d)
+      (λ t d same. stays t (in_mode p (Evicting o d)) refl refl same (aiming_on _ o aims)) (λ t same. stays t _ refl refl same (aiming_on _ o aims)) (λ t same. stays t _ refl refl same (aiming_on _ o aims)) d)
   mode_to (Releasing o f) e aims c =
       leads_next s Q c _ (stays (act s (Unclaims g.mover f)) (in_mode p (Retreating o)) refl refl (same_call (Unclaims g.mover f) refl) (aiming_on _ o aims))
   mode_to (Retreating o) e aims c = leads_next s Q c _ (stays (act s (Retreats g.mover o)) (in_mode p Closing) refl refl (same_call (Retreats g.mover o) refl) tt)

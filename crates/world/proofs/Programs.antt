@@ -107,16 +107,19 @@ module _ (h : Type 0) (g : Setting) (s : State) (p : Program) (a : Answer) (inv 
     missing_ok o =
         let t : State = act s (Begins g.mover o (s.note o).count true) in
         let x : Hand = s.hand g.mover in
-        let tried = begins s g.mover o (s.note o).count true in
-        (tt, refl, either t (holds (t.hand g.mover).bringing o) (in_mode p (Bringing o)) (found g p o t)
-          (λ q. elim tried.hand [
-            | inl e ↦ subst (OnlyBrings o) (sym e) (refl, free.1, free.2)
-            | inr e ↦ absurd (holds_none (t.hand g.mover).bringing o (ap (λ (y : Hand). y.bringing) e ∙ free.0) q)
-          ])
-          (λ q. let here : HasNothing (t.hand g.mover) = elim tried.hand [
-            | inl e ↦ absurd (holds_self (t.hand g.mover).bringing o (ap (λ (y : Hand). y.bringing) e) q)
-            | inr e ↦ subst HasNothing (sym e) free
-          ] in either t (known (t.note o).frame) (finished g p 0) (in_mode p (Missing o)) (λ _. here) (λ _. here)))
+        let tried = begins s g.mover o (s.note o).count true in (
+          tt,
+          refl,
+          either t (holds (t.hand g.mover).bringing o) (in_mode p (Bringing o)) (found g p o t)
+              (λ q. elim tried.hand [
+                | inl e ↦ subst (OnlyBrings o) (sym e) (refl, free.1, free.2)
+                | inr e ↦ absurd (holds_none (t.hand g.mover).bringing o (ap (λ (y : Hand). y.bringing) e ∙ free.0) q)
+              ])
+              (λ q. let here : HasNothing (t.hand g.mover) = elim tried.hand [
+                | inl e ↦ absurd (holds_self (t.hand g.mover).bringing o (ap (λ (y : Hand). y.bringing) e) q)
+                | inr e ↦ subst HasNothing (sym e) free
+              ] in either t (known (t.note o).frame) (finished g p 0) (in_mode p (Missing o)) (λ _. here) (λ _. here)),
+        )
 
     closed_ok : (t : State) (r : Program) (q : Option (ℕ × Hold)) → HasNothing (t.hand g.mover) → r.mode ≡ Closing → Fits t (closed_so r q)
     closed_ok t r None has e = has
@@ -144,33 +147,39 @@ module _ (h : Type 0) (g : Setting) (s : State) (p : Program) (a : Answer) (inv 
       let t : State = act s (Claims g.mover o f) in
       let x : Hand = s.hand g.mover in
       let tried = claims s g.mover o f in
-      let keeps : content (t.far o) ≡ Some x.promised = ap (λ (far : ℕ → Far). content (far o)) tried.far ∙ promised o only.0 in
-      (only.2.0, refl, either t (holds (t.hand g.mover).claimed f) (in_mode p (to_fill o f (t.far o))) p
-        (λ q. elim tried.hand [
-          | inl e ↦ subst (λ (y : Hand). FitsMode h g.size t.far y (to_fill o f (t.far o))) (sym e)
-              (to_fill_ok t.far (claiming x f) o f (only.0, only.1, refl, only.2.1) keeps (t.far o) refl)
-          | inr e ↦ absurd (holds_none (t.hand g.mover).claimed f (ap (λ (y : Hand). y.claimed) e ∙ only.2.0) q)
-        ])
-        (λ q. elim tried.hand [
-          | inl e ↦ absurd (holds_self (t.hand g.mover).claimed f (ap (λ (y : Hand). y.claimed) e) q)
-          | inr e ↦ subst (λ y. FitsMode h g.size t.far (t.hand g.mover) y) (sym m) (subst (OnlyBrings o) (sym e) only)
-        ]))
+      let keeps : content (t.far o) ≡ Some x.promised = ap (λ (far : ℕ → Far). content (far o)) tried.far ∙ promised o only.0 in (
+        only.2.0,
+        refl,
+        either t (holds (t.hand g.mover).claimed f) (in_mode p (to_fill o f (t.far o))) p
+            (λ q. elim tried.hand [
+              | inl e ↦ subst (λ (y : Hand). FitsMode h g.size t.far y (to_fill o f (t.far o))) (sym e)
+                  (to_fill_ok t.far (claiming x f) o f (only.0, only.1, refl, only.2.1) keeps (t.far o) refl)
+              | inr e ↦ absurd (holds_none (t.hand g.mover).claimed f (ap (λ (y : Hand). y.claimed) e ∙ only.2.0) q)
+            ])
+            (λ q. elim tried.hand [
+              | inl e ↦ absurd (holds_self (t.hand g.mover).claimed f (ap (λ (y : Hand). y.claimed) e) q)
+              | inr e ↦ subst (λ y. FitsMode h g.size t.far (t.hand g.mover) y) (sym m) (subst (OnlyBrings o) (sym e) only)
+            ]),
+      )
 
   mark_ok : (o v f : ℕ) → OnlyBrings o (s.hand g.mover) → p.mode ≡ Bringing o → Ok (Calls (Marks g.mover v f) (marked_so g p o v f))
   mark_ok o v f only m =
       let t : State = act s (Marks g.mover v f) in
       let x : Hand = s.hand g.mover in
-      let tried = marks s g.mover v f in
-      (only.1, refl, either t (holds (t.hand g.mover).leaving v) (in_mode p (Evicting o (Copying v f []))) p
-        (λ q. elim tried.hand [
-          | inl e ↦ subst (λ (y : Hand). FitsMode h g.size t.far y (Evicting o (Copying v f []))) (sym e)
-              (only.0, only.2.0, ((refl, refl, only.2.1), (λ i l. absurd (omega arith)), omega arith))
-          | inr e ↦ absurd (holds_none (t.hand g.mover).leaving v (ap (λ (y : Hand). y.leaving) e ∙ only.1) q)
-        ])
-        (λ q. elim tried.hand [
-          | inl e ↦ absurd (holds_self (t.hand g.mover).leaving v (ap (λ (y : Hand). y.leaving) e) q)
-          | inr e ↦ subst (λ y. FitsMode h g.size t.far (t.hand g.mover) y) (sym m) (subst (OnlyBrings o) (sym e) only)
-        ]))
+      let tried = marks s g.mover v f in (
+        only.1,
+        refl,
+        either t (holds (t.hand g.mover).leaving v) (in_mode p (Evicting o (Copying v f []))) p
+            (λ q. elim tried.hand [
+              | inl e ↦ subst (λ (y : Hand). FitsMode h g.size t.far y (Evicting o (Copying v f []))) (sym e)
+                  (only.0, only.2.0, ((refl, refl, only.2.1), (λ i l. absurd (omega arith)), omega arith))
+              | inr e ↦ absurd (holds_none (t.hand g.mover).leaving v (ap (λ (y : Hand). y.leaving) e ∙ only.1) q)
+            ])
+            (λ q. elim tried.hand [
+              | inl e ↦ absurd (holds_self (t.hand g.mover).leaving v (ap (λ (y : Hand). y.leaving) e) q)
+              | inr e ↦ subst (λ y. FitsMode h g.size t.far (t.hand g.mover) y) (sym m) (subst (OnlyBrings o) (sym e) only)
+            ]),
+      )
 
   seeks_ok : (o : ℕ) (c : Choice) → OnlyBrings o (s.hand g.mover) → p.mode ≡ Bringing o → Ok (seeks g p o c)
   seeks_ok o choice.Next only m = tt
@@ -232,16 +241,19 @@ module _ (h : Type 0) (n : ℕ) (s : State) (m : ℕ) where
   idle_ok (choice.Claim f) has = tt
   idle_ok (choice.Mark o f) has =
       let t : State = act s (Marks m o f) in
-      let tried = marks s m o f in
-      (has.1, refl, either_so t (holds (t.hand m).leaving o) (Some (Copying o f [])) None
-        (λ q. elim tried.hand [
-          | inl e ↦ subst (λ (y : Hand). FitsEvacuator n t.far y (Some (Copying o f []))) (sym e) (has.0, has.2.0, ((refl, refl, has.2.1), (λ i l. absurd (omega arith)), omega arith))
-          | inr e ↦ absurd (holds_none (t.hand m).leaving o (ap (λ (y : Hand). y.leaving) e ∙ has.1) q)
-        ])
-        (λ q. elim tried.hand [
-          | inl e ↦ absurd (holds_self (t.hand m).leaving o (ap (λ (y : Hand). y.leaving) e) q)
-          | inr e ↦ subst HasNothing (sym e) has
-        ]))
+      let tried = marks s m o f in (
+        has.1,
+        refl,
+        either_so t (holds (t.hand m).leaving o) (Some (Copying o f [])) None
+            (λ q. elim tried.hand [
+              | inl e ↦ subst (λ (y : Hand). FitsEvacuator n t.far y (Some (Copying o f []))) (sym e) (has.0, has.2.0, ((refl, refl, has.2.1), (λ i l. absurd (omega arith)), omega arith))
+              | inr e ↦ absurd (holds_none (t.hand m).leaving o (ap (λ (y : Hand). y.leaving) e ∙ has.1) q)
+            ])
+            (λ q. elim tried.hand [
+              | inl e ↦ absurd (holds_self (t.hand m).leaving o (ap (λ (y : Hand). y.leaving) e) q)
+              | inr e ↦ subst HasNothing (sym e) has
+            ]),
+      )
 
   pub evacuator_ok : (e : Option Eviction) (c : Choice) (a : Answer) → FitsEvacuator n s.far (s.hand m) e → TurnOk h n s m EvacuatorFits (evacuator_turn n m e c a)
   evacuator_ok None c a fits = idle_ok c fits

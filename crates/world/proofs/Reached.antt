@@ -77,7 +77,7 @@ module _ (laws : Laws) (h : Type 0) (sure : h) (z : Sizes) (images : ℕ → Ima
             (subst (Follows1 g r.0) (sym (upd-same w.programs k r.1 k refl)) (goes_on laws g some w.lock (w.programs k) r.0 r.1 h sure is.lock (all k) goes))
         | inr d ↦ subst (Follows1 (setting z images j) r.0) (sym (upd-other w.programs k r.1 j d))
             (apart_from laws (setting z images j) some w.lock r.0 (w.programs j)
-              (λ o i low high. goes_outside laws g some w.lock (w.programs k) r.0 r.1 (all k).room goes o i (not_in_both (share z) j k o d low high)) (all j))
+            (λ o i low high. goes_outside laws g some w.lock (w.programs k) r.0 r.1 (all k).room goes o i (not_in_both (share z) j k o d low high)) (all j))
       ])
 
   by_evacuator : (w u : World) (k : ℕ) (c : Choice) (a : Answer) (x : Option (State × Option Eviction))
