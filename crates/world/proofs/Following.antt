@@ -10,7 +10,7 @@ use Rattle.code_form.specs.Code.{Core, allocations_of, cells_of, code, effect, s
 use Rattle.code_form.specs.Laws.{StepsSuc}
 use Rattle.code_form.specs.Placed.{HaveAddresses, HeapAllocated, HeapSaved, SameHeap, first_object, next_object, object_at, pieces}
 use Rattle.code_form.specs.Touches.{heap_after, loaded, resumed, touch_of}
-use Rattle.code_form.specs.Tracked.{AlwaysTidy, IsTidy}
+use Rattle.code_form.specs.Tracked.{AlwaysTidy, AlwaysTracked, AlwaysWaitsShut, IsTidy, WaitsShut}
 use Rattle.pointer_word.specs.Hands.{upd}
 use Rattle.pointer_word.specs.Machine.{State, latest}
 use Rattle.pointer_word.specs.Sound.{Inv}
@@ -22,6 +22,8 @@ use Rattle.world.proofs.Going.{AimsIn, Finishes, Goes, IsMoving, LoadsSo, RoomFo
 -- what is known of images
 pub record Laws : Type 0 where
   pub tidy : AlwaysTidy
+  pub tracked : AlwaysTracked
+  pub waits : AlwaysWaitsShut
   pub addresses : HaveAddresses
   pub saved : HeapSaved
   pub allocated : HeapAllocated
@@ -32,6 +34,7 @@ pub record Follows1 (g : Setting) (s : State) (p : Program) : Type 0 where
   pub core : p.core ≡ (code_run (code g.image) p.completed).0
   pub heap : SameHeap g.size g.base g.limit (cells_in p) (latest s) (code_run (code g.image) p.completed).1
   pub room : next_free g p ≤ g.limit
+  pub waits : WaitsShut p.core
   pub aims : AimsIn g p p.mode
 
 -- ---- addresses
@@ -48,7 +51,7 @@ base_first : (n base : ℕ) (cells : List ℕ) (r : ℕ) → base ≤ first_obje
 base_first n base [] r = omega arith
 base_first n base (c ∷ cells) r = least base (r == suc (length cells)) (next_object n base cells) (first_object n base cells r) (base_next n base cells) (base_first n base cells r)
 
-base_object : (n base : ℕ) (cells : List ℕ) (r x : ℕ) → base ≤ object_at n base cells r x
+pub base_object : (n base : ℕ) (cells : List ℕ) (r x : ℕ) → base ≤ object_at n base cells r x
 base_object n base cells r x = let k : base ≤ first_object n base cells r = base_first n base cells r in omega arith
 
 -- ---- one instruction of the code
@@ -176,14 +179,15 @@ module _ (laws : Laws) (g : Setting) (some : 0 < g.size) (s : State) (p : Progra
       let x : Touch = did.touch in
       let e : Effect Core = effect g.image p.core in
       let heap : Heap = (code_run (code g.image) p.completed).1 in
-      let tidy : Tidies x p.core q.core = tidy_next did.value x did.is did.core in
+      let tidy : Tidies x p.core q.core = tidy_next did.value x did.is.0 did.core in
       let there : code_run (code g.image) q.completed ≡ (resumed e p.core (loaded heap x), heap_after heap x) =
-      ap (code_run (code g.image)) did.completed ∙ next_run laws.next g.image p.completed p.core x is.core did.is in
-      let value : SameValue (touch_of e) did.value (loaded heap x) = subst (λ (y : Touch). SameValue y did.value (loaded heap x)) (sym did.is) (value_is h sure inv x heap did.value did.loads tidy is.heap) in
+      ap (code_run (code g.image)) did.completed ∙ next_run laws.next g.image p.completed p.core x is.core did.is.0 in
+      let value : SameValue (touch_of e) did.value (loaded heap x) = subst (λ (y : Touch). SameValue y did.value (loaded heap x)) (sym did.is.0) (value_is h sure inv x heap did.value did.loads tidy is.heap) in
       record {
         core = did.core ∙ (same_value e p.core did.value (loaded heap x) value ∙ sym (ap (λ z. z.0) there));
         heap = subst (λ (z : Heap). SameHeap g.size g.base g.limit (cells_in q) (latest t) z) (sym (ap (λ z. z.1) there)) (heap_moves x heap did.moving tidy did.stores did.room is.heap);
         room = room_after x did.moving tidy did.room is.room;
+        waits = subst WaitsShut (sym did.core) (laws.waits g.image p.core did.value is.waits did.is.1);
         aims = subst (AimsIn g q) (sym did.ready) tt;
       }
 
@@ -195,6 +199,7 @@ module _ (laws : Laws) (g : Setting) (some : 0 < g.size) (s : State) (p : Progra
         heap = subst (λ (j : ℕ). SameHeap g.size g.base g.limit (cells_in q) (latest t) (code_run (code g.image) j).1) (sym did.completed)
             (heap_along g.size g.base g.limit (cells_in p) (cells_in q) (latest s) (latest t) (code_run (code g.image) p.completed).1 same did.latest is.heap);
         room = subst (λ (z : List ℕ). next_object g.size g.base z ≤ g.limit) (sym same) is.room;
+        waits = subst WaitsShut (sym did.core) is.waits;
         aims = aims;
       }
 
@@ -222,7 +227,7 @@ module _ (laws : Laws) (g : Setting) (some : 0 < g.size) (s : State) (p : Progra
   -- a turn stores nothing outside the program's share
   pub goes_outside : next_free g p ≤ g.limit → Goes g s p t q → (o i : ℕ) → (o < g.base) ⊎ (g.limit ≤ o) → latest t o i ≡ latest s o i
   goes_outside room (inl did) o i out = did.0.latest o i
-  goes_outside room (inr did) o i out = outside did.touch (tidy_next did.value did.touch did.is did.core) did.stores room o i out
+  goes_outside room (inr did) o i out = outside did.touch (tidy_next did.value did.touch did.is.0 did.core) did.stores room o i out
 
 -- stores outside a program's share leave it where it is
 pub apart_from : Laws → (g : Setting) → 0 < g.size → (s t : State) (p : Program) → ((o i : ℕ) → g.base ≤ o → o < g.limit → latest t o i ≡ latest s o i) → Follows1 g s p → Follows1 g t p
@@ -230,6 +235,7 @@ apart_from laws g some s t p same is = record {
   core = is.core;
   heap = heap_apart g.size g.base g.limit (cells_in p) (latest s) (latest t) (code_run (code g.image) p.completed).1 laws.addresses some is.room same is.heap;
   room = is.room;
+  waits = is.waits;
   aims = is.aims;
 }
 

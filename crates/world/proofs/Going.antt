@@ -50,11 +50,15 @@ module _ {A : Type 0} (n : ℕ) (s : State) (m : ℕ) (a : Answer) (go : Evictio
   leads_evicts (Refused o f) = ends (act s (Aborts m o f)) (keeps_latest s (Aborts m o f) refl)
   leads_evicts (Freed f) = ends (act s (Releases m f)) (keeps_latest s (Releases m f) refl)
 
+-- the next instruction touches this, and isn't blocked
+abbrev pub IsNext : Setting → Program → Touch → Type 0
+IsNext g p x = (next_touch g p ≡ x) × (is_blocked p.core ≡ false)
+
 -- an aim of a scope at a cell of the object o is under way, which the scope holds
 pub record IsAiming (g : Setting) (p : Program) (o : ℕ) : Type 0 where
   pub scope : ℕ
   pub cell : Cell
-  pub is : next_touch g p ≡ touch.Aims scope (Some cell)
+  pub is : IsNext g p (touch.Aims scope (Some cell))
   pub object : object_of g p cell ≡ o
   pub holds : hold_at p.holds scope ≡ Some (record { object = o; writes = false })
 
@@ -99,7 +103,7 @@ pub record Stays (s : State) (p : Program) (t : State) (q : Program) : Type 0 wh
 -- the next instruction was completed
 pub record Finishes (g : Setting) (s : State) (p : Program) (t : State) (q : Program) : Type 0 where
   pub touch : Touch
-  pub is : next_touch g p ≡ touch
+  pub is : IsNext g p touch
   pub moving : IsMoving touch
   pub value : ℕ
   pub core : q.core ≡ resumed (effect g.image p.core) p.core value
@@ -126,7 +130,7 @@ module _ (g : Setting) (s : State) (p : Program) (a : Answer) where
   abbrev Q : State → Program → Type 0
   Q = Goes g s p
 
-  plain : (x : Touch) → next_touch g p ≡ x → IsPlain x → (t : State) → ((o i : ℕ) → latest t o i ≡ latest s o i) → (hs : List (Option Hold)) → Q t (finished g (record p { holds = hs }) 0)
+  plain : (x : Touch) → IsNext g p x → IsPlain x → (t : State) → ((o i : ℕ) → latest t o i ≡ latest s o i) → (hs : List (Option Hold)) → Q t (finished g (record p { holds = hs }) 0)
   plain touch.Plain is ok t same hs = inr (record { touch = touch.Plain; is = is; moving = tt; value = 0; core = refl; completed = refl; ready = refl; loads = tt; stores = same; room = tt })
   plain (touch.Aims k w) is ok t same hs = inr (record { touch = touch.Aims k w; is = is; moving = tt; value = 0; core = refl; completed = refl; ready = refl; loads = tt; stores = same; room = tt })
   plain (touch.Leaves k) is ok t same hs = inr (record { touch = touch.Leaves k; is = is; moving = tt; value = 0; core = refl; completed = refl; ready = refl; loads = tt; stores = same; room = tt })
@@ -170,17 +174,17 @@ module _ (g : Setting) (s : State) (p : Program) (a : Answer) where
   closes_to k x e = stays (act s (Closes x.object)) (holding p k None) refl refl (same_call (Closes x.object) refl) (ready_mode p.mode (holding p k None) e)
 
   -- an aim whose hold was just opened, or is open
-  found_to : (x : Touch) → next_touch g p ≡ x → IsPlain x → (t : State) (hs : List (Option Hold)) (o : ℕ) → ((o i : ℕ) → latest t o i ≡ latest s o i) → IsAiming g (record p { holds = hs }) o
+  found_to : (x : Touch) → IsNext g p x → IsPlain x → (t : State) (hs : List (Option Hold)) (o : ℕ) → ((o i : ℕ) → latest t o i ≡ latest s o i) → IsAiming g (record p { holds = hs }) o
       → Q t (found g (record p { holds = hs }) o t)
   found_to x is ok t hs o same aiming = chosen t (known (t.note o).frame) _ _
       (λ _. plain x is ok t same hs)
       (λ _. stays t (in_mode (record p { holds = hs }) (Missing o)) refl refl same (record { scope = aiming.scope; cell = aiming.cell; is = aiming.is; object = aiming.object; holds = aiming.holds }))
 
-  aims_none : (k : ℕ) (h : Option Hold) → next_touch g p ≡ touch.Aims k None → p.mode ≡ Ready → Leads s Q (aims_at g p k h None)
+  aims_none : (k : ℕ) (h : Option Hold) → IsNext g p (touch.Aims k None) → p.mode ≡ Ready → Leads s Q (aims_at g p k h None)
   aims_none k None is e = plain (touch.Aims k None) is tt s still p.holds
   aims_none k (Some h) is e = closes_to k h e
 
-  aims_some : (k : ℕ) (h : Option Hold) (w : Cell) → next_touch g p ≡ touch.Aims k (Some w) → k < length p.holds → p.mode ≡ Ready → Leads s Q (aims_at g p k h (Some (object_of g p w)))
+  aims_some : (k : ℕ) (h : Option Hold) (w : Cell) → IsNext g p (touch.Aims k (Some w)) → k < length p.holds → p.mode ≡ Ready → Leads s Q (aims_at g p k h (Some (object_of g p w)))
   aims_some k None w is l e =
       let o : ℕ = object_of g p w in
       let hs : List (Option Hold) = (holding p k (Some (record { object = o; writes = false }))).holds in
@@ -188,24 +192,24 @@ module _ (g : Setting) (s : State) (p : Program) (a : Answer) where
       (record { scope = k; cell = w; is = is; object = refl; holds = get_or-set_same p.holds k (Some (record { object = o; writes = false })) None l })
   aims_some k (Some h) w is l e = leads_cond s Q (h.object == object_of g p w) _ _ (λ _. plain (touch.Aims k (Some w)) is tt s still p.holds) (λ _. closes_to k h e)
 
-  aims_to : (k : ℕ) (w : Option Cell) → next_touch g p ≡ touch.Aims k w → k < length p.holds → p.mode ≡ Ready → Leads s Q (aims_at g p k (hold_at p.holds k) (object_or_none g p w))
+  aims_to : (k : ℕ) (w : Option Cell) → IsNext g p (touch.Aims k w) → k < length p.holds → p.mode ≡ Ready → Leads s Q (aims_at g p k (hold_at p.holds k) (object_or_none g p w))
   aims_to k None is l e = aims_none k (hold_at p.holds k) is e
   aims_to k (Some w) is l e = aims_some k (hold_at p.holds k) w is l e
 
-  loads_from_to : (k : ℕ) (x : Cell) → next_touch g p ≡ touch.Loads k x → (f : Option ℕ) → (s.note (object_of g p x)).frame ≡ f → Leads s Q (loads_from g s p f (x.index % g.size))
+  loads_from_to : (k : ℕ) (x : Cell) → IsNext g p (touch.Loads k x) → (f : Option ℕ) → (s.note (object_of g p x)).frame ≡ f → Leads s Q (loads_from g s p f (x.index % g.size))
   loads_from_to k x is None e = tt
   loads_from_to k x is (Some f) e = inr (record { touch = touch.Loads k x; is = is; moving = tt; value = s.cell f (x.index % g.size); core = refl; completed = refl; ready = refl; loads = (f, e, refl); stores = still; room = tt })
 
-  loads_to : (k : ℕ) (x : Cell) (h : Option Hold) → next_touch g p ≡ touch.Loads k x → Leads s Q (loads_by g s p h (object_of g p x) (x.index % g.size))
+  loads_to : (k : ℕ) (x : Cell) (h : Option Hold) → IsNext g p (touch.Loads k x) → Leads s Q (loads_by g s p h (object_of g p x) (x.index % g.size))
   loads_to k x None is = tt
   loads_to k x (Some h) is = leads_cond s Q (h.object == object_of g p x) _ _ (λ _. loads_from_to k x is (s.note (object_of g p x)).frame refl) (λ _. tt)
 
-  stores_to_to : (k : ℕ) (x : Cell) (v : ℕ) → next_touch g p ≡ touch.Saves k x v → (f : Option ℕ) → Leads s Q (stores_to g p f (object_of g p x) (x.index % g.size) v)
+  stores_to_to : (k : ℕ) (x : Cell) (v : ℕ) → IsNext g p (touch.Saves k x v) → (f : Option ℕ) → Leads s Q (stores_to g p f (object_of g p x) (x.index % g.size) v)
   stores_to_to k x v is None = tt
   stores_to_to k x v is (Some f) =
       inr (record { touch = touch.Saves k x v; is = is; moving = tt; value = 0; core = refl; completed = refl; ready = refl; loads = tt; stores = stores_latest s (object_of g p x) f (x.index % g.size) v; room = tt })
 
-  saves_to : (k : ℕ) (x : Cell) (v : ℕ) (h : Option Hold) → next_touch g p ≡ touch.Saves k x v → p.mode ≡ Ready → Leads s Q (stores_by g s p k h (object_of g p x) (x.index % g.size) v)
+  saves_to : (k : ℕ) (x : Cell) (v : ℕ) (h : Option Hold) → IsNext g p (touch.Saves k x v) → p.mode ≡ Ready → Leads s Q (stores_by g s p k h (object_of g p x) (x.index % g.size) v)
   saves_to k x v None is e = tt
   saves_to k x v (Some h) is e =
       leads_cond s Q (h.object == object_of g p x) _ _
@@ -213,14 +217,14 @@ module _ (g : Setting) (s : State) (p : Program) (a : Answer) where
       (λ _. stays (act s (Clears (object_of g p x))) (holding p k (Some (record { object = object_of g p x; writes = true }))) refl refl (same_call (Clears (object_of g p x)) refl) (ready_mode p.mode _ e)))
       (λ _. tt)
 
-  leaves_to : (k : ℕ) (h : Option Hold) → next_touch g p ≡ touch.Leaves k → Leads s Q (leaves_by g p k h)
+  leaves_to : (k : ℕ) (h : Option Hold) → IsNext g p (touch.Leaves k) → Leads s Q (leaves_by g p k h)
   leaves_to k None is = plain (touch.Leaves k) is tt s still p.holds
   leaves_to k (Some h) is = plain (touch.Leaves k) is tt (act s (Closes h.object)) (same_call (Closes h.object) refl) (holding p k None).holds
 
   fits_room : (n m : ℕ) → nat_le n m ≡ true → n ≤ m
   fits_room n m e = grind (arith, nat_tests)
 
-  allocates_to : (cells : ℕ) → next_touch g p ≡ touch.Allocs cells → Leads s Q (allocates g p a cells)
+  allocates_to : (cells : ℕ) → IsNext g p (touch.Allocs cells) → Leads s Q (allocates g p a cells)
   allocates_to cells is = leads_cond s Q (nat_le (next_free g p + pieces g.size cells) g.limit) _ _
       (λ e. grows_to s (touch.Allocs cells) (inr (record {
         touch = touch.Allocs cells;
@@ -236,11 +240,11 @@ module _ (g : Setting) (s : State) (p : Program) (a : Answer) where
       })))
       (λ e. stays s (in_mode p (Wanted NoObjects)) refl refl still tt)
 
-  ends_to : (q : Option (ℕ × Hold)) → next_touch g p ≡ touch.Ends → p.mode ≡ Ready → Leads s Q (ends_by g p a q)
+  ends_to : (q : Option (ℕ × Hold)) → IsNext g p touch.Ends → p.mode ≡ Ready → Leads s Q (ends_by g p a q)
   ends_to None is e = grows_to s touch.Ends (plain touch.Ends is tt s still p.holds)
   ends_to (Some q) is e = closes_to q.0 q.1 e
 
-  ready_to : (x : Touch) → next_touch g p ≡ x → p.mode ≡ Ready → Leads s Q (ready g s p a x)
+  ready_to : (x : Touch) → IsNext g p x → p.mode ≡ Ready → Leads s Q (ready g s p a x)
   ready_to touch.Plain is e = grows_to s touch.Plain (plain touch.Plain is tt s still p.holds)
   ready_to (touch.Aims k w) is e = leads_cond s Q (nat_lt k (length p.holds)) _ _ (λ l. aims_to k w is (below_so k (length p.holds) l) e) (λ _. tt)
     where
@@ -312,7 +316,7 @@ module _ (g : Setting) (s : State) (p : Program) (a : Answer) where
   closing_to (Some q) e = closed_to (act s (Closes q.1.object)) q.0 (first_hold (holding p q.0 None).holds) (same_call (Closes q.1.object) refl) e
 
   mode_to : (y : Mode) → p.mode ≡ y → AimsIn g p y → (c : Choice) → Leads s Q (by_mode g s p y c a)
-  mode_to Ready e aims c = leads_next s Q c _ (leads_cond s Q (is_blocked p.core) NotEnabled (ready g s p a (next_touch g p)) (λ _. tt) (λ _. ready_to (next_touch g p) refl e))
+  mode_to Ready e aims c = leads_next s Q c _ (leads_cond s Q (is_blocked p.core) NotEnabled (ready g s p a (next_touch g p)) (λ _. tt) (λ b. ready_to (next_touch g p) (refl, b) e))
   mode_to (Missing o) e aims c = leads_next s Q c _ (missing_to o aims)
   mode_to (Bringing o) e aims c = seeks_to o c aims e
   mode_to (Reading o f) e aims c = leads_next s Q c _ (read_to o f a.read aims)

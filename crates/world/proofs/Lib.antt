@@ -8,3 +8,6 @@ pub mod Going
 pub mod Following
 pub mod Reached
 pub mod Causing
+pub mod Counting
+pub mod Holding
+pub mod Held

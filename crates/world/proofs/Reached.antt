@@ -5,6 +5,7 @@ use Rattle.std.proofs.Math.Nat.{mod-lt}
 use Rattle.code_form.specs.Form.{Block, Function, Image}
 use Rattle.code_form.specs.Code.{Core, Stuck, allocations_of, begins, entered, sizes}
 use Rattle.code_form.specs.Placed.{next_object, object_at}
+use Rattle.code_form.specs.Tracked.{WaitsShut}
 use Rattle.pointer_word.specs.Hands.{upd}
 use Rattle.pointer_word.specs.Machine.{State, latest}
 use Rattle.pointer_word.specs.Calls.{Call, Marks, act}
@@ -111,13 +112,22 @@ none_begins (Some g) = at_block (slice_get g.blocks 0)
     at_block None = refl
     at_block (Some x) = refl
 
-begin : (z : Sizes) (images : ℕ → Image) → AllFollow z images (start images)
+waits_begins : (main : Option Function) → WaitsShut (begins main)
+waits_begins None = tt
+waits_begins (Some g) = at_block (slice_get g.blocks 0)
+  where
+    at_block : (b : Option Block) → WaitsShut (elim b [ None ↦ Stuck [] [] | Some x ↦ entered g [] None x [] [] [] ])
+    at_block None = tt
+    at_block (Some x) = tt
+
+pub begin : (z : Sizes) (images : ℕ → Image) → AllFollow z images (start images)
 begin z images k =
     let none : sizes (allocations_of (begun (images k)).core) ≡ [] = none_begins (slice_get (images k).functions 0) in
     record {
       core = refl;
       heap = record { cell = λ r x l. refl; fresh = λ o i a b. refl; new = λ r x l. refl };
       room = subst (λ (cells : List ℕ). next_object z.cells (k * share z) cells ≤ k * share z + share z) (sym none) (omega arith);
+      waits = waits_begins (slice_get (images k).functions 0);
       aims = tt;
     }
 

@@ -5,4 +5,5 @@ pub mod InHand
 pub mod Steps
 pub mod Following
 pub mod Causes
+pub mod Holding
 pub mod Rows

@@ -104,10 +104,15 @@ in_mode p m = record p { mode = m }
 abbrev pub finished : Setting → Program → ℕ → Program
 finished g p v = record p { core = resumed (effect g.image p.core) p.core v; mode = Ready; completed = suc p.completed }
 
+-- a scope and what it holds, one scope further
+abbrev pub behind : Option (ℕ × Hold) → Option (ℕ × Hold)
+behind None = None
+behind (Some q) = Some (suc q.0, q.1)
+
 -- the lowest scope that holds something
 abbrev pub first_hold : List (Option Hold) → Option (ℕ × Hold)
 first_hold [] = None
-first_hold (None ∷ hs) = elim (first_hold hs) [ None ↦ None | Some q ↦ Some (suc q.0, q.1) ]
+first_hold (None ∷ hs) = behind (first_hold hs)
 first_hold (Some h ∷ hs) = Some (0, h)
 
 -- a simple instruction that prints

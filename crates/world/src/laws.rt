@@ -7,6 +7,7 @@ ghost use Rattle.pointer_word.specs.Sound.{IsSafe};
 ghost use Rattle.world.specs.declared.event.Actor.TheVariants.{Program};
 ghost use Rattle.world.specs.Causes.{HasFailed, IsCaused, WasRefused};
 ghost use Rattle.world.specs.Following.{IsAt};
+ghost use Rattle.world.specs.Holding.{HoldsFit};
 ghost use Rattle.world.specs.Steps.{IsSound, IsStep};
 ghost use Rattle.world.specs.Worlds.{Event, Follows, IsHonest, Sizes, World, event, setting, start};
 ghost use Rattle.world.specs.Rows.{NoPuts, NoReads, Reliable, brought_back, e0, e0_mark, failed_itself, faulty, five, get_failed, held_meanwhile, holding_one, moved_itself, p0, put_failed, read_meanwhile, row, times, two_objects, written};
@@ -45,9 +46,10 @@ pub fn every_schedule()
 {}
 
 /// After any events over an honest store each program is where the run of its code is after as many instructions as it has completed, and its
-/// cells are read off the contents of its objects, wherever they are.
+/// cells are read off the contents of its objects, wherever they are; its scopes hold objects of its share, whose words count them.
 pub fn programs_follow()
     ensures at { (z : Sizes) (images : ℕ → Image) (events : List Event) (v : World) → 0 < z.cells → Follows (Unit {0}) z images (start images) events v → (k : ℕ) → IsAt z images v k }
+    ensures holds { (z : Sizes) (images : ℕ → Image) (events : List Event) (v : World) → 0 < z.cells → Follows (Unit {0}) z images (start images) events v → (k : ℕ) → HoldsFit z v k }
 {
     effect_laws();
     heap_laws();
