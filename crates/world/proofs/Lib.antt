@@ -1,0 +1,13 @@
+pub mod Schedules
+pub mod Calling
+pub mod Moving
+pub mod Programs
+pub mod Stepping
+pub mod Latest
+pub mod Going
+pub mod Following
+pub mod Reached
+pub mod Causing
+pub mod Counting
+pub mod Holding
+pub mod Held

@@ -1,0 +1,9 @@
+use Rattle.world.proofs.Causing.{caused, was_refused}
+use Rattle.world.proofs.laws.wants.Goals as goal
+
+pub returns : goal.returns
+returns c = record {
+  cause = caused;
+  store_failed = λ z images events v k f has. was_refused z images (Unit {0}) k v events f has;
+  unsound_store = λ z images events v k f has. was_refused z images ⊥ k v events f has;
+}

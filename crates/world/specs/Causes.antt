@@ -1,0 +1,50 @@
+-- Why a program wants something.
+use Rattle.std.specs.Prelude.{◌≡◌, ◌⊎◌, ℕ, ◌+◌, ◌<◌, ◌≤◌, true, false, Option, Some, None, List, ◌∷◌, ◌++◌, length}
+use Rattle.cells.specs.declared.ending.Want.TheVariants.{OutOfMemory, NoObjects, StoreFailed}
+use Rattle.code_form.specs.declared.touch.Touch.TheVariants as touch
+use Rattle.code_form.specs.Form.{Image}
+use Rattle.code_form.specs.Placed.{pieces}
+use Rattle.world.specs.declared.event.Actor.{Actor}
+use Rattle.world.specs.declared.event.Actor.TheVariants as actor
+use Rattle.world.specs.Programs.{Eviction, Copying, NotStored, Mode, Reading, Evicting, Releasing, Retreating, Closing, Wanted, Program, Setting, next_touch, next_free, may_grow, rest_of}
+use Rattle.world.specs.Turns.{Answer}
+use Rattle.world.specs.Worlds.{Sizes, World, Event, Follows, setting, start}
+
+-- in this mode the program's own call of the store was refused
+abbrev pub HasFailed : Mode → Type 0
+HasFailed (Evicting o (NotStored v f)) = Unit {0}
+HasFailed (Releasing o f) = Unit {0}
+HasFailed (Retreating o) = Unit {0}
+HasFailed Closing = Unit {0}
+HasFailed (Wanted StoreFailed) = Unit {0}
+HasFailed _ = ⊥
+
+-- a program in this mode calls the store, and is refused: a get fails or finds another header, or a put of n words fails
+abbrev pub IsRefused : ℕ → Mode → Answer → Type 0
+IsRefused n (Reading o f) a = a.read ≡ None
+IsRefused n (Evicting o (Copying v f words)) a = (n ≤ length words) × (a.stored ≡ false)
+IsRefused n _ a = ⊥
+
+-- The cause of the mode that an event of its own leads a program to. OutOfMemory: memory was refused to an instruction that may take some.
+-- NoObjects: the pieces of the allocation that is next don't fit in the share. StoreFailed, and what leads to it: the program's own call of
+-- the store is refused now, or was before
+abbrev pub IsCaused : Setting → Program → Answer → Mode → Type 0
+IsCaused g p a (Wanted OutOfMemory) = (a.grew ≡ false) × (may_grow (next_touch g p) (rest_of p.core) ≡ true)
+IsCaused g p a (Wanted NoObjects) = (cells : ℕ) × (next_touch g p ≡ touch.Allocs cells) × (g.limit < next_free g p + pieces g.size cells)
+IsCaused g p a (Wanted StoreFailed) = HasFailed p.mode ⊎ IsRefused g.size p.mode a
+IsCaused g p a (Evicting o (NotStored v f)) = HasFailed p.mode ⊎ IsRefused g.size p.mode a
+IsCaused g p a (Releasing o f) = HasFailed p.mode ⊎ IsRefused g.size p.mode a
+IsCaused g p a (Retreating o) = HasFailed p.mode ⊎ IsRefused g.size p.mode a
+IsCaused g p a Closing = HasFailed p.mode ⊎ IsRefused g.size p.mode a
+IsCaused g p a _ = Unit {0}
+
+-- among these events, which begin in the world w, one is of program k, whose own call of the store is refused in it
+pub record WasRefused (h : Type 0) (z : Sizes) (images : ℕ → Image) (k : ℕ) (w : World) (events : List Event) : Type 0 where
+  pub before : List Event
+  pub event : Event
+  pub after : List Event
+  pub at : World
+  pub among : events ≡ before ++ event ∷ after
+  pub follows : Follows h z images w before at
+  pub own : event.actor ≡ actor.Program k
+  pub refused : IsRefused z.cells (at.programs k).mode event.answer

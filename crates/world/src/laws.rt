@@ -1,0 +1,65 @@
+//! The laws of the world, each as the contract of a function that does nothing.
+ghost use Rattle.std.specs.Prelude.{ℕ, ◌<◌, ◌≡◌, ◌∷◌, ◌++◌, [], List, None, Some, pos};
+ghost use Rattle.cells.specs.Stops.{Ended, NullFault};
+ghost use Rattle.cells.specs.declared.ending.Want.TheVariants.{StoreFailed};
+ghost use Rattle.code_form.specs.Form.{Image};
+ghost use Rattle.pointer_word.specs.Sound.{IsSafe};
+ghost use Rattle.world.specs.declared.event.Actor.TheVariants.{Program};
+ghost use Rattle.world.specs.Causes.{HasFailed, IsCaused, WasRefused};
+ghost use Rattle.world.specs.Following.{IsAt};
+ghost use Rattle.world.specs.Holding.{HoldsFit};
+ghost use Rattle.world.specs.Steps.{IsSound, IsStep};
+ghost use Rattle.world.specs.Worlds.{Event, Follows, IsHonest, Sizes, World, event, setting, start};
+ghost use Rattle.world.specs.Rows.{NoPuts, NoReads, Reliable, brought_back, e0, e0_mark, failed_itself, faulty, five, get_failed, held_meanwhile, holding_one, moved_itself, p0, put_failed, read_meanwhile, row, times, two_objects, written};
+
+use code_form::{effect_laws, heap_laws, run_laws};
+
+/// What worked schedules of one program and one evacuator come to: how many lines they have, how the program has stopped or what
+/// it wants, the bits of object 0's word, and cell 0 of two frames. None where a line is refused.
+pub fn worked_schedules()
+    ensures brought_back { row (five Reliable) (brought_back ++ p0 ∷ []) ≡ (214, Some (record { stop = Some (Ended (pos 5)); want = None; word = 0x18_0000; first = 5; second = 5 })) }
+    ensures not_returned { row (five Reliable) brought_back ≡ (213, Some (record { stop = None; want = None; word = 0x18_0000; first = 5; second = 5 })) }
+    ensures read_meanwhile { row (five Reliable) read_meanwhile ≡ (146, Some (record { stop = Some (Ended (pos 5)); want = None; word = 0; first = 5; second = 0 })) }
+    ensures held_meanwhile { row (five Reliable) held_meanwhile ≡ (146, Some (record { stop = Some (Ended (pos 5)); want = None; word = 0x8_0000; first = 5; second = 0 })) }
+    ensures idle { row (five Reliable) (written ++ e0 ∷ []) ≡ (75, None) }
+    ensures no_frame { row (five Reliable) (written ++ e0_mark 0 2 ∷ []) ≡ (75, None) }
+    ensures elsewhere { row (five Reliable) (written ++ e0_mark 0 1 ∷ []) ≡ (75, Some (record { stop = None; want = None; word = 0x8_0000; first = 5; second = 0 })) }
+    ensures put_failed { row (five NoPuts) put_failed ≡ (145, Some (record { stop = Some (Ended (pos 5)); want = None; word = 0x8_0000; first = 5; second = 0 })) }
+    ensures get_failed { row (five NoReads) get_failed ≡ (149, Some (record { stop = None; want = Some StoreFailed; word = 0; first = 5; second = 0 })) }
+    ensures no_more { row (five NoReads) (get_failed ++ p0 ∷ []) ≡ (150, None) }
+    ensures closes { row faulty (holding_one ++ p0 ∷ []) ≡ (71, Some (record { stop = None; want = None; word = 0x8_0000; first = 0; second = 0 })) }
+    ensures stops { row faulty (holding_one ++ times 2 p0) ≡ (72, Some (record { stop = Some NullFault; want = None; word = 0x8_0000; first = 0; second = 0 })) }
+    ensures moved_itself { row (two_objects Reliable) moved_itself ≡ (210, Some (record { stop = Some (Ended (pos 5)); want = None; word = 0; first = 0; second = 0 })) }
+    ensures failed_itself { row (two_objects NoPuts) failed_itself ≡ (142, Some (record { stop = None; want = Some StoreFailed; word = 0x8_0000; first = 0; second = 0 })) }
+{}
+
+/// Whatever events whichever actors make in whichever order, over any number of programs and evacuators, any images, frames and objects
+/// and pieces of any size: the machine is sound and each actor has in hand what its mode says, over a store that is honest and
+/// over one that isn't. Each event makes at most one call, which the actor may make and which changes words, frame words and
+/// cells lawfully; and it changes no other actor, whatever the store answers.
+pub fn every_schedule()
+    ensures sound { (z : Sizes) (images : ℕ → Image) (events : List Event) (v : World) → Follows (Unit {0}) z images (start images) events v → IsSound (Unit {0}) z v }
+    ensures safe { (z : Sizes) (images : ℕ → Image) (events : List Event) (v : World) → Follows (Unit {0}) z images (start images) events v → IsSafe (Unit {0}) z.cells v.lock }
+    ensures unsound_store { (z : Sizes) (images : ℕ → Image) (events : List Event) (v : World) → Follows ⊥ z images (start images) events v → IsSafe ⊥ z.cells v.lock }
+    ensures step { (z : Sizes) (images : ℕ → Image) (w u : World) (e : Event) → IsSound (Unit {0}) z w → IsHonest z w e.actor e.answer → event z images w e ≡ Some u → IsStep (Unit {0}) z w e u × IsSound (Unit {0}) z u }
+    ensures step_unsound { (z : Sizes) (images : ℕ → Image) (w u : World) (e : Event) → IsSound ⊥ z w → event z images w e ≡ Some u → IsStep ⊥ z w e u × IsSound ⊥ z u }
+{}
+
+/// After any events over an honest store each program is where the run of its code is after as many instructions as it has completed, and its
+/// cells are read off the contents of its objects, wherever they are; its scopes hold objects of its share, whose words count them.
+pub fn programs_follow()
+    ensures at { (z : Sizes) (images : ℕ → Image) (events : List Event) (v : World) → 0 < z.cells → Follows (Unit {0}) z images (start images) events v → (k : ℕ) → IsAt z images v k }
+    ensures holds { (z : Sizes) (images : ℕ → Image) (events : List Event) (v : World) → 0 < z.cells → Follows (Unit {0}) z images (start images) events v → (k : ℕ) → HoldsFit z v k }
+{
+    effect_laws();
+    heap_laws();
+    run_laws();
+}
+
+/// What an event of a program leads it to want has its cause; and a program whose store failed has itself called the store and been refused,
+/// whatever the store answered to others.
+pub fn wants()
+    ensures cause { (z : Sizes) (images : ℕ → Image) (w u : World) (e : Event) (k : ℕ) → event z images w e ≡ Some u → e.actor ≡ Program k → IsCaused (setting z images k) (w.programs k) e.answer (u.programs k).mode }
+    ensures store_failed { (z : Sizes) (images : ℕ → Image) (events : List Event) (v : World) (k : ℕ) → Follows (Unit {0}) z images (start images) events v → HasFailed (v.programs k).mode → WasRefused (Unit {0}) z images k (start images) events }
+    ensures unsound_store { (z : Sizes) (images : ℕ → Image) (events : List Event) (v : World) (k : ℕ) → Follows ⊥ z images (start images) events v → HasFailed (v.programs k).mode → WasRefused ⊥ z images k (start images) events }
+{}

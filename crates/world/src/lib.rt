@@ -1,0 +1,8 @@
+//! Every interleaving of programs with movers that move objects in and out, as a pure machine over events.
+#![tactic(auto)]
+
+mod event;
+mod laws;
+
+pub use event::{Actor, Choice};
+pub use laws::{every_schedule, programs_follow, wants, worked_schedules};
