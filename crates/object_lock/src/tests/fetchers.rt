@@ -1,5 +1,5 @@
 //! Fetchers, and the frames that movers claim, free and look at.
-ghost use Rattle.std.specs.Prelude.{◌≡◌, ◌<◌, true, Some};
+ghost use Rattle.std.specs.Prelude.{◌<◌, Some};
 ghost use Rattle.pointer_word.specs.Asked.{HasNothing};
 ghost use Rattle.object_lock.specs.Plays.{IsUnheld};
 ghost use Rattle.object_lock.specs.SeatViews.{IsSeat};
@@ -54,8 +54,8 @@ fn begin_twice<S: RawStore>(
     Some((first, between, word_of(table, obj)))
 }
 
-// Begins the object, claims the frame, and frees it again: what a look at the frame tells before the claim, after it and
-// after the release.
+// Begins the object, claims the frame, frees it again, and gives the object up: what a look at the frame tells before the
+// claim, after it and after the release.
 fn claim_and_release<S: RawStore>(
     table: &ObjectTable<S>,
     fetcher: &mut MoverSeat<S>,
@@ -75,7 +75,9 @@ fn claim_and_release<S: RawStore>(
     }
     let claimed = table.look(fetcher, frame);
     table.release(fetcher, frame);
-    Some((before, claimed, table.look(fetcher, frame)))
+    let released = table.look(fetcher, frame);
+    table.retreat(fetcher, obj);
+    Some((before, claimed, released))
 }
 
 #[test]
@@ -104,17 +106,15 @@ fn a_fetcher_retreats(rt: HostRuntime) {
 
 #[test]
 fn a_held_object_is_busy(rt: HostRuntime) {
-    let made = owner_and_mover(rt.alloc(), 2, FarHeap);
+    let made = owner_and_mover(rt.alloc(), 1, FarHeap);
     assert!(rt; made.is_some());
     let Some((table, mut owner, mut fetcher)) = made else {
         return;
     };
-    assert_eq!(rt; (owner.low(), owner.high()), (0, 2));
-    assert!(rt; bring_in(&table, &mut owner, 0, 2));
-    assert_eq!(rt; table.open(&mut owner, 1), Held::Away);
-    let begun = table.try_begin(&mut fetcher, 1, 0);
-    assert_eq!(rt; begun, Begin::Busy);
-    assert_eq!(rt; word_of(&table, 1), 1);
+    assert_eq!(rt; (owner.low(), owner.high()), (0, 1));
+    assert_eq!(rt; table.open(&mut owner, 0), Held::Away);
+    assert_eq!(rt; table.try_begin(&mut fetcher, 0, 0), Begin::Busy);
+    assert_eq!(rt; word_of(&table, 0), 1);
 }
 
 #[test]
@@ -126,8 +126,7 @@ fn an_object_in_a_frame_is_not_begun(rt: HostRuntime) {
     };
     assert_eq!(rt; (owner.low(), owner.high()), (0, 1));
     assert!(rt; bring_in(&table, &mut owner, 0, 2));
-    let begun = table.try_begin(&mut fetcher, 0, 0);
-    assert_eq!(rt; begun, Begin::Here(2));
+    assert_eq!(rt; table.try_begin(&mut fetcher, 0, 0), Begin::Here(2));
     assert_eq!(rt; word_of(&table, 0), 0x28_0001);
 }
 
@@ -141,6 +140,7 @@ fn a_released_frame_is_claimed_again(rt: HostRuntime) {
     assert_eq!(rt; (owner.low(), owner.high()), (0, 2));
     let looks = claim_and_release(&table, &mut fetcher, 1, 2);
     assert_eq!(rt; looks, Some((None, Some(1), None)));
+    assert_eq!(rt; word_of(&table, 1), 0);
     assert!(rt; bring_in(&table, &mut owner, 0, 2));
     assert_eq!(rt; word_of(&table, 0), 0x28_0001);
 }

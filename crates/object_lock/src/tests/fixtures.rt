@@ -7,7 +7,7 @@ ghost use Rattle.pointer_word.specs.Ordered.{IsCopied};
 ghost use Rattle.remote_store.specs.Kept.{piece_cells};
 ghost use Rattle.object_lock.specs.Seats.{Owns, note, with_hand};
 ghost use Rattle.object_lock.specs.Seating.{IsMovingOut};
-ghost use Rattle.object_lock.specs.SeatViews.{IsSeat, IsTable};
+ghost use Rattle.object_lock.specs.SeatViews.{IsSeat};
 ghost use Rattle.object_lock.specs.Fresh.{IsFreshMover, IsFreshOwner, sizes_of};
 ghost use Rattle.object_lock.specs.Telling.{HasPut};
 

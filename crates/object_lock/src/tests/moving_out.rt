@@ -4,7 +4,6 @@ use crate::tests::fixtures::{
     read_once, word_of, write_value,
 };
 use remote_store::{FarHeap, FaultPlan, FaultStores};
-use std::test::Fail;
 
 #[test]
 fn an_object_with_a_hold_is_not_marked(rt: HostRuntime) {
@@ -79,8 +78,10 @@ fn a_failed_put_is_given_up(rt: HostRuntime) {
     assert_eq!(rt; (owner.low(), owner.high()), (0, 1));
     assert!(rt; bring_in_with(&table, &mut owner, 0, 2, 5));
     assert_eq!(rt; mover.refusals(), 0);
-    assert!(rt; !move_out(&table, &mut mover, 0, 2));
+    assert!(rt; table.try_mark(&mut mover, 0, 2));
+    assert!(rt; !copy_and_put(&table, &mut mover, 0, 2));
     assert_eq!(rt; mover.refusals(), 1);
+    table.abort(&mut mover, 0);
     assert_eq!(rt; word_of(&table, 0), 0x28_0000);
     assert_eq!(rt; read_once(&table, &mut owner, 0), Some(5));
     assert!(rt; move_out(&table, &mut mover, 0, 2));

@@ -1,5 +1,5 @@
 //! Two worked rows of an owner and an evacuator, by turns, with the object's word after each call.
-ghost use Rattle.std.specs.Prelude.{◌≡◌, ◌<◌, true, Some, IfSome};
+ghost use Rattle.std.specs.Prelude.{◌≡◌, ◌<◌, Some, IfSome};
 ghost use Rattle.pointer_word.specs.Asked.{HasNothing};
 ghost use Rattle.object_lock.specs.Seats.{Owns, note};
 ghost use Rattle.object_lock.specs.SeatViews.{IsSeat};
@@ -9,7 +9,6 @@ use crate::tests::fixtures::{
 };
 use crate::{Held, ObjectTable, OwnerSeat};
 use remote_store::FarHeap;
-use std::test::Fail;
 
 // Opens the object, writes to its cell 0, and closes it: what the open told, and the object's word after the open, after the
 // begin of the write and after the close.
@@ -37,11 +36,11 @@ fn write_once(
 }
 
 #[test]
-fn written_meanwhile(rt: HostRuntime) -> Result<(), Fail> {
+fn written_meanwhile(rt: HostRuntime) {
     let made = owner_and_mover(rt.alloc(), 1, FarHeap);
     assert!(rt; made.is_some());
     let Some((table, mut owner, mut mover)) = made else {
-        return Ok(());
+        return;
     };
     assert_eq!(rt; (owner.low(), owner.high()), (0, 1));
     assert!(rt; bring_in_with(&table, &mut owner, 0, 2, 5));
@@ -64,15 +63,14 @@ fn written_meanwhile(rt: HostRuntime) -> Result<(), Fail> {
     table.abort(&mut mover, 0);
     assert_eq!(rt; word_of(&table, 0), 0x28_0000);
     assert_eq!(rt; read_once(&table, &mut owner, 0), Some(9));
-    Ok(())
 }
 
 #[test]
-fn moved_out_and_in(rt: HostRuntime) -> Result<(), Fail> {
+fn moved_out_and_in(rt: HostRuntime) {
     let made = owner_and_mover(rt.alloc(), 1, FarHeap);
     assert!(rt; made.is_some());
     let Some((table, mut owner, mut mover)) = made else {
-        return Ok(());
+        return;
     };
     assert_eq!(rt; (owner.low(), owner.high()), (0, 1));
     assert!(rt; bring_in_with(&table, &mut owner, 0, 2, 5));
@@ -91,5 +89,4 @@ fn moved_out_and_in(rt: HostRuntime) -> Result<(), Fail> {
     assert_eq!(rt; begun, Some((1, 0x1000_0004_0001)));
     assert_eq!(rt; bring_back(&table, &mut owner, 0, 2), Some(5));
     assert_eq!(rt; word_of(&table, 0), 0x28_0001);
-    Ok(())
 }

@@ -1,5 +1,5 @@
 //! An owner and a mover at one table, each in a thread of its own.
-ghost use Rattle.std.specs.Prelude.{◌≡◌, ◌<◌, ◌≤◌, ℕ, None, Some, MatchOption, length};
+ghost use Rattle.std.specs.Prelude.{◌≡◌, ◌<◌, ℕ, None, Some, MatchOption, length};
 ghost use Rattle.pointer_word.specs.Asked.{HasNoFrame, HasNothing};
 ghost use Rattle.pointer_word.specs.Hands.{claiming, listed};
 ghost use Rattle.remote_store.specs.Kept.{piece_cells};
