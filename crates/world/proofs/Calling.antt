@@ -2,7 +2,7 @@
 use Rattle.std.proofs.Common.{◌≡◌, ◌≢◌, ◌⊎◌, inl, inr, ℕ, Bool, true, false, cond, ◌&&◌, Option, Some, None, refl, sym, ap, ◌∙◌, subst}
 use Rattle.std.specs.Prelude.{◌==◌}
 use Rattle.pointer_word.specs.Words.{Place, Away, Coming, Here, Leaving}
-use Rattle.pointer_word.specs.Hands.{Hand, upd, bringing, claiming, filling, arriving, unclaiming, retreating, marking, copying, committing, aborting, releasing}
+use Rattle.pointer_word.specs.Hands.{Hand, bringing, claiming, filling, arriving, unclaiming, retreating, marking, copying, committing, aborting, releasing}
 use Rattle.pointer_word.specs.Machine.{Far, Never, Kept, Unknown, content, content_or, State, after_begin, after_claim, after_mark, after_commit, after_leave}
 use Rattle.pointer_word.specs.Calls.{Call, Opens, Closes, Clears, Stores, Begins, Claims, Fills, Arrives, Unclaims, Retreats, Marks, Copies, Puts, Commits, Aborts, Leaves, Releases, May, IsPut, Copied, told_where, begin_at, mark_at, commit_at, leave_at, act}
 use Rattle.pointer_word.specs.Sound.{Inv}

@@ -1,5 +1,5 @@
 -- each want has its cause
-use Rattle.std.proofs.Common.{◌≡◌, ◌≢◌, ◌⊎◌, inl, inr, ℕ, suc, ◌+◌, ◌<◌, ◌≤◌, Bool, true, false, cond, not, ◌&&◌, List, [], ◌∷◌, ◌++◌, length, Option, Some, None, refl, sym, ap, ◌∙◌, subst, arith}
+use Rattle.std.proofs.Common.{◌≡◌, ◌≢◌, ◌⊎◌, inl, inr, ℕ, ◌+◌, ◌<◌, ◌≤◌, Bool, true, false, cond, not, ◌&&◌, List, [], ◌∷◌, length, Option, Some, None, refl, sym, ap, subst, arith}
 use Rattle.std.specs.Prelude.{◌==◌, ◌%◌, nat_lt, nat_le}
 use Rattle.std.proofs.lemmas.Bool.Decides.{nat_tests}
 use Rattle.cells.specs.declared.ending.Want.TheVariants.{OutOfMemory, NoObjects, StoreFailed}
@@ -8,17 +8,17 @@ use Rattle.code_form.specs.declared.touch.Touch.TheVariants as touch
 use Rattle.code_form.specs.Code.{is_blocked}
 use Rattle.code_form.specs.Form.{Image}
 use Rattle.code_form.specs.Placed.{pieces}
-use Rattle.pointer_word.specs.Hands.{known, listed, upd}
+use Rattle.pointer_word.specs.Hands.{known, upd}
 use Rattle.pointer_word.specs.Machine.{Far, Never, Kept, Unknown, State}
-use Rattle.pointer_word.specs.Calls.{Call, Opens, Closes, Clears, Stores, Begins, Claims, Fills, Arrives, Unclaims, Retreats, Marks, Copies, Puts, Commits, Aborts, Releases, act}
+use Rattle.pointer_word.specs.Calls.{Opens, Closes, Begins, Claims, Marks, Commits, act}
 use Rattle.pointer_word.specs.Legal.{holds}
 use Rattle.pointer_word.proofs.Upd.{upd-same, upd-other, same_or}
 use Rattle.world.specs.declared.event.Actor.{Actor}
 use Rattle.world.specs.declared.event.Actor.TheVariants as actor
 use Rattle.world.specs.declared.event.Choice.{Choice}
 use Rattle.world.specs.declared.event.Choice.TheVariants as choice
-use Rattle.world.specs.Programs.{Eviction, Copying, Stored, NotStored, Refused, Freed, Hold, Mode, Ready, Missing, Bringing, Reading, Filling, Evicting, Releasing, Retreating, Closing, Wanted, Program, Setting, next_touch, object_of, object_or_none, next_free, hold_at, holding, in_mode, finished, first_hold, may_grow, rest_of}
-use Rattle.world.specs.Turns.{Answer, Turn, NotEnabled, Alone, Calls, as_next, taken, put_of, put_so, committed_so, evicts, evacuator_turn, grows, closes, found, aims_at, loads_from, loads_by, stores_to, stores_by, leaves_by, allocates, ends_by, ready, began, to_fill, claimed_so, marked_so, seeks, read_so, fills, closed_so, gives_up, by_mode, program_turn}
+use Rattle.world.specs.Programs.{Eviction, Copying, Stored, NotStored, Refused, Freed, Hold, Mode, Ready, Missing, Bringing, Reading, Filling, Evicting, Releasing, Retreating, Closing, Wanted, Program, Setting, next_touch, object_of, object_or_none, next_free, hold_at, holding, in_mode, first_hold, may_grow, rest_of}
+use Rattle.world.specs.Turns.{Answer, NotEnabled, Calls, taken, put_so, committed_so, evicts, grows, closes, aims_at, loads_from, loads_by, stores_to, stores_by, leaves_by, ends_by, ready, began, to_fill, seeks, read_so, fills, closed_so, gives_up, by_mode, program_turn}
 use Rattle.world.specs.Worlds.{Sizes, World, Event, Follows, setting, start, in_range, is_actor, with_program, with_evacuator, acted, event}
 use Rattle.world.specs.Causes.{HasFailed, IsRefused, IsCaused, WasRefused}
 use Rattle.world.proofs.Going.{Leads, leads_cond, leads_next}

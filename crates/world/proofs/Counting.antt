@@ -1,5 +1,5 @@
 -- what a call leaves of the holds that are counted: only opens and closes change them
-use Rattle.std.proofs.Common.{◌≡◌, ◌≢◌, ◌⊎◌, inl, inr, ℕ, zero, suc, ◌+◌, ◌-◌, ◌<◌, Bool, true, false, cond, ◌&&◌, List, [], ◌∷◌, length, Option, Some, None, refl, sym, ap, ◌∙◌, subst, arith, eq-eqb, ne_eqb}
+use Rattle.std.proofs.Common.{◌≡◌, ◌≢◌, inl, inr, ℕ, zero, suc, ◌+◌, ◌-◌, ◌<◌, Bool, true, false, cond, ◌&&◌, List, [], ◌∷◌, length, Option, Some, None, refl, sym, ap, subst, arith, eq-eqb, ne_eqb}
 use Rattle.std.specs.Prelude.{◌==◌, slice_set}
 use Rattle.pointer_word.specs.Words.{Place, Away, Coming, Here, Leaving, framed}
 use Rattle.pointer_word.specs.Hands.{Note, upd, opened, closed, writable, told, added}

@@ -1,5 +1,5 @@
 -- a program of the world stays where the run of its code is
-use Rattle.std.proofs.Common.{◌≡◌, ◌≢◌, ◌⊎◌, inl, inr, ℕ, zero, suc, ◌+◌, ◌*◌, ◌/◌, ◌%◌, ◌<◌, ◌≤◌, Bool, true, false, cond, List, [], ◌∷◌, length, Option, Some, None, refl, sym, ap, ◌∙◌, subst, arith}
+use Rattle.std.proofs.Common.{◌≡◌, ◌≢◌, ◌⊎◌, inl, inr, ℕ, zero, suc, ◌+◌, ◌*◌, ◌%◌, ◌<◌, ◌≤◌, Bool, true, false, cond, List, [], ◌∷◌, length, refl, sym, ap, ◌∙◌, subst, arith}
 use Rattle.std.specs.Prelude.{◌==◌}
 use Rattle.std.proofs.Math.Nat.{mod-lt, mul-le-mul_right}
 use Rattle.code_form.specs.declared.touch.Touch.{Touch}
@@ -8,13 +8,13 @@ use Rattle.code_form.specs.Form.{Image}
 use Rattle.code_form.specs.Effects.{Effect, Plain, Aims, Loads, Saves, Leaves, Allocs, Ends, Wrong, Nothing, Heap, code_run, run_effect, saved}
 use Rattle.code_form.specs.Code.{Core, allocations_of, cells_of, code, effect, sizes}
 use Rattle.code_form.specs.Laws.{StepsSuc}
-use Rattle.code_form.specs.Placed.{HaveAddresses, HeapAllocated, HeapSaved, SameHeap, first_object, next_object, object_at, pieces}
+use Rattle.code_form.specs.Placed.{HaveAddresses, HeapAllocated, HeapSaved, SameHeap, first_object, next_object, object_at}
 use Rattle.code_form.specs.Touches.{heap_after, loaded, resumed, touch_of}
 use Rattle.code_form.specs.Tracked.{AlwaysTidy, AlwaysTracked, AlwaysWaitsShut, IsTidy, WaitsShut}
 use Rattle.pointer_word.specs.Hands.{upd}
 use Rattle.pointer_word.specs.Machine.{State, latest}
 use Rattle.pointer_word.specs.Sound.{Inv}
-use Rattle.pointer_word.proofs.Upd.{upd-other, same_or}
+use Rattle.pointer_word.proofs.Upd.{upd-other}
 use Rattle.pointer_word.proofs.Owning.{load_is_latest}
 use Rattle.world.specs.Programs.{Program, Setting, cells_in, next_free, next_touch, object_of}
 use Rattle.world.proofs.Going.{AimsIn, Finishes, Goes, IsMoving, LoadsSo, RoomFor, Stays, StoresSo}

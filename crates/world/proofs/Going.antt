@@ -1,23 +1,23 @@
 -- what a program's turn does to its code: nothing yet, or its next instruction
-use Rattle.std.proofs.Common.{◌≡◌, ◌≢◌, ◌⊎◌, inl, inr, ℕ, suc, ◌+◌, ◌<◌, ◌≤◌, Bool, true, false, cond, not, ◌&&◌, List, [], length, Option, Some, None, refl, sym, ap, ◌∙◌, subst, arith}
+use Rattle.std.proofs.Common.{◌≡◌, ◌⊎◌, inl, inr, ℕ, suc, ◌+◌, ◌<◌, ◌≤◌, Bool, true, false, cond, not, ◌&&◌, List, [], length, Option, Some, None, refl, sym, subst, arith}
 use Rattle.std.specs.Prelude.{◌==◌, ◌%◌, nat_lt, nat_le}
 use Rattle.std.proofs.lemmas.Bool.Decides.{nat_tests}
 use Rattle.std.proofs.lemmas.List.{get_or-set_same}
-use Rattle.cells.specs.declared.ending.Want.TheVariants.{OutOfMemory, NoObjects, StoreFailed}
+use Rattle.cells.specs.declared.ending.Want.TheVariants.{OutOfMemory, NoObjects}
 use Rattle.code_form.specs.declared.touch.Cell.{Cell}
 use Rattle.code_form.specs.declared.touch.Touch.{Touch}
 use Rattle.code_form.specs.declared.touch.Touch.TheVariants as touch
 use Rattle.code_form.specs.Code.{is_blocked, effect}
 use Rattle.code_form.specs.Placed.{pieces}
 use Rattle.code_form.specs.Touches.{resumed}
-use Rattle.pointer_word.specs.Hands.{Hand, upd, known, listed}
+use Rattle.pointer_word.specs.Hands.{upd, known, listed}
 use Rattle.pointer_word.specs.Machine.{Far, Never, Kept, Unknown, State, latest}
-use Rattle.pointer_word.specs.Calls.{Call, Opens, Closes, Clears, Stores, Begins, Claims, Fills, Arrives, Unclaims, Retreats, Marks, Copies, Puts, Commits, Aborts, Releases, act}
+use Rattle.pointer_word.specs.Calls.{Call, Opens, Closes, Clears, Begins, Claims, Fills, Arrives, Unclaims, Retreats, Marks, Copies, Puts, Commits, Aborts, Releases, act}
 use Rattle.pointer_word.specs.Legal.{holds}
 use Rattle.world.specs.declared.event.Choice.{Choice}
 use Rattle.world.specs.declared.event.Choice.TheVariants as choice
 use Rattle.world.specs.Programs.{Eviction, Copying, Stored, NotStored, Refused, Freed, Hold, Mode, Ready, Missing, Bringing, Reading, Filling, Evicting, Releasing, Retreating, Closing, Wanted, Program, Setting, next_touch, object_of, object_or_none, next_free, hold_at, holding, in_mode, finished, first_hold, may_grow, rest_of}
-use Rattle.world.specs.Turns.{Answer, Turn, NotEnabled, Alone, Calls, as_next, put_of, put_so, committed_so, evicts, grows, closes, found, aims_at, loads_from, loads_by, stores_to, stores_by, leaves_by, allocates, ends_by, ready, began, to_fill, claimed_so, marked_so, seeks, read_so, fills, closed_so, gives_up, by_mode, program_turn}
+use Rattle.world.specs.Turns.{Answer, Turn, NotEnabled, Alone, Calls, as_next, put_of, evicts, grows, closes, found, aims_at, loads_from, loads_by, stores_to, stores_by, leaves_by, allocates, ends_by, ready, began, to_fill, seeks, read_so, fills, closed_so, gives_up, by_mode, program_turn}
 use Rattle.world.proofs.Latest.{is_store, keeps_latest, stores_latest}
 
 -- the state and the actor that a turn leads to, if its call may be made

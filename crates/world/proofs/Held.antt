@@ -1,5 +1,5 @@
 -- in every world that is reached the words count what the scopes hold
-use Rattle.std.proofs.Common.{◌≡◌, ◌≢◌, ◌⊎◌, inl, inr, ℕ, zero, suc, ◌+◌, ◌*◌, ◌<◌, ◌≤◌, Bool, true, false, cond, ◌&&◌, List, [], ◌∷◌, Option, Some, None, refl, sym, ap, ◌∙◌, subst, arith}
+use Rattle.std.proofs.Common.{◌≡◌, ◌≢◌, inl, inr, ℕ, zero, suc, ◌+◌, ◌*◌, ◌<◌, ◌≤◌, ◌&&◌, List, [], ◌∷◌, Option, Some, None, refl, sym, ◌∙◌, subst, arith}
 use Rattle.code_form.specs.Form.{Image}
 use Rattle.pointer_word.specs.Hands.{upd}
 use Rattle.pointer_word.specs.Machine.{State}
@@ -10,8 +10,8 @@ use Rattle.world.specs.declared.event.Actor.TheVariants as actor
 use Rattle.world.specs.declared.event.Choice.{Choice}
 use Rattle.world.specs.declared.event.Choice.TheVariants as choice
 use Rattle.world.specs.Programs.{Eviction, Hold, Program, Setting, hold_at}
-use Rattle.world.specs.Turns.{Answer, Turn, taken, evacuator_idle, evacuator_turn, program_turn}
-use Rattle.world.specs.Worlds.{Sizes, World, Event, mover_of, setting, share, start, in_range, is_actor, with_program, with_evacuator, acted, event, Follows}
+use Rattle.world.specs.Turns.{Answer, taken, evacuator_idle, evacuator_turn, program_turn}
+use Rattle.world.specs.Worlds.{Sizes, World, Event, setting, share, start, in_range, is_actor, with_program, with_evacuator, acted, event, Follows}
 use Rattle.world.specs.Steps.{IsSound}
 use Rattle.world.specs.Holding.{HoldsFit}
 use Rattle.world.proofs.Counting.{keeps_count}

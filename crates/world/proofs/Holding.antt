@@ -1,9 +1,8 @@
 -- the words count what the scopes of programs hold
-use Rattle.std.proofs.Common.{◌≡◌, ◌≢◌, ◌⊎◌, inl, inr, ℕ, zero, suc, ◌+◌, ◌*◌, ◌-◌, ◌<◌, ◌≤◌, Bool, true, false, cond, not, ◌&&◌, List, [], ◌∷◌, length, Option, Some, None, refl, sym, ap, ◌∙◌, subst, arith}
+use Rattle.std.proofs.Common.{◌≡◌, inl, inr, ℕ, ◌+◌, ◌-◌, ◌<◌, ◌≤◌, Bool, true, false, cond, not, ◌&&◌, List, length, Option, Some, None, refl, sym, ap, ◌∙◌, subst, arith}
 use Rattle.std.specs.Prelude.{◌==◌, ◌%◌, nat_lt, nat_le, slice_set}
 use Rattle.std.proofs.lemmas.Bool.Decides.{nat_tests}
 use Rattle.std.proofs.lemmas.List.{get_or-set_same, get_or-set_other}
-use Rattle.cells.specs.declared.ending.Want.TheVariants.{OutOfMemory, NoObjects, StoreFailed}
 use Rattle.code_form.specs.declared.touch.Cell.{Cell}
 use Rattle.code_form.specs.declared.touch.Touch.{Touch}
 use Rattle.code_form.specs.declared.touch.Touch.TheVariants as touch
@@ -14,17 +13,17 @@ use Rattle.code_form.specs.Placed.{pieces}
 use Rattle.code_form.specs.Touches.{cell, cell_option, touch_of}
 use Rattle.code_form.specs.Tracked.{IsTidy, IsTracked}
 use Rattle.pointer_word.specs.Hands.{known, listed}
-use Rattle.pointer_word.specs.Machine.{Far, State}
+use Rattle.pointer_word.specs.Machine.{State}
 use Rattle.pointer_word.specs.Calls.{Call, Opens, Closes, Clears, Stores, Begins, Claims, Fills, Arrives, Unclaims, Retreats, Marks, Copies, Puts, Commits, Aborts, Releases, act}
 use Rattle.pointer_word.specs.Legal.{holds}
 use Rattle.pointer_word.proofs.Upd.{same_or}
 use Rattle.std.specs.Prelude.{slice_get}
 use Rattle.world.specs.declared.event.Choice.{Choice}
 use Rattle.world.specs.declared.event.Choice.TheVariants as choice
-use Rattle.world.specs.Programs.{Eviction, Copying, Stored, NotStored, Refused, Freed, Hold, Mode, Ready, Missing, Bringing, Reading, Filling, Evicting, Releasing, Retreating, Closing, Wanted, Program, Setting, cells_in, next_touch, object_of, object_or_none, next_free, hold_at, holding, in_mode, finished, first_hold, may_grow, rest_of}
-use Rattle.world.specs.Turns.{Answer, Turn, NotEnabled, Alone, Calls, put_of, evicts, grows, closes, found, aims_at, loads_from, loads_by, stores_to, stores_by, leaves_by, allocates, ends_by, ready, began, to_fill, claimed_so, marked_so, seeks, read_so, fills, closed_so, gives_up, by_mode, program_turn}
+use Rattle.world.specs.Programs.{Eviction, Copying, Stored, NotStored, Refused, Freed, Hold, Mode, Ready, Missing, Bringing, Reading, Filling, Evicting, Releasing, Retreating, Closing, Wanted, Program, Setting, cells_in, next_touch, object_of, object_or_none, next_free, hold_at, holding, in_mode, first_hold, may_grow, rest_of}
+use Rattle.world.specs.Turns.{Answer, NotEnabled, Calls, put_of, evicts, grows, closes, aims_at, loads_from, loads_by, stores_to, stores_by, leaves_by, ends_by, ready, began, seeks, fills, closed_so, gives_up, by_mode}
 use Rattle.world.specs.Holding.{one, count_of}
-use Rattle.world.proofs.Counting.{is_counting, keeps_count, one_same, one_other, opens_count, closes_count, count_set, hold_there, first_at}
+use Rattle.world.proofs.Counting.{is_counting, keeps_count, one_other, opens_count, closes_count, count_set, hold_there, first_at}
 use Rattle.world.proofs.Going.{IsNext, Leads, leads_cond, leads_next}
 use Rattle.world.proofs.Following.{Laws, Follows1, base_object}
 

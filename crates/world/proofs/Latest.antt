@@ -1,5 +1,5 @@
 -- what a call leaves of the latest stores: only a store changes them
-use Rattle.std.proofs.Common.{◌≡◌, ◌≢◌, ◌⊎◌, inl, inr, ℕ, Bool, true, false, cond, ◌&&◌, List, [], ◌∷◌, ◌++◌, Option, Some, None, refl, sym, ap, ◌∙◌, subst}
+use Rattle.std.proofs.Common.{◌≡◌, inl, inr, ℕ, Bool, true, false, cond, ◌&&◌, List, [], ◌∷◌, ◌++◌, refl, sym, ap, ◌∙◌}
 use Rattle.std.specs.Prelude.{◌==◌}
 use Rattle.pointer_word.specs.Words.{Place, Away, Coming, Here, Leaving, framed}
 use Rattle.pointer_word.specs.Hands.{Note, upd, latest_of, opened, closed, writable, told, added}

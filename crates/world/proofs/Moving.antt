@@ -1,11 +1,11 @@
 -- a mover that moves an object out may make its calls, and has in hand what it says
-use Rattle.std.proofs.Common.{◌≡◌, ◌≢◌, ◌⊎◌, inl, inr, ℕ, suc, ◌+◌, ◌<◌, ◌≤◌, Bool, true, false, cond, List, [], ◌∷◌, ◌++◌, length, Option, Some, None, refl, sym, ap, ◌∙◌, subst, arith}
+use Rattle.std.proofs.Common.{◌≡◌, inl, inr, ℕ, suc, ◌+◌, ◌<◌, ◌≤◌, Bool, true, false, cond, List, [], ◌∷◌, ◌++◌, length, Option, None, refl, sym, ap, subst, arith}
 use Rattle.std.specs.Prelude.{nat_lt}
 use Rattle.std.proofs.lemmas.Bool.Decides.{nat_tests}
 use Rattle.std.proofs.lemmas.List.{length_push}
-use Rattle.pointer_word.specs.Hands.{Hand, upd, listed, known, copying, committing, aborting, releasing}
+use Rattle.pointer_word.specs.Hands.{Hand, known, copying}
 use Rattle.pointer_word.specs.Machine.{Far, Kept, Unknown, State}
-use Rattle.pointer_word.specs.Calls.{Call, Opens, Closes, Clears, Stores, Begins, Claims, Fills, Arrives, Unclaims, Retreats, Marks, Copies, Puts, Commits, Aborts, Leaves, Releases, May, IsPut, Copied, act}
+use Rattle.pointer_word.specs.Calls.{Call, Opens, Closes, Clears, Stores, Begins, Claims, Fills, Arrives, Unclaims, Retreats, Marks, Copies, Puts, Commits, Aborts, Leaves, Releases, May, Copied, act}
 use Rattle.pointer_word.specs.Legal.{legal, Agrees}
 use Rattle.pointer_word.specs.Asked.{HasNoFrame}
 use Rattle.pointer_word.specs.Ordered.{IsCopied}

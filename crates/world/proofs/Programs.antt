@@ -1,29 +1,27 @@
 -- a program's turn: its call is granted, and it has in hand what its mode says
-use Rattle.std.proofs.Common.{◌≡◌, ◌≢◌, ◌⊎◌, inl, inr, ℕ, suc, ◌<◌, ◌≤◌, Bool, true, false, cond, not, ◌&&◌, List, [], length, Option, Some, None, refl, sym, ap, ◌∙◌, subst, arith}
+use Rattle.std.proofs.Common.{◌≡◌, inl, inr, ℕ, suc, ◌≤◌, Bool, true, false, cond, not, ◌&&◌, List, [], length, Option, Some, None, refl, sym, ap, ◌∙◌, subst, arith}
 use Rattle.std.specs.Prelude.{◌==◌, ◌+◌, ◌%◌, nat_lt, nat_le}
 use Rattle.std.proofs.lemmas.Bool.Decides.{eqb_tells}
 use Rattle.code_form.specs.declared.touch.Touch.{Touch}
 use Rattle.code_form.specs.declared.touch.Touch.TheVariants as touch
 use Rattle.code_form.specs.Code.{is_blocked}
 use Rattle.code_form.specs.Placed.{pieces}
-use Rattle.cells.specs.declared.ending.Want.TheVariants.{OutOfMemory, NoObjects, StoreFailed}
-use Rattle.pointer_word.specs.Words.{Place, Coming}
-use Rattle.pointer_word.specs.Hands.{Hand, known, listed, seen, claiming, marking, bringing, filling, arriving, unclaiming, retreating}
-use Rattle.pointer_word.specs.Machine.{Far, Never, Kept, Unknown, State, content, content_or}
-use Rattle.pointer_word.specs.Calls.{Call, Opens, Closes, Clears, Stores, Begins, Claims, Fills, Arrives, Unclaims, Retreats, Marks, Copies, Puts, Commits, Aborts, Releases, act}
-use Rattle.pointer_word.specs.Asked.{HasNoFrame, HasNothing}
-use Rattle.pointer_word.specs.Legal.{holds, Agrees}
+use Rattle.pointer_word.specs.Hands.{Hand, known, listed, claiming}
+use Rattle.pointer_word.specs.Machine.{Far, Never, Kept, Unknown, State, content}
+use Rattle.pointer_word.specs.Calls.{Opens, Closes, Begins, Claims, Marks, act}
+use Rattle.pointer_word.specs.Asked.{HasNothing}
+use Rattle.pointer_word.specs.Legal.{holds}
 use Rattle.pointer_word.specs.Ordered.{IsFilled}
 use Rattle.pointer_word.specs.Sound.{Inv, PlaceOk}
 use Rattle.pointer_word.proofs.Ordered.{filled_one}
 use Rattle.world.specs.declared.event.Choice.{Choice}
 use Rattle.world.specs.declared.event.Choice.TheVariants as choice
 use Rattle.world.specs.Programs.{Eviction, Copying, Hold, Mode, Ready, Missing, Bringing, Reading, Filling, Evicting, Releasing, Retreating, Closing, Wanted, Program, Setting, next_touch, object_of, object_or_none, next_free, hold_at, holding, in_mode, finished, first_hold, may_grow, rest_of}
-use Rattle.world.specs.Turns.{Answer, Turn, NotEnabled, Alone, Calls, as_next, evicts, evacuator_idle, evacuator_turn, grows, closes, found, aims_at, loads_from, loads_by, stores_to, stores_by, leaves_by, allocates, ends_by, ready, began, to_fill, claimed_so, marked_so, seeks, read_so, fills, closed_so, gives_up, by_mode, program_turn}
+use Rattle.world.specs.Turns.{Answer, Turn, NotEnabled, Calls, as_next, evacuator_idle, evacuator_turn, grows, closes, found, aims_at, loads_from, loads_by, stores_to, stores_by, leaves_by, ends_by, ready, began, to_fill, claimed_so, marked_so, seeks, read_so, fills, closed_so, gives_up, by_mode}
 use Rattle.world.specs.Worlds.{IsHonestRead, ReadsHonestly}
-use Rattle.world.specs.InHand.{WasPut, MovesOut, FitsEviction, OnlyBrings, BringsInto, IsPromised, FitsMode, FitsEvacuator}
+use Rattle.world.specs.InHand.{WasPut, OnlyBrings, BringsInto, IsPromised, FitsMode, FitsEvacuator}
 use Rattle.world.proofs.Calling.{begins, claims, marks, fills_one, arrives, unclaims, retreats}
-use Rattle.world.proofs.Moving.{TurnOk, turn_cond, below, not_below, evicts_ok}
+use Rattle.world.proofs.Moving.{TurnOk, turn_cond, not_below, evicts_ok}
 
 holds_none : (x : Option ℕ) (f : ℕ) → x ≡ None → holds x f ≡ true → ⊥
 holds_none None f e q = cc

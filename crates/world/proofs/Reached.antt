@@ -1,16 +1,15 @@
 -- in every world that is reached each program is where the run of its code is
-use Rattle.std.proofs.Common.{◌≡◌, ◌≢◌, ◌⊎◌, inl, inr, ℕ, suc, ◌+◌, ◌*◌, ◌%◌, ◌<◌, ◌≤◌, Bool, true, false, cond, ◌&&◌, List, [], ◌∷◌, Option, Some, None, refl, sym, ap, ◌∙◌, subst, arith}
+use Rattle.std.proofs.Common.{◌≡◌, inl, inr, ℕ, suc, ◌+◌, ◌*◌, ◌%◌, ◌<◌, ◌≤◌, Bool, true, false, cond, ◌&&◌, List, [], ◌∷◌, Option, Some, None, refl, sym, ◌∙◌, subst, arith}
 use Rattle.std.specs.Prelude.{slice_get}
 use Rattle.std.proofs.Math.Nat.{mod-lt}
 use Rattle.code_form.specs.Form.{Block, Function, Image}
-use Rattle.code_form.specs.Code.{Core, Stuck, allocations_of, begins, entered, sizes}
+use Rattle.code_form.specs.Code.{Stuck, allocations_of, begins, entered, sizes}
 use Rattle.code_form.specs.Placed.{next_object, object_at}
 use Rattle.code_form.specs.Tracked.{WaitsShut}
 use Rattle.pointer_word.specs.Hands.{upd}
 use Rattle.pointer_word.specs.Machine.{State, latest}
 use Rattle.pointer_word.specs.Calls.{Call, Marks, act}
 use Rattle.pointer_word.specs.Legal.{legal}
-use Rattle.pointer_word.specs.Sound.{Inv, IsSafe}
 use Rattle.pointer_word.proofs.Upd.{upd-same, upd-other, same_or}
 use Rattle.pointer_word.proofs.Safe.{safe}
 use Rattle.world.specs.declared.event.Actor.{Actor}
@@ -19,7 +18,7 @@ use Rattle.world.specs.declared.event.Choice.{Choice}
 use Rattle.world.specs.declared.event.Choice.TheVariants as choice
 use Rattle.world.specs.Programs.{Eviction, Program, begun}
 use Rattle.world.specs.Turns.{Answer, Turn, NotEnabled, Alone, Calls, after_call, taken, evacuator_idle, evacuator_turn, program_turn}
-use Rattle.world.specs.Worlds.{Sizes, World, Event, mover_of, setting, share, start, in_range, is_actor, with_program, with_evacuator, acted, event, IsHonest, Follows}
+use Rattle.world.specs.Worlds.{Sizes, World, Event, setting, share, start, in_range, is_actor, with_program, with_evacuator, acted, event, Follows}
 use Rattle.world.specs.Steps.{IsSound}
 use Rattle.world.specs.Following.{IsAt}
 use Rattle.world.proofs.Latest.{keeps_latest}

@@ -2,8 +2,8 @@
 use Rattle.std.proofs.Common.{◌≡◌, Some, None, [], ◌∷◌, ◌++◌, refl}
 use Rattle.std.specs.Prelude.{pos}
 use Rattle.cells.specs.Stops.{Ended, NullFault}
-use Rattle.cells.specs.declared.ending.Want.TheVariants.{NoObjects, StoreFailed}
-use Rattle.world.specs.Rows.{Reliable, NoPuts, NoReads, five, faulty, two_objects, row, times, e0, p0, e0_mark, written, moved_out, brought_back, read_meanwhile, held_meanwhile, put_failed, get_failed, holding_one, moved_itself, failed_itself}
+use Rattle.cells.specs.declared.ending.Want.TheVariants.{StoreFailed}
+use Rattle.world.specs.Rows.{Reliable, NoPuts, NoReads, five, faulty, two_objects, row, times, e0, p0, e0_mark, written, brought_back, read_meanwhile, held_meanwhile, put_failed, get_failed, holding_one, moved_itself, failed_itself}
 
 pub brought : row (five Reliable) (brought_back ++ p0 ∷ []) ≡ (214, Some (record { stop = Some (Ended (pos 5)); want = None; word = 0x180000; first = 5; second = 5 }))
 brought = refl

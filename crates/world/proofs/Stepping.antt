@@ -1,14 +1,13 @@
 -- each event keeps what stands
-use Rattle.std.proofs.Common.{◌≡◌, ◌≢◌, ◌⊎◌, inl, inr, ℕ, suc, ◌+◌, ◌<◌, Bool, true, false, cond, ◌&&◌, List, [], ◌∷◌, Option, Some, None, refl, sym, ap, ◌∙◌, subst, arith}
+use Rattle.std.proofs.Common.{◌≡◌, ◌≢◌, inl, inr, ℕ, suc, ◌+◌, ◌<◌, Bool, true, false, cond, ◌&&◌, List, [], ◌∷◌, Option, Some, None, refl, sym, ap, ◌∙◌, subst, arith}
 use Rattle.code_form.specs.Form.{Image}
 use Rattle.pointer_word.specs.Hands.{upd}
-use Rattle.pointer_word.specs.Machine.{Far, State, opening}
-use Rattle.pointer_word.specs.Calls.{Call, May, IsLawful, act}
-use Rattle.pointer_word.specs.Legal.{legal, acts}
-use Rattle.pointer_word.specs.Sound.{Inv, IsSafe}
+use Rattle.pointer_word.specs.Machine.{State}
+use Rattle.pointer_word.specs.Calls.{Call, May, act}
+use Rattle.pointer_word.specs.Legal.{legal}
+use Rattle.pointer_word.specs.Sound.{Inv}
 use Rattle.pointer_word.proofs.Upd.{upd-same, upd-other, same_or}
 use Rattle.pointer_word.proofs.Runs.{keeps_act, opens_well}
-use Rattle.pointer_word.proofs.Safe.{safe}
 use Rattle.pointer_word.proofs.Lawful.{lawful}
 use Rattle.world.specs.declared.event.Actor.{Actor}
 use Rattle.world.specs.declared.event.Actor.TheVariants as actor
@@ -16,10 +15,10 @@ use Rattle.world.specs.declared.event.Choice.{Choice}
 use Rattle.world.specs.Programs.{Eviction, Mode, Program}
 use Rattle.world.specs.Turns.{Answer, Turn, NotEnabled, Alone, Calls, after_call, taken, evacuator_turn, program_turn}
 use Rattle.world.specs.Worlds.{Sizes, World, Event, mover_of, setting, start, in_range, is_actor, with_program, with_evacuator, acted, event, IsHonest, Follows}
-use Rattle.world.specs.InHand.{FitsMode, FitsEvacuator, HandsFit}
+use Rattle.world.specs.InHand.{FitsMode, FitsEvacuator}
 use Rattle.world.specs.Steps.{maker, or_self, OneCall, OthersStay, OtherHandsStay, IsSound, IsStep}
 use Rattle.world.proofs.Calling.{other_hand, stores_stay, mode_stays, evacuator_stays}
-use Rattle.world.proofs.Moving.{below, Granted, granted_may, TurnOk}
+use Rattle.world.proofs.Moving.{below, granted_may, TurnOk}
 use Rattle.world.proofs.Programs.{program_ok, evacuator_ok}
 
 -- what a turn leads to

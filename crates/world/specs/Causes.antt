@@ -1,14 +1,13 @@
 -- Why a program wants something.
-use Rattle.std.specs.Prelude.{◌≡◌, ◌⊎◌, ℕ, ◌+◌, ◌<◌, ◌≤◌, true, false, Option, Some, None, List, ◌∷◌, ◌++◌, length}
+use Rattle.std.specs.Prelude.{◌≡◌, ◌⊎◌, ℕ, ◌+◌, ◌<◌, ◌≤◌, true, false, None, List, ◌∷◌, ◌++◌, length}
 use Rattle.cells.specs.declared.ending.Want.TheVariants.{OutOfMemory, NoObjects, StoreFailed}
 use Rattle.code_form.specs.declared.touch.Touch.TheVariants as touch
 use Rattle.code_form.specs.Form.{Image}
 use Rattle.code_form.specs.Placed.{pieces}
-use Rattle.world.specs.declared.event.Actor.{Actor}
 use Rattle.world.specs.declared.event.Actor.TheVariants as actor
-use Rattle.world.specs.Programs.{Eviction, Copying, NotStored, Mode, Reading, Evicting, Releasing, Retreating, Closing, Wanted, Program, Setting, next_touch, next_free, may_grow, rest_of}
+use Rattle.world.specs.Programs.{Copying, NotStored, Mode, Reading, Evicting, Releasing, Retreating, Closing, Wanted, Program, Setting, next_touch, next_free, may_grow, rest_of}
 use Rattle.world.specs.Turns.{Answer}
-use Rattle.world.specs.Worlds.{Sizes, World, Event, Follows, setting, start}
+use Rattle.world.specs.Worlds.{Sizes, World, Event, Follows}
 
 -- in this mode the program's own call of the store was refused
 abbrev pub HasFailed : Mode → Type 0

@@ -1,7 +1,6 @@
 -- What the scopes of a program hold, and what the words count of it.
 use Rattle.std.specs.Prelude.{◌≡◌, ℕ, ◌+◌, ◌*◌, ◌<◌, ◌≤◌, ◌==◌, cond, Option, Some, None, List, [], ◌∷◌}
-use Rattle.pointer_word.specs.Machine.{State}
-use Rattle.world.specs.Programs.{Hold, Program, hold_at}
+use Rattle.world.specs.Programs.{Hold, hold_at}
 use Rattle.world.specs.Worlds.{Sizes, World, share}
 
 -- one where the hold is of the object o

@@ -1,5 +1,5 @@
 -- What an actor's mode says of what it has in hand as a mover, x; `far` are the store cells, n the cells of a piece, and h says that the store is honest.
-use Rattle.std.specs.Prelude.{◌≡◌, ℕ, suc, ◌<◌, ◌≤◌, Option, Some, None, List, length}
+use Rattle.std.specs.Prelude.{◌≡◌, ℕ, ◌<◌, ◌≤◌, Option, Some, None, List, length}
 use Rattle.pointer_word.specs.Hands.{Hand, listed}
 use Rattle.pointer_word.specs.Machine.{Far, Never, Kept, Unknown}
 use Rattle.pointer_word.specs.Calls.{Copied}

@@ -1,5 +1,5 @@
 -- Worked schedules of one program beside one evacuator, over pieces of 64 cells.
-use Rattle.std.specs.Prelude.{ℕ, zero, suc, Bool, true, false, Option, Some, None, List, [], ◌∷◌, ◌++◌, length, pos}
+use Rattle.std.specs.Prelude.{ℕ, zero, suc, true, false, Option, Some, None, List, [], ◌∷◌, ◌++◌, length, pos}
 use Rattle.cells.specs.declared.ending.Want.{Want}
 use Rattle.cells.specs.Stops.{Stop}
 use Rattle.code_form.specs.Form.{Image, Simple, Aim, Leave, Return, Alloc, Const, Null, CheckNull}
@@ -11,9 +11,9 @@ use Rattle.world.specs.declared.event.Actor.{Actor}
 use Rattle.world.specs.declared.event.Actor.TheVariants as actor
 use Rattle.world.specs.declared.event.Choice.{Choice}
 use Rattle.world.specs.declared.event.Choice.TheVariants as choice
-use Rattle.world.specs.Programs.{Mode, Reading, Wanted, Program}
+use Rattle.world.specs.Programs.{Mode, Reading, Wanted}
 use Rattle.world.specs.Turns.{Answer}
-use Rattle.world.specs.Worlds.{Sizes, World, Event, start, event}
+use Rattle.world.specs.Worlds.{Sizes, World, start, event}
 
 -- ---- lines
 

@@ -2,13 +2,13 @@
 use Rattle.std.specs.Prelude.{◌≡◌, ℕ, suc, ◌+◌, ◌*◌, ◌/◌, ◌<◌, cond, ◌&&◌, nat_lt, Bool, true, Option, Some, None, List, [], ◌∷◌}
 use Rattle.code_form.specs.Form.{Image}
 use Rattle.pointer_word.specs.Hands.{upd, listed}
-use Rattle.pointer_word.specs.Machine.{Far, Never, Kept, Unknown, State, opening}
+use Rattle.pointer_word.specs.Machine.{Far, Kept, State, opening}
 use Rattle.world.specs.declared.event.Actor.{Actor}
 use Rattle.world.specs.declared.event.Actor.TheVariants as actor
 use Rattle.world.specs.declared.event.Choice.{Choice}
 use Rattle.world.specs.declared.event.Choice.TheVariants as choice
 use Rattle.world.specs.Programs.{Eviction, Mode, Reading, Program, Setting, begun}
-use Rattle.world.specs.Turns.{Answer, Turn, taken, evacuator_turn, program_turn}
+use Rattle.world.specs.Turns.{Answer, taken, evacuator_turn, program_turn}
 
 -- the cells of a piece, and how many programs, evacuators, frames and objects there are
 pub record Sizes : Type 0 where
