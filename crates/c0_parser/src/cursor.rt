@@ -44,6 +44,7 @@ impl<'a> Model for Cursor<'a> {
 }
 
 impl<'a> Cursor<'a> {
+    /// All of these tokens, still to be read.
     pub fn new(alloc: Global, tokens: &'a [Token<'a>]) -> Cursor<'a>
         requires { AreTokens (map lexeme tokens.now) }
         ensures { result ≡ terminals (map lexeme tokens.now) }
