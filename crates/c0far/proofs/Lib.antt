@@ -3,6 +3,7 @@ pub mod Both
 pub mod Constants
 pub mod Ending
 pub mod Found
+pub mod Headlines
 pub mod Instructions
 pub mod NeverRefused
 pub mod OneProgram

@@ -4,6 +4,7 @@ pub mod Driven
 pub mod Executed
 pub mod FileTexts
 pub mod Fragment
+pub mod Headline
 pub mod MemTexts
 pub mod Reads
 pub mod Shell

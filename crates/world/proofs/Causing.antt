@@ -2,6 +2,7 @@
 use Rattle.std.proofs.Common.{◌≡◌, ◌≢◌, ◌⊎◌, inl, inr, ℕ, ◌+◌, ◌<◌, ◌≤◌, Bool, true, false, cond, not, ◌&&◌, List, [], ◌∷◌, length, Option, Some, None, refl, sym, ap, subst, arith}
 use Rattle.std.specs.Prelude.{◌==◌, ◌%◌, nat_lt, nat_le}
 use Rattle.std.proofs.lemmas.Bool.Decides.{nat_tests}
+use Rattle.cells.specs.declared.ending.Want.{Want}
 use Rattle.cells.specs.declared.ending.Want.TheVariants.{OutOfMemory, NoObjects, StoreFailed}
 use Rattle.code_form.specs.declared.touch.Touch.{Touch}
 use Rattle.code_form.specs.declared.touch.Touch.TheVariants as touch
@@ -20,7 +21,7 @@ use Rattle.world.specs.declared.event.Choice.TheVariants as choice
 use Rattle.world.specs.Programs.{Eviction, Copying, Stored, NotStored, Refused, Freed, Hold, Mode, Ready, Missing, Bringing, Reading, Filling, Evicting, Releasing, Retreating, Closing, Wanted, Program, Setting, next_touch, object_of, object_or_none, next_free, hold_at, holding, in_mode, first_hold, may_grow, rest_of}
 use Rattle.world.specs.Turns.{Answer, NotEnabled, Calls, taken, put_so, committed_so, evicts, grows, closes, aims_at, loads_from, loads_by, stores_to, stores_by, leaves_by, ends_by, ready, began, to_fill, seeks, read_so, fills, closed_so, gives_up, by_mode, program_turn}
 use Rattle.world.specs.Worlds.{Sizes, World, Event, Follows, setting, start, in_range, is_actor, with_program, with_evacuator, acted, event}
-use Rattle.world.specs.Causes.{HasFailed, IsRefused, IsCaused, WasRefused}
+use Rattle.world.specs.Causes.{HasFailed, IsRefused, IsCaused, CauseOf, HasCause}
 use Rattle.world.proofs.Going.{Leads, leads_cond, leads_next}
 use Rattle.world.proofs.Reached.{leads_taken}
 use Rattle.world.proofs.Stepping.{enabled}
@@ -165,6 +166,12 @@ module _ (g : Setting) (s : State) (p : Program) (a : Answer) where
   mode_so Closing e c = leads_next s Q c _ (closing_so (first_hold p.holds) e)
   mode_so (Wanted w) e c = tt
 
+-- the mode tells that the want has had its cause
+abbrev Tells : Want → Mode → Type 0
+Tells OutOfMemory m = m ≡ Wanted OutOfMemory
+Tells NoObjects m = m ≡ Wanted NoObjects
+Tells StoreFailed m = HasFailed m
+
 -- ---- events
 
 module _ (z : Sizes) (images : ℕ → Image) where
@@ -222,24 +229,47 @@ module _ (z : Sizes) (images : ℕ → Image) where
   from_caused g p a (Reading o f) is has = absurd has
   from_caused g p a (Filling o f words k) is has = absurd has
 
-  one : (w u : World) (e : Event) (k : ℕ) → event z images w e ≡ Some u → HasFailed (u.programs k).mode → HasFailed (w.programs k).mode ⊎ ((e.actor ≡ actor.Program k) × IsRefused z.cells (w.programs k).mode e.answer)
-  one w u e k b has =
+  one_caused : (want : Want) (g : Setting) (p : Program) (a : Answer) (y : Mode) → IsCaused g p a y → Tells want y → Tells want p.mode ⊎ CauseOf g want p a
+  one_caused OutOfMemory g p a y is so = inr (subst (IsCaused g p a) so is)
+  one_caused NoObjects g p a y is so = inr (subst (IsCaused g p a) so is)
+  one_caused StoreFailed g p a y is so = from_caused g p a y is so
+
+  one : (want : Want) (w u : World) (e : Event) (k : ℕ) → event z images w e ≡ Some u → Tells want (u.programs k).mode
+      → Tells want (w.programs k).mode ⊎ ((e.actor ≡ actor.Program k) × CauseOf (setting z images k) want (w.programs k) e.answer)
+  one want w u e k b so =
       let there = (enabled (is_actor z e.actor && in_range z e.choice) (acted z images w e.actor e.choice e.answer) u b).1 in
       elim (other_program w u e.actor e.choice e.answer k there) [
-        | inl own ↦ elim (from_caused (setting z images k) (w.programs k) e.answer (u.programs k).mode (caused w u e k b own) has) [ inl f ↦ inl f | inr r ↦ inr (own, r) ]
-        | inr same ↦ inl (subst (λ (y : Program). HasFailed y.mode) same has)
+        | inl own ↦ elim (one_caused want (setting z images k) (w.programs k) e.answer (u.programs k).mode (caused w u e k b own) so) [ inl f ↦ inl f | inr r ↦ inr (own, r) ]
+        | inr same ↦ inl (subst (λ (y : Program). Tells want y.mode) same so)
       ]
 
-  some_refused : (h : Type 0) (k : ℕ) (w v : World) (es : List Event) → Follows h z images w es v → HasFailed (v.programs k).mode → HasFailed (w.programs k).mode ⊎ WasRefused h z images k w es
-  some_refused h k w v [] f has = inl (subst (λ (y : World). HasFailed (y.programs k).mode) f has)
-  some_refused h k w v (e ∷ es) f has = elim (some_refused h k f.0 v es f.3 has) [
-    | inl there ↦ elim (one w f.0 e k f.1 there) [
+  some_caused : (h : Type 0) (k : ℕ) (want : Want) (w v : World) (es : List Event) → Follows h z images w es v → Tells want (v.programs k).mode → Tells want (w.programs k).mode ⊎ HasCause h z images k want w es
+  some_caused h k want w v [] f so = inl (subst (λ (y : World). Tells want (y.programs k).mode) f so)
+  some_caused h k want w v (e ∷ es) f so = elim (some_caused h k want f.0 v es f.3 so) [
+    | inl there ↦ elim (one want w f.0 e k f.1 there) [
       | inl here ↦ inl here
-      | inr r ↦ inr (record { before = []; event = e; after = es; at = w; among = refl; follows = refl; own = r.0; refused = r.1 })
+      | inr r ↦ inr (record { before = []; event = e; after = es; at = w; among = refl; follows = refl; own = r.0; cause = r.1 })
     ]
-    | inr r ↦ inr (record { before = e ∷ r.before; event = r.event; after = r.after; at = r.at; among = ap (λ ys. e ∷ ys) r.among; follows = (f.0, f.1, f.2, r.follows); own = r.own; refused = r.refused })
+    | inr r ↦ inr (record { before = e ∷ r.before; event = r.event; after = r.after; at = r.at; among = ap (λ ys. e ∷ ys) r.among; follows = (f.0, f.1, f.2, r.follows); own = r.own; cause = r.cause })
   ]
 
+  nothing_yet : (want : Want) → Tells want Ready → ⊥
+  nothing_yet OutOfMemory so = cc
+  nothing_yet NoObjects so = cc
+  nothing_yet StoreFailed so = so
+
+  has_cause : (h : Type 0) (k : ℕ) (want : Want) (v : World) (es : List Event) → Follows h z images (start images) es v → Tells want (v.programs k).mode → HasCause h z images k want (start images) es
+  has_cause h k want v es f so = elim (some_caused h k want (start images) v es f so) [ inl none ↦ absurd (nothing_yet want none) | inr r ↦ r ]
+
+  tells : (want : Want) (y : Mode) → y ≡ Wanted want → Tells want y
+  tells OutOfMemory y e = e
+  tells NoObjects y e = e
+  tells StoreFailed y e = subst HasFailed (sym e) tt
+
+  -- a program that wants something has a cause
+  pub wanted : (h : Type 0) (k : ℕ) (want : Want) (v : World) (es : List Event) → Follows h z images (start images) es v → (v.programs k).mode ≡ Wanted want → HasCause h z images k want (start images) es
+  wanted h k want v es f m = has_cause h k want v es f (tells want (v.programs k).mode m)
+
   -- a program in such a mode was refused by the store itself
-  pub was_refused : (h : Type 0) (k : ℕ) (v : World) (es : List Event) → Follows h z images (start images) es v → HasFailed (v.programs k).mode → WasRefused h z images k (start images) es
-  was_refused h k v es f has = elim (some_refused h k (start images) v es f has) [ inl none ↦ absurd none | inr r ↦ r ]
+  pub was_refused : (h : Type 0) (k : ℕ) (v : World) (es : List Event) → Follows h z images (start images) es v → HasFailed (v.programs k).mode → HasCause h z images k StoreFailed (start images) es
+  was_refused h k v es f has = has_cause h k StoreFailed v es f has

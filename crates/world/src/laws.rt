@@ -1,12 +1,14 @@
 //! The laws of the world, each as the contract of a function that does nothing.
 ghost use Rattle.std.specs.Prelude.{ℕ, ◌<◌, ◌≡◌, ◌∷◌, ◌++◌, [], List, None, Some, pos};
 ghost use Rattle.cells.specs.Stops.{Ended, NullFault};
+ghost use Rattle.cells.specs.declared.ending.Want.{Want};
 ghost use Rattle.cells.specs.declared.ending.Want.TheVariants.{StoreFailed};
 ghost use Rattle.code_form.specs.Form.{Image};
 ghost use Rattle.pointer_word.specs.Sound.{IsSafe};
 ghost use Rattle.world.specs.declared.event.Actor.TheVariants.{Program};
-ghost use Rattle.world.specs.Causes.{HasFailed, IsCaused, WasRefused};
+ghost use Rattle.world.specs.Causes.{HasCause, HasFailed, IsCaused};
 ghost use Rattle.world.specs.Following.{IsAt};
+ghost use Rattle.world.specs.Programs.{Wanted};
 ghost use Rattle.world.specs.Holding.{HoldsFit};
 ghost use Rattle.world.specs.Steps.{IsSound, IsStep};
 ghost use Rattle.world.specs.Worlds.{Event, Follows, IsHonest, Sizes, World, event, setting, start};
@@ -56,10 +58,12 @@ pub fn programs_follow()
     run_laws();
 }
 
-/// What an event of a program leads it to want has its cause; and a program whose store failed has itself called the store and been refused,
-/// whatever the store answered to others.
+/// What an event of a program leads it to want has its cause. A program that wants something has met the cause in an event of
+/// its own; and one whose store failed has itself called the store and been refused, whatever the store answered to others.
 pub fn wants()
     ensures cause { (z : Sizes) (images : ℕ → Image) (w u : World) (e : Event) (k : ℕ) → event z images w e ≡ Some u → e.actor ≡ Program k → IsCaused (setting z images k) (w.programs k) e.answer (u.programs k).mode }
-    ensures store_failed { (z : Sizes) (images : ℕ → Image) (events : List Event) (v : World) (k : ℕ) → Follows (Unit {0}) z images (start images) events v → HasFailed (v.programs k).mode → WasRefused (Unit {0}) z images k (start images) events }
-    ensures unsound_store { (z : Sizes) (images : ℕ → Image) (events : List Event) (v : World) (k : ℕ) → Follows ⊥ z images (start images) events v → HasFailed (v.programs k).mode → WasRefused ⊥ z images k (start images) events }
+    ensures wanted { (z : Sizes) (images : ℕ → Image) (events : List Event) (v : World) (k : ℕ) (want : Want) → Follows (Unit {0}) z images (start images) events v → (v.programs k).mode ≡ Wanted want → HasCause (Unit {0}) z images k want (start images) events }
+    ensures store_failed { (z : Sizes) (images : ℕ → Image) (events : List Event) (v : World) (k : ℕ) → Follows (Unit {0}) z images (start images) events v → HasFailed (v.programs k).mode → HasCause (Unit {0}) z images k StoreFailed (start images) events }
+    ensures unsound_store { (z : Sizes) (images : ℕ → Image) (events : List Event) (v : World) (k : ℕ) (want : Want) → Follows ⊥ z images (start images) events v → (v.programs k).mode ≡ Wanted want → HasCause ⊥ z images k want (start images) events }
+    ensures unsound_failure { (z : Sizes) (images : ℕ → Image) (events : List Event) (v : World) (k : ℕ) → Follows ⊥ z images (start images) events v → HasFailed (v.programs k).mode → HasCause ⊥ z images k StoreFailed (start images) events }
 {}

@@ -1,0 +1,11 @@
+use Rattle.c0far.proofs.Headlines.{composed}
+use Rattle.c0far.proofs.laws.headline.Goals as goal
+
+pub returns : goal.returns
+returns c = composed (record {
+  more = c.more_turns.ensures;
+  add = c.run_laws.ensures.add;
+  stays = c.run_laws.ensures.stopped;
+  at = c.programs_follow.ensures.at;
+  wanted = c.wants.ensures.wanted;
+})

@@ -1,0 +1,49 @@
+-- What is promised of programs that run in a world beside others, whatever the events.
+use Rattle.std.specs.Prelude.{◌≡◌, ℕ, ◌<◌, ◌≤◌, Bool, List, None}
+use Rattle.cells.specs.declared.ending.Want.{Want}
+use Rattle.cells.specs.Stops.{Stop}
+use Rattle.cells.specs.Outcomes.{IsPrefix, stops_with}
+use Rattle.c0_typed.specs.Trees.{Program as Typed}
+use Rattle.c0_typed.specs.Meaning.{mean}
+use Rattle.code_form.specs.Form.{Image}
+use Rattle.code_form.specs.Effects.{code_run}
+use Rattle.code_form.specs.declared.allocation.Allocation.{Allocation}
+use Rattle.code_form.specs.Code.{Stopped, code, output_of, stop_of}
+use Rattle.world.specs.Causes.{HasCause}
+use Rattle.world.specs.Programs.{Program, Wanted}
+use Rattle.world.specs.Worlds.{Event, Follows, Sizes, World, start}
+use Rattle.c0far.specs.Compiled.{IsCompiled, Means}
+use Rattle.c0far.specs.Fragment.{Program as Meant, typed_of}
+
+-- the meaning ends so: from some number of turns on, each number gives this output and this stop
+abbrev pub EndsSo : Typed → Bool → Stop → List ℕ → Type 0
+EndsSo P checks s o = (n : ℕ) × ((m : ℕ) → n ≤ m → mean P checks m ≡ stops_with s o)
+
+-- a list of events that leads from the beginning of these images to the world v, over an honest store
+abbrev pub IsRun : Sizes → (ℕ → Image) → List Event → World → Type 0
+IsRun z images events v = (0 < z.cells) × Follows (Unit {0}) z images (start images) events v
+
+-- What is promised of a program, wherever it is, that means P
+pub record Promised (P : Typed) (checks : Bool) (p : Program) (HasCauseOf : Want → Type 0) : Type 0 where
+  -- what it has printed is a beginning of the meaning's output, with some number of turns and every larger one
+  pub beginning : (n : ℕ) × ((m : ℕ) → n ≤ m → IsPrefix (output_of p.core) (mean P checks m).output)
+  -- where it has stopped the meaning ends, with this whole output and this stop
+  pub stopped : (s : Stop) (al : List Allocation) (o : List ℕ) → p.core ≡ Stopped s al o → EndsSo P checks s o
+  -- where it wants something the cause is among the events
+  pub wanting : (want : Want) → p.mode ≡ Wanted want → HasCauseOf want
+
+-- Where the meaning ends, some number of completed instructions, before which the code has not stopped, leaves the program stopped
+-- so: the same number in every run of whatever world, beside whatever other programs
+abbrev pub Settles : Typed → Bool → Image → Type 0
+Settles P checks C = (s : Stop) (o : List ℕ) → EndsSo P checks s o
+    → (j : ℕ) × ((i : ℕ) → i < j → stop_of (code_run (code C) i).0 ≡ None)
+    × ((z : Sizes) (images : ℕ → Image) (events : List Event) (v : World) (k : ℕ) → IsRun z images events v → images k ≡ C
+    → j ≤ (v.programs k).completed → (al : List Allocation) × ((v.programs k).core ≡ Stopped s al o))
+
+-- Of every text that is accepted, the image that it was compiled to, and the program that it means: in every run of whatever world,
+-- beside whatever other programs and evacuators, with pieces, frames and objects of whatever number, each program with that image is as promised
+abbrev pub Headline : Type 0
+Headline = (text : List ℕ) (checks : Bool) (C : Image) → IsCompiled text checks C → (meant : Meant) → Means text meant
+    → ((z : Sizes) (images : ℕ → Image) (events : List Event) (v : World) (k : ℕ) → IsRun z images events v → images k ≡ C
+    → Promised (typed_of meant) checks (v.programs k) (λ want. HasCause (Unit {0}) z images k want (start images) events))
+    × Settles (typed_of meant) checks C
