@@ -11,3 +11,4 @@ pub mod Causing
 pub mod Counting
 pub mod Holding
 pub mod Held
+pub mod Able

@@ -1,5 +1,5 @@
 //! The laws of the world, each as the contract of a function that does nothing.
-ghost use Rattle.std.specs.Prelude.{ℕ, ◌<◌, ◌≡◌, ◌∷◌, ◌++◌, [], List, None, Some, pos};
+ghost use Rattle.std.specs.Prelude.{ℕ, ◌<◌, ◌≡◌, ◌∷◌, ◌++◌, [], List, None, Some, is_some, pos};
 ghost use Rattle.cells.specs.Stops.{Ended, NullFault};
 ghost use Rattle.cells.specs.declared.ending.Want.{Want};
 ghost use Rattle.cells.specs.declared.ending.Want.TheVariants.{StoreFailed};
@@ -11,6 +11,7 @@ ghost use Rattle.world.specs.Following.{IsAt};
 ghost use Rattle.world.specs.Programs.{Wanted};
 ghost use Rattle.world.specs.Holding.{HoldsFit};
 ghost use Rattle.world.specs.Steps.{IsSound, IsStep};
+ghost use Rattle.world.specs.Turns.{Answer};
 ghost use Rattle.world.specs.Worlds.{Event, Follows, IsHonest, Sizes, World, event, setting, start};
 ghost use Rattle.world.specs.Rows.{NoPuts, NoReads, Reliable, brought_back, e0, e0_mark, failed_itself, faulty, five, get_failed, held_meanwhile, holding_one, moved_itself, p0, put_failed, read_meanwhile, row, times, two_objects, written};
 
@@ -57,6 +58,12 @@ pub fn programs_follow()
     heap_laws();
     run_laws();
 }
+
+/// Whether an event is enabled does not depend on what is answered: on whether a put succeeds, on what is read, or on whether memory grows.
+pub fn answers()
+    ensures honest { (z : Sizes) (images : ℕ → Image) (w : World) (e : Event) (a : Answer) → IsSound (Unit {0}) z w → is_some (event z images w (record e { answer = a })) ≡ is_some (event z images w e) }
+    ensures unsound_store { (z : Sizes) (images : ℕ → Image) (w : World) (e : Event) (a : Answer) → IsSound ⊥ z w → is_some (event z images w (record e { answer = a })) ≡ is_some (event z images w e) }
+{}
 
 /// What an event of a program leads it to want has its cause. A program that wants something has met the cause in an event of
 /// its own; and one whose store failed has itself called the store and been refused, whatever the store answered to others.

@@ -5,4 +5,4 @@ mod event;
 mod laws;
 
 pub use event::{Actor, Choice};
-pub use laws::{every_schedule, programs_follow, wants, worked_schedules};
+pub use laws::{answers, every_schedule, programs_follow, wants, worked_schedules};
