@@ -1,6 +1,7 @@
 pub mod Schedules
 pub mod Calling
 pub mod Moving
+pub mod Numbers
 pub mod Programs
 pub mod Stepping
 pub mod Latest

@@ -6,4 +6,7 @@ pub mod Steps
 pub mod Following
 pub mod Causes
 pub mod Holding
+pub mod Lines
+pub mod Numerals
+pub mod Reports
 pub mod Rows

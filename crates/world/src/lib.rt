@@ -3,6 +3,7 @@
 
 mod event;
 mod laws;
+mod line;
 
 pub use event::{Actor, Choice};
 pub use laws::{answers, every_schedule, programs_follow, wants, worked_schedules};

@@ -1,0 +1,70 @@
+-- What is told of a world after the lines of a schedule.
+use Rattle.std.specs.Prelude.{◌≡◌, ◌≢◌, ◌⊎◌, ℕ, suc, ◌<◌, List, [], ◌∷◌, ◌++◌, length, Option, Some, None, slice_get}
+use Rattle.cells.specs.declared.ending.Ended.{Ended}
+use Rattle.cells.specs.declared.ending.Run.{Run}
+use Rattle.cells.specs.declared.ending.Run.TheVariants as run
+use Rattle.cells.specs.declared.ending.Want.{Want}
+use Rattle.cells.specs.Stops.{stop_of as stop_read}
+use Rattle.code_form.specs.Code.{output_of, stop_of}
+use Rattle.code_form.specs.Form.{Image}
+use Rattle.world.specs.Lines.{Line, IsLine32, IsNoLine, spell}
+use Rattle.world.specs.Programs.{Program, Wanted}
+use Rattle.world.specs.Turns.{Answer}
+use Rattle.world.specs.Worlds.{Event, IsHonest, Sizes, World, event, start}
+
+-- a program has stopped so, or wants this; or neither
+abbrev pub RunsAs : Program → Run → Type 0
+RunsAs p run.Running = (stop_of p.core ≡ None) × ((want : Want) → p.mode ≢ Wanted want)
+RunsAs p (run.Stopped x) = stop_of p.core ≡ Some (stop_read x)
+RunsAs p (run.Wanted want) = (stop_of p.core ≡ None) × (p.mode ≡ Wanted want)
+
+-- what a program printed, how it runs, and how many instructions it completed
+pub record IsEnded (p : Program) (e : Ended) : Type 0 where
+  pub output : e.output.items ≡ output_of p.core
+  pub runs : RunsAs p e.run
+  pub completed : e.completed ≡ p.completed
+
+-- the event of a line, where this is answered
+abbrev pub event_of : Line → Answer → Event
+event_of x a = record { actor = x.actor; choice = x.choice; answer = a }
+
+-- these lines lead from one world to another, with some answers; h says that the store is honest
+abbrev pub Leads : Type 0 → Sizes → (ℕ → Image) → World → List Line → World → Type 0
+Leads h z images w [] v = v ≡ w
+Leads h z images w (x ∷ xs) v = (a : Answer) × (u : World) × (event z images w (event_of x a) ≡ Some u) × (h → IsHonest z w x.actor a) × Leads h z images u xs v
+
+-- the text of lines, whose numbers fit in 32 bits
+abbrev pub AreLines : List Line → List ℕ → Type 0
+AreLines [] text = text ≡ []
+AreLines (x ∷ xs) text = IsLine32 x × ((rest : List ℕ) × (text ≡ spell x ++ rest) × AreLines xs rest)
+
+-- the ends of programs, from number k on
+abbrev pub AreEnds : (ℕ → Program) → ℕ → List Ended → Type 0
+AreEnds programs k [] = Unit {0}
+AreEnds programs k (e ∷ es) = IsEnded (programs k) e × AreEnds programs (suc k) es
+
+-- all lines of the schedule lead to a world, and these are the ends of its programs
+pub record IsReport (h : Type 0) (z : Sizes) (images : ℕ → Image) (schedule : List ℕ) (ends : List Ended) : Type 0 where
+  pub lines : List Line
+  pub world : World
+  pub text : AreLines lines schedule
+  pub leads : Leads h z images (start images) lines world
+  pub all : length ends ≡ z.programs
+  pub ended : AreEnds world.programs 0 ends
+
+-- in the world w, what comes next in the schedule is no line, or a line that is not enabled, whatever is answered
+abbrev pub IsStuckAt : Sizes → (ℕ → Image) → World → List ℕ → Type 0
+IsStuckAt z images w text = IsNoLine text ⊎ ((x : Line) × (rest : List ℕ) × IsLine32 x × (text ≡ spell x ++ rest) × ((a : Answer) → event z images w (event_of x a) ≡ None))
+
+-- the lines before this one, counted from 1, lead to a world in which it is no line or is not enabled
+pub record IsRefusedLine (h : Type 0) (z : Sizes) (images : ℕ → Image) (schedule : List ℕ) (line : ℕ) : Type 0 where
+  pub before : List Line
+  pub world : World
+  pub text : List ℕ
+  pub rest : List ℕ
+  pub cut : schedule ≡ text ++ rest
+  pub lines : AreLines before text
+  pub count : line ≡ suc (length before)
+  pub leads : Leads h z images (start images) before world
+  pub more : 0 < length rest
+  pub refused : IsStuckAt z images world rest
