@@ -59,7 +59,7 @@ module _ (laws : Laws) (h : Type 0) (sure : h) (z : Sizes) (images : ℕ → Ima
       let v : World = record w { lock = r.0; programs = upd w.programs k r.1 } in
       let same : v ≡ u = (let s : Some v ≡ Some u = q in cc) in
       let goes : Held g w.lock (w.programs k) r.0 r.1 = leads_taken z.cells w.lock (Held g w.lock (w.programs k)) (program_turn g w.lock (w.programs k) c a) r e
-      (mode_h g w.lock (w.programs k) a (aims_there laws g some w.lock (w.programs k) (all k)) (w.programs k).mode c) in
+      (mode_h g w.lock (w.programs k) a (aims_there laws g some (w.programs k) (all k).within) (w.programs k).mode c) in
       subst (AllHold z images) same (λ j. elim (same_or j k) [
         | inl i ↦ subst (λ (i : ℕ). Holds1 (setting z images i) r.0 (upd w.programs k r.1 i)) (sym i)
             (subst (Holds1 g r.0) (sym (upd-same w.programs k r.1 k refl)) (holds_on g w.lock (w.programs k) r.0 r.1 (is k) goes))

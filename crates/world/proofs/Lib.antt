@@ -12,3 +12,6 @@ pub mod Counting
 pub mod Holding
 pub mod Held
 pub mod Able
+pub mod Notes
+pub mod Asking
+pub mod Scopes
