@@ -180,8 +180,8 @@ module _ (owner : ℕ → ℕ) (h : Type 0) (g : Setting) (s : State) (p : Progr
   asks_store k None o i v told e l = tt
   asks_store k (Some x) o i v told e l = asks_if (x.object == o) _ _
       (λ b. asks_if x.writes _ _
-        (λ w. asks_store_to (s.note o).frame o i v refl (held_so k x o e (equal x.object o b)).0 (subst (λ j. (s.note j).writing ≡ true) (equal x.object o b) ((ready_told k x told e).1 w)) l)
-        (λ _. held_so k x o e (equal x.object o b)))
+      (λ w. asks_store_to (s.note o).frame o i v refl (held_so k x o e (equal x.object o b)).0 (subst (λ j. (s.note j).writing ≡ true) (equal x.object o b) ((ready_told k x told e).1 w)) l)
+      (λ _. held_so k x o e (equal x.object o b)))
       (λ _. tt)
 
   asks_leave : (k : ℕ) (x : Option Hold) → hold_at p.holds k ≡ x → Asks (leaves_by g p k x)
@@ -219,7 +219,7 @@ module _ (owner : ℕ → ℕ) (h : Type 0) (g : Setting) (s : State) (p : Progr
   asks_fill o f words k aiming into is same = asks_if (nat_lt k g.size) _ _
       (λ e. (refl, below k g.size e, into.2))
       (λ e. let far : g.size ≤ k = not_below k g.size e in
-        (refl, (λ _. (aimed o aiming).0), (into.0, into.2, (λ i l. (listed words i, is i (omega arith), λ y. same y i l)), (λ _. (aimed o aiming).1), (λ other. cc))))
+      (refl, (λ _. (aimed o aiming).0), (into.0, into.2, (λ i l. (listed words i, is i (omega arith), λ y. same y i l)), (λ _. (aimed o aiming).1), (λ other. cc))))
 
   asks_giving_up : (q : Option (ℕ × Hold)) → first_hold p.holds ≡ q → Asks (gives_up p q)
   asks_giving_up None e = tt

@@ -187,11 +187,11 @@ module _ (laws : Laws) (g : Setting) (some : 0 < g.size) (s : State) (p : Progra
         let q : Program = holding p k (Some y) in
         let here : hold_at q.holds k ≡ Some y = same_hold p.holds k (Some y) l in
         chosen t (known (t.note o).frame) (finished g q 0) (in_mode q (Missing o))
-            (λ _ j. inl (done_aims k (Some w) q.holds next (ap object_in here) (λ j d. other_hold p.holds k j (Some y) d) (others_settled k (Some w) next) j))
-            (λ _ j. elim (same_or j k) [
-              | inl e ↦ inr (record { scope = k; cell = w; is = next; object = refl; holds = here }, sym e)
-              | inr d ↦ inl (as_same (in_mode q (Missing o)) j refl refl (other_hold p.holds k j (Some y) d) (others_settled k (Some w) next j d))
-            ])
+        (λ _ j. inl (done_aims k (Some w) q.holds next (ap object_in here) (λ j d. other_hold p.holds k j (Some y) d) (others_settled k (Some w) next) j))
+        (λ _ j. elim (same_or j k) [
+          | inl e ↦ inr (record { scope = k; cell = w; is = next; object = refl; holds = here }, sym e)
+          | inr d ↦ inl (as_same (in_mode q (Missing o)) j refl refl (other_hold p.holds k j (Some y) d) (others_settled k (Some w) next j d))
+        ])
     aims_some_s k (Some x) w e l next m = leads_cond s Q (x.object == object_of g p w) _ _
         (λ b j. inl (done_aims k (Some w) p.holds next (ap object_in e ∙ ap Some (equal x.object (object_of g p w) b)) (λ j d. refl) (others_settled k (Some w) next) j))
         (λ _. closes_s k x e (shuts_aimed k (Some w) next) m)
@@ -325,10 +325,13 @@ module _ (laws : Laws) (g : Setting) (some : 0 < g.size) (s : State) (p : Progra
           | inl as_code ↦ inl (as_same r j refl refl (other_hold p.holds k j None d) as_code)
           | inr w ↦ elim w [
             | inl none ↦ inr (inl (other_hold p.holds k j None d ∙ none))
-            | inr y ↦ inr (inr (y.0, (
-              record { scope = y.1.0.scope; cell = y.1.0.cell; is = y.1.0.is; object = y.1.0.object; holds = other_hold p.holds k y.1.0.scope None (λ i. d (sym y.1.1 ∙ i)) ∙ y.1.0.holds },
-              y.1.1,
-            )))
+            | inr y ↦ inr (inr (
+              y.0,
+              (
+                record { scope = y.1.0.scope; cell = y.1.0.cell; is = y.1.0.is; object = y.1.0.object; holds = other_hold p.holds k y.1.0.scope None (λ i. d (sym y.1.1 ∙ i)) ∙ y.1.0.holds },
+                y.1.1,
+              ),
+            ))
           ]
         ]
       ])

@@ -6,6 +6,8 @@ use Rattle.code_form.specs.declared.touch.Touch.{Touch}
 use Rattle.code_form.specs.declared.touch.Touch.TheVariants as touch
 use Rattle.code_form.specs.Code.{held, is_blocked}
 use Rattle.code_form.specs.Touches.{cell_option}
+use Rattle.pointer_word.specs.Words.{framed}
+use Rattle.pointer_word.specs.Machine.{State}
 use Rattle.world.specs.Programs.{Hold, Mode, Ready, Missing, Bringing, Reading, Filling, Evicting, Releasing, Retreating, Closing, Wanted, Program, Setting, next_touch, object_of, object_or_none, hold_at}
 
 -- the next instruction touches this, and isn't blocked
@@ -69,3 +71,7 @@ ScopeFits g p Closing s = IsAsCode g p s ⊎ ((hold_at p.holds s ≡ None) ⊎ (
 ScopeFits g p (Wanted OutOfMemory) s = IsAsCode g p s ⊎ IsShut g p s
 ScopeFits g p (Wanted NoObjects) s = IsAsCode g p s ⊎ IsShut g p s
 ScopeFits g p (Wanted StoreFailed) s = hold_at p.holds s ≡ None
+
+-- the object of a hold is in the frame that its owner was told
+abbrev pub IsFramed : State → Hold → Type 0
+IsFramed s x = (f : ℕ) × ((s.note x.object).frame ≡ Some f) × (framed (s.word x.object).place ≡ Some f)

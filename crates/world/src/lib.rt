@@ -5,4 +5,6 @@ mod event;
 mod laws;
 
 pub use event::{Actor, Choice};
-pub use laws::{answers, every_schedule, programs_follow, wants, worked_schedules};
+pub use laws::{
+    answers, enabled_calls, every_schedule, programs_follow, scopes_follow, wants, worked_schedules,
+};

@@ -1,6 +1,3 @@
-use Rattle.world.proofs.Scopes.{first_none}
-use Rattle.world.proofs.Notes.{keeps_told}
-use Rattle.world.proofs.Asking.{asks_program, asks_evacuator, asked_able}
 use Rattle.world.proofs.Able.{same_answers}
 use Rattle.world.proofs.laws.answers.Goals as goal
 
