@@ -17,7 +17,8 @@ use Rattle.pointer_word.specs.Sound.{Inv}
 use Rattle.pointer_word.proofs.Upd.{upd-other}
 use Rattle.pointer_word.proofs.Owning.{load_is_latest}
 use Rattle.world.specs.Programs.{Program, Setting, cells_in, next_free, next_touch, object_of}
-use Rattle.world.proofs.Going.{AimsIn, Finishes, Goes, IsMoving, LoadsSo, RoomFor, Stays, StoresSo}
+use Rattle.world.specs.Scopes.{AimsIn}
+use Rattle.world.proofs.Going.{Finishes, Goes, IsMoving, LoadsSo, RoomFor, Stays, StoresSo}
 
 -- what is known of images
 pub record Laws : Type 0 where
@@ -29,13 +30,17 @@ pub record Laws : Type 0 where
   pub allocated : HeapAllocated
   pub next : StepsSuc
 
--- a program is where the run of its code is, and its allocations fit in its share
-pub record Follows1 (g : Setting) (s : State) (p : Program) : Type 0 where
-  pub core : p.core ≡ (code_run (code g.image) p.completed).0
-  pub heap : SameHeap g.size g.base g.limit (cells_in p) (latest s) (code_run (code g.image) p.completed).1
+-- the allocations of a program fit in its share, the calls that wait have their scopes shut, and a mode within an aim is of its next instruction
+pub record Within1 (g : Setting) (p : Program) : Type 0 where
   pub room : next_free g p ≤ g.limit
   pub waits : WaitsShut p.core
   pub aims : AimsIn g p p.mode
+
+-- a program is where the run of its code is
+pub record Follows1 (g : Setting) (s : State) (p : Program) : Type 0 where
+  pub core : p.core ≡ (code_run (code g.image) p.completed).0
+  pub heap : SameHeap g.size g.base g.limit (cells_in p) (latest s) (code_run (code g.image) p.completed).1
+  pub within : Within1 g p
 
 -- ---- addresses
 
@@ -91,7 +96,7 @@ next_run next C j c x e t =
     (parts (effect C c) c h ∙ ap (λ (y : Touch). (resumed (effect C c) c (loaded h y), heap_after h y)) t))
 
 -- what an instruction changes of the allocations, and where its cell is
-abbrev Tidies : Touch → Core → Core → Type 0
+abbrev pub Tidies : Touch → Core → Core → Type 0
 Tidies (touch.Allocs n) c d = sizes (allocations_of d) ≡ n ∷ sizes (allocations_of c)
 Tidies (touch.Loads k a) c d = (sizes (allocations_of d) ≡ sizes (allocations_of c)) × (a.index < cells_of (sizes (allocations_of c)) a.reference)
 Tidies (touch.Saves k a v) c d = (sizes (allocations_of d) ≡ sizes (allocations_of c)) × (a.index < cells_of (sizes (allocations_of c)) a.reference)
@@ -170,9 +175,32 @@ module _ (laws : Laws) (g : Setting) (some : 0 < g.size) (s : State) (p : Progra
   value_is h sure inv touch.Wrong heap v l tidy ok = tt
   value_is h sure inv touch.Nothing heap v l tidy ok = tt
 
-  tidy_next : (v : ℕ) (x : Touch) → next_touch g p ≡ x → q.core ≡ resumed (effect g.image p.core) p.core v → Tidies x p.core q.core
+  pub tidy_next : (v : ℕ) (x : Touch) → next_touch g p ≡ x → q.core ≡ resumed (effect g.image p.core) p.core v → Tidies x p.core q.core
   tidy_next v x is e =
       subst (λ (y : Touch). Tidies y p.core q.core) is (subst (λ (d : Core). Tidies (next_touch g p) p.core d) (sym e) (tidies g.image p.core (effect g.image p.core) v (laws.tidy g.image p.core)))
+
+  -- a turn keeps a program within its share and its instruction
+  within_finishes : Within1 g p → Finishes g s p t q → Within1 g q
+  within_finishes is did =
+      let tidy : Tidies did.touch p.core q.core = tidy_next did.value did.touch did.is.0 did.core in
+      record {
+        room = room_after did.touch did.moving tidy did.room is.room;
+        waits = subst WaitsShut (sym did.core) (laws.waits g.image p.core did.value is.waits did.is.1);
+        aims = subst (AimsIn g q) (sym did.ready) tt;
+      }
+
+  within_stays : Within1 g p → Stays s p t q → AimsIn g q q.mode → Within1 g q
+  within_stays is did aims =
+      let same : cells_in q ≡ cells_in p = ap (λ (c : Core). sizes (allocations_of c)) did.core in
+      record {
+        room = subst (λ (z : List ℕ). next_object g.size g.base z ≤ g.limit) (sym same) is.room;
+        waits = subst WaitsShut (sym did.core) is.waits;
+        aims = aims;
+      }
+
+  pub goes_within : Within1 g p → Goes g s p t q → Within1 g q
+  goes_within is (inl did) = within_stays is did.0 did.1
+  goes_within is (inr did) = within_finishes is did
 
   finishes : (h : Type 0) → h → Inv h g.size s → Follows1 g s p → Finishes g s p t q → Follows1 g t q
   finishes h sure inv is did =
@@ -186,9 +214,7 @@ module _ (laws : Laws) (g : Setting) (some : 0 < g.size) (s : State) (p : Progra
       record {
         core = did.core ∙ (same_value e p.core did.value (loaded heap x) value ∙ sym (ap (λ z. z.0) there));
         heap = subst (λ (z : Heap). SameHeap g.size g.base g.limit (cells_in q) (latest t) z) (sym (ap (λ z. z.1) there)) (heap_moves x heap did.moving tidy did.stores did.room is.heap);
-        room = room_after x did.moving tidy did.room is.room;
-        waits = subst WaitsShut (sym did.core) (laws.waits g.image p.core did.value is.waits did.is.1);
-        aims = subst (AimsIn g q) (sym did.ready) tt;
+        within = within_finishes is.within did;
       }
 
   stays : Follows1 g s p → Stays s p t q → AimsIn g q q.mode → Follows1 g t q
@@ -198,9 +224,7 @@ module _ (laws : Laws) (g : Setting) (some : 0 < g.size) (s : State) (p : Progra
         core = did.core ∙ (is.core ∙ ap (λ (j : ℕ). (code_run (code g.image) j).0) (sym did.completed));
         heap = subst (λ (j : ℕ). SameHeap g.size g.base g.limit (cells_in q) (latest t) (code_run (code g.image) j).1) (sym did.completed)
             (heap_along g.size g.base g.limit (cells_in p) (cells_in q) (latest s) (latest t) (code_run (code g.image) p.completed).1 same did.latest is.heap);
-        room = subst (λ (z : List ℕ). next_object g.size g.base z ≤ g.limit) (sym same) is.room;
-        waits = subst WaitsShut (sym did.core) is.waits;
-        aims = aims;
+        within = within_stays is.within did aims;
       }
 
   -- a turn keeps a program where the run of its code is
@@ -233,10 +257,8 @@ module _ (laws : Laws) (g : Setting) (some : 0 < g.size) (s : State) (p : Progra
 pub apart_from : Laws → (g : Setting) → 0 < g.size → (s t : State) (p : Program) → ((o i : ℕ) → g.base ≤ o → o < g.limit → latest t o i ≡ latest s o i) → Follows1 g s p → Follows1 g t p
 apart_from laws g some s t p same is = record {
   core = is.core;
-  heap = heap_apart g.size g.base g.limit (cells_in p) (latest s) (latest t) (code_run (code g.image) p.completed).1 laws.addresses some is.room same is.heap;
-  room = is.room;
-  waits = is.waits;
-  aims = is.aims;
+  heap = heap_apart g.size g.base g.limit (cells_in p) (latest s) (latest t) (code_run (code g.image) p.completed).1 laws.addresses some is.within.room same is.heap;
+  within = is.within;
 }
 
 -- ---- shares

@@ -18,6 +18,7 @@ use Rattle.world.specs.declared.event.Choice.{Choice}
 use Rattle.world.specs.declared.event.Choice.TheVariants as choice
 use Rattle.world.specs.Programs.{Eviction, Copying, Stored, NotStored, Refused, Freed, Hold, Mode, Ready, Missing, Bringing, Reading, Filling, Evicting, Releasing, Retreating, Closing, Wanted, Program, Setting, next_touch, object_of, object_or_none, next_free, hold_at, holding, in_mode, finished, first_hold, may_grow, rest_of}
 use Rattle.world.specs.Turns.{Answer, Turn, NotEnabled, Alone, Calls, as_next, put_of, evicts, grows, closes, found, aims_at, loads_from, loads_by, stores_to, stores_by, leaves_by, allocates, ends_by, ready, began, to_fill, seeks, read_so, fills, closed_so, gives_up, by_mode, program_turn}
+use Rattle.world.specs.Scopes.{IsNext, IsAiming, AimsIn}
 use Rattle.world.proofs.Latest.{is_store, keeps_latest, stores_latest}
 
 -- the state and the actor that a turn leads to, if its call may be made
@@ -50,29 +51,6 @@ module _ {A : Type 0} (n : ℕ) (s : State) (m : ℕ) (a : Answer) (go : Evictio
   leads_evicts (NotStored o f) = fails (act s (Aborts m o f)) (keeps_latest s (Aborts m o f) refl)
   leads_evicts (Refused o f) = ends (act s (Aborts m o f)) (keeps_latest s (Aborts m o f) refl)
   leads_evicts (Freed f) = ends (act s (Releases m f)) (keeps_latest s (Releases m f) refl)
-
--- the next instruction touches this, and isn't blocked
-abbrev pub IsNext : Setting → Program → Touch → Type 0
-IsNext g p x = (next_touch g p ≡ x) × (is_blocked p.core ≡ false)
-
--- an aim of a scope at a cell of the object o is under way, which the scope holds
-pub record IsAiming (g : Setting) (p : Program) (o : ℕ) : Type 0 where
-  pub scope : ℕ
-  pub cell : Cell
-  pub is : IsNext g p (touch.Aims scope (Some cell))
-  pub object : object_of g p cell ≡ o
-  pub holds : hold_at p.holds scope ≡ Some (record { object = o; writes = false })
-
--- a mode within an aim
-abbrev pub AimsIn : Setting → Program → Mode → Type 0
-AimsIn g p (Missing o) = IsAiming g p o
-AimsIn g p (Bringing o) = IsAiming g p o
-AimsIn g p (Reading o f) = IsAiming g p o
-AimsIn g p (Filling o f words k) = IsAiming g p o
-AimsIn g p (Evicting o e) = IsAiming g p o
-AimsIn g p (Releasing o f) = IsAiming g p o
-AimsIn g p (Retreating o) = IsAiming g p o
-AimsIn g p _ = Unit {0}
 
 -- an instruction that touches this goes on or stops
 abbrev pub IsMoving : Touch → Type 0

@@ -24,8 +24,9 @@ use Rattle.world.specs.Programs.{Eviction, Copying, Stored, NotStored, Refused, 
 use Rattle.world.specs.Turns.{Answer, NotEnabled, Calls, put_of, evicts, grows, closes, aims_at, loads_from, loads_by, stores_to, stores_by, leaves_by, ends_by, ready, began, seeks, fills, closed_so, gives_up, by_mode}
 use Rattle.world.specs.Holding.{one, count_of}
 use Rattle.world.proofs.Counting.{is_counting, keeps_count, one_other, opens_count, closes_count, count_set, hold_there, first_at}
-use Rattle.world.proofs.Going.{IsNext, Leads, leads_cond, leads_next}
-use Rattle.world.proofs.Following.{Laws, Follows1, base_object}
+use Rattle.world.specs.Scopes.{IsNext}
+use Rattle.world.proofs.Going.{Leads, leads_cond, leads_next}
+use Rattle.world.proofs.Following.{Laws, Within1, base_object}
 
 -- no hold is opened or closed
 abbrev pub CountsStay : State → State → Type 0
@@ -85,8 +86,8 @@ effect_there (Ends d) cells k w e so = cc
 effect_there (Wrong d) cells k w e so = cc
 effect_there Nothing cells k w e so = cc
 
-pub aims_there : Laws → (g : Setting) → 0 < g.size → (s : State) (p : Program) → Follows1 g s p → (k : ℕ) (w : Cell) → IsNext g p (touch.Aims k (Some w)) → InShare g (object_of g p w)
-aims_there laws g some s p is k w next =
+pub aims_there : Laws → (g : Setting) → 0 < g.size → (p : Program) → Within1 g p → (k : ℕ) (w : Cell) → IsNext g p (touch.Aims k (Some w)) → InShare g (object_of g p w)
+aims_there laws g some p is k w next =
     let c : Core = p.core in
     let x : Effect Core = effect g.image c in
     let tracked : IsTracked c x = laws.tracked g.image c is.waits next.1 in

@@ -11,5 +11,9 @@ pub mod Reached
 pub mod Causing
 pub mod Counting
 pub mod Holding
-pub mod Held
 pub mod Able
+pub mod Notes
+pub mod Asking
+pub mod Scopes
+pub mod Told
+pub mod Fitting

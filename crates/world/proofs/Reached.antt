@@ -73,13 +73,13 @@ module _ (laws : Laws) (h : Type 0) (sure : h) (z : Sizes) (images : ℕ → Ima
       let g = setting z images k in
       let v : World = record w { lock = r.0; programs = upd w.programs k r.1 } in
       let same : v ≡ u = (let s : Some v ≡ Some u = q in cc) in
-      let goes : Goes g w.lock (w.programs k) r.0 r.1 = leads_taken z.cells w.lock (Goes g w.lock (w.programs k)) (program_turn g w.lock (w.programs k) c a) r e (program_leads g w.lock (w.programs k) c a (all k).aims) in
+      let goes : Goes g w.lock (w.programs k) r.0 r.1 = leads_taken z.cells w.lock (Goes g w.lock (w.programs k)) (program_turn g w.lock (w.programs k) c a) r e (program_leads g w.lock (w.programs k) c a (all k).within.aims) in
       subst (AllFollow z images) same (λ j. elim (same_or j k) [
         | inl i ↦ subst (λ (i : ℕ). Follows1 (setting z images i) r.0 (upd w.programs k r.1 i)) (sym i)
             (subst (Follows1 g r.0) (sym (upd-same w.programs k r.1 k refl)) (goes_on laws g some w.lock (w.programs k) r.0 r.1 h sure is.lock (all k) goes))
         | inr d ↦ subst (Follows1 (setting z images j) r.0) (sym (upd-other w.programs k r.1 j d))
             (apart_from laws (setting z images j) some w.lock r.0 (w.programs j)
-            (λ o i low high. goes_outside laws g some w.lock (w.programs k) r.0 r.1 (all k).room goes o i (not_in_both (share z) j k o d low high)) (all j))
+            (λ o i low high. goes_outside laws g some w.lock (w.programs k) r.0 r.1 (all k).within.room goes o i (not_in_both (share z) j k o d low high)) (all j))
       ])
 
   by_evacuator : (w u : World) (k : ℕ) (c : Choice) (a : Answer) (x : Option (State × Option Eviction))
@@ -128,9 +128,11 @@ begin z images k =
     record {
       core = refl;
       heap = record { cell = λ r x l. refl; fresh = λ o i a b. refl; new = λ r x l. refl };
-      room = subst (λ (cells : List ℕ). next_object z.cells (k * share z) cells ≤ k * share z + share z) (sym none) (omega arith);
-      waits = waits_begins (slice_get (images k).functions 0);
-      aims = tt;
+      within = record {
+        room = subst (λ (cells : List ℕ). next_object z.cells (k * share z) cells ≤ k * share z + share z) (sym none) (omega arith);
+        waits = waits_begins (slice_get (images k).functions 0);
+        aims = tt;
+      };
     }
 
 -- in every world that is reached over an honest store each program is where the run of its code is, its cells read off the objects' contents

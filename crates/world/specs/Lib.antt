@@ -10,3 +10,5 @@ pub mod Lines
 pub mod Numerals
 pub mod Reports
 pub mod Rows
+pub mod Scopes
+pub mod Enabled

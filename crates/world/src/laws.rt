@@ -1,15 +1,18 @@
 //! The laws of the world, each as the contract of a function that does nothing.
 ghost use Rattle.std.specs.Prelude.{ℕ, ◌<◌, ◌≡◌, ◌∷◌, ◌++◌, [], List, None, Some, is_some, pos};
-ghost use Rattle.cells.specs.Stops.{Ended, NullFault};
+ghost use Rattle.cells.specs.Stops.{Ended, NullFault, Stop};
 ghost use Rattle.cells.specs.declared.ending.Want.{Want};
 ghost use Rattle.cells.specs.declared.ending.Want.TheVariants.{StoreFailed};
+ghost use Rattle.code_form.specs.Code.{stop_of};
 ghost use Rattle.code_form.specs.Form.{Image};
 ghost use Rattle.pointer_word.specs.Sound.{IsSafe};
 ghost use Rattle.world.specs.declared.event.Actor.TheVariants.{Program};
 ghost use Rattle.world.specs.Causes.{HasCause, HasFailed, IsCaused};
+ghost use Rattle.world.specs.Enabled.{OneAsked, is_open};
 ghost use Rattle.world.specs.Following.{IsAt};
-ghost use Rattle.world.specs.Programs.{Wanted};
 ghost use Rattle.world.specs.Holding.{HoldsFit};
+ghost use Rattle.world.specs.Programs.{Hold, Ready, Wanted, hold_at};
+ghost use Rattle.world.specs.Scopes.{AimsIn, IsFramed, ScopeFits};
 ghost use Rattle.world.specs.Steps.{IsSound, IsStep};
 ghost use Rattle.world.specs.Turns.{Answer};
 ghost use Rattle.world.specs.Worlds.{Event, Follows, IsHonest, Sizes, World, event, setting, start};
@@ -49,10 +52,11 @@ pub fn every_schedule()
 {}
 
 /// After any events over an honest store each program is where the run of its code is after as many instructions as it has completed, and its
-/// cells are read off the contents of its objects, wherever they are; its scopes hold objects of its share, whose words count them.
+/// cells are read off the contents of its objects, wherever they are. Its scopes hold objects of its share, whose words count them, over any store.
 pub fn programs_follow()
     ensures at { (z : Sizes) (images : ℕ → Image) (events : List Event) (v : World) → 0 < z.cells → Follows (Unit {0}) z images (start images) events v → (k : ℕ) → IsAt z images v k }
     ensures holds { (z : Sizes) (images : ℕ → Image) (events : List Event) (v : World) → 0 < z.cells → Follows (Unit {0}) z images (start images) events v → (k : ℕ) → HoldsFit z v k }
+    ensures holds_unsound { (z : Sizes) (images : ℕ → Image) (events : List Event) (v : World) → 0 < z.cells → Follows ⊥ z images (start images) events v → (k : ℕ) → HoldsFit z v k }
 {
     effect_laws();
     heap_laws();
@@ -64,6 +68,34 @@ pub fn answers()
     ensures honest { (z : Sizes) (images : ℕ → Image) (w : World) (e : Event) (a : Answer) → IsSound (Unit {0}) z w → is_some (event z images w (record e { answer = a })) ≡ is_some (event z images w e) }
     ensures unsound_store { (z : Sizes) (images : ℕ → Image) (w : World) (e : Event) (a : Answer) → IsSound ⊥ z w → is_some (event z images w (record e { answer = a })) ≡ is_some (event z images w e) }
 {}
+
+/// After any events, over a store that is honest and over one that isn't, an event is enabled exactly where there are such an actor, object and
+/// frame, and its actor has something to do: the machine refuses no call. Each call that is made meets what is asked of its caller: an
+/// owner names objects of its own, and a mover what it has in hand.
+pub fn enabled_calls()
+    ensures enabled { (z : Sizes) (images : ℕ → Image) (events : List Event) (v : World) (e : Event) → 0 < z.cells → Follows (Unit {0}) z images (start images) events v → is_some (event z images v e) ≡ is_open z images v e }
+    ensures enabled_unsound { (z : Sizes) (images : ℕ → Image) (events : List Event) (v : World) (e : Event) → 0 < z.cells → Follows ⊥ z images (start images) events v → is_some (event z images v e) ≡ is_open z images v e }
+    ensures asked { (z : Sizes) (images : ℕ → Image) (events : List Event) (v u : World) (e : Event) → 0 < z.cells → Follows (Unit {0}) z images (start images) events v → event z images v e ≡ Some u → OneAsked (Unit {0}) z v e.actor u }
+    ensures asked_unsound { (z : Sizes) (images : ℕ → Image) (events : List Event) (v u : World) (e : Event) → 0 < z.cells → Follows ⊥ z images (start images) events v → event z images v e ≡ Some u → OneAsked ⊥ z v e.actor u }
+{
+    effect_laws();
+    heap_laws();
+    run_laws();
+}
+
+/// After any events over any store, each scope of a program holds the object of the cell that the scope of its code's run has, and nothing where that
+/// has none, but for what an instruction under way has opened or shut, and a want has shut. A program that has stopped holds nothing, and
+/// what one holds that is within no instruction is in the frame that it was told.
+pub fn scopes_follow()
+    ensures scopes { (z : Sizes) (images : ℕ → Image) (events : List Event) (v : World) → 0 < z.cells → Follows ⊥ z images (start images) events v → (k s : ℕ) → ScopeFits (setting z images k) (v.programs k) (v.programs k).mode s }
+    ensures under_way { (z : Sizes) (images : ℕ → Image) (events : List Event) (v : World) → 0 < z.cells → Follows ⊥ z images (start images) events v → (k : ℕ) → AimsIn (setting z images k) (v.programs k) (v.programs k).mode }
+    ensures stopped { (z : Sizes) (images : ℕ → Image) (events : List Event) (v : World) (k : ℕ) (x : Stop) → 0 < z.cells → Follows ⊥ z images (start images) events v → stop_of (v.programs k).core ≡ Some x → (s : ℕ) → hold_at (v.programs k).holds s ≡ None }
+    ensures framed { (z : Sizes) (images : ℕ → Image) (events : List Event) (v : World) (k s : ℕ) (x : Hold) → 0 < z.cells → Follows ⊥ z images (start images) events v → (v.programs k).mode ≡ Ready → hold_at (v.programs k).holds s ≡ Some x → IsFramed v.lock x }
+{
+    effect_laws();
+    heap_laws();
+    run_laws();
+}
 
 /// What an event of a program leads it to want has its cause. A program that wants something has met the cause in an event of
 /// its own; and one whose store failed has itself called the store and been refused, whatever the store answered to others.

@@ -6,4 +6,6 @@ mod laws;
 mod line;
 
 pub use event::{Actor, Choice};
-pub use laws::{answers, every_schedule, programs_follow, wants, worked_schedules};
+pub use laws::{
+    answers, enabled_calls, every_schedule, programs_follow, scopes_follow, wants, worked_schedules,
+};

@@ -1,5 +1,5 @@
+use Rattle.world.proofs.Fitting.{reached_holds}
 use Rattle.world.proofs.Following.{Laws}
-use Rattle.world.proofs.Held.{counted}
 use Rattle.world.proofs.Reached.{at}
 use Rattle.world.proofs.laws.programs_follow.Goals as goal
 
@@ -14,4 +14,8 @@ returns c =
       allocated = c.heap_laws.ensures.allocated;
       next = c.run_laws.ensures.next;
     } in
-    record { at = at laws; holds = counted laws }
+    record {
+      at = at laws;
+      holds = λ z images events v some f. reached_holds laws (Unit {0}) z images events v some f;
+      holds_unsound = λ z images events v some f. reached_holds laws ⊥ z images events v some f;
+    }

@@ -1,0 +1,21 @@
+use Rattle.world.proofs.Fitting.{reached_asked, reached_open}
+use Rattle.world.proofs.Following.{Laws}
+use Rattle.world.proofs.laws.enabled_calls.Goals as goal
+
+pub returns : goal.returns
+returns c =
+    let laws : Laws = record {
+      tidy = c.effect_laws.ensures.tidy;
+      tracked = c.effect_laws.ensures.tracked;
+      waits = c.effect_laws.ensures.waits;
+      addresses = c.heap_laws.ensures.addresses;
+      saved = c.heap_laws.ensures.saved;
+      allocated = c.heap_laws.ensures.allocated;
+      next = c.run_laws.ensures.next;
+    } in
+    record {
+      enabled = λ z images events v e some f. reached_open laws (Unit {0}) z images events v some f e;
+      enabled_unsound = λ z images events v e some f. reached_open laws ⊥ z images events v some f e;
+      asked = λ z images events v u e some f is. reached_asked laws (Unit {0}) z images events v some f e u is;
+      asked_unsound = λ z images events v u e some f is. reached_asked laws ⊥ z images events v some f e u is;
+    }
