@@ -4,6 +4,7 @@
 mod event;
 mod laws;
 mod line;
+mod line_tests;
 
 pub use event::{Actor, Choice};
 pub use laws::{
