@@ -4,6 +4,7 @@ pub mod Moving
 pub mod Numbers
 pub mod Programs
 pub mod Stepping
+pub mod Replaying
 pub mod Latest
 pub mod Going
 pub mod Following

@@ -1,5 +1,5 @@
 -- What is told of a world after the lines of a schedule.
-use Rattle.std.specs.Prelude.{◌≡◌, ◌≢◌, ◌⊎◌, ℕ, suc, ◌<◌, List, [], ◌∷◌, ◌++◌, length, Option, Some, None, slice_get}
+use Rattle.std.specs.Prelude.{◌≡◌, ◌≢◌, ◌⊎◌, ℕ, suc, ◌%◌, ◌<◌, List, [], ◌∷◌, ◌++◌, length, Option, Some, None, slice_get}
 use Rattle.cells.specs.declared.ending.Ended.{Ended}
 use Rattle.cells.specs.declared.ending.Run.{Run}
 use Rattle.cells.specs.declared.ending.Run.TheVariants as run
@@ -18,11 +18,11 @@ RunsAs p run.Running = (stop_of p.core ≡ None) × ((want : Want) → p.mode �
 RunsAs p (run.Stopped x) = stop_of p.core ≡ Some (stop_read x)
 RunsAs p (run.Wanted want) = (stop_of p.core ≡ None) × (p.mode ≡ Wanted want)
 
--- what a program printed, how it runs, and how many instructions it completed
+-- what a program printed, how it runs, and how many instructions it completed, modulo 2^64
 pub record IsEnded (p : Program) (e : Ended) : Type 0 where
   pub output : e.output.items ≡ output_of p.core
   pub runs : RunsAs p e.run
-  pub completed : e.completed ≡ p.completed
+  pub completed : e.completed ≡ p.completed % 18446744073709551616
 
 -- the event of a line, where this is answered
 abbrev pub event_of : Line → Answer → Event
