@@ -6,7 +6,7 @@ use Rattle.code_form.specs.declared.touch.Touch.{Touch}
 use Rattle.code_form.specs.declared.touch.Touch.TheVariants as touch
 use Rattle.code_form.specs.Form.{Image}
 use Rattle.code_form.specs.Effects.{Effect, Plain, Aims, Loads, Saves, Leaves, Allocs, Ends, Wrong, Nothing, Heap, code_run, run_effect, saved}
-use Rattle.code_form.specs.Code.{Core, allocations_of, cells_of, code, effect, sizes}
+use Rattle.code_form.specs.Code.{Core, allocations_of, cells_of, code, effect, most_scopes, sizes}
 use Rattle.code_form.specs.Laws.{StepsSuc}
 use Rattle.code_form.specs.Placed.{HaveAddresses, HeapAllocated, HeapSaved, SameHeap, first_object, next_object, object_at}
 use Rattle.code_form.specs.Touches.{heap_after, loaded, resumed, touch_of}
@@ -18,6 +18,7 @@ use Rattle.pointer_word.proofs.Upd.{upd-other}
 use Rattle.pointer_word.proofs.Owning.{load_is_latest}
 use Rattle.world.specs.Programs.{Program, Setting, cells_in, next_free, next_touch, object_of}
 use Rattle.world.specs.Scopes.{AimsIn}
+use Rattle.world.proofs.Few.{FewScopes, few_resumed}
 use Rattle.world.proofs.Going.{Finishes, Goes, IsMoving, LoadsSo, RoomFor, Stays, StoresSo}
 
 -- what is known of images
@@ -30,10 +31,12 @@ pub record Laws : Type 0 where
   pub allocated : HeapAllocated
   pub next : StepsSuc
 
--- the allocations of a program fit in its share, the calls that wait have their scopes shut, and a mode within an aim is of its next instruction
+-- the allocations of a program fit in its share, the calls that wait have their scopes shut, no call has more scopes than some function, and a mode within
+-- an aim is of its next instruction
 pub record Within1 (g : Setting) (p : Program) : Type 0 where
   pub room : next_free g p ≤ g.limit
   pub waits : WaitsShut p.core
+  pub few : FewScopes (most_scopes g.image.functions) p.core
   pub aims : AimsIn g p p.mode
 
 -- a program is where the run of its code is
@@ -186,6 +189,7 @@ module _ (laws : Laws) (g : Setting) (some : 0 < g.size) (s : State) (p : Progra
       record {
         room = room_after did.touch did.moving tidy did.room is.room;
         waits = subst WaitsShut (sym did.core) (laws.waits g.image p.core did.value is.waits did.is.1);
+        few = subst (FewScopes (most_scopes g.image.functions)) (sym did.core) (few_resumed g.image p.core did.value is.few);
         aims = subst (AimsIn g q) (sym did.ready) tt;
       }
 
@@ -195,6 +199,7 @@ module _ (laws : Laws) (g : Setting) (some : 0 < g.size) (s : State) (p : Progra
       record {
         room = subst (λ (z : List ℕ). next_object g.size g.base z ≤ g.limit) (sym same) is.room;
         waits = subst WaitsShut (sym did.core) is.waits;
+        few = subst (FewScopes (most_scopes g.image.functions)) (sym did.core) is.few;
         aims = aims;
       }
 

@@ -18,3 +18,8 @@ pub mod Asking
 pub mod Scopes
 pub mod Told
 pub mod Fitting
+pub mod Enough
+pub mod Idle
+pub mod Few
+pub mod Tickets
+pub mod Onward

@@ -21,6 +21,7 @@ use Rattle.world.specs.Turns.{Answer, Turn, NotEnabled, Alone, Calls, after_call
 use Rattle.world.specs.Worlds.{Sizes, World, Event, setting, share, start, in_range, is_actor, with_program, with_evacuator, acted, event, Follows}
 use Rattle.world.specs.Steps.{IsSound}
 use Rattle.world.specs.Following.{IsAt}
+use Rattle.world.proofs.Few.{few_begins}
 use Rattle.world.proofs.Latest.{keeps_latest}
 use Rattle.world.proofs.Going.{Goes, Leads, leads_evicts, program_leads}
 use Rattle.world.proofs.Following.{Laws, Follows1, goes_on, goes_outside, apart_from, not_in_both}
@@ -131,6 +132,7 @@ begin z images k =
       within = record {
         room = subst (λ (cells : List ℕ). next_object z.cells (k * share z) cells ≤ k * share z + share z) (sym none) (omega arith);
         waits = waits_begins (slice_get (images k).functions 0);
+        few = few_begins (images k).functions (slice_get (images k).functions 0) refl;
         aims = tt;
       };
     }

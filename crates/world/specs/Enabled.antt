@@ -1,5 +1,7 @@
 -- When an event is enabled, and what its call is asked.
-use Rattle.std.specs.Prelude.{◌≡◌, ◌⊎◌, ℕ, suc, ◌/◌, cond, ◌&&◌, nat_lt, Bool, true, false}
+use Rattle.std.specs.Prelude.{◌≡◌, ◌⊎◌, ℕ, suc, ◌/◌, ◌<◌, cond, ◌&&◌, nat_lt, Bool, true, false}
+use Rattle.code_form.specs.declared.touch.Touch.{Touch}
+use Rattle.code_form.specs.declared.touch.Touch.TheVariants as touch
 use Rattle.code_form.specs.Form.{Image}
 use Rattle.pointer_word.specs.Calls.{Call, act}
 use Rattle.pointer_word.specs.Asked.{Asked}
@@ -32,3 +34,10 @@ owner_of z o = cond (nat_lt (o / share z) z.programs) (suc (o / share z)) 0
 -- an actor leads the machine from one state to another by no call, or by one that meets what is asked of its caller
 abbrev pub OneAsked : Type 0 → Sizes → World → Actor → World → Type 0
 OneAsked h z w who u = (u.lock ≡ w.lock) ⊎ ((c : Call) × Asked (owner_of z) h z.cells w.lock (mover_of z who) c × (u.lock ≡ act w.lock c))
+
+-- an instruction that touches this is no wrong one, and aims one of four scopes if it aims any
+abbrev pub CanGo : Touch → Type 0
+CanGo (touch.Aims k w) = k < 4
+CanGo touch.Wrong = ⊥
+CanGo touch.Nothing = ⊥
+CanGo _ = Unit {0}

@@ -12,3 +12,4 @@ pub mod Reports
 pub mod Rows
 pub mod Scopes
 pub mod Enabled
+pub mod Enough

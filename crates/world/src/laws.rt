@@ -1,17 +1,19 @@
 //! The laws of the world, each as the contract of a function that does nothing.
-ghost use Rattle.std.specs.Prelude.{ℕ, ◌<◌, ◌≡◌, ◌∷◌, ◌++◌, [], List, None, Some, is_some, pos};
+ghost use Rattle.std.specs.Prelude.{ℕ, ◌<◌, ◌≤◌, ◌≡◌, ◌∷◌, ◌++◌, [], List, None, Some, false, is_some, pos, true};
 ghost use Rattle.cells.specs.Stops.{Ended, NullFault, Stop};
 ghost use Rattle.cells.specs.declared.ending.Want.{Want};
 ghost use Rattle.cells.specs.declared.ending.Want.TheVariants.{StoreFailed};
-ghost use Rattle.code_form.specs.Code.{stop_of};
+ghost use Rattle.code_form.specs.Code.{is_blocked, stop_of};
 ghost use Rattle.code_form.specs.Form.{Image};
 ghost use Rattle.pointer_word.specs.Sound.{IsSafe};
 ghost use Rattle.world.specs.declared.event.Actor.TheVariants.{Program};
+ghost use Rattle.world.specs.declared.event.Choice.TheVariants.{Next};
 ghost use Rattle.world.specs.Causes.{HasCause, HasFailed, IsCaused};
-ghost use Rattle.world.specs.Enabled.{OneAsked, is_open};
+ghost use Rattle.world.specs.Enabled.{CanGo, OneAsked, is_open};
+ghost use Rattle.world.specs.Enough.{IsUnheld, need};
 ghost use Rattle.world.specs.Following.{IsAt};
 ghost use Rattle.world.specs.Holding.{HoldsFit};
-ghost use Rattle.world.specs.Programs.{Hold, Ready, Wanted, hold_at};
+ghost use Rattle.world.specs.Programs.{Bringing, Hold, Ready, Wanted, hold_at, next_touch};
 ghost use Rattle.world.specs.Scopes.{AimsIn, IsFramed, ScopeFits};
 ghost use Rattle.world.specs.Steps.{IsSound, IsStep};
 ghost use Rattle.world.specs.Turns.{Answer};
@@ -70,11 +72,13 @@ pub fn answers()
 {}
 
 /// After any events, over a store that is honest and over one that isn't, an event is enabled exactly where there are such an actor, object and
-/// frame, and its actor has something to do: the machine refuses no call. Each call that is made meets what is asked of its caller: an
+/// frame, and its actor has something to do: the machine refuses no call. A program that is ready goes on wherever its code is neither stuck,
+/// stopped nor blocked, and aims none but its four scopes. Each call that is made meets what is asked of its caller: an
 /// owner names objects of its own, and a mover what it has in hand.
 pub fn enabled_calls()
     ensures enabled { (z : Sizes) (images : ℕ → Image) (events : List Event) (v : World) (e : Event) → 0 < z.cells → Follows (Unit {0}) z images (start images) events v → is_some (event z images v e) ≡ is_open z images v e }
     ensures enabled_unsound { (z : Sizes) (images : ℕ → Image) (events : List Event) (v : World) (e : Event) → 0 < z.cells → Follows ⊥ z images (start images) events v → is_some (event z images v e) ≡ is_open z images v e }
+    ensures goes_on { (z : Sizes) (images : ℕ → Image) (events : List Event) (v : World) (k : ℕ) (a : Answer) → 0 < z.cells → Follows ⊥ z images (start images) events v → k < z.programs → (v.programs k).mode ≡ Ready → is_blocked (v.programs k).core ≡ false → CanGo (next_touch (setting z images k) (v.programs k)) → is_some (event z images v (record { actor = Program k; choice = Next; answer = a })) ≡ true }
     ensures asked { (z : Sizes) (images : ℕ → Image) (events : List Event) (v u : World) (e : Event) → 0 < z.cells → Follows (Unit {0}) z images (start images) events v → event z images v e ≡ Some u → OneAsked (Unit {0}) z v e.actor u }
     ensures asked_unsound { (z : Sizes) (images : ℕ → Image) (events : List Event) (v u : World) (e : Event) → 0 < z.cells → Follows ⊥ z images (start images) events v → event z images v e ≡ Some u → OneAsked ⊥ z v e.actor u }
 {
@@ -91,6 +95,16 @@ pub fn scopes_follow()
     ensures under_way { (z : Sizes) (images : ℕ → Image) (events : List Event) (v : World) → 0 < z.cells → Follows ⊥ z images (start images) events v → (k : ℕ) → AimsIn (setting z images k) (v.programs k) (v.programs k).mode }
     ensures stopped { (z : Sizes) (images : ℕ → Image) (events : List Event) (v : World) (k : ℕ) (x : Stop) → 0 < z.cells → Follows ⊥ z images (start images) events v → stop_of (v.programs k).core ≡ Some x → (s : ℕ) → hold_at (v.programs k).holds s ≡ None }
     ensures framed { (z : Sizes) (images : ℕ → Image) (events : List Event) (v : World) (k s : ℕ) (x : Hold) → 0 < z.cells → Follows ⊥ z images (start images) events v → (v.programs k).mode ≡ Ready → hold_at (v.programs k).holds s ≡ Some x → IsFramed v.lock x }
+{
+    effect_laws();
+    heap_laws();
+    run_laws();
+}
+
+/// Where there is a frame for each scope of a program and each evacuator, one is free or holds an object with no hold that is in no mover's hands
+/// wherever a program seeks a frame, after any events over any store.
+pub fn enough_frames()
+    ensures { (z : Sizes) (images : ℕ → Image) (events : List Event) (v : World) (k o : ℕ) → 0 < z.cells → Follows ⊥ z images (start images) events v → need z images ≤ z.frames → k < z.programs → (v.programs k).mode ≡ Bringing o → (f : ℕ) × (f < z.frames) × IsUnheld v.lock f }
 {
     effect_laws();
     heap_laws();
