@@ -10,7 +10,8 @@ use Rattle.world.specs.Worlds.{IsHonest, Sizes, World, event}
 pub line_more : (xs : List Line) (x : Line) (text : List ℕ) → AreLines xs text → IsLine32 x → AreLines (xs ++ x ∷ []) (text ++ spell x)
 line_more [] x text are small = (small, ([], ap (λ t. t ++ spell x) are ∙ sym (append-nil (spell x)), refl))
 line_more (y ∷ ys) x text are small =
-    (are.0, (are.1 ++ spell x, ap (λ t. t ++ spell x) are.2 ∙ append_assoc (spell y) are.1 (spell x), line_more ys x are.1 are.3 small))
+    let rest = are.1.0 in
+    (are.0, (rest ++ spell x, ap (λ t. t ++ spell x) are.1.1 ∙ append_assoc (spell y) rest (spell x), line_more ys x rest are.1.2 small))
 
 -- one event more
 pub leads_more : (h : Type 0) (z : Sizes) (images : ℕ → Image) (w v u : World) (xs : List Line) (x : Line) (a : Answer) → Leads h z images w xs v

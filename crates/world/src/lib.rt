@@ -8,5 +8,6 @@ mod line_tests;
 
 pub use event::{Actor, Choice};
 pub use laws::{
-    answers, enabled_calls, every_schedule, programs_follow, scopes_follow, wants, worked_schedules,
+    answers, enabled_calls, enough_frames, every_schedule, programs_follow, scopes_follow, wants,
+    worked_schedules,
 };
