@@ -13,3 +13,4 @@ pub mod Turned
 pub mod Stepped
 pub mod TextValues
 pub mod ExpressionLoops
+pub mod Rows

@@ -20,6 +20,7 @@ use c0_syntax::name::Name;
 use std::alloc::Global;
 use std::marker::Model;
 
+mod expressions;
 mod value_types;
 
 /// The tokens that are left, and where the one before them ends.
