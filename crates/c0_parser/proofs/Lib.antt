@@ -14,3 +14,5 @@ pub mod Stepped
 pub mod TextValues
 pub mod ExpressionLoops
 pub mod Rows
+pub mod ListLoops
+pub mod StatementLoops

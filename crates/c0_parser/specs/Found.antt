@@ -1,8 +1,9 @@
 -- What the parser's code has read, as the reading functions give it.
 use Rattle.std.specs.Prelude.{◌≡◌, ℕ, suc, List, Result, Ok, Err}
 use Rattle.c0_source.specs.Terminals.{Terminal}
-use Rattle.c0_syntax.specs.Trees.{Field, PointerField}
-use Rattle.c0_syntax.specs.Views.{expression_of, expressions_of, type_of}
+use Rattle.c0_syntax.specs.Trees.{Field, PointerField, Spec}
+use Rattle.c0_syntax.specs.Views.{expression_of, expressions_of, spec_by, type_of}
+use Rattle.c0_syntax.specs.declared.statement.SpecKind.{SpecKind}
 use Rattle.c0_parser.specs.declared.read_error.ReadError.{ReadError}
 use Rattle.c0_parser.specs.declared.found.FoundType.{FoundType}
 use Rattle.c0_parser.specs.declared.found.TypeStep.{TypeStep}
@@ -11,8 +12,8 @@ use Rattle.c0_parser.specs.declared.found.FoundExpression.{FoundExpression}
 use Rattle.c0_parser.specs.declared.found.FoundArguments.{FoundArguments}
 use Rattle.c0_parser.specs.declared.found.ExpressionStep.{ExpressionStep}
 use Rattle.c0_parser.specs.declared.found.ExpressionStep.TheVariants as e
-use Rattle.c0_parser.specs.Outcome.{Outcome, ◌>>=◌, Fails, any_name, next}
-use Rattle.c0_parser.specs.ReadExpressions.{ReadType, ReadExpression, ReadArguments}
+use Rattle.c0_parser.specs.Outcome.{Outcome, ◌>>=◌, Read, Fails, any_name, next, semi}
+use Rattle.c0_parser.specs.ReadExpressions.{ReadType, ReadExpression, ReadArguments, read_expression}
 
 -- a type, with these tokens behind it
 abbrev pub found_type : List Terminal → FoundType → ReadType
@@ -55,3 +56,7 @@ field_behind a = any_name (next a.rest) >>= λ x. Ok (record { tree = Field a.tr
 -- ... whose `->` stands behind it
 abbrev pub pointer_field_behind : ReadExpression → Outcome ReadExpression
 pointer_field_behind a = any_name (next a.rest) >>= λ x. Ok (record { tree = PointerField a.tree x.value; height = suc a.height; rest = x.rest })
+
+-- a spec of this kind, whose word stands next
+abbrev pub spec_behind : List (List ℕ) → ℕ → SpecKind → List Terminal → Outcome (Read Spec)
+spec_behind types d kind ts = read_expression types d 1 (next ts) >>= λ e. semi e.rest >>= λ rest. Ok (record { value = spec_by kind e.tree; rest = rest })
