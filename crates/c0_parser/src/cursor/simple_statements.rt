@@ -3,9 +3,9 @@
 ghost use Rattle.std.specs.Prelude.{◌≡◌, ℕ, option_map};
 ghost use Rattle.c0_syntax.specs.Expressions.{begins_star as spec_begins_star};
 ghost use Rattle.c0_syntax.specs.Trees as t;
-ghost use Rattle.c0_syntax.specs.Views.{expression_of, simple_of};
+ghost use Rattle.c0_syntax.specs.Views.{expression_of, name_of, simple_of, type_of};
 ghost use Rattle.c0_parser.specs.Outcome.{Gives, kind_at, plain_at};
-ghost use Rattle.c0_parser.specs.ReadStatements.{behind_by, first_by, local_declaration, read_simple, simple_by, step_by, third_by};
+ghost use Rattle.c0_parser.specs.ReadStatements.{behind_by, first_by, local_declaration, read_simple, simple_by, step_by, third_by, value_by};
 ghost use Rattle.c0_parser.specs.Found.{found_expression};
 
 use super::Cursor;
@@ -14,8 +14,10 @@ use crate::read_error::ReadError;
 use crate::type_names::TypeNames;
 use c0_source::kind::Kind;
 use c0_syntax::expression::{Expression, ExpressionKind};
+use c0_syntax::name::Name;
 use c0_syntax::operator::{Change, PrefixOperator};
 use c0_syntax::statement::{SimpleKind, SimpleStatement};
+use c0_syntax::value_type::ValueType;
 
 /// Whether the first token of an expression is `*`.
 fn begins_star(expression: &Expression) -> bool
@@ -42,6 +44,29 @@ impl<'a> Cursor<'a> {
         }
     }
 
+    /// The local of this type and name, with its value if `=` stands next.
+    fn local(
+        &mut self,
+        types: &TypeNames<'_>,
+        depth: usize,
+        start: usize,
+        value_type: ValueType,
+        name: Name,
+    ) -> Result<SimpleStatement, ReadError>
+        ensures { (room : ℕ) → Gives (λ s. record { value = simple_of s; room = room; rest = self.new }) result
+            (value_by types.now depth room (plain_at self.old) (type_of value_type) (record { value = name_of name; rest = self.old })) }
+    {
+        match self.peek() {
+            Kind::Assign => {
+                self.advance();
+                let value = self.expression(types, depth, 1)?;
+                let kind = SimpleKind::Initialize(value_type, name, value.expression);
+                Ok(self.simple_node(start, kind))
+            }
+            _ => Ok(self.simple_node(start, SimpleKind::Declare(value_type, name))),
+        }
+    }
+
     /// The declaration of a local, one of those that there may be.
     #[tactic(auto, unfolding(crate::specs::ReadStatements::local_declaration))]
     fn local_declaration(
@@ -60,15 +85,7 @@ impl<'a> Cursor<'a> {
             return Err(too_many);
         }
         *room -= 1;
-        match self.peek() {
-            Kind::Assign => {
-                self.advance();
-                let value = self.expression(types, depth, 1)?;
-                let kind = SimpleKind::Initialize(found.value_type, name, value.expression);
-                Ok(self.simple_node(start, kind))
-            }
-            _ => Ok(self.simple_node(start, SimpleKind::Declare(found.value_type, name))),
-        }
+        self.local(types, depth, start, found.value_type, name)
     }
 
     /// The `++` or `--` that stands next, behind what it changes.
