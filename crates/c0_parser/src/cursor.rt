@@ -23,6 +23,7 @@ use std::marker::Model;
 mod annotations;
 mod expressions;
 mod simple_statements;
+mod statements;
 mod value_types;
 
 /// The tokens that are left, and where the one before them ends.

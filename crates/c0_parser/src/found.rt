@@ -1,6 +1,7 @@
 // What is read.
 
 use c0_syntax::expression::Expression;
+use c0_syntax::statement::{Annotation, SimpleStatement, Statement};
 use c0_syntax::value_type::ValueType;
 
 /// A type, and how many nodes are on its longest path.
@@ -36,4 +37,25 @@ pub struct FoundArguments {
 pub enum ExpressionStep {
     More(FoundExpression),
     Done(FoundExpression),
+}
+
+/// The annotations and the body of a loop.
+#[derive(Debug, Drop)]
+pub struct FoundBody {
+    pub annotations: Vec<Annotation>,
+    pub body: Statement,
+}
+
+/// A `for` from its third part on.
+#[derive(Debug, Drop)]
+pub struct FoundForEnd {
+    pub step: Option<SimpleStatement>,
+    pub body: FoundBody,
+}
+
+/// A `for` from its condition on.
+#[derive(Debug, Drop)]
+pub struct FoundForTest {
+    pub condition: Expression,
+    pub end: FoundForEnd,
 }

@@ -82,7 +82,11 @@ impl<'a> Cursor<'a> {
     }
 
     /// An annotation, whose opening stands next.
-    fn annotation(&mut self, types: &TypeNames<'_>, depth: usize) -> Result<Annotation, ReadError>
+    pub(crate) fn annotation(
+        &mut self,
+        types: &TypeNames<'_>,
+        depth: usize,
+    ) -> Result<Annotation, ReadError>
         ensures { Gives (λ a. record { value = annotation_of a; rest = self.new }) result (read_specs types.now depth (length self.old) (next self.old)) }
     {
         let start = self.start();
@@ -96,7 +100,7 @@ impl<'a> Cursor<'a> {
     }
 
     /// As many annotations as stand next.
-    fn annotations(
+    pub(crate) fn annotations(
         &mut self,
         types: &TypeNames<'_>,
         depth: usize,

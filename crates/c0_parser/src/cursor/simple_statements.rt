@@ -135,7 +135,7 @@ impl<'a> Cursor<'a> {
     }
 
     /// A simple statement whose parts have at most `depth` nodes on a path, where `room` more locals may be declared.
-    fn any_simple(
+    pub(crate) fn any_simple(
         &mut self,
         types: &TypeNames<'_>,
         depth: usize,
@@ -170,7 +170,7 @@ impl<'a> Cursor<'a> {
     }
 
     /// The first part of a `for`, which a semicolon may stand for.
-    fn first_part(
+    pub(crate) fn first_part(
         &mut self,
         types: &TypeNames<'_>,
         depth: usize,
@@ -185,7 +185,7 @@ impl<'a> Cursor<'a> {
     }
 
     /// The third part, which `)` may stand for.
-    fn third_part(
+    pub(crate) fn third_part(
         &mut self,
         types: &TypeNames<'_>,
         depth: usize,
