@@ -4,4 +4,5 @@ pub mod ReadStatements
 pub mod ReadPrograms
 pub mod Tokens
 pub mod Found
+pub mod FoundPrograms
 pub mod Laws

@@ -21,6 +21,7 @@ use std::alloc::Global;
 use std::marker::Model;
 
 mod annotations;
+mod declarations;
 mod expressions;
 mod simple_statements;
 mod statements;

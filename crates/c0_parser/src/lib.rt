@@ -2,6 +2,7 @@
 #![tactic(auto)]
 
 mod cursor;
+mod directives;
 mod found;
 pub mod laws;
 mod letters;
