@@ -16,3 +16,4 @@ pub mod ExpressionLoops
 pub mod Rows
 pub mod ListLoops
 pub mod StatementLoops
+pub mod ProgramLoops
