@@ -17,3 +17,4 @@ pub mod Rows
 pub mod ListLoops
 pub mod StatementLoops
 pub mod ProgramLoops
+pub mod ParsedTokens

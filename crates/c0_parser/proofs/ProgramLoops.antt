@@ -10,7 +10,7 @@ use Rattle.c0_syntax.specs.Programs.{type_names_after}
 use Rattle.c0_parser.specs.declared.read_error.ReadError.{ReadError}
 use Rattle.c0_parser.specs.Outcome.{Outcome, ◌>>=◌, Read, Fails, plain_at, next, refuse, any_name, new_name, semi}
 use Rattle.c0_parser.specs.ReadExpressions.{ReadType, read_type}
-use Rattle.c0_parser.specs.ReadPrograms.{ReadParameters, ReadDeclaration, fields_by, read_fields, over_by, add_parameter, less, after_parameter, read_parameters, read_declaration, read_declarations}
+use Rattle.c0_parser.specs.ReadPrograms.{ReadParameters, ReadDeclaration, fields_by, read_fields, over_by, add_parameter, less, after_parameter, read_parameters, read_declaration, read_declarations, read_program}
 use Rattle.c0_parser.specs.FoundPrograms.{ReadParameter, one_field, one_parameter, first_known}
 use Rattle.c0_parser.proofs.Turned.{fails_along, fails_bind}
 use Rattle.c0_parser.proofs.ListLoops.{before_others, one_more}
@@ -141,9 +141,14 @@ module _ (types : Names) (d : ℕ) where
 abbrev pub with_declarations : Program → Outcome Program → Outcome Program
 with_declarations front o = o >>= λ ds. Ok (front ++ ds)
 
-pub no_declarations : (o : Outcome Program) → with_declarations [] o ≡ o
+no_declarations : (o : Outcome Program) → with_declarations [] o ≡ o
 no_declarations (Ok ds) = refl
 no_declarations (Err e) = refl
+
+-- all of it, before the first turn
+pub program_starts : (loops : Bool) (n : ℕ) (ts : List Terminal) → n ≡ length ts → with_declarations [] (read_declarations [] loops n 4096 ts) ≡ read_program loops ts
+unfolding read_program
+program_starts loops n ts e = rw e (no_declarations (read_declarations [] loops (length ts) 4096 ts))
 
 declarations_again : (front : Program) (d : Declaration) (o : Outcome Program) → with_declarations front (o >>= λ ds. Ok (d ∷ ds)) ≡ with_declarations (front ++ d ∷ []) o
 declarations_again front d (Ok ds) = rw (append_assoc front (d ∷ []) ds) refl

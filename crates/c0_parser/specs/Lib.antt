@@ -5,4 +5,5 @@ pub mod ReadPrograms
 pub mod Tokens
 pub mod Found
 pub mod FoundPrograms
+pub mod Parsing
 pub mod Laws

@@ -6,5 +6,6 @@ mod directives;
 mod found;
 pub mod laws;
 mod letters;
+pub mod parse;
 mod read_error;
 mod type_names;

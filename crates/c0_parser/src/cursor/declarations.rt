@@ -6,7 +6,7 @@ ghost use Rattle.c0_source.specs.Spelling.{use_of as spec_use_of};
 ghost use Rattle.c0_syntax.specs.Programs.{type_names_after};
 ghost use Rattle.c0_syntax.specs.Views.{declaration_of, header_of, typed_name_of};
 ghost use Rattle.c0_parser.specs.Outcome.{Gives, next, plain_at};
-ghost use Rattle.c0_parser.specs.ReadPrograms.{declaration_by, end_by, function, less as spec_less, over_by, parameters_by, read_fields, read_header, read_parameters, struct_by, struct_of, use_of};
+ghost use Rattle.c0_parser.specs.ReadPrograms.{declaration_by, end_by, function, less as spec_less, over_by, parameters_by, read_fields, read_header, read_parameters, read_program, struct_by, struct_of, use_of};
 ghost use Rattle.c0_parser.specs.FoundPrograms.{first_known, found_declaration, found_header, found_parameter, found_parameters, one_field, one_parameter, used_declaration};
 
 use super::Cursor;
@@ -20,6 +20,12 @@ use c0_syntax::program::{Declaration, DeclarationKind, Header, TypedName};
 
 /// The most locals that a function may have, its parameters among them.
 const MOST_LOCALS: usize = 1024;
+
+/// The most functions that a program may define.
+const MOST_FUNCTIONS: usize = 4096;
+
+/// The most nodes on a path of a declaration.
+const MOST_NODES: usize = 200;
 
 /// One less, and none of none.
 fn less(room: usize) -> usize
@@ -396,5 +402,25 @@ impl<'a> Cursor<'a> {
             Kind::Typedef => self.typedef(types, depth),
             _ => self.function(types, loops, depth, room),
         }
+    }
+
+    /// Declarations up to the end of the tokens.
+    pub(crate) fn program(&mut self, loops: bool) -> Result<Vec<Declaration>, ReadError>
+        ensures { Gives (λ v. map declaration_of v.items) result (read_program loops self.old) }
+    {
+        let mut types = TypeNames::new(self.alloc);
+        let mut room = MOST_FUNCTIONS;
+        let mut declarations = Vec::new(self.alloc);
+        for _turn in 0..self.remaining() {
+            if self.remaining() == 0 {
+                return Ok(declarations);
+            }
+            let declaration = self.declaration(&mut types, loops, MOST_NODES - 1, &mut room)?;
+            declarations.push(declaration)?;
+        }
+        if self.remaining() == 0 {
+            return Ok(declarations);
+        }
+        Err(self.syntax())
     }
 }
