@@ -1,13 +1,22 @@
 -- The tokens of a text, as the parser takes them.
-use Rattle.std.proofs.Common.{◌≡◌, ℕ, zero, suc, ◌+◌, ◌-◌, ◌<◌, ◌≤◌, List, [], ◌∷◌, length, map, take, drop, get_or, refl, sym, subst, arith}
+use Rattle.std.proofs.Common.{◌≡◌, ℕ, zero, suc, ◌+◌, ◌-◌, ◌<◌, ◌≤◌, Bool, List, [], ◌∷◌, length, map, take, drop, get_or, refl, sym, subst, inl, inr, arith}
 use Rattle.std.specs.Prelude.{All}
+use Rattle.std.proofs.lemmas.List.{length-map, take-map}
 use Rattle.std.proofs.lemmas.List.Elements.{All-take, All-drop}
 use Rattle.c0_source.specs.SourceTexts.{IsSourceText}
 use Rattle.c0_source.specs.Spelling.{AreSlices, Lexeme, Rise}
 use Rattle.c0_lexer.specs.declared.token.Token.{Token}
 use Rattle.c0_lexer.specs.Lexed.{lexeme}
+use Rattle.c0_source.specs.declared.fault.FaultKind.TheVariants as f
+use Rattle.c0_syntax.specs.Trees.{Program}
+use Rattle.c0_syntax.specs.Programs.{Reads}
+use Rattle.c0_parser.specs.declared.read_error.ReadError.{ReadError}
+use Rattle.c0_parser.specs.declared.read_error.ReadError.TheVariants.{OutOfMemory, Syntax, TooDeep, TooLarge}
+use Rattle.c0_parser.specs.Outcome.{Fails}
+use Rattle.c0_parser.specs.ReadPrograms.{read_program}
 use Rattle.c0_parser.specs.Tokens.{AreTokens, IsToken}
-use Rattle.c0_parser.specs.Parsing.{start_at}
+use Rattle.c0_parser.specs.Parsing.{IsReadFault, before_last, fault_by, read_from, start_at}
+use Rattle.c0_parser.proofs.SoundPrograms.{fault_excludes}
 
 pub are_taken : (n : ℕ) (ts : List Lexeme) → AreTokens ts → AreTokens (take n ts)
 are_taken zero ts h = tt
@@ -41,3 +50,20 @@ lexed bytes from (t ∷ ts) s a r =
     let low = rise_low (t.start + length t.text) (length bytes) ts r.1 in
     let short = s.short in
     (record { ascii = ascii; placed = omega arith }, lexed bytes (t.start + length t.text) ts s a.1 r.1)
+
+-- ---- what is told
+
+pub told_refuses : (loops : Bool) (ts : List Lexeme) (e : ReadError) → Fails e (read_program loops (read_from ts)) → ((fault_by ts e).kind ≡ f.OutOfMemory → ⊥) → (p : Program) → Reads loops (read_from ts) p → ⊥
+told_refuses loops ts OutOfMemory h n p r = n refl
+told_refuses loops ts (Syntax k) h n p r = fault_excludes loops (read_from ts) p (Syntax k) h r
+told_refuses loops ts (TooDeep k) h n p r = fault_excludes loops (read_from ts) p (TooDeep k) h r
+told_refuses loops ts (TooLarge k) h n p r = fault_excludes loops (read_from ts) p (TooLarge k) h r
+
+pub told_fault : (loops : Bool) (ts : List Lexeme) (e : ReadError) → Fails e (read_program loops (read_from ts)) → IsReadFault loops ts (fault_by ts e)
+told_fault loops ts OutOfMemory h = inl refl
+told_fault loops ts (Syntax k) h = inr (record { error = Syntax k; met = h; told = refl })
+told_fault loops ts (TooDeep k) h = inr (record { error = TooDeep k; met = h; told = refl })
+told_fault loops ts (TooLarge k) h = inr (record { error = TooLarge k; met = h; told = refl })
+
+pub last_left : (ts : List Token) → map lexeme (take (length ts - 1) ts) ≡ before_last (map lexeme ts)
+last_left ts = let e : length (map lexeme ts) ≡ length ts = length-map ts lexeme in rw (e, take-map) refl

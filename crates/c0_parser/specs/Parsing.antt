@@ -1,5 +1,5 @@
 -- What the parser answers for the tokens of a text.
-use Rattle.std.specs.Prelude.{◌≡◌, ℕ, zero, suc, ◌-◌, Bool, List, [], ◌∷◌, length, take, Err}
+use Rattle.std.specs.Prelude.{◌≡◌, ℕ, zero, suc, ◌-◌, ◌⊎◌, Bool, List, [], ◌∷◌, length, take, Err}
 use Rattle.c0_source.specs.declared.fault.FaultKind.TheVariants as f
 use Rattle.c0_source.specs.declared.fault.Fault.{Fault}
 use Rattle.c0_source.specs.FaultNumbers.{byte_fault, memory_fault}
