@@ -8,4 +8,6 @@ pub mod laws;
 mod letters;
 pub mod parse;
 mod read_error;
+#[cfg(test)]
+mod tests;
 mod type_names;
