@@ -1,0 +1,3 @@
+pub mod Expressions
+pub mod Rules
+pub mod Statements
