@@ -1,3 +1,5 @@
 pub mod Expressions
+pub mod Functions
 pub mod Rules
+pub mod Sizes
 pub mod Statements
