@@ -5,3 +5,5 @@ pub mod Mentions
 pub mod Programs
 pub mod Statements
 pub mod Types
+pub mod WorkedPairs
+pub mod WorkedTrees

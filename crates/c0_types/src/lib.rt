@@ -3,4 +3,4 @@
 
 mod laws;
 
-pub use laws::elaborated;
+pub use laws::{accepted_texts, elaborated, refused_texts};
