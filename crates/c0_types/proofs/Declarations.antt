@@ -1,19 +1,18 @@
 -- What the static rules give of declarations is well typed.
-use Rattle.std.proofs.Common.{◌≡◌, ℕ, zero, suc, ◌+◌, ◌<◌, ◌≤◌, ◌⊎◌, inl, inr, List, [], ◌∷◌, ◌++◌, length, get_or, refl, sym, ap, ◌∙◌, subst, arith, append_assoc, append-nil, Bool, true, false, Option, Some, None}
+use Rattle.std.proofs.Common.{◌≡◌, ℕ, zero, suc, ◌+◌, ◌<◌, ◌≤◌, ◌⊎◌, inl, inr, List, [], ◌∷◌, ◌++◌, length, get_or, refl, sym, ap, ◌∙◌, subst, arith, append_assoc, Bool, true, false, Option, Some, None}
 use Rattle.std.specs.Prelude.{◌&&◌, ◌||◌, nat_le, slice_get, map, not, cond, bytes_eq, is_some, option_map}
 use Rattle.std.proofs.lemmas.Bool.{eq-eqb, leb-true}
 use Rattle.std.proofs.lemmas.List.{length-append}
 use Rattle.std.proofs.lemmas.Option.{slice_get_within}
-use Rattle.c0_syntax.specs.Trees.{TypedName, Statements, Header, Declaration, UseLibrary, DeclareStruct, DefineStruct, Typedef, DeclareFunction, DefineFunction}
-use Rattle.c0_typed.specs.Values.{Tree, Leaf, Node, Trees, Void}
+use Rattle.c0_syntax.specs.Trees.{TypedName, Declaration, UseLibrary, DeclareStruct, DefineStruct, Typedef, DeclareFunction, DefineFunction}
+use Rattle.c0_typed.specs.Values.{Tree, Leaf, Node, Void}
 use Rattle.c0_typed.specs.Layouts.{flat, flats}
 use Rattle.c0_typed.specs.Trees as t
 use Rattle.c0_typed.specs.Typing as ty
 use Rattle.c0_typed.specs.Meaning.{default, fields, struct_defaults}
-use Rattle.c0_types.specs.Types.{and_so, provided, Name, is_among, are_distinct, number_in, ResolvedType, VoidType, IntType, BoolType, CharType, StringType, StructNamed, PointerTo, ArrayOf, same_type, same_types, resolved_type, FieldEntry, StructEntry, Signature, Environment, struct_of, function_of, numbered, cells_of}
+use Rattle.c0_types.specs.Types.{Name, is_among, are_distinct, number_in, ResolvedType, IntType, BoolType, CharType, StringType, StructNamed, PointerTo, ArrayOf, same_type, same_types, resolved_type, FieldEntry, StructEntry, Signature, Environment, struct_of, function_of, numbered, cells_of}
 use Rattle.c0_types.specs.Mentions.{Mention, specs_in, declaration_mentions}
-use Rattle.c0_types.specs.Expressions.{num}
-use Rattle.c0_types.specs.Programs.{names_of, same_signature, agrees, is_defined, signature, with_function, typed_function, fields_of, field_cells, cells_in, field_types, cell_limit, Elaboration, with_struct, with_typedef, is_conio, are_none, typed_declaration, struct_names_of, function_names_of}
+use Rattle.c0_types.specs.Programs.{names_of, same_signature, agrees, is_defined, signature, with_function, typed_function, fields_of, field_cells, cells_in, field_types, cell_limit, Elaboration, with_struct, is_conio, are_none, typed_declaration, struct_names_of, function_names_of}
 use Rattle.c0_types.proofs.Rules.{both_true, not_false, same_name_is, same_type_is, same_types_are, AllSome, all_so, all_go, all_if, is_none_of}
 use Rattle.c0_types.proofs.Expressions.{Knows, AreNamed}
 use Rattle.c0_types.proofs.Functions.{IsSignature, signature_ok, IsBody, function_ok}

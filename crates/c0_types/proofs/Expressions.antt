@@ -1,21 +1,20 @@
 -- What the static rules give of an expression is well typed.
-use Rattle.std.proofs.Common.{◌≡◌, ℕ, zero, suc, ◌+◌, ◌<◌, ◌⊎◌, inl, inr, List, [], ◌∷◌, ◌++◌, length, refl, sym, ap, ◌∙◌, subst, arith, Bool, true, false, Option, Some, None, pos}
-use Rattle.std.specs.Prelude.{◌&&◌, ◌||◌, nat_lt, slice_get, map, not, cond, bytes_eq, is_some, option_map}
+use Rattle.std.proofs.Common.{◌≡◌, ℕ, suc, ◌+◌, ◌<◌, List, [], ◌∷◌, ◌++◌, length, refl, sym, ap, subst, arith, Bool, true, false, Option, Some, None, pos}
+use Rattle.std.specs.Prelude.{◌&&◌, ◌||◌, nat_lt, slice_get, map, bytes_eq, is_some, option_map}
 use Rattle.std.specs.Int.{w32}
 use Rattle.std.proofs.lemmas.Int.{SFits-int_wrap}
 use Rattle.std.proofs.lemmas.Bool.{ltb-true}
 use Rattle.std.proofs.lemmas.Option.{slice_get_within}
-use Rattle.cells.specs.Numbers.{wrap32}
 use Rattle.c0_syntax.specs.declared.operator.PrefixOperator.{PrefixOperator}
 use Rattle.c0_syntax.specs.declared.operator.PrefixOperator.TheVariants as before
 use Rattle.c0_syntax.specs.Trees.{ValueType, Expression, Number, Character, Truth, Null, Text, Variable, Parenthesized, Call, Alloc, AllocArray, Result, Length, Index, Field, PointerField, Unary, Binary, Conditional, Expressions, none, more}
 use Rattle.c0_typed.specs.Trees as t
 use Rattle.c0_typed.specs.Typing as ty
-use Rattle.c0_types.specs.Types.{and_so, provided, Name, is_among, number_in, ResolvedType, VoidType, IntType, BoolType, CharType, StringType, StructNamed, PointerTo, ArrayOf, same_type, resolved_type, is_small, FieldEntry, StructEntry, Signature, Environment, struct_of, function_of, field_of, numbered, cells_of, output_takes, output_named}
+use Rattle.c0_types.specs.Types.{and_so, Name, is_among, number_in, ResolvedType, IntType, BoolType, CharType, StringType, StructNamed, PointerTo, ArrayOf, same_type, resolved_type, is_small, FieldEntry, StructEntry, Signature, Environment, struct_of, function_of, field_of, numbered, cells_of, output_takes, output_named}
 use Rattle.c0_types.specs.Mentions.{Mention, OfVariable, OfFunction, OfText, mentions, argument_mentions}
 use Rattle.c0_types.specs.Expressions.{OperatorRule, OnNumbers, Compares, Conjunction, Disjunction, operator_rule, is_compared, is_equality, Typing, Has, IsNull, Place, Local, Context, local_of, retyped, Callee, ToOutput, ToFunction, takes, gives, call_of, num, null_as, as_wanted, wanted, paired, compared, operated, chosen, pointed, indexed, field_at, fielded, read_of, dereferenced, prefixed, lengthed, held_type, callee_or, callee, typed_expression, typed_place, typed_arguments}
 use Rattle.c0_types.specs.Programs.{field_types, is_callable}
-use Rattle.c0_types.proofs.Rules.{both_true, same_name_is, same_type_is, AllSome, all_so, all_go, all_if}
+use Rattle.c0_types.proofs.Rules.{both_true, same_type_is, AllSome, all_so, all_go, all_if}
 
 pub small_is : (names : List Name) (a : ResolvedType) → is_small a ≡ true → ty.IsSmall (numbered names a)
 small_is names IntType e = tt

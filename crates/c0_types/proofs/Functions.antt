@@ -1,17 +1,16 @@
 -- What the static rules give of a function is well typed.
-use Rattle.std.proofs.Common.{◌≡◌, ℕ, zero, suc, ◌+◌, ◌⊎◌, inl, inr, List, [], ◌∷◌, ◌++◌, length, refl, sym, ap, ◌∙◌, subst, arith, append_assoc, append-nil, Bool, true, false, Option, Some, None}
-use Rattle.std.specs.Prelude.{◌&&◌, ◌||◌, slice_get, map, not, is_some}
+use Rattle.std.proofs.Common.{◌≡◌, ℕ, suc, ◌+◌, inl, inr, List, [], ◌∷◌, ◌++◌, length, refl, sym, ap, ◌∙◌, subst, arith, append_assoc, append-nil, Bool, true, Option, Some, None}
+use Rattle.std.specs.Prelude.{◌&&◌, slice_get, map, not, is_some}
 use Rattle.std.specs.List.{list_all}
 use Rattle.std.proofs.lemmas.List.{length-append}
-use Rattle.c0_source.specs.declared.kind.Base.{Base}
 use Rattle.c0_source.specs.declared.kind.Base.TheVariants as b
 use Rattle.c0_syntax.specs.Trees.{ValueType, Basic, StructType, NamedType, Pointer, Array, Spec, Statements, TypedName, Header}
 use Rattle.c0_typed.specs.Trees as t
 use Rattle.c0_typed.specs.Typing as ty
-use Rattle.c0_types.specs.Types.{and_so, provided, Name, are_distinct, ResolvedType, VoidType, IntType, BoolType, CharType, StringType, StructNamed, PointerTo, ArrayOf, is_small, TypedefEntry, small_type, result_type, Signature, Environment, function_of, numbered, output_named}
+use Rattle.c0_types.specs.Types.{Name, are_distinct, ResolvedType, VoidType, IntType, BoolType, CharType, StringType, StructNamed, PointerTo, ArrayOf, TypedefEntry, small_type, result_type, Signature, Environment, function_of, numbered, output_named}
 use Rattle.c0_types.specs.Mentions.{Mention, spec_mentions, specs_in, statements_mentions}
-use Rattle.c0_types.specs.Expressions.{Local, Context, num}
-use Rattle.c0_types.specs.Statements.{Precondition, Postcondition, Scope, Checked, conditions, is_function, typed_statements}
+use Rattle.c0_types.specs.Expressions.{Local, num}
+use Rattle.c0_types.specs.Statements.{Precondition, Postcondition, Scope, conditions, is_function, typed_statements}
 use Rattle.c0_types.specs.Programs.{parameter_types, names_of, parameters_from, agrees, names_agree, signature, result_of, are_contracts, paths_agree, Parts, typed_parts, function_from, typed_function}
 use Rattle.c0_types.proofs.Rules.{both_true, AllSome, all_so, all_go, all_if, some_has}
 use Rattle.c0_types.proofs.Expressions.{small_is, Knows, Sees, AreNamed, named_left, named_right}

@@ -1,6 +1,6 @@
 -- What holds of rules in a row, and of equal names and types.
-use Rattle.std.proofs.Common.{◌≡◌, ℕ, List, [], ◌∷◌, ◌++◌, refl, ap, subst, Bool, true, false, Option, Some, None}
-use Rattle.std.specs.Prelude.{◌&&◌, ◌||◌, nat_eq, not, bytes_eq, is_some}
+use Rattle.std.proofs.Common.{◌≡◌, List, [], ◌∷◌, refl, ap, subst, Bool, true, false, Option, Some, None}
+use Rattle.std.specs.Prelude.{◌&&◌, nat_eq, not, bytes_eq, is_some}
 use Rattle.c0_types.specs.Types.{and_so, provided, Name, ResolvedType, VoidType, IntType, BoolType, CharType, StringType, StructNamed, PointerTo, ArrayOf, same_type, same_types}
 use borrow.Author.Tests.{eqb-true}
 

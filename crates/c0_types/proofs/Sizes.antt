@@ -1,8 +1,8 @@
 -- The cells of structs, by what fresh memory holds.
-use Rattle.std.proofs.Common.{◌≡◌, ℕ, zero, suc, ◌+◌, ◌<◌, ◌≤◌, List, [], ◌∷◌, ◌++◌, length, get_or, refl, sym, ap, ◌∙◌, subst, arith, append_assoc, append-nil, Option, Some, None}
+use Rattle.std.proofs.Common.{◌≡◌, ℕ, zero, suc, ◌+◌, ◌<◌, ◌≤◌, List, [], ◌∷◌, ◌++◌, length, get_or, refl, ap, ◌∙◌, subst, arith, Some}
 use Rattle.std.specs.Prelude.{slice_get}
 use Rattle.std.proofs.lemmas.List.{length-append}
-use Rattle.c0_typed.specs.Values.{Tree, Leaf, Node, Trees, Nil, Cons, Void}
+use Rattle.c0_typed.specs.Values.{Tree, Leaf, Node, Void}
 use Rattle.c0_typed.specs.Trees as t
 use Rattle.c0_typed.specs.Typing as ty
 use Rattle.c0_typed.specs.Meaning.{default, fields, struct_defaults}

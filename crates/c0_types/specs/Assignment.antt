@@ -1,5 +1,5 @@
 -- Definite assignment, and where a path ends in `return` or `error`.
-use Rattle.std.specs.Prelude.{ℕ, Bool, true, false, ◌&&◌, ◌||◌, not, List, [], ◌∷◌, Option, Some, None, filter, bytes_eq}
+use Rattle.std.specs.Prelude.{Bool, true, false, ◌&&◌, ◌||◌, not, List, ◌∷◌, Option, Some, None, filter, bytes_eq}
 use Rattle.std.specs.List.{list_all}
 use Rattle.c0_syntax.specs.Trees.{Expression, Spec, SimpleStatement, Declare, Initialize, Assign, Update, Step, Evaluate, Statement, Simple, Block, Annotation, Return, ReturnValue, If, IfElse, While, For, Assert, Error, Break, Continue, Statements, nothing, also}
 use Rattle.c0_types.specs.Types.{and_so, provided, Name, is_among, any_among}

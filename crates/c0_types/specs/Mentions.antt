@@ -1,6 +1,6 @@
 -- What expressions and statements name: variables that they read, functions that they call, texts that they write.
-use Rattle.std.specs.Prelude.{ℕ, List, [], ◌∷◌, ◌++◌, Option, Some, None, flat_map, filter_map}
-use Rattle.c0_syntax.specs.Trees.{Expression, Text, Variable, Parenthesized, Call, AllocArray, Length, Index, Field, PointerField, Unary, Binary, Conditional, Expressions, none, more, Spec, Contract, Asserts, SimpleStatement, Declare, Initialize, Assign, Update, Step, Evaluate, Statement, Simple, Block, Annotation, ReturnValue, If, IfElse, While, For, Assert, Error, Statements, nothing, also, Header, Declaration, DefineFunction, Program}
+use Rattle.std.specs.Prelude.{List, [], ◌∷◌, ◌++◌, Option, Some, None, flat_map, filter_map}
+use Rattle.c0_syntax.specs.Trees.{Expression, Text, Variable, Parenthesized, Call, AllocArray, Length, Index, Field, PointerField, Unary, Binary, Conditional, Expressions, none, more, Spec, Contract, Asserts, SimpleStatement, Declare, Initialize, Assign, Update, Step, Evaluate, Statement, Simple, Block, Annotation, ReturnValue, If, IfElse, While, For, Assert, Error, Statements, nothing, also, Declaration, DefineFunction, Program}
 use Rattle.c0_types.specs.Types.{Name}
 
 -- a variable that is read, a function that is called, or a text that is written

@@ -1,13 +1,13 @@
 -- The static rules of declarations and programs.
 use Rattle.std.specs.Prelude.{◌≡◌, ℕ, suc, ◌+◌, nat_lt, nat_le, Bool, true, false, ◌&&◌, ◌||◌, not, List, [], ◌∷◌, ◌++◌, map, length, Option, Some, None, is_some, bytes_eq, flat_map, filter_map, codes}
 use Rattle.std.specs.List.{list_all, list_any}
-use Rattle.c0_syntax.specs.Trees.{ValueType, Spec, Statements, TypedName, Header, Declaration, UseLibrary, DeclareStruct, DefineStruct, Typedef, DeclareFunction, DefineFunction, Program}
+use Rattle.c0_syntax.specs.Trees.{Spec, Statements, TypedName, Header, Declaration, UseLibrary, DeclareStruct, DefineStruct, Typedef, DeclareFunction, DefineFunction, Program}
 use Rattle.c0_typed.specs.Trees as t
 use Rattle.c0_types.specs.Types.{and_so, provided, Name, is_among, any_among, are_distinct, number_in, ResolvedType, VoidType, IntType, same_type, same_types, TypedefEntry, resolved_type, small_type, result_type, FieldEntry, StructEntry, Signature, Environment, struct_of, function_of, cells_of, output_named}
 use Rattle.c0_types.specs.Mentions.{variables_in, condition_of, specs_in, statements_assign, texts_of, calls_of}
-use Rattle.c0_types.specs.Expressions.{Local, Context, num}
+use Rattle.c0_types.specs.Expressions.{Local, num}
 use Rattle.c0_types.specs.Assignment.{Reached, has_ended, flow_of_statements}
-use Rattle.c0_types.specs.Statements.{Role, Precondition, Postcondition, role_of, same_role, Scope, Checked, conditions, is_function, typed_statements}
+use Rattle.c0_types.specs.Statements.{Precondition, Postcondition, role_of, same_role, Checked, conditions, is_function, typed_statements}
 
 -- ---- functions
 

@@ -5,15 +5,14 @@ use Rattle.cells.specs.declared.int32.Int32Op.{Int32Op}
 use Rattle.cells.specs.declared.int32.Int32Op.TheVariants as i
 use Rattle.c0_source.specs.declared.kind.Clause.{Clause}
 use Rattle.c0_source.specs.declared.kind.Clause.TheVariants as c
-use Rattle.c0_source.specs.declared.kind.Operator.{Operator}
 use Rattle.c0_syntax.specs.declared.operator.Change.{Change}
 use Rattle.c0_syntax.specs.declared.operator.Change.TheVariants as n
-use Rattle.c0_syntax.specs.Trees.{ValueType, Expression, Call, Spec, Contract, Asserts, SimpleStatement, Declare, Initialize, Assign, Update, Step, Evaluate, Statement, Simple, Block, Annotation, Return, ReturnValue, If, IfElse, While, For, Assert, Error, Break, Continue, Statements, nothing, also}
+use Rattle.c0_syntax.specs.Trees.{Expression, Call, Spec, Contract, Asserts, SimpleStatement, Declare, Initialize, Assign, Update, Step, Evaluate, Statement, Simple, Block, Annotation, Return, ReturnValue, If, IfElse, While, For, Assert, Error, Break, Continue, Statements, nothing, also}
 use Rattle.c0_typed.specs.Trees as t
 use Rattle.c0_typed.specs.Values as v
 use Rattle.c0_types.specs.Types.{and_so, provided, Name, ResolvedType, VoidType, IntType, BoolType, StringType, same_type, small_type, is_small, Environment, function_of, output_named}
 use Rattle.c0_types.specs.Mentions.{condition_of, specs_in, as_variable}
-use Rattle.c0_types.specs.Expressions.{OperatorRule, OnNumbers, operator_rule, Typing, Has, IsNull, Place, Local, Context, local_of, retyped, as_wanted, wanted, typed_expression, typed_place}
+use Rattle.c0_types.specs.Expressions.{OperatorRule, OnNumbers, operator_rule, Typing, Has, IsNull, Place, Local, Context, local_of, retyped, wanted, typed_expression, typed_place}
 
 -- ---- specs
 

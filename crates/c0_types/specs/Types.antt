@@ -1,5 +1,5 @@
 -- Types with their typedefs replaced, and what a program has declared before a place in it.
-use Rattle.std.specs.Prelude.{ℕ, suc, ◌+◌, Bool, true, false, ◌&&◌, not, List, [], ◌∷◌, map, Option, Some, None, find, option_map, bytes_eq, codes}
+use Rattle.std.specs.Prelude.{ℕ, suc, Bool, true, false, ◌&&◌, not, List, [], ◌∷◌, Option, Some, None, find, option_map, bytes_eq, codes}
 use Rattle.std.specs.List.{list_any}
 use Rattle.c0_source.specs.declared.kind.Base.{Base}
 use Rattle.c0_source.specs.declared.kind.Base.TheVariants as b

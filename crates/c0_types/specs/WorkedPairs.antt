@@ -1,12 +1,12 @@
 -- For each fault, programs that are refused for it, and beside each one that differs little and is accepted.
-use Rattle.std.specs.Prelude.{◌≡◌, ℕ, ◌==◌, nat_le, Bool, true, false, List, [], ◌∷◌, ◌++◌, map, length, replicate, Option, Some, None, codes, count_by, is_some}
+use Rattle.std.specs.Prelude.{◌≡◌, ℕ, ◌==◌, nat_le, Bool, true, false, List, [], ◌∷◌, ◌++◌, map, length, replicate, Some, None, codes, count_by, is_some}
 use Rattle.std.specs.List.{list_all}
 use Rattle.c0_source.specs.declared.kind.Clause.TheVariants as k
 use Rattle.c0_source.specs.declared.kind.Operator.TheVariants as o
 use Rattle.c0_syntax.specs.declared.operator.Change.TheVariants as c
-use Rattle.c0_syntax.specs.Trees.{ValueType, StructType, NamedType, Pointer, Array, Expression, Number, Character, Truth, Null, Text, Variable, Parenthesized, Call, Alloc, AllocArray, Result, Length, Index, Field, PointerField, Unary, Binary, Conditional, Spec, Contract, Asserts, Declare, Initialize, Step, Update, Evaluate, Statement, Simple, Annotation, Return, ReturnValue, If, IfElse, While, For, Assert, Error, Break, TypedName, Header, Declaration, UseLibrary, DeclareStruct, DefineStruct, Typedef, DeclareFunction, DefineFunction, Program}
+use Rattle.c0_syntax.specs.Trees.{NamedType, Pointer, Array, Character, Truth, Null, Text, Parenthesized, Alloc, AllocArray, Result, Length, Index, Field, PointerField, Conditional, Contract, Asserts, Declare, Initialize, Step, Update, Simple, Annotation, Return, ReturnValue, If, IfElse, While, For, Assert, Error, Break, UseLibrary, DeclareStruct, DefineStruct, Typedef, DeclareFunction, DefineFunction, Program}
 use Rattle.c0_types.specs.Programs.{typed_program}
-use Rattle.c0_types.specs.WorkedTrees.{x, y, f, g, s, t, main, print, flush, int, bool, char, string, void, struct_s, struct_t, num, var, call0, call1, call2, star, equal, less, plus, declare, initialize, assign, add_to, increment, evaluate, in_order, block, item, header, function, f_with, an_f, f_declared, s_defined, t_defined, use_conio, main_with, a_main, then_main, only_main, large_structs, largest}
+use Rattle.c0_types.specs.WorkedTrees.{x, y, f, g, s, t, main, print, flush, int, bool, void, struct_s, struct_t, num, var, call0, call1, call2, star, equal, less, plus, declare, initialize, assign, add_to, increment, evaluate, in_order, block, item, header, function, f_with, an_f, f_declared, s_defined, t_defined, use_conio, main_with, a_main, then_main, only_main, large_structs, largest}
 
 -- a program that is refused, by the number of its fault, and one that is accepted
 pub record Pair : Type 0 where

@@ -1,11 +1,10 @@
 -- Small trees, of which worked programs are made.
-use Rattle.std.specs.Prelude.{ℕ, zero, suc, ◌+◌, Bool, true, false, List, [], ◌∷◌, ◌++◌, Option, Some, None, codes}
+use Rattle.std.specs.Prelude.{ℕ, zero, suc, ◌+◌, true, List, [], ◌∷◌, ◌++◌, codes}
 use Rattle.c0_source.specs.declared.kind.Base.TheVariants as b
-use Rattle.c0_source.specs.declared.kind.Clause.{Clause}
 use Rattle.c0_source.specs.declared.kind.Operator.TheVariants as o
 use Rattle.c0_syntax.specs.declared.operator.PrefixOperator.TheVariants as q
 use Rattle.c0_syntax.specs.declared.operator.Change.TheVariants as c
-use Rattle.c0_syntax.specs.Trees.{ValueType, Basic, StructType, NamedType, Pointer, Array, Expression, Number, Truth, Null, Variable, Parenthesized, Call, Alloc, AllocArray, Index, Field, PointerField, Unary, Binary, Conditional, Expressions, none, more, Spec, Contract, SimpleStatement, Declare, Initialize, Assign, Update, Step, Evaluate, Statement, Simple, Block, Return, ReturnValue, If, IfElse, While, For, Assert, Error, Statements, nothing, also, TypedName, Header, Declaration, UseLibrary, DeclareStruct, DefineStruct, DeclareFunction, DefineFunction, Program}
+use Rattle.c0_syntax.specs.Trees.{ValueType, Basic, StructType, Expression, Number, Variable, Call, Unary, Binary, none, more, Spec, Declare, Initialize, Assign, Update, Step, Evaluate, Statement, Simple, Block, ReturnValue, Statements, nothing, also, TypedName, Header, Declaration, UseLibrary, DefineStruct, DeclareFunction, DefineFunction, Program}
 use Rattle.c0_types.specs.Types.{Name}
 
 -- ---- names and types
