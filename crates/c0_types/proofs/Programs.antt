@@ -6,10 +6,10 @@ use Rattle.std.proofs.lemmas.Bool.{ltb-true}
 use Rattle.c0_syntax.specs.Trees.{Declaration, Program}
 use Rattle.c0_typed.specs.Trees as t
 use Rattle.c0_typed.specs.Typing as ty
-use Rattle.c0_types.specs.Types.{Name, is_among, number_in, IntType, same_type, same_types, Signature, Environment, function_of, numbered}
+use Rattle.c0_types.specs.Types.{Name, is_among, number_in, IntType, same_type, same_types, Signature, Environment, function_of, numbered, is_ascii}
 use Rattle.c0_types.specs.Mentions.{Mention, OfVariable, OfFunction, OfText, function_of as called_of, text_of, declaration_mentions, program_mentions, texts_of, calls_of}
 use Rattle.c0_types.specs.Expressions.{num}
-use Rattle.c0_types.specs.Programs.{is_defined, field_types, Elaboration, typed_declaration, typed_declarations, beginning, main_name, is_main, is_callable, is_ascii, whole_agrees, program_from, typed_program}
+use Rattle.c0_types.specs.Programs.{is_defined, field_types, Elaboration, typed_declaration, typed_declarations, beginning, main_name, is_main, is_callable, whole_agrees, program_from, typed_program}
 use Rattle.c0_types.proofs.Rules.{both_true, same_type_is, same_types_are, AllSome, all_so, all_if, all_map}
 use Rattle.c0_types.proofs.Expressions.{Knows, IsNamed, AreNamed, named_left, named_right}
 use Rattle.c0_types.proofs.Declarations.{Later, Stands, Fitting, Goes, declaration_ok}

@@ -1,5 +1,9 @@
 pub mod Assignment
 pub mod Expressions
+pub mod FaultExpressions
+pub mod FaultPaths
+pub mod FaultPrograms
+pub mod FaultStatements
 pub mod Laws
 pub mod Mentions
 pub mod Programs

@@ -1,9 +1,9 @@
 -- The static rules of declarations and programs.
-use Rattle.std.specs.Prelude.{◌≡◌, ℕ, suc, ◌+◌, nat_lt, nat_le, Bool, true, false, ◌&&◌, ◌||◌, not, List, [], ◌∷◌, ◌++◌, map, length, Option, Some, None, is_some, bytes_eq, flat_map, filter_map, codes}
+use Rattle.std.specs.Prelude.{◌≡◌, ℕ, suc, ◌+◌, nat_le, Bool, true, false, ◌&&◌, ◌||◌, not, List, [], ◌∷◌, ◌++◌, map, length, Option, Some, None, is_some, bytes_eq, flat_map, filter_map, codes}
 use Rattle.std.specs.List.{list_all, list_any}
 use Rattle.c0_syntax.specs.Trees.{Spec, Statements, TypedName, Header, Declaration, UseLibrary, DeclareStruct, DefineStruct, Typedef, DeclareFunction, DefineFunction, Program}
 use Rattle.c0_typed.specs.Trees as t
-use Rattle.c0_types.specs.Types.{and_so, provided, Name, is_among, any_among, are_distinct, number_in, ResolvedType, VoidType, IntType, same_type, same_types, TypedefEntry, resolved_type, small_type, result_type, FieldEntry, StructEntry, Signature, Environment, struct_of, function_of, cells_of, output_named}
+use Rattle.c0_types.specs.Types.{and_so, provided, Name, is_among, any_among, are_distinct, number_in, ResolvedType, VoidType, IntType, same_type, same_types, TypedefEntry, resolved_type, small_type, result_type, FieldEntry, StructEntry, Signature, Environment, struct_of, function_of, cells_of, output_named, is_ascii}
 use Rattle.c0_types.specs.Mentions.{variables_in, condition_of, specs_in, statements_assign, texts_of, calls_of}
 use Rattle.c0_types.specs.Expressions.{Local, num}
 use Rattle.c0_types.specs.Assignment.{Reached, has_ended, flow_of_statements}
@@ -235,10 +235,6 @@ is_main (Some f) = f.defined && same_type f.result IntType && same_types f.param
 -- whether what is called has a definition: in the program, or as an output call in use
 abbrev pub is_callable : Environment → Name → Bool
 is_callable env n = is_some (output_named env.conio n) || is_among n env.function_names
-
--- whether a text is of ASCII
-abbrev pub is_ascii : Name → Bool
-is_ascii x = list_all (λ b. nat_lt b 128) x
 
 -- whether the rules hold that look at the whole program: `main`, what is called, and its texts
 abbrev pub whole_agrees : Program → Elaboration → Bool

@@ -1,6 +1,6 @@
 -- Types with their typedefs replaced, and what a program has declared before a place in it.
-use Rattle.std.specs.Prelude.{ℕ, suc, Bool, true, false, ◌&&◌, not, List, [], ◌∷◌, Option, Some, None, find, option_map, bytes_eq, codes}
-use Rattle.std.specs.List.{list_any}
+use Rattle.std.specs.Prelude.{ℕ, suc, nat_lt, Bool, true, false, ◌&&◌, not, List, [], ◌∷◌, Option, Some, None, find, option_map, bytes_eq, codes}
+use Rattle.std.specs.List.{list_all, list_any}
 use Rattle.c0_source.specs.declared.kind.Base.{Base}
 use Rattle.c0_source.specs.declared.kind.Base.TheVariants as b
 use Rattle.c0_syntax.specs.Trees.{ValueType, Basic, StructType, NamedType, Pointer, Array}
@@ -199,3 +199,9 @@ output_takes t.Flush = []
 -- the output call of a name, where conio is in use
 abbrev pub output_named : Bool → Name → Option t.Output
 output_named conio n = provided conio (option_map (λ o. o.output) (find (λ o. bytes_eq n o.name) outputs))
+
+-- ---- texts
+
+-- whether a text is of ASCII
+abbrev pub is_ascii : List ℕ → Bool
+is_ascii text = list_all (λ b. nat_lt b 128) text
