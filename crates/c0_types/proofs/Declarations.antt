@@ -10,7 +10,7 @@ use Rattle.c0_typed.specs.Layouts.{flat, flats}
 use Rattle.c0_typed.specs.Trees as t
 use Rattle.c0_typed.specs.Typing as ty
 use Rattle.c0_typed.specs.Meaning.{default, fields, struct_defaults}
-use Rattle.c0_types.specs.Types.{Name, is_among, are_distinct, number_in, ResolvedType, IntType, BoolType, CharType, StringType, StructNamed, PointerTo, ArrayOf, same_type, same_types, resolved_type, FieldEntry, StructEntry, Signature, Environment, struct_of, function_of, numbered, cells_of}
+use Rattle.c0_types.specs.Types.{Name, is_among, are_distinct, number_in, Table, with_name, ResolvedType, IntType, BoolType, CharType, StringType, StructNamed, PointerTo, ArrayOf, same_type, same_types, resolved_type, FieldEntry, StructEntry, Signature, Environment, numbered, cells_of}
 use Rattle.c0_types.specs.Mentions.{Mention, specs_in, declaration_mentions}
 use Rattle.c0_types.specs.Programs.{names_of, same_signature, agrees, is_defined, signature, with_function, typed_function, fields_of, field_cells, cells_in, field_types, cell_limit, Elaboration, with_struct, is_conio, are_none, typed_declaration, struct_names_of, function_names_of}
 use Rattle.c0_types.proofs.Rules.{both_true, not_false, same_name_is, same_type_is, same_types_are, AllSome, all_so, all_go, all_if, is_none_of}
@@ -67,24 +67,24 @@ abbrev pub defaults : List (List t.Ty) → List Tree
 defaults structs = struct_defaults [] structs
 
 -- the structs that stand before the names that remain: their numbers, their fields and their cells
-pub record StructsStand (names remaining : List Name) (entries : List StructEntry) (structs : List (List t.Ty)) : Type 0 where
+pub record StructsStand (names remaining : List Name) (entries : Table StructEntry) (structs : List (List t.Ty)) : Type 0 where
   pub before : List Name
   pub split : names ≡ before ++ remaining
   pub long : length before ≡ length structs
-  pub known : (n : Name) → is_among n before ≡ true → is_some (struct_of entries n) ≡ true
-  pub there : (n : Name) (d : StructEntry) → struct_of entries n ≡ Some d → slice_get structs (number_in names n) ≡ Some (map (numbered names) (field_types d.fields))
+  pub known : (n : Name) → is_among n before ≡ true → is_some (entries n) ≡ true
+  pub there : (n : Name) (d : StructEntry) → entries n ≡ Some d → slice_get structs (number_in names n) ≡ Some (map (numbered names) (field_types d.fields))
   pub fit : ty.FitsStructs 0 structs
-  pub sized : (n : Name) (d : StructEntry) → struct_of entries n ≡ Some d → length (flat (get_or (defaults structs) (number_in names n) (Leaf Void))) ≡ d.cells
+  pub sized : (n : Name) (d : StructEntry) → entries n ≡ Some d → length (flat (get_or (defaults structs) (number_in names n) (Leaf Void))) ≡ d.cells
   pub small : (k : ℕ) (ts : List t.Ty) → slice_get structs k ≡ Some ts → length (flats (fields (defaults structs) ts)) ≤ 4096
 
-module _ (names : List Name) (entries : List StructEntry) (structs : List (List t.Ty)) where
+module _ (names : List Name) (entries : Table StructEntry) (structs : List (List t.Ty)) where
   -- each struct has a number that is in use
   abbrev Below : Type 0
-  Below = (n : Name) (d : StructEntry) → struct_of entries n ≡ Some d → number_in names n < length structs
+  Below = (n : Name) (d : StructEntry) → entries n ≡ Some d → number_in names n < length structs
 
   -- ... and as many cells as its entry says
   abbrev Sized : Type 0
-  Sized = (n : Name) (d : StructEntry) → struct_of entries n ≡ Some d → length (flat (get_or (defaults structs) (number_in names n) (Leaf Void))) ≡ d.cells
+  Sized = (n : Name) (d : StructEntry) → entries n ≡ Some d → length (flat (get_or (defaults structs) (number_in names n) (Leaf Void))) ≡ d.cells
 
   cells_held : Below → (a : ResolvedType) (c : ℕ) → cells_of entries a ≡ Some c → ty.IsHeld (length structs) (numbered names a)
   cells_held h IntType c e = tt
@@ -93,9 +93,9 @@ module _ (names : List Name) (entries : List StructEntry) (structs : List (List 
   cells_held h StringType c e = tt
   cells_held h (PointerTo a) c e = tt
   cells_held h (ArrayOf a) c e = tt
-  cells_held h (StructNamed n) c e = at (struct_of entries n) refl e
+  cells_held h (StructNamed n) c e = at (entries n) refl e
     where
-      at : (o : Option StructEntry) → struct_of entries n ≡ o → option_map (λ d. d.cells) o ≡ Some c → number_in names n < length structs
+      at : (o : Option StructEntry) → entries n ≡ o → option_map (λ d. d.cells) o ≡ Some c → number_in names n < length structs
       at None q g = absurd (cc g)
       at (Some d) q g = h n d q
   cells_held h _ c e = absurd (cc e)
@@ -107,9 +107,9 @@ module _ (names : List Name) (entries : List StructEntry) (structs : List (List 
   cells_are h StringType c e = cc e
   cells_are h (PointerTo a) c e = cc e
   cells_are h (ArrayOf a) c e = cc e
-  cells_are h (StructNamed n) c e = at (struct_of entries n) refl e
+  cells_are h (StructNamed n) c e = at (entries n) refl e
     where
-      at : (o : Option StructEntry) → struct_of entries n ≡ o → option_map (λ d. d.cells) o ≡ Some c → length (flat (get_or (defaults structs) (number_in names n) (Leaf Void))) ≡ c
+      at : (o : Option StructEntry) → entries n ≡ o → option_map (λ d. d.cells) o ≡ Some c → length (flat (get_or (defaults structs) (number_in names n) (Leaf Void))) ≡ c
       at None q g = absurd (cc g)
       at (Some d) q g = h n d q ∙ (let z : d.cells ≡ c = cc g in z)
   cells_are h _ c e = absurd (cc e)
@@ -135,15 +135,15 @@ module _ (env : Environment) (structs : List (List t.Ty)) (below : Below env.str
       all_so (AreFields env.struct_names env.structs structs) (AreFields env.struct_names env.structs structs) (fields_of env xs) _ (fields_ok xs) (λ items g.
       field_more env.struct_names env.structs structs below sized (record { name = x.name; resolved = r }) items c q g)))
 
-module _ (names rest : List Name) (entries : List StructEntry) (structs : List (List t.Ty)) (n : Name) (items : List FieldEntry) where
+module _ (names rest : List Name) (entries : Table StructEntry) (structs : List (List t.Ty)) (n : Name) (items : List FieldEntry) where
   -- the new struct
   abbrev entry : StructEntry
-  entry = record { name = n; fields = items; cells = cells_in entries items }
+  entry = record { fields = items; cells = cells_in entries items }
 
   abbrev types : List t.Ty
   types = map (numbered names) (field_types items)
 
-  module _ (st : StructsStand names (n ∷ rest) entries structs) (none : struct_of entries n ≡ None) (are : AreFields names entries structs items) (few : cells_in entries items ≤ 4096) where
+  module _ (st : StructsStand names (n ∷ rest) entries structs) (none : entries n ≡ None) (are : AreFields names entries structs items) (few : cells_in entries items ≤ 4096) where
     fresh : is_among n st.before ≡ false
     fresh = not_true _ (λ q. let z : is_some {T = StructEntry} None ≡ true = subst (λ o. is_some o ≡ true) none (st.known n q) in cc z)
 
@@ -155,19 +155,19 @@ module _ (names rest : List Name) (entries : List StructEntry) (structs : List (
     or_some false o (inl e) = absurd (cc e)
     or_some false o (inr e) = e
 
-    known : (m : Name) → (is_among m st.before ≡ true) ⊎ (bytes_eq m n ≡ true) → is_some (struct_of (entry ∷ entries) m) ≡ true
-    known m (inl q) = or_some (bytes_eq m n) (struct_of entries m) (inr (st.known m q))
-    known m (inr q) = or_some (bytes_eq m n) (struct_of entries m) (inl q)
+    known : (m : Name) → (is_among m st.before ≡ true) ⊎ (bytes_eq m n ≡ true) → is_some ((with_name n entry entries) m) ≡ true
+    known m (inl q) = or_some (bytes_eq m n) (entries m) (inr (st.known m q))
+    known m (inr q) = or_some (bytes_eq m n) (entries m) (inl q)
 
     -- an entry is the new one, or an earlier one
-    cases : (m : Name) (d : StructEntry) → struct_of (entry ∷ entries) m ≡ Some d → ((m ≡ n) × (entry ≡ d)) ⊎ (struct_of entries m ≡ Some d)
+    cases : (m : Name) (d : StructEntry) → (with_name n entry entries) m ≡ Some d → ((m ≡ n) × (entry ≡ d)) ⊎ (entries m ≡ Some d)
     cases m d e = at (bytes_eq m n) refl e
       where
-        at : (b : Bool) → bytes_eq m n ≡ b → cond b (Some entry) (struct_of entries m) ≡ Some d → ((m ≡ n) × (entry ≡ d)) ⊎ (struct_of entries m ≡ Some d)
+        at : (b : Bool) → bytes_eq m n ≡ b → cond b (Some entry) (entries m) ≡ Some d → ((m ≡ n) × (entry ≡ d)) ⊎ (entries m ≡ Some d)
         at true q h = inl (same_name_is m n q, (let z : entry ≡ d = cc h in z))
         at false q h = inr h
 
-    there : (m : Name) (d : StructEntry) → ((m ≡ n) × (entry ≡ d)) ⊎ (struct_of entries m ≡ Some d) → slice_get (structs ++ (types ∷ [])) (number_in names m) ≡ Some (map (numbered names) (field_types d.fields))
+    there : (m : Name) (d : StructEntry) → ((m ≡ n) × (entry ≡ d)) ⊎ (entries m ≡ Some d) → slice_get (structs ++ (types ∷ [])) (number_in names m) ≡ Some (map (numbered names) (field_types d.fields))
     there m d (inl e) =
         ap (λ k. slice_get (structs ++ (types ∷ [])) k) (ap (number_in names) e.0 ∙ number) ∙ get_last structs types
         ∙ ap (λ z. Some (map (numbered names) (field_types z.fields))) e.1
@@ -179,7 +179,7 @@ module _ (names rest : List Name) (entries : List StructEntry) (structs : List (
     long : length (defaults structs) ≡ length structs
     long = defaults_long [] structs ∙ (let z : 0 + length structs ≡ length structs = omega arith in z)
 
-    sized : (m : Name) (d : StructEntry) → ((m ≡ n) × (entry ≡ d)) ⊎ (struct_of entries m ≡ Some d) → length (flat (get_or (defaults (structs ++ (types ∷ []))) (number_in names m) (Leaf Void))) ≡ d.cells
+    sized : (m : Name) (d : StructEntry) → ((m ≡ n) × (entry ≡ d)) ⊎ (entries m ≡ Some d) → length (flat (get_or (defaults (structs ++ (types ∷ []))) (number_in names m) (Leaf Void))) ≡ d.cells
     sized m d (inl e) =
         let at_end : get_or (defaults structs ++ (Node (fields (defaults structs) types) ∷ [])) (number_in names m) (Leaf Void) ≡ Node (fields (defaults structs) types) =
         ap (λ k. get_or (defaults structs ++ (Node (fields (defaults structs) types) ∷ [])) k (Leaf Void)) (ap (number_in names) e.0 ∙ number ∙ sym long) ∙ get_next (defaults structs) _ in
@@ -201,7 +201,7 @@ module _ (names rest : List Name) (entries : List StructEntry) (structs : List (
         subst (λ z. length (flats (fields (defaults (structs ++ (types ∷ []))) z)) ≤ 4096) (sym e)
         (subst (λ x. x ≤ 4096) (sym (fields_still (length structs) types (omega arith) are.0 ∙ are.1)) few)
 
-    pub new_struct : StructsStand names rest (entry ∷ entries) (structs ++ (types ∷ []))
+    pub new_struct : StructsStand names rest (with_name n entry entries) (structs ++ (types ∷ []))
     new_struct = record {
       before = st.before ++ (n ∷ []);
       split = st.split ∙ sym (append_assoc st.before (n ∷ []) rest);
@@ -220,12 +220,12 @@ abbrev pub IsAt : List Name → List Name → List t.Function → Name → Signa
 IsAt names fnames functions n f = (g : t.Function) × (slice_get functions (number_in fnames n) ≡ Some g) × (g.result ≡ numbered names f.result) × (g.parameters ≡ map (numbered names) f.parameters)
 
 -- the functions that stand before the names that remain
-pub record FunctionsStand (names fnames remaining : List Name) (entries : List Signature) (functions : List t.Function) : Type 0 where
+pub record FunctionsStand (names fnames remaining : List Name) (entries : Table Signature) (functions : List t.Function) : Type 0 where
   pub before : List Name
   pub split : fnames ≡ before ++ remaining
   pub long : length before ≡ length functions
-  pub known : (n : Name) → is_among n before ≡ true → is_defined (function_of entries n) ≡ true
-  pub there : (n : Name) (f : Signature) → function_of entries n ≡ Some f → f.defined ≡ true → IsAt names fnames functions n f
+  pub known : (n : Name) → is_among n before ≡ true → is_defined (entries n) ≡ true
+  pub there : (n : Name) (f : Signature) → entries n ≡ Some f → f.defined ≡ true → IsAt names fnames functions n f
 
 agreed_types : (f g : Signature) → agrees f (Some g) ≡ true → (f.result ≡ g.result) × (f.parameters ≡ g.parameters)
 agreed_types f g e =
@@ -245,40 +245,40 @@ or_second : (a b : Bool) → b ≡ true → (a || b) ≡ true
 or_second true b e = refl
 or_second false b e = e
 
-module _ (entries : List Signature) (f : Signature) (agreed : agrees f (function_of entries f.name) ≡ true) where
+module _ (entries : Table Signature) (f : Signature) (agreed : agrees f (entries f.name) ≡ true) where
   -- what is known of the name behind this declaration
   abbrev entered : Signature
-  entered = record f { defined = f.defined || is_defined (function_of entries f.name) }
+  entered = record f { defined = f.defined || is_defined (entries f.name) }
 
-  function_cases : (m : Name) (g : Signature) → function_of (entered ∷ entries) m ≡ Some g → ((m ≡ f.name) × (g ≡ entered)) ⊎ (function_of entries m ≡ Some g)
+  function_cases : (m : Name) (g : Signature) → (with_name f.name entered entries) m ≡ Some g → ((m ≡ f.name) × (g ≡ entered)) ⊎ (entries m ≡ Some g)
   function_cases m g e = at (bytes_eq m f.name) refl e
     where
-      at : (b : Bool) → bytes_eq m f.name ≡ b → cond b (Some entered) (function_of entries m) ≡ Some g → ((m ≡ f.name) × (g ≡ entered)) ⊎ (function_of entries m ≡ Some g)
+      at : (b : Bool) → bytes_eq m f.name ≡ b → cond b (Some entered) (entries m) ≡ Some g → ((m ≡ f.name) × (g ≡ entered)) ⊎ (entries m ≡ Some g)
       at true q h = inl (same_name_is m f.name q, (let z : entered ≡ g = cc h in sym z))
       at false q h = inr h
 
   -- a function that was defined is so still
-  known_still : (m : Name) → is_defined (function_of entries m) ≡ true → is_defined (function_of (entered ∷ entries) m) ≡ true
+  known_still : (m : Name) → is_defined (entries m) ≡ true → is_defined ((with_name f.name entered entries) m) ≡ true
   known_still m h = at (bytes_eq m f.name) refl
     where
-      at : (b : Bool) → bytes_eq m f.name ≡ b → is_defined (cond b (Some entered) (function_of entries m)) ≡ true
-      at true q = or_second f.defined (is_defined (function_of entries f.name)) (subst (λ z. is_defined (function_of entries z) ≡ true) (same_name_is m f.name q) h)
+      at : (b : Bool) → bytes_eq m f.name ≡ b → is_defined (cond b (Some entered) (entries m)) ≡ true
+      at true q = or_second f.defined (is_defined (entries f.name)) (subst (λ z. is_defined (entries z) ≡ true) (same_name_is m f.name q) h)
       at false q = h
 
   -- ... with the types that it had
-  kept : (n : Name) (g : Signature) → function_of entries n ≡ Some g → (k : Signature) × (function_of (entered ∷ entries) n ≡ Some k) × (k.result ≡ g.result) × (k.parameters ≡ g.parameters)
+  kept : (n : Name) (g : Signature) → entries n ≡ Some g → (k : Signature) × ((with_name f.name entered entries) n ≡ Some k) × (k.result ≡ g.result) × (k.parameters ≡ g.parameters)
   kept n g h = at (bytes_eq n f.name) refl
     where
-      at : (b : Bool) → bytes_eq n f.name ≡ b → (k : Signature) × (cond b (Some entered) (function_of entries n) ≡ Some k) × (k.result ≡ g.result) × (k.parameters ≡ g.parameters)
+      at : (b : Bool) → bytes_eq n f.name ≡ b → (k : Signature) × (cond b (Some entered) (entries n) ≡ Some k) × (k.result ≡ g.result) × (k.parameters ≡ g.parameters)
       at true q =
           let same : n ≡ f.name = same_name_is n f.name q in
-          let old : function_of entries f.name ≡ Some g = subst (λ z. function_of entries z ≡ Some g) same h in
+          let old : entries f.name ≡ Some g = subst (λ z. entries z ≡ Some g) same h in
           let s = agreed_types f g (subst (λ z. agrees f z ≡ true) old agreed) in
           (entered, refl, s.0, s.1)
       at false q = (g, h, refl, refl)
 
   module _ (names fnames rest : List Name) (functions : List t.Function) where
-    declared_function : f.defined ≡ false → FunctionsStand names fnames rest entries functions → FunctionsStand names fnames rest (entered ∷ entries) functions
+    declared_function : f.defined ≡ false → FunctionsStand names fnames rest entries functions → FunctionsStand names fnames rest (with_name f.name entered entries) functions
     declared_function new st = record {
       before = st.before;
       split = st.split;
@@ -287,11 +287,11 @@ module _ (entries : List Signature) (f : Signature) (agreed : agrees f (function
       there = λ m g e d. by_case m g d (function_cases m g e);
     }
       where
-        by_case : (m : Name) (g : Signature) → g.defined ≡ true → ((m ≡ f.name) × (g ≡ entered)) ⊎ (function_of entries m ≡ Some g) → IsAt names fnames functions m g
+        by_case : (m : Name) (g : Signature) → g.defined ≡ true → ((m ≡ f.name) × (g ≡ entered)) ⊎ (entries m ≡ Some g) → IsAt names fnames functions m g
         by_case m g d (inr e) = st.there m g e d
         by_case m g d (inl e) =
-            let was : is_defined (function_of entries f.name) ≡ true = or_right f.defined _ new (subst (λ z. z.defined ≡ true) e.1 d) in
-            let old = is_defined_some (function_of entries f.name) was in
+            let was : is_defined (entries f.name) ≡ true = or_right f.defined _ new (subst (λ z. z.defined ≡ true) e.1 d) in
+            let old = is_defined_some (entries f.name) was in
             let same = agreed_types f old.0 (subst (λ z. agrees f z ≡ true) old.1 agreed) in
             let at = st.there f.name old.0 old.1 old.2 in
             let result : g.result ≡ f.result = ap (λ z. z.result) e.1 in
@@ -310,20 +310,20 @@ module _ (entries : List Signature) (f : Signature) (agreed : agrees f (function
           cc z
 
       new_name : is_among f.name st.before ≡ false
-      new_name = not_true _ (λ q. let old = is_defined_some (function_of entries f.name) (st.known f.name q) in twice old.0 (subst (λ z. agrees f z ≡ true) old.1 agreed) old.2)
+      new_name = not_true _ (λ q. let old = is_defined_some (entries f.name) (st.known f.name q) in twice old.0 (subst (λ z. agrees f z ≡ true) old.1 agreed) old.2)
 
       next_number : number_in fnames f.name ≡ length functions
       next_number = ap (λ l. number_in l f.name) st.split ∙ number_new st.before f.name rest new_name ∙ st.long
 
-      known_now : (m : Name) → (is_among m st.before ≡ true) ⊎ (bytes_eq m f.name ≡ true) → is_defined (function_of (entered ∷ entries) m) ≡ true
+      known_now : (m : Name) → (is_among m st.before ≡ true) ⊎ (bytes_eq m f.name ≡ true) → is_defined ((with_name f.name entered entries) m) ≡ true
       known_now m (inl q) = known_still m (st.known m q)
       known_now m (inr q) = at (bytes_eq m f.name) q
         where
-          at : (b : Bool) → b ≡ true → is_defined (cond b (Some entered) (function_of entries m)) ≡ true
-          at true e = ap (λ z. z || is_defined (function_of entries f.name)) defined
+          at : (b : Bool) → b ≡ true → is_defined (cond b (Some entered) (entries m)) ≡ true
+          at true e = ap (λ z. z || is_defined (entries f.name)) defined
           at false e = absurd (cc e)
 
-      there_now : (m : Name) (k : Signature) → k.defined ≡ true → ((m ≡ f.name) × (k ≡ entered)) ⊎ (function_of entries m ≡ Some k) → IsAt names fnames (functions ++ (g ∷ [])) m k
+      there_now : (m : Name) (k : Signature) → k.defined ≡ true → ((m ≡ f.name) × (k ≡ entered)) ⊎ (entries m ≡ Some k) → IsAt names fnames (functions ++ (g ∷ [])) m k
       there_now m k d (inr e) = let at = st.there m k e d in (at.0, get_more functions (g ∷ []) (number_in fnames m) at.0 at.1, at.2, at.3)
       there_now m k d (inl e) =
           let result : k.result ≡ f.result = ap (λ z. z.result) e.1 in
@@ -334,7 +334,7 @@ module _ (entries : List Signature) (f : Signature) (agreed : agrees f (function
             parameters_are ∙ ap (map (numbered names)) (sym params),
           )
 
-      defined_function : FunctionsStand names fnames rest (entered ∷ entries) (functions ++ (g ∷ []))
+      defined_function : FunctionsStand names fnames rest (with_name f.name entered entries) (functions ++ (g ∷ []))
       defined_function = record {
         before = st.before ++ (f.name ∷ []);
         split = st.split ∙ sym (append_assoc st.before (f.name ∷ []) rest);
@@ -350,8 +350,8 @@ pub record Later (w v : Environment) : Type 0 where
   pub conio : v.conio ≡ w.conio
   pub struct_names : v.struct_names ≡ w.struct_names
   pub function_names : v.function_names ≡ w.function_names
-  pub structs : (n : Name) (d : StructEntry) → struct_of w.structs n ≡ Some d → struct_of v.structs n ≡ Some d
-  pub functions : (n : Name) (f : Signature) → function_of w.functions n ≡ Some f → (g : Signature) × (function_of v.functions n ≡ Some g) × (g.result ≡ f.result) × (g.parameters ≡ f.parameters)
+  pub structs : (n : Name) (d : StructEntry) → w.structs n ≡ Some d → v.structs n ≡ Some d
+  pub functions : (n : Name) (f : Signature) → w.functions n ≡ Some f → (g : Signature) × (v.functions n ≡ Some g) × (g.result ≡ f.result) × (g.parameters ≡ f.parameters)
 
 -- what stands before some declarations
 pub record Stands (rest : List Declaration) (e : Elaboration) : Type 0 where
@@ -370,25 +370,25 @@ pub record Goes (d : Declaration) (rest : List Declaration) (e e' : Elaboration)
 
 -- what changes no entry
 same_entries : (w v : Environment) → v.conio ≡ w.conio → v.struct_names ≡ w.struct_names → v.function_names ≡ w.function_names → v.structs ≡ w.structs → v.functions ≡ w.functions → Later w v
-same_entries w v c n m e q = record { conio = c; struct_names = n; function_names = m; structs = λ n d h. ap (λ z. struct_of z n) e ∙ h; functions = λ n f h. (f, ap (λ z. function_of z n) q ∙ h, refl, refl) }
+same_entries w v c n m e q = record { conio = c; struct_names = n; function_names = m; structs = λ n d h. ap (λ z. z n) e ∙ h; functions = λ n f h. (f, ap (λ z. z n) q ∙ h, refl, refl) }
 
-later_function : (w : Environment) (f : Signature) → agrees f (function_of w.functions f.name) ≡ true → Later w (with_function f w)
+later_function : (w : Environment) (f : Signature) → agrees f (w.functions f.name) ≡ true → Later w (with_function f w)
 later_function w f a = record { conio = refl; struct_names = refl; function_names = refl; structs = λ n d h. h; functions = kept w.functions f a }
 
-later_struct : (w v : Environment) (new : StructEntry) → struct_of w.structs new.name ≡ None → v.conio ≡ w.conio → v.struct_names ≡ w.struct_names → v.function_names ≡ w.function_names → v.structs ≡ new ∷ w.structs → v.functions ≡ w.functions → Later w v
-later_struct w v new none c sn fn e q = record {
+later_struct : (w v : Environment) (n : Name) (new : StructEntry) → w.structs n ≡ None → v.conio ≡ w.conio → v.struct_names ≡ w.struct_names → v.function_names ≡ w.function_names → v.structs ≡ with_name n new w.structs → v.functions ≡ w.functions → Later w v
+later_struct w v n new none c sn fn e q = record {
   conio = c;
   struct_names = sn;
   function_names = fn;
-  structs = λ m d h. ap (λ z. struct_of z m) e ∙ known m d h;
-  functions = λ n f h. (f, ap (λ z. function_of z n) q ∙ h, refl, refl);
+  structs = λ m d h. ap (λ z. z m) e ∙ known m d h;
+  functions = λ x f h. (f, ap (λ z. z x) q ∙ h, refl, refl);
 }
   where
-    known : (m : Name) (d : StructEntry) → struct_of w.structs m ≡ Some d → struct_of (new ∷ w.structs) m ≡ Some d
-    known m d h = at (bytes_eq m new.name) refl
+    known : (m : Name) (d : StructEntry) → w.structs m ≡ Some d → (with_name n new w.structs) m ≡ Some d
+    known m d h = at (bytes_eq m n) refl
       where
-        at : (b : Bool) → bytes_eq m new.name ≡ b → cond b (Some new) (struct_of w.structs m) ≡ Some d
-        at true q = let z : None ≡ Some d = sym none ∙ ap (struct_of w.structs) (sym (same_name_is m new.name q)) ∙ h in absurd (cc z)
+        at : (b : Bool) → bytes_eq m n ≡ b → cond b (Some new) (w.structs m) ≡ Some d
+        at true q = let z : None ≡ Some d = sym none ∙ ap w.structs (sym (same_name_is m n q)) ∙ h in absurd (cc z)
         at false q = h
 
 by_last : (env : Environment) (f : Signature) (ms : List Mention) (functions : List t.Function) (p : t.Program) → Knows p env → AreNamed p env ms → Fitting p functions → (j : ℕ) (x g : t.Function) → IsBody env f ms g
@@ -402,8 +402,8 @@ module _ (rest : List Declaration) (e : Elaboration) where
 
 struct_ok : (n : Name) (xs : List TypedName) (rest : List Declaration) (e : Elaboration) → Stands (DefineStruct n xs ∷ rest) e → AllSome (Goes (DefineStruct n xs) rest e) (typed_declaration (DefineStruct n xs) e)
 struct_ok n xs rest e st =
-    all_if (Goes (DefineStruct n xs) rest e) (not (is_some (struct_of e.environment.structs n)) && are_distinct (names_of xs)) _ (λ q.
-    let none = is_none_of (struct_of e.environment.structs n) (not_false _ (both_true (not (is_some (struct_of e.environment.structs n))) (are_distinct (names_of xs)) q).0) in
+    all_if (Goes (DefineStruct n xs) rest e) (not (is_some (e.environment.structs n)) && are_distinct (names_of xs)) _ (λ q.
+    let none = is_none_of (e.environment.structs n) (not_false _ (both_true (not (is_some (e.environment.structs n))) (are_distinct (names_of xs)) q).0) in
     all_so (AreFields e.environment.struct_names e.environment.structs e.structs) (Goes (DefineStruct n xs) rest e) (fields_of e.environment xs) _
     (fields_ok e.environment e.structs (below (DefineStruct n xs ∷ rest) e st) st.structs.sized xs) (λ items are.
     all_if (Goes (DefineStruct n xs) rest e) (nat_le (cells_in e.environment.structs items) cell_limit) _ (λ l.
@@ -412,7 +412,7 @@ struct_ok n xs rest e st =
         structs = new_struct e.environment.struct_names (struct_names_of rest) e.environment.structs e.structs n items st.structs none are (leb-true (cells_in e.environment.structs items) 4096 l);
         functions = st.functions;
       };
-      later = later_struct e.environment (with_struct n items e).environment (record { name = n; fields = items; cells = cells_in e.environment.structs items }) none refl refl refl refl refl;
+      later = later_struct e.environment (with_struct n items e).environment n (record { fields = items; cells = cells_in e.environment.structs items }) none refl refl refl refl refl;
       made = λ p k m h. h;
     })))
 
@@ -427,7 +427,7 @@ declaration_ok (Typedef a n) rest e st =
     record { stands = record { structs = st.structs; functions = st.functions }; later = same_entries _ _ refl refl refl refl refl; made = λ p k m h. h })
 declaration_ok (DeclareFunction h) rest e st =
     all_so (IsSignature e.environment false h) (Goes (DeclareFunction h) rest e) (signature e.environment false h) _ (signature_ok e.environment false h) (λ f sig.
-    let agreed = subst (λ z. agrees f (function_of e.environment.functions z) ≡ true) (sym sig.name) sig.agreed in
+    let agreed = subst (λ z. agrees f (e.environment.functions z) ≡ true) (sym sig.name) sig.agreed in
     all_if (Goes (DeclareFunction h) rest e) (are_none (specs_in h.annotations)) _ (λ q.
     record {
       stands = record {
@@ -439,7 +439,7 @@ declaration_ok (DeclareFunction h) rest e st =
     }))
 declaration_ok (DefineFunction h body) rest e st =
     all_so (IsSignature e.environment true h) (Goes (DefineFunction h body) rest e) (signature e.environment true h) _ (signature_ok e.environment true h) (λ f sig.
-    let agreed = subst (λ z. agrees f (function_of e.environment.functions z) ≡ true) (sym sig.name) sig.agreed in
+    let agreed = subst (λ z. agrees f (e.environment.functions z) ≡ true) (sym sig.name) sig.agreed in
     all_so (IsBody (with_function f e.environment) f (declaration_mentions (DefineFunction h body))) (Goes (DefineFunction h body) rest e) (typed_function (with_function f e.environment) f h body) _
     (function_ok (with_function f e.environment) f h body sig.result sig.small) (λ g made.
     record {

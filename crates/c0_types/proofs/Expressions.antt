@@ -10,7 +10,7 @@ use Rattle.c0_syntax.specs.declared.operator.PrefixOperator.TheVariants as befor
 use Rattle.c0_syntax.specs.Trees.{ValueType, Expression, Number, Character, Truth, Null, Text, Variable, Parenthesized, Call, Alloc, AllocArray, Result, Length, Index, Field, PointerField, Unary, Binary, Conditional, Expressions, none, more}
 use Rattle.c0_typed.specs.Trees as t
 use Rattle.c0_typed.specs.Typing as ty
-use Rattle.c0_types.specs.Types.{and_so, Name, is_among, number_in, ResolvedType, IntType, BoolType, CharType, StringType, StructNamed, PointerTo, ArrayOf, same_type, resolved_type, is_small, FieldEntry, StructEntry, Signature, Environment, struct_of, function_of, field_of, numbered, cells_of, output_takes, output_named}
+use Rattle.c0_types.specs.Types.{and_so, Name, is_among, number_in, ResolvedType, IntType, BoolType, CharType, StringType, StructNamed, PointerTo, ArrayOf, same_type, resolved_type, is_small, FieldEntry, StructEntry, Signature, Environment, field_of, numbered, cells_of, output_takes, output_named}
 use Rattle.c0_types.specs.Mentions.{Mention, OfVariable, OfFunction, OfText, mentions, argument_mentions}
 use Rattle.c0_types.specs.Expressions.{OperatorRule, OnNumbers, Compares, Conjunction, Disjunction, operator_rule, is_compared, is_equality, Typing, Has, IsNull, Place, Local, Context, local_of, retyped, Callee, ToOutput, ToFunction, takes, gives, call_of, num, null_as, as_wanted, wanted, paired, compared, operated, chosen, pointed, indexed, field_at, fielded, read_of, dereferenced, prefixed, lengthed, held_type, callee_or, callee, typed_expression, typed_place, typed_arguments}
 use Rattle.c0_types.specs.Programs.{field_types, is_callable}
@@ -55,8 +55,8 @@ equality_is _ u e = absurd (cc e)
 
 -- the program's tables hold what the environment says
 pub record Knows (p : t.Program) (env : Environment) : Type 0 where
-  pub structs : (n : Name) (d : StructEntry) → struct_of env.structs n ≡ Some d → slice_get p.structs (number_in env.struct_names n) ≡ Some (map (num env) (field_types d.fields))
-  pub functions : (n : Name) (f : Signature) → function_of env.functions n ≡ Some f → is_among n env.function_names ≡ true
+  pub structs : (n : Name) (d : StructEntry) → env.structs n ≡ Some d → slice_get p.structs (number_in env.struct_names n) ≡ Some (map (num env) (field_types d.fields))
+  pub functions : (n : Name) (f : Signature) → env.functions n ≡ Some f → is_among n env.function_names ≡ true
       → (g : t.Function) × (slice_get p.functions (number_in env.function_names n) ≡ Some g) × (g.result ≡ num env f.result) × (g.parameters ≡ map (num env) f.parameters)
 
 -- what is named is known to the program: a text is in its table, and what is called has a definition
@@ -175,7 +175,7 @@ module _ (p : t.Program) (env : Environment) (knows : Knows p env) (types : List
 
   field_at_ok : (a : ResolvedType) (q : t.Place) (n : Name) → ty.Holds p types q (num env a) → AllSome IsPlace (field_at env a q n)
   field_at_ok (StructNamed s) q n h =
-      all_go IsPlace (struct_of env.structs s) _ (λ d e. all_go IsPlace (field_of 0 d.fields n) _ (λ f g.
+      all_go IsPlace (env.structs s) _ (λ d e. all_go IsPlace (field_of 0 d.fields n) _ (λ f g.
       let i = field_is env d.fields 0 n f g in
       (h, (map (num env) (field_types d.fields), knows.structs s d e, subst (λ j. slice_get (map (num env) (field_types d.fields)) j ≡ Some (num env f.1)) (let z : i.0 ≡ f.0 = omega (arith, i.1) in z) i.2))))
   field_at_ok _ q n h = tt
@@ -203,7 +203,7 @@ module _ (p : t.Program) (env : Environment) (knows : Knows p env) (types : List
 
   callee_ok : (n : Name) (o : Option t.Output) → (is_some o || is_among n env.function_names) ≡ true → AllSome IsCallee (callee_or env n o)
   callee_ok n (Some o) e = tt
-  callee_ok n None e = all_go IsCallee (function_of env.functions n) _ (λ f q. knows.functions n f q e)
+  callee_ok n None e = all_go IsCallee (env.functions n) _ (λ f q. knows.functions n f q e)
 
   call_ok : (c : Callee) (xs : t.Exps) → IsCallee c → ty.HasAll p types xs (map (num env) (takes c)) → IsOf (gives c) (call_of c xs)
   call_ok (ToOutput o) xs g h = (refl, subst (ty.HasAll p types xs) (output_takes_are env o) h)
@@ -216,9 +216,9 @@ module _ (p : t.Program) (env : Environment) (knows : Knows p env) (types : List
   held StringType c e = tt
   held (PointerTo a) c e = tt
   held (ArrayOf a) c e = tt
-  held (StructNamed n) c e = by_struct (struct_of env.structs n) refl e
+  held (StructNamed n) c e = by_struct (env.structs n) refl e
     where
-      by_struct : (o : Option StructEntry) → struct_of env.structs n ≡ o → option_map (λ d. d.cells) o ≡ Some c → number_in env.struct_names n < length p.structs
+      by_struct : (o : Option StructEntry) → env.structs n ≡ o → option_map (λ d. d.cells) o ≡ Some c → number_in env.struct_names n < length p.structs
       by_struct None q h = absurd (cc h)
       by_struct (Some d) q h = slice_get_within p.structs (number_in env.struct_names n) _ (knows.structs n d q)
   held _ c e = absurd (cc e)

@@ -7,7 +7,7 @@ use Rattle.c0_source.specs.declared.kind.Base.TheVariants as b
 use Rattle.c0_syntax.specs.Trees.{ValueType, Basic, StructType, NamedType, Pointer, Array, Spec, Statements, TypedName, Header}
 use Rattle.c0_typed.specs.Trees as t
 use Rattle.c0_typed.specs.Typing as ty
-use Rattle.c0_types.specs.Types.{Name, are_distinct, ResolvedType, VoidType, IntType, BoolType, CharType, StringType, StructNamed, PointerTo, ArrayOf, TypedefEntry, small_type, result_type, Signature, Environment, function_of, numbered, output_named}
+use Rattle.c0_types.specs.Types.{Name, are_distinct, ResolvedType, VoidType, IntType, BoolType, CharType, StringType, StructNamed, PointerTo, ArrayOf, Table, small_type, result_type, Signature, Environment, numbered, output_named}
 use Rattle.c0_types.specs.Mentions.{Mention, spec_mentions, specs_in, statements_mentions}
 use Rattle.c0_types.specs.Expressions.{Local, num}
 use Rattle.c0_types.specs.Statements.{Precondition, Postcondition, Scope, conditions, is_function, typed_statements}
@@ -24,12 +24,12 @@ smalls_are : (names : List Name) (rs : List ResolvedType) → AllSmall rs → ty
 smalls_are names [] h = tt
 smalls_are names (r ∷ rs) h = (small_is names r h.0, smalls_are names rs h.1)
 
-parameters_small : (typedefs : List TypedefEntry) (xs : List TypedName) → AllSome AllSmall (parameter_types typedefs xs)
+parameters_small : (typedefs : Table ResolvedType) (xs : List TypedName) → AllSome AllSmall (parameter_types typedefs xs)
 parameters_small typedefs [] = tt
 parameters_small typedefs (x ∷ xs) =
     all_go AllSmall (small_type typedefs x.value_type) _ (λ r e. all_so AllSmall AllSmall (parameter_types typedefs xs) _ (parameters_small typedefs xs) (λ rs h. (small_of typedefs x.value_type r e, h)))
 
-result_ok : (names : List Name) (typedefs : List TypedefEntry) (a : ValueType) → AllSome (λ r. ty.IsResult (numbered names r)) (result_type typedefs a)
+result_ok : (names : List Name) (typedefs : Table ResolvedType) (a : ValueType) → AllSome (λ r. ty.IsResult (numbered names r)) (result_type typedefs a)
 result_ok names typedefs (Basic b.Void) = inl refl
 result_ok names typedefs (Basic b.Int) = inr tt
 result_ok names typedefs (Basic b.Bool) = inr tt
@@ -46,7 +46,7 @@ pub record IsSignature (env : Environment) (defined : Bool) (h : Header) (f : Si
   pub defined_so : f.defined ≡ defined
   pub result : ty.IsResult (num env f.result)
   pub small : AllSmall f.parameters
-  pub agreed : agrees f (function_of env.functions h.name) ≡ true
+  pub agreed : agrees f (env.functions h.name) ≡ true
 
 pub signature_ok : (env : Environment) (defined : Bool) (h : Header) → AllSome (IsSignature env defined h) (signature env defined h)
 signature_ok env defined h =
@@ -59,7 +59,7 @@ signature_ok env defined h =
       defined_so = refl;
       result = hr;
       small = hs;
-      agreed = (both_true (are_distinct (names_of h.parameters) && not (is_some (output_named env.conio h.name))) (agrees f (function_of env.functions h.name)) e).1;
+      agreed = (both_true (are_distinct (names_of h.parameters) && not (is_some (output_named env.conio h.name))) (agrees f (env.functions h.name)) e).1;
     })))
 
 -- the function of a definition

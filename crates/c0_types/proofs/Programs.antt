@@ -6,7 +6,7 @@ use Rattle.std.proofs.lemmas.Bool.{ltb-true}
 use Rattle.c0_syntax.specs.Trees.{Declaration, Program}
 use Rattle.c0_typed.specs.Trees as t
 use Rattle.c0_typed.specs.Typing as ty
-use Rattle.c0_types.specs.Types.{Name, is_among, number_in, IntType, same_type, same_types, Signature, Environment, function_of, numbered, is_ascii}
+use Rattle.c0_types.specs.Types.{Name, is_among, number_in, IntType, same_type, same_types, Signature, Environment, numbered, is_ascii}
 use Rattle.c0_types.specs.Mentions.{Mention, OfVariable, OfFunction, OfText, function_of as called_of, text_of, declaration_mentions, program_mentions, texts_of, calls_of}
 use Rattle.c0_types.specs.Expressions.{num}
 use Rattle.c0_types.specs.Programs.{is_defined, field_types, Elaboration, typed_declaration, typed_declarations, beginning, main_name, is_main, is_callable, whole_agrees, program_from, typed_program}
@@ -105,7 +105,7 @@ ascii_texts (y ∷ xs) e (suc k) x q = ascii_texts xs (both_true (is_ascii y) (l
 
 module _ (program : Program) (e : Elaboration) (en : Ends program (beginning program) e) where
 
-  main_is : (o : Option Signature) → function_of e.environment.functions main_name ≡ o → is_main o ≡ true
+  main_is : (o : Option Signature) → e.environment.functions main_name ≡ o → is_main o ≡ true
       → (f : t.Function) × (slice_get e.functions (number_in e.environment.function_names main_name) ≡ Some f) × (f.parameters ≡ []) × (f.result ≡ t.IntTy)
   main_is None q h = absurd (cc h)
   main_is (Some f) q h =
@@ -129,12 +129,12 @@ module _ (program : Program) (e : Elaboration) (en : Ends program (beginning pro
 
   whole : whole_agrees program e ≡ true → ty.FitsProgram (program_from program e)
   whole h =
-      let x = both_true (is_main (function_of e.environment.functions main_name) && list_all (is_callable e.environment) (calls_of program)) (list_all is_ascii (texts_of program)) h in
-      let y = both_true (is_main (function_of e.environment.functions main_name)) (list_all (is_callable e.environment) (calls_of program)) x.0 in
+      let x = both_true (is_main (e.environment.functions main_name) && list_all (is_callable e.environment) (calls_of program)) (list_all is_ascii (texts_of program)) h in
+      let y = both_true (is_main (e.environment.functions main_name)) (list_all (is_callable e.environment) (calls_of program)) x.0 in
       record {
         structs = en.stands.structs.fit;
         functions = en.made (program_from program e) knows (named_from (program_from program e) e.environment (program_mentions program) y.1 (λ z k q. inr (k, q))) (λ k g q. absurd (cc q));
-        main = main_is (function_of e.environment.functions main_name) refl y.0;
+        main = main_is (e.environment.functions main_name) refl y.0;
         ascii = ascii_texts (texts_of program) x.1;
         small = en.stands.structs.small;
       }

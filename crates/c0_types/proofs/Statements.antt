@@ -8,14 +8,14 @@ use Rattle.cells.specs.declared.int32.Int32Op.{Int32Op}
 use Rattle.c0_syntax.specs.Trees.{ValueType, Expression, Spec, SimpleStatement, Declare, Initialize, Assign, Update, Step, Evaluate, Statement, Simple, Block, Annotation, Return, ReturnValue, If, IfElse, While, For, Assert, Error, Break, Continue, Statements, nothing, also}
 use Rattle.c0_typed.specs.Trees as t
 use Rattle.c0_typed.specs.Typing as ty
-use Rattle.c0_types.specs.Types.{and_so, Name, ResolvedType, VoidType, IntType, BoolType, StringType, same_type, is_small, TypedefEntry, resolved_type, small_type, Environment}
+use Rattle.c0_types.specs.Types.{and_so, Name, ResolvedType, VoidType, IntType, BoolType, StringType, same_type, is_small, Table, resolved_type, small_type, Environment}
 use Rattle.c0_types.specs.Mentions.{mentions, condition_of, spec_mentions, specs_in, simple_mentions, part_mentions, statement_mentions, statements_mentions, as_variable}
 use Rattle.c0_types.specs.Expressions.{operator_rule, Typing, Has, IsNull, Local, Context, local_of, num, wanted, typed_expression, typed_place}
 use Rattle.c0_types.specs.Statements.{Role, Invariant, Assertion, role_of, same_role, all_are, Scope, Checked, leave, within, next_number, with_local, Destination, ToLocal, ToPlace, change_of, step_of, is_call, declares, one, expression_as, conditions, conditions_of_all, is_taken, declared, destination_by, destination, assigned, updated, evaluated, typed_simple, typed_part, typed_statement, typed_statements}
 use Rattle.c0_types.proofs.Rules.{same_type_is, AllSome, all_so, all_go, all_if, some_has}
 use Rattle.c0_types.proofs.Expressions.{small_is, Knows, Sees, AreNamed, named_left, named_right, IsTyped, IsPlace, IsOf, expression_ok, place_ok, wanted_ok}
 
-pub small_of : (typedefs : List TypedefEntry) (a : ValueType) (b : ResolvedType) → small_type typedefs a ≡ Some b → is_small b ≡ true
+pub small_of : (typedefs : Table ResolvedType) (a : ValueType) (b : ResolvedType) → small_type typedefs a ≡ Some b → is_small b ≡ true
 small_of typedefs a b e =
     some_has (λ z. is_small z ≡ true) (small_type typedefs a) b (all_go (λ z. is_small z ≡ true) (resolved_type typedefs a) _ (λ c q. all_if (λ z. is_small z ≡ true) (is_small c) (Some c) (λ h. h))) e
 

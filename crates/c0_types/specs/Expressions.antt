@@ -10,7 +10,7 @@ use Rattle.c0_syntax.specs.declared.operator.PrefixOperator.TheVariants as p
 use Rattle.c0_syntax.specs.Trees.{ValueType, Expression, Number, Character, Truth, Null, Text, Variable, Parenthesized, Call, Alloc, AllocArray, Result, Length, Index, Field, PointerField, Unary, Binary, Conditional, Expressions, none, more}
 use Rattle.c0_typed.specs.Values as v
 use Rattle.c0_typed.specs.Trees as t
-use Rattle.c0_types.specs.Types.{and_so, provided, Name, number_in, ResolvedType, VoidType, IntType, BoolType, CharType, StringType, StructNamed, PointerTo, ArrayOf, same_type, resolved_type, is_small, Signature, Environment, struct_of, function_of, field_of, numbered, cells_of, output_takes, output_named}
+use Rattle.c0_types.specs.Types.{and_so, provided, Name, number_in, ResolvedType, VoidType, IntType, BoolType, CharType, StringType, StructNamed, PointerTo, ArrayOf, same_type, resolved_type, is_small, Signature, Environment, field_of, numbered, cells_of, output_takes, output_named}
 
 -- ---- operators
 
@@ -169,7 +169,7 @@ module _ (env : Environment) where
   -- a field of a complete struct
   abbrev pub field_at : ResolvedType → t.Place → Name → Option Place
   field_at (StructNamed s) q n =
-      and_so (struct_of env.structs s) (λ d. and_so (field_of 0 d.fields n) (λ f. Some (record { resolved = f.1; place = t.Field (number_in env.struct_names s) q f.0 })))
+      and_so (env.structs s) (λ d. and_so (field_of 0 d.fields n) (λ f. Some (record { resolved = f.1; place = t.Field (number_in env.struct_names s) q f.0 })))
   field_at _ q n = None
 
   -- a field of what a place holds
@@ -204,7 +204,7 @@ module _ (env : Environment) where
   -- an output call, or else a function that is declared before
   abbrev pub callee_or : Name → Option t.Output → Option Callee
   callee_or n (Some o) = Some (ToOutput o)
-  callee_or n None = and_so (function_of env.functions n) (λ f. Some (ToFunction (number_in env.function_names n) f))
+  callee_or n None = and_so (env.functions n) (λ f. Some (ToFunction (number_in env.function_names n) f))
 
   -- what a name calls
   abbrev pub callee : Name → Option Callee

@@ -15,7 +15,7 @@ use Rattle.c0_syntax.specs.declared.value_type.TypeKind.{TypeKind, Basic, Struct
 use Rattle.c0_syntax.specs.declared.expression.ExpressionKind.{ExpressionKind, Row_of-Expression, end_of-Expression, more_of-Expression, Number, Character, Truth, Null, Text, Variable, Parenthesized', Call', Alloc, AllocArray', Result, Length', Index', Field', PointerField', Unary', Binary', Conditional'}
 use Rattle.c0_syntax.specs.Trees as s
 use Rattle.c0_syntax.specs.Views.{name_of, type_of, expression_of_kind}
-use Rattle.c0_types.specs.Types.{ResolvedType, VoidType, IntType, BoolType, StructNamed, PointerTo, ArrayOf, TypedefEntry, base_type, resolved_type, result_type, same_type, is_small, Name, StructEntry, Environment, struct_of, field_of, cells_of}
+use Rattle.c0_types.specs.Types.{ResolvedType, VoidType, IntType, BoolType, StructNamed, PointerTo, ArrayOf, Table, base_type, resolved_type, result_type, same_type, is_small, Name, StructEntry, Environment, field_of, cells_of}
 use Rattle.c0_types.specs.Expressions.{OperatorRule, OnNumbers, Compares, Conjunction, Disjunction, operator_rule, Typing, Has, IsNull, Place, Context, local_of, Callee, takes, gives, as_wanted, compared, pointed, lengthed, callee, typed_expression, typed_place}
 
 -- a fault of this kind at this place
@@ -25,21 +25,21 @@ Told kind span fault = (fault.kind ≡ kind) × (fault.span ≡ span)
 -- ---- types
 
 -- `void` as a type of values, or a name that no typedef declares
-abbrev pub TypeCause : List TypedefEntry → Fault → TypeKind → Span → Type 0
+abbrev pub TypeCause : Table ResolvedType → Fault → TypeKind → Span → Type 0
 TypeCause typedefs fault (Basic base) span = (base_type base ≡ None) × Told k.VoidUse span fault
 TypeCause typedefs fault (Struct x) span = ⊥
-TypeCause typedefs fault (Named x) span = (find (λ d. bytes_eq (name_of x) d.name) typedefs ≡ None) × Told k.Syntax x.span fault
+TypeCause typedefs fault (Named x) span = (typedefs (name_of x) ≡ None) × Told k.Syntax x.span fault
 TypeCause typedefs fault (Pointer' p kind at) span = TypeCause typedefs fault kind at
 TypeCause typedefs fault (Array' p kind at) span = TypeCause typedefs fault kind at
 
 -- the same of a local or a parameter, which can't be a struct
-abbrev pub SmallTypeCause : List TypedefEntry → Fault → u.ValueType → Type 0
+abbrev pub SmallTypeCause : Table ResolvedType → Fault → u.ValueType → Type 0
 SmallTypeCause typedefs fault ty =
     TypeCause typedefs fault ty.kind ty.span
     ⊎ ((r : ResolvedType) × (resolved_type typedefs (type_of ty) ≡ Some r) × (is_small r ≡ false) × Told k.NotSmall ty.span fault)
 
 -- the same of a result, which may be `void`
-abbrev pub ResultTypeCause : List TypedefEntry → Fault → u.ValueType → Type 0
+abbrev pub ResultTypeCause : Table ResolvedType → Fault → u.ValueType → Type 0
 ResultTypeCause typedefs fault ty = (result_type typedefs (type_of ty) ≡ None) × SmallTypeCause typedefs fault ty
 
 -- the same of what memory holds: a struct must be complete
@@ -152,8 +152,8 @@ module _ (env : Environment) (at : Context) (fault : Fault) where
   abbrev pub FieldCause : ResolvedType → Span → n.Name → Span → Type 0
   FieldCause r here x span =
       ((struct_name r ≡ None) × Told k.TypeMismatch here fault)
-      ⊎ ((m : Name) × (struct_name r ≡ Some m) × (struct_of env.structs m ≡ None) × Told k.StructNotComplete span fault)
-      ⊎ ((m : Name) × (d : StructEntry) × (struct_name r ≡ Some m) × (struct_of env.structs m ≡ Some d) × (field_of 0 d.fields (name_of x) ≡ None) × Told k.UnknownField x.span fault)
+      ⊎ ((m : Name) × (struct_name r ≡ Some m) × (env.structs m ≡ None) × Told k.StructNotComplete span fault)
+      ⊎ ((m : Name) × (d : StructEntry) × (struct_name r ≡ Some m) × (env.structs m ≡ Some d) × (field_of 0 d.fields (name_of x) ≡ None) × Told k.UnknownField x.span fault)
 
   -- `e.x`, by the place that e is
   abbrev pub DotCause : ExpressionKind → Span → n.Name → Span → Type 0

@@ -15,7 +15,7 @@ use Rattle.c0_syntax.specs.declared.program.DeclarationKind.TheVariants as d
 use Rattle.c0_syntax.specs.declared.program.Declaration.{Declaration}
 use Rattle.c0_syntax.specs.declared.program.Program.{Program}
 use Rattle.c0_syntax.specs.Views.{name_of, spec_of, statements_of, typed_name_of, header_of, declaration_of, program_of}
-use Rattle.c0_types.specs.Types.{Name, is_among, ResolvedType, VoidType, IntType, same_type, same_types, result_type, FieldEntry, Signature, Environment, struct_of, function_of, output_named, is_ascii}
+use Rattle.c0_types.specs.Types.{Name, is_among, ResolvedType, VoidType, IntType, same_type, same_types, result_type, FieldEntry, Signature, Environment, output_named, is_ascii}
 use Rattle.c0_types.specs.Mentions.{Mention, OfVariable, OfFunction, OfText, specs_in, statements_assign}
 use Rattle.c0_types.specs.Expressions.{Context}
 use Rattle.c0_types.specs.Assignment.{Flow, Reached, has_ended, flow_of_statements}
@@ -50,7 +50,7 @@ module _ (fault : Fault) where
       ResultTypeCause env.typedefs fault h.result ⊎ ParameterCause env h.parameters.items ⊎ SecondName [] h.parameters.items
       ⊎ ((is_some (output_named env.conio (name_of h.name)) ≡ true) × Told k.DuplicateName h.name.span fault)
       ⊎ ((r : ResolvedType) × (rs : List ResolvedType) × (old : Signature)
-      × (result_type env.typedefs ((header_of h).result) ≡ Some r) × (parameter_types env.typedefs ((header_of h).parameters) ≡ Some rs) × (function_of env.functions (name_of h.name) ≡ Some old)
+      × (result_type env.typedefs ((header_of h).result) ≡ Some r) × (parameter_types env.typedefs ((header_of h).parameters) ≡ Some rs) × (env.functions (name_of h.name) ≡ Some old)
       × AgainCause (record { name = name_of h.name; result = r; parameters = rs; defined = defined }) old h.name.span)
 
   -- ---- contracts and bodies
@@ -143,7 +143,7 @@ module _ (fault : Fault) where
   InDeclaration e (d.UseText text) span = UseCause e false (string_bytes text) span
   InDeclaration e (d.DeclareStruct x) span = ⊥
   InDeclaration e (d.DefineStruct x fields) span =
-      ((is_some (struct_of e.environment.structs (name_of x)) ≡ true) × Told k.DuplicateName x.span fault)
+      ((is_some (e.environment.structs (name_of x)) ≡ true) × Told k.DuplicateName x.span fault)
       ⊎ SecondName [] fields.items ⊎ InFields e.environment fields.items ⊎ LargeCause e.environment fields.items x.span
   InDeclaration e (d.Typedef ty x) span = TypeCause e.environment.typedefs fault ty.kind ty.span
   InDeclaration e (d.DeclareFunction h) span = InHeader e.environment false h ⊎ AnySpecs h.annotations.items
@@ -198,7 +198,7 @@ module _ (fault : Fault) where
   -- `main`, a call of a function without a definition, or a text that no source can hold
   abbrev pub InWhole : Span → Environment → List Declaration → Type 0
   InWhole ending env declarations =
-      MainCause ending declarations (function_of env.functions main_name) ⊎ NamedAmong (is_undefined env) k.NotDefined declarations ⊎ NamedAmong is_beyond k.BadToken declarations
+      MainCause ending declarations (env.functions main_name) ⊎ NamedAmong (is_undefined env) k.NotDefined declarations ⊎ NamedAmong is_beyond k.BadToken declarations
 
 -- The fault has its cause in this program, at its place. Each declaration is looked at behind those before it; what is
 -- looked at in the whole program comes behind all of them. The place of the program's end is that of its text.

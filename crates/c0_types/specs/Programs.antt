@@ -3,7 +3,7 @@ use Rattle.std.specs.Prelude.{◌≡◌, ℕ, suc, ◌+◌, nat_le, Bool, true, 
 use Rattle.std.specs.List.{list_all, list_any}
 use Rattle.c0_syntax.specs.Trees.{Spec, Statements, TypedName, Header, Declaration, UseLibrary, DeclareStruct, DefineStruct, Typedef, DeclareFunction, DefineFunction, Program}
 use Rattle.c0_typed.specs.Trees as t
-use Rattle.c0_types.specs.Types.{and_so, provided, Name, is_among, any_among, are_distinct, number_in, ResolvedType, VoidType, IntType, same_type, same_types, TypedefEntry, resolved_type, small_type, result_type, FieldEntry, StructEntry, Signature, Environment, struct_of, function_of, cells_of, output_named, is_ascii}
+use Rattle.c0_types.specs.Types.{and_so, provided, Name, is_among, any_among, are_distinct, number_in, no_names, with_name, ResolvedType, VoidType, IntType, same_type, same_types, Table, resolved_type, small_type, result_type, FieldEntry, StructEntry, Signature, Environment, cells_of, output_named, is_ascii}
 use Rattle.c0_types.specs.Mentions.{variables_in, condition_of, specs_in, statements_assign, texts_of, calls_of}
 use Rattle.c0_types.specs.Expressions.{Local, num}
 use Rattle.c0_types.specs.Assignment.{Reached, has_ended, flow_of_statements}
@@ -12,7 +12,7 @@ use Rattle.c0_types.specs.Statements.{Precondition, Postcondition, role_of, same
 -- ---- functions
 
 -- the types of parameters
-abbrev pub parameter_types : List TypedefEntry → List TypedName → Option (List ResolvedType)
+abbrev pub parameter_types : Table ResolvedType → List TypedName → Option (List ResolvedType)
 parameter_types typedefs [] = Some []
 parameter_types typedefs (x ∷ rest) = and_so (small_type typedefs x.value_type) (λ r. and_so (parameter_types typedefs rest) (λ rs. Some (r ∷ rs)))
 
@@ -41,7 +41,7 @@ is_defined (Some g) = g.defined
 
 -- whether a header's names may stand where they do
 abbrev pub names_agree : Environment → Header → Signature → Bool
-names_agree env h f = are_distinct (names_of h.parameters) && not (is_some (output_named env.conio h.name)) && agrees f (function_of env.functions h.name)
+names_agree env h f = are_distinct (names_of h.parameters) && not (is_some (output_named env.conio h.name)) && agrees f (env.functions h.name)
 
 -- what a header declares
 abbrev pub signature : Environment → Bool → Header → Option Signature
@@ -52,7 +52,7 @@ signature env defined h =
 
 -- behind the declaration of a function: it is in scope, and defined once it has been
 abbrev pub with_function : Signature → Environment → Environment
-with_function f env = record env { functions = record f { defined = f.defined || is_defined (function_of env.functions f.name) } ∷ env.functions }
+with_function f env = record env { functions = with_name f.name (record f { defined = f.defined || is_defined (env.functions f.name) }) env.functions }
 
 -- the type of `\result`; a void function has none
 abbrev pub result_of : ResolvedType → Option ResolvedType
@@ -116,11 +116,11 @@ fields_of env (x ∷ rest) =
     and_so (fields_of env rest) (λ fields. Some (record { name = x.name; resolved = r } ∷ fields))))
 
 -- the cells of a field
-abbrev pub field_cells : List StructEntry → FieldEntry → ℕ
+abbrev pub field_cells : Table StructEntry → FieldEntry → ℕ
 field_cells structs f = elim (cells_of structs f.resolved) [ None ↦ 0 | Some c ↦ c ]
 
 -- the cells of all fields
-abbrev pub cells_in : List StructEntry → List FieldEntry → ℕ
+abbrev pub cells_in : Table StructEntry → List FieldEntry → ℕ
 cells_in structs [] = 0
 cells_in structs (f ∷ fields) = field_cells structs f + cells_in structs fields
 
@@ -145,13 +145,13 @@ pub record Elaboration : Type 0 where
 abbrev pub with_struct : Name → List FieldEntry → Elaboration → Elaboration
 with_struct n fields e = record e {
   begun = true;
-  environment = record e.environment { structs = record { name = n; fields = fields; cells = cells_in e.environment.structs fields } ∷ e.environment.structs };
+  environment = record e.environment { structs = with_name n (record { fields = fields; cells = cells_in e.environment.structs fields }) e.environment.structs };
   structs = e.structs ++ map (num e.environment) (field_types fields) ∷ [];
 }
 
 -- with a new typedef
 abbrev pub with_typedef : Name → ResolvedType → Elaboration → Elaboration
-with_typedef n r e = record e { begun = true; environment = record e.environment { typedefs = record { name = n; resolved = r } ∷ e.environment.typedefs } }
+with_typedef n r e = record e { begun = true; environment = record e.environment { typedefs = with_name n r e.environment.typedefs } }
 
 -- whether `#use` names the one library that there is
 abbrev pub is_conio : Bool → Name → Bool
@@ -167,7 +167,7 @@ abbrev pub typed_declaration : Declaration → Elaboration → Option Elaboratio
 typed_declaration (UseLibrary in_brackets n) e = provided (is_conio in_brackets n && not e.begun) (Some e)
 typed_declaration (DeclareStruct n) e = Some (record e { begun = true })
 typed_declaration (DefineStruct n items) e =
-    provided (not (is_some (struct_of e.environment.structs n)) && are_distinct (names_of items)) (
+    provided (not (is_some (e.environment.structs n)) && are_distinct (names_of items)) (
     and_so (fields_of e.environment items) (λ fields.
     provided (nat_le (cells_in e.environment.structs fields) cell_limit) (Some (with_struct n fields e))))
 typed_declaration (Typedef a n) e = and_so (resolved_type e.environment.typedefs a) (λ r. Some (with_typedef n r e))
@@ -214,9 +214,9 @@ environment_of program = record {
   conio = list_any uses_conio program;
   struct_names = struct_names_of program;
   function_names = function_names_of program;
-  typedefs = [];
-  structs = [];
-  functions = [];
+  typedefs = no_names;
+  structs = no_names;
+  functions = no_names;
 }
 
 -- before the first declaration
@@ -239,7 +239,7 @@ is_callable env n = is_some (output_named env.conio n) || is_among n env.functio
 -- whether the rules hold that look at the whole program: `main`, what is called, and its texts
 abbrev pub whole_agrees : Program → Elaboration → Bool
 whole_agrees program e =
-    is_main (function_of e.environment.functions main_name)
+    is_main (e.environment.functions main_name)
     && list_all (is_callable e.environment) (calls_of program)
     && list_all is_ascii (texts_of program)
 

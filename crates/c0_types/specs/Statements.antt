@@ -10,7 +10,7 @@ use Rattle.c0_syntax.specs.declared.operator.Change.TheVariants as n
 use Rattle.c0_syntax.specs.Trees.{Expression, Call, Spec, Contract, Asserts, SimpleStatement, Declare, Initialize, Assign, Update, Step, Evaluate, Statement, Simple, Block, Annotation, Return, ReturnValue, If, IfElse, While, For, Assert, Error, Break, Continue, Statements, nothing, also}
 use Rattle.c0_typed.specs.Trees as t
 use Rattle.c0_typed.specs.Values as v
-use Rattle.c0_types.specs.Types.{and_so, provided, Name, ResolvedType, VoidType, IntType, BoolType, StringType, same_type, small_type, is_small, Environment, function_of, output_named}
+use Rattle.c0_types.specs.Types.{and_so, provided, Name, ResolvedType, VoidType, IntType, BoolType, StringType, same_type, small_type, is_small, Environment, output_named}
 use Rattle.c0_types.specs.Mentions.{condition_of, specs_in, as_variable}
 use Rattle.c0_types.specs.Expressions.{OperatorRule, OnNumbers, operator_rule, Typing, Has, IsNull, Place, Local, Context, local_of, retyped, wanted, typed_expression, typed_place}
 
@@ -133,7 +133,7 @@ module _ (env : Environment) where
 
   -- whether a name is that of a function in scope, or of an output call in use
   abbrev pub is_function : Name → Bool
-  is_function n = is_some (function_of env.functions n) || is_some (output_named env.conio n)
+  is_function n = is_some (env.functions n) || is_some (output_named env.conio n)
 
   -- whether a new local may not have this name
   abbrev pub is_taken : Scope → Name → Bool

@@ -1,5 +1,5 @@
 -- Types with their typedefs replaced, and what a program has declared before a place in it.
-use Rattle.std.specs.Prelude.{ℕ, suc, nat_lt, Bool, true, false, ◌&&◌, not, List, [], ◌∷◌, Option, Some, None, find, option_map, bytes_eq, codes}
+use Rattle.std.specs.Prelude.{ℕ, suc, nat_lt, cond, Bool, true, false, ◌&&◌, not, List, [], ◌∷◌, Option, Some, None, find, option_map, bytes_eq, codes}
 use Rattle.std.specs.List.{list_all, list_any}
 use Rattle.c0_source.specs.declared.kind.Base.{Base}
 use Rattle.c0_source.specs.declared.kind.Base.TheVariants as b
@@ -42,6 +42,18 @@ abbrev pub number_in : List Name → Name → ℕ
 number_in [] n = 0
 number_in (m ∷ names) n = elim (bytes_eq n m) [ true ↦ 0 | false ↦ suc (number_in names n) ]
 
+-- what each name stands for, where it stands for something
+abbrev pub Table : Type 0 → Type 0
+Table A = Name → Option A
+
+-- no name stands for anything
+abbrev pub no_names : {A : Type 0} → Table A
+no_names n = None
+
+-- a name stands for this from now on
+abbrev pub with_name : {A : Type 0} → Name → A → Table A → Table A
+with_name n a table m = cond (bytes_eq m n) (Some a) (table m)
+
 -- ---- types
 
 -- a type in which no name of a typedef is left; a struct is known by its name
@@ -73,11 +85,6 @@ same_types [] [] = true
 same_types (a ∷ rest) (c ∷ others) = same_type a c && same_types rest others
 same_types _ _ = false
 
--- a typedef: a name, and the type that it stands for
-pub record TypedefEntry : Type 0 where
-  pub name : Name
-  pub resolved : ResolvedType
-
 -- a type with a keyword of its own, but for `void`
 abbrev pub base_type : Base → Option ResolvedType
 base_type b.Int = Some IntType
@@ -87,10 +94,10 @@ base_type b.String = Some StringType
 base_type b.Void = None
 
 -- a type with its typedefs replaced, where `void` is no part of it
-abbrev pub resolved_type : List TypedefEntry → ValueType → Option ResolvedType
+abbrev pub resolved_type : Table ResolvedType → ValueType → Option ResolvedType
 resolved_type typedefs (Basic base) = base_type base
 resolved_type typedefs (StructType n) = Some (StructNamed n)
-resolved_type typedefs (NamedType n) = option_map (λ d. d.resolved) (find (λ d. bytes_eq n d.name) typedefs)
+resolved_type typedefs (NamedType n) = typedefs n
 resolved_type typedefs (Pointer a) = option_map PointerTo (resolved_type typedefs a)
 resolved_type typedefs (Array a) = option_map ArrayOf (resolved_type typedefs a)
 
@@ -101,11 +108,11 @@ is_small (StructNamed n) = false
 is_small _ = true
 
 -- the type of a local or a parameter
-abbrev pub small_type : List TypedefEntry → ValueType → Option ResolvedType
+abbrev pub small_type : Table ResolvedType → ValueType → Option ResolvedType
 small_type typedefs a = and_so (resolved_type typedefs a) (λ r. provided (is_small r) (Some r))
 
 -- the type of a result: `void`, or a small one
-abbrev pub result_type : List TypedefEntry → ValueType → Option ResolvedType
+abbrev pub result_type : Table ResolvedType → ValueType → Option ResolvedType
 result_type typedefs (Basic b.Void) = Some VoidType
 result_type typedefs a = small_type typedefs a
 
@@ -118,7 +125,6 @@ pub record FieldEntry : Type 0 where
 
 -- a struct that is defined, with the number of its cells
 pub record StructEntry : Type 0 where
-  pub name : Name
   pub fields : List FieldEntry
   pub cells : ℕ
 
@@ -129,23 +135,15 @@ pub record Signature : Type 0 where
   pub parameters : List ResolvedType
   pub defined : Bool
 
--- What is declared before a place in a program, the last one first. Whether the program uses conio, and the names of
+-- What is declared before a place in a program. Whether the program uses conio, and the names of
 -- all structs and functions that it defines anywhere, in order, are known from its beginning.
 pub record Environment : Type 0 where
   pub conio : Bool
   pub struct_names : List Name
   pub function_names : List Name
-  pub typedefs : List TypedefEntry
-  pub structs : List StructEntry
-  pub functions : List Signature
-
--- the struct of a name, where it is defined before
-abbrev pub struct_of : List StructEntry → Name → Option StructEntry
-struct_of structs n = find (λ d. bytes_eq n d.name) structs
-
--- the function of a name, where it is declared before
-abbrev pub function_of : List Signature → Name → Option Signature
-function_of functions n = find (λ f. bytes_eq n f.name) functions
+  pub typedefs : Table ResolvedType
+  pub structs : Table StructEntry
+  pub functions : Table Signature
 
 -- a field with its number, counted from k
 abbrev pub field_of : ℕ → List FieldEntry → Name → Option (ℕ × ResolvedType)
@@ -164,9 +162,9 @@ numbered names (PointerTo a) = t.PointerTy (numbered names a)
 numbered names (ArrayOf a) = t.ArrayTy (numbered names a)
 
 -- the cells of a type that memory can hold here: a struct must have been defined before
-abbrev pub cells_of : List StructEntry → ResolvedType → Option ℕ
+abbrev pub cells_of : Table StructEntry → ResolvedType → Option ℕ
 cells_of structs VoidType = None
-cells_of structs (StructNamed n) = option_map (λ d. d.cells) (struct_of structs n)
+cells_of structs (StructNamed n) = option_map (λ d. d.cells) (structs n)
 cells_of structs _ = Some 1
 
 -- ---- output calls
