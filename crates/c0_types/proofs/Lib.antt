@@ -5,3 +5,4 @@ pub mod Programs
 pub mod Rules
 pub mod Sizes
 pub mod Statements
+pub mod Tables

@@ -9,5 +9,6 @@ pub mod Mentions
 pub mod Programs
 pub mod Statements
 pub mod Types
+pub mod Views
 pub mod WorkedPairs
 pub mod WorkedTrees

@@ -2,5 +2,7 @@
 #![tactic(auto)]
 
 mod laws;
+pub mod resolved;
+pub mod typedefs;
 
 pub use laws::{accepted_texts, elaborated, refused_texts};

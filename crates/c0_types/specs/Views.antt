@@ -1,0 +1,29 @@
+-- What code holds, read as the definitions have it.
+use Rattle.std.specs.Prelude.{◌≡◌, ◌⊎◌, ℕ, List, Option, Some, None, option_map, Result, Ok, Err}
+use Rattle.std.specs.String.{string_bytes}
+use Rattle.std.specs.BTreeMap.{get_by_text}
+use Rattle.c0_source.specs.declared.fault.Fault.{Fault}
+use Rattle.c0_source.specs.declared.fault.FaultKind.TheVariants as k
+use Rattle.c0_types.specs.Types as t
+use Rattle.c0_types.specs.declared.resolved.ResolvedType.{ResolvedType, Void, Int, Bool, Char, Text, Struct, Pointer', Array'}
+use Rattle.c0_types.specs.declared.typedefs.Typedefs.{Typedefs}
+
+-- a type
+abbrev pub resolved_of : ResolvedType → t.ResolvedType
+resolved_of Void = t.VoidType
+resolved_of Int = t.IntType
+resolved_of Bool = t.BoolType
+resolved_of Char = t.CharType
+resolved_of Text = t.StringType
+resolved_of (Struct x) = t.StructNamed (string_bytes x)
+resolved_of (Pointer' p a) = t.PointerTo (resolved_of a)
+resolved_of (Array' p a) = t.ArrayOf (resolved_of a)
+
+-- what each typedef stands for
+abbrev pub typedefs_of : Typedefs → t.Table t.ResolvedType
+typedefs_of x n = option_map resolved_of (get_by_text x.types n)
+
+-- Ok exactly where the rules give something, want of memory aside
+abbrev pub Answers : {T A : Type 0} → (T → A) → Result T Fault → Option A → Type 0
+Answers view (Ok x) o = o ≡ Some (view x)
+Answers view (Err f) o = (f.kind ≡ k.OutOfMemory) ⊎ (o ≡ None)
