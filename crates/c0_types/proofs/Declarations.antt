@@ -10,11 +10,11 @@ use Rattle.c0_typed.specs.Layouts.{flat, flats}
 use Rattle.c0_typed.specs.Trees as t
 use Rattle.c0_typed.specs.Typing as ty
 use Rattle.c0_typed.specs.Meaning.{default, fields, struct_defaults}
-use Rattle.c0_types.specs.Types.{Name, is_among, are_distinct, number_in, Table, with_name, ResolvedType, IntType, BoolType, CharType, StringType, StructNamed, PointerTo, ArrayOf, same_type, same_types, resolved_type, FieldEntry, StructEntry, Signature, Environment, numbered, cells_of}
+use Rattle.c0_types.specs.Types.{Name, is_among, are_distinct, number_in, Table, with_name, ResolvedType, IntType, BoolType, CharType, StringType, StructNamed, PointerTo, ArrayOf, same_type, same_types, resolved_type, FieldEntry, StructEntry, field_of, Signature, Environment, numbered, cells_of}
 use Rattle.c0_types.specs.Mentions.{Mention, specs_in, declaration_mentions}
 use Rattle.c0_types.specs.Programs.{names_of, same_signature, agrees, is_defined, signature, with_function, typed_function, fields_of, field_cells, cells_in, field_types, cell_limit, Elaboration, with_struct, is_conio, are_none, typed_declaration, struct_names_of, function_names_of}
 use Rattle.c0_types.proofs.Rules.{both_true, not_false, same_name_is, same_type_is, same_types_are, AllSome, all_so, all_go, all_if, is_none_of}
-use Rattle.c0_types.proofs.Expressions.{Knows, AreNamed}
+use Rattle.c0_types.proofs.Expressions.{HasFields, Knows, AreNamed, field_is}
 use Rattle.c0_types.proofs.Functions.{IsSignature, signature_ok, IsBody, function_ok}
 use Rattle.c0_types.proofs.Sizes.{length_more, defaults_more, defaults_long, get_before, get_next, fields_same, held_at, structs_add, get_more, get_last}
 
@@ -72,7 +72,7 @@ pub record StructsStand (names remaining : List Name) (entries : Table StructEnt
   pub split : names ≡ before ++ remaining
   pub long : length before ≡ length structs
   pub known : (n : Name) → is_among n before ≡ true → is_some (entries n) ≡ true
-  pub there : (n : Name) (d : StructEntry) → entries n ≡ Some d → slice_get structs (number_in names n) ≡ Some (map (numbered names) (field_types d.fields))
+  pub there : (n : Name) (d : StructEntry) → entries n ≡ Some d → HasFields names structs n d
   pub fit : ty.FitsStructs 0 structs
   pub sized : (n : Name) (d : StructEntry) → entries n ≡ Some d → length (flat (get_or (defaults structs) (number_in names n) (Leaf Void))) ≡ d.cells
   pub small : (k : ℕ) (ts : List t.Ty) → slice_get structs k ≡ Some ts → length (flats (fields (defaults structs) ts)) ≤ 4096
@@ -138,7 +138,7 @@ module _ (env : Environment) (structs : List (List t.Ty)) (below : Below env.str
 module _ (names rest : List Name) (entries : Table StructEntry) (structs : List (List t.Ty)) (n : Name) (items : List FieldEntry) where
   -- the new struct
   abbrev entry : StructEntry
-  entry = record { fields = items; cells = cells_in entries items }
+  entry = record { fields = field_of 0 items; cells = cells_in entries items }
 
   abbrev types : List t.Ty
   types = map (numbered names) (field_types items)
@@ -167,11 +167,15 @@ module _ (names rest : List Name) (entries : Table StructEntry) (structs : List 
         at true q h = inl (same_name_is m n q, (let z : entry ≡ d = cc h in z))
         at false q h = inr h
 
-    there : (m : Name) (d : StructEntry) → ((m ≡ n) × (entry ≡ d)) ⊎ (entries m ≡ Some d) → slice_get (structs ++ (types ∷ [])) (number_in names m) ≡ Some (map (numbered names) (field_types d.fields))
-    there m d (inl e) =
-        ap (λ k. slice_get (structs ++ (types ∷ [])) k) (ap (number_in names) e.0 ∙ number) ∙ get_last structs types
-        ∙ ap (λ z. Some (map (numbered names) (field_types z.fields))) e.1
-    there m d (inr e) = get_more structs _ (number_in names m) _ (st.there m d e)
+    there : (m : Name) (d : StructEntry) → ((m ≡ n) × (entry ≡ d)) ⊎ (entries m ≡ Some d) → HasFields names (structs ++ (types ∷ [])) m d
+    there m d (inl e) = (
+      types,
+      ap (λ k. slice_get (structs ++ (types ∷ [])) k) (ap (number_in names) e.0 ∙ number) ∙ get_last structs types,
+      λ k f q.
+          let i = field_is names items 0 k f (subst (λ z. z.fields k ≡ Some f) (sym e.1) q) in
+          subst (λ j. slice_get types j ≡ Some (numbered names f.1)) (let z : i.0 ≡ f.0 = omega (arith, i.1) in z) i.2,
+    )
+    there m d (inr e) = let at = st.there m d e in (at.0, get_more structs (types ∷ []) (number_in names m) at.0 at.1, at.2)
 
     more : defaults (structs ++ (types ∷ [])) ≡ defaults structs ++ (Node (fields (defaults structs) types) ∷ [])
     more = defaults_more [] structs types
@@ -185,7 +189,7 @@ module _ (names rest : List Name) (entries : Table StructEntry) (structs : List 
         ap (λ k. get_or (defaults structs ++ (Node (fields (defaults structs) types) ∷ [])) k (Leaf Void)) (ap (number_in names) e.0 ∙ number ∙ sym long) ∙ get_next (defaults structs) _ in
         ap (λ l. length (flat (get_or l (number_in names m) (Leaf Void)))) more ∙ ap (λ x. length (flat x)) at_end ∙ are.1 ∙ ap (λ z. z.cells) e.1
     sized m d (inr e) =
-        let within : number_in names m < length structs = slice_get_within structs (number_in names m) _ (st.there m d e) in
+        let within : number_in names m < length structs = slice_get_within structs (number_in names m) _ (st.there m d e).1 in
         ap (λ l. length (flat (get_or l (number_in names m) (Leaf Void)))) more
         ∙ ap (λ x. length (flat x)) (get_before (defaults structs) _ (number_in names m) (subst (λ k. number_in names m < k) (sym long) within)) ∙ st.sized m d e
 
@@ -398,7 +402,7 @@ by_last env f ms functions p k m fit j x g body (inr e) = subst (ty.FitsFunction
 
 module _ (rest : List Declaration) (e : Elaboration) where
   below : (st : Stands rest e) → Below e.environment.struct_names e.environment.structs e.structs
-  below st n d h = slice_get_within e.structs (number_in e.environment.struct_names n) _ (st.structs.there n d h)
+  below st n d h = slice_get_within e.structs (number_in e.environment.struct_names n) _ (st.structs.there n d h).1
 
 struct_ok : (n : Name) (xs : List TypedName) (rest : List Declaration) (e : Elaboration) → Stands (DefineStruct n xs ∷ rest) e → AllSome (Goes (DefineStruct n xs) rest e) (typed_declaration (DefineStruct n xs) e)
 struct_ok n xs rest e st =
@@ -412,7 +416,7 @@ struct_ok n xs rest e st =
         structs = new_struct e.environment.struct_names (struct_names_of rest) e.environment.structs e.structs n items st.structs none are (leb-true (cells_in e.environment.structs items) 4096 l);
         functions = st.functions;
       };
-      later = later_struct e.environment (with_struct n items e).environment n (record { fields = items; cells = cells_in e.environment.structs items }) none refl refl refl refl refl;
+      later = later_struct e.environment (with_struct n items e).environment n (record { fields = field_of 0 items; cells = cells_in e.environment.structs items }) none refl refl refl refl refl;
       made = λ p k m h. h;
     })))
 

@@ -53,9 +53,14 @@ equality_is _ u e = absurd (cc e)
 
 -- ---- what stands behind the names
 
+-- the struct's types stand in the table, each at its field's number
+abbrev pub HasFields : List Name → List (List t.Ty) → Name → StructEntry → Type 0
+HasFields names structs n d =
+    (ts : List t.Ty) × (slice_get structs (number_in names n) ≡ Some ts) × ((m : Name) (f : ℕ × ResolvedType) → d.fields m ≡ Some f → slice_get ts f.0 ≡ Some (numbered names f.1))
+
 -- the program's tables hold what the environment says
 pub record Knows (p : t.Program) (env : Environment) : Type 0 where
-  pub structs : (n : Name) (d : StructEntry) → env.structs n ≡ Some d → slice_get p.structs (number_in env.struct_names n) ≡ Some (map (num env) (field_types d.fields))
+  pub structs : (n : Name) (d : StructEntry) → env.structs n ≡ Some d → HasFields env.struct_names p.structs n d
   pub functions : (n : Name) (f : Signature) → env.functions n ≡ Some f → is_among n env.function_names ≡ true
       → (g : t.Function) × (slice_get p.functions (number_in env.function_names n) ≡ Some g) × (g.result ≡ num env f.result) × (g.parameters ≡ map (num env) f.parameters)
 
@@ -91,15 +96,15 @@ output_takes_are env t.Printbool = refl
 output_takes_are env t.Printchar = refl
 output_takes_are env t.Flush = refl
 
-field_is : (env : Environment) (fields : List FieldEntry) (k : ℕ) (n : Name) (f : ℕ × ResolvedType) → field_of k fields n ≡ Some f
-    → (i : ℕ) × (f.0 ≡ k + i) × (slice_get (map (num env) (field_types fields)) i ≡ Some (num env f.1))
-field_is env [] k n f e = absurd (cc e)
-field_is env (g ∷ fields) k n f e = at (bytes_eq n g.name) e (λ h. field_is env fields (suc k) n f h)
+pub field_is : (names : List Name) (fields : List FieldEntry) (k : ℕ) (n : Name) (f : ℕ × ResolvedType) → field_of k fields n ≡ Some f
+    → (i : ℕ) × (f.0 ≡ k + i) × (slice_get (map (numbered names) (field_types fields)) i ≡ Some (numbered names f.1))
+field_is names [] k n f e = absurd (cc e)
+field_is names (g ∷ fields) k n f e = at (bytes_eq n g.name) e (λ h. field_is names fields (suc k) n f h)
   where
     at : (b : Bool) → (elim b [ true ↦ Some (k, g.resolved) | false ↦ field_of (suc k) fields n ]) ≡ Some f
-        → (field_of (suc k) fields n ≡ Some f → (i : ℕ) × (f.0 ≡ suc k + i) × (slice_get (map (num env) (field_types fields)) i ≡ Some (num env f.1)))
-        → (i : ℕ) × (f.0 ≡ k + i) × (slice_get (map (num env) (field_types (g ∷ fields))) i ≡ Some (num env f.1))
-    at true h go = let q : (k, g.resolved) ≡ f = cc h in (0, (let x : f.0 ≡ k = sym (ap (λ z. z.0) q) in omega (arith, x)), ap (λ z. Some (num env z.1)) q)
+        → (field_of (suc k) fields n ≡ Some f → (i : ℕ) × (f.0 ≡ suc k + i) × (slice_get (map (numbered names) (field_types fields)) i ≡ Some (numbered names f.1)))
+        → (i : ℕ) × (f.0 ≡ k + i) × (slice_get (map (numbered names) (field_types (g ∷ fields))) i ≡ Some (numbered names f.1))
+    at true h go = let q : (k, g.resolved) ≡ f = cc h in (0, (let x : f.0 ≡ k = sym (ap (λ z. z.0) q) in omega (arith, x)), ap (λ z. Some (numbered names z.1)) q)
     at false h go = let r = go h in (suc r.0, omega (arith, r.1), r.2)
 
 module _ (p : t.Program) (env : Environment) (knows : Knows p env) (types : List t.Ty) (at : Context) (sees : Sees env types at) where
@@ -175,9 +180,7 @@ module _ (p : t.Program) (env : Environment) (knows : Knows p env) (types : List
 
   field_at_ok : (a : ResolvedType) (q : t.Place) (n : Name) → ty.Holds p types q (num env a) → AllSome IsPlace (field_at env a q n)
   field_at_ok (StructNamed s) q n h =
-      all_go IsPlace (env.structs s) _ (λ d e. all_go IsPlace (field_of 0 d.fields n) _ (λ f g.
-      let i = field_is env d.fields 0 n f g in
-      (h, (map (num env) (field_types d.fields), knows.structs s d e, subst (λ j. slice_get (map (num env) (field_types d.fields)) j ≡ Some (num env f.1)) (let z : i.0 ≡ f.0 = omega (arith, i.1) in z) i.2))))
+      all_go IsPlace (env.structs s) _ (λ d e. all_go IsPlace (d.fields n) _ (λ f g. let has = knows.structs s d e in (h, (has.0, has.1, has.2 n f g))))
   field_at_ok _ q n h = tt
 
   read_ok : (q : Place) → IsPlace q → AllSome IsTyped (read_of env q)
@@ -220,7 +223,7 @@ module _ (p : t.Program) (env : Environment) (knows : Knows p env) (types : List
     where
       by_struct : (o : Option StructEntry) → env.structs n ≡ o → option_map (λ d. d.cells) o ≡ Some c → number_in env.struct_names n < length p.structs
       by_struct None q h = absurd (cc h)
-      by_struct (Some d) q h = slice_get_within p.structs (number_in env.struct_names n) _ (knows.structs n d q)
+      by_struct (Some d) q h = slice_get_within p.structs (number_in env.struct_names n) _ (knows.structs n d q).1
   held _ c e = absurd (cc e)
 
   abbrev IsHeldHere : ResolvedType → Type 0

@@ -52,7 +52,9 @@ later_trans a b c x y = record {
 
 knows_back : (p : t.Program) (w v : Environment) → Later w v → Knows p v → Knows p w
 knows_back p w v l k = record {
-  structs = λ n d h. subst (λ z. slice_get p.structs (number_in z n) ≡ Some (map (numbered z) (field_types d.fields))) l.struct_names (k.structs n d (l.structs n d h));
+  structs = λ n d h.
+      let at = k.structs n d (l.structs n d h) in
+      (at.0, subst (λ z. slice_get p.structs (number_in z n) ≡ Some at.0) l.struct_names at.1, λ m f q. at.2 m f q ∙ ap (λ z. Some (numbered z f.1)) l.struct_names);
   functions = λ n f h a.
       let g = l.functions n f h in
       let m = k.functions n g.0 g.1 (subst (λ z. is_among n z ≡ true) (sym l.function_names) a) in (

@@ -169,7 +169,7 @@ module _ (env : Environment) where
   -- a field of a complete struct
   abbrev pub field_at : ResolvedType → t.Place → Name → Option Place
   field_at (StructNamed s) q n =
-      and_so (env.structs s) (λ d. and_so (field_of 0 d.fields n) (λ f. Some (record { resolved = f.1; place = t.Field (number_in env.struct_names s) q f.0 })))
+      and_so (env.structs s) (λ d. and_so (d.fields n) (λ f. Some (record { resolved = f.1; place = t.Field (number_in env.struct_names s) q f.0 })))
   field_at _ q n = None
 
   -- a field of what a place holds

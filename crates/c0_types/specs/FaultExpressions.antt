@@ -153,7 +153,7 @@ module _ (env : Environment) (at : Context) (fault : Fault) where
   FieldCause r here x span =
       ((struct_name r ≡ None) × Told k.TypeMismatch here fault)
       ⊎ ((m : Name) × (struct_name r ≡ Some m) × (env.structs m ≡ None) × Told k.StructNotComplete span fault)
-      ⊎ ((m : Name) × (d : StructEntry) × (struct_name r ≡ Some m) × (env.structs m ≡ Some d) × (field_of 0 d.fields (name_of x) ≡ None) × Told k.UnknownField x.span fault)
+      ⊎ ((m : Name) × (d : StructEntry) × (struct_name r ≡ Some m) × (env.structs m ≡ Some d) × (d.fields (name_of x) ≡ None) × Told k.UnknownField x.span fault)
 
   -- `e.x`, by the place that e is
   abbrev pub DotCause : ExpressionKind → Span → n.Name → Span → Type 0

@@ -3,7 +3,7 @@ use Rattle.std.specs.Prelude.{◌≡◌, ℕ, suc, ◌+◌, nat_le, Bool, true, 
 use Rattle.std.specs.List.{list_all, list_any}
 use Rattle.c0_syntax.specs.Trees.{Spec, Statements, TypedName, Header, Declaration, UseLibrary, DeclareStruct, DefineStruct, Typedef, DeclareFunction, DefineFunction, Program}
 use Rattle.c0_typed.specs.Trees as t
-use Rattle.c0_types.specs.Types.{and_so, provided, Name, is_among, any_among, are_distinct, number_in, no_names, with_name, ResolvedType, VoidType, IntType, same_type, same_types, Table, resolved_type, small_type, result_type, FieldEntry, StructEntry, Signature, Environment, cells_of, output_named, is_ascii}
+use Rattle.c0_types.specs.Types.{and_so, provided, Name, is_among, any_among, are_distinct, number_in, no_names, with_name, ResolvedType, VoidType, IntType, same_type, same_types, Table, resolved_type, small_type, result_type, FieldEntry, StructEntry, field_of, Signature, Environment, cells_of, output_named, is_ascii}
 use Rattle.c0_types.specs.Mentions.{variables_in, condition_of, specs_in, statements_assign, texts_of, calls_of}
 use Rattle.c0_types.specs.Expressions.{Local, num}
 use Rattle.c0_types.specs.Assignment.{Reached, has_ended, flow_of_statements}
@@ -145,7 +145,7 @@ pub record Elaboration : Type 0 where
 abbrev pub with_struct : Name → List FieldEntry → Elaboration → Elaboration
 with_struct n fields e = record e {
   begun = true;
-  environment = record e.environment { structs = with_name n (record { fields = fields; cells = cells_in e.environment.structs fields }) e.environment.structs };
+  environment = record e.environment { structs = with_name n (record { fields = field_of 0 fields; cells = cells_in e.environment.structs fields }) e.environment.structs };
   structs = e.structs ++ map (num e.environment) (field_types fields) ∷ [];
 }
 

@@ -123,9 +123,9 @@ pub record FieldEntry : Type 0 where
   pub name : Name
   pub resolved : ResolvedType
 
--- a struct that is defined, with the number of its cells
+-- a struct that is defined: the number and the type of each field by its name, and how many cells it has
 pub record StructEntry : Type 0 where
-  pub fields : List FieldEntry
+  pub fields : Table (ℕ × ResolvedType)
   pub cells : ℕ
 
 -- a function that is declared, and whether it has been defined, too
