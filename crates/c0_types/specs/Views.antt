@@ -6,6 +6,10 @@ use Rattle.c0_source.specs.declared.fault.Fault.{Fault}
 use Rattle.c0_source.specs.declared.fault.FaultKind.TheVariants as k
 use Rattle.c0_types.specs.Types as t
 use Rattle.c0_types.specs.declared.resolved.ResolvedType.{ResolvedType, Void, Int, Bool, Char, Text, Struct, Pointer', Array'}
+use Rattle.c0_types.specs.declared.structs.FieldEntry.{FieldEntry}
+use Rattle.c0_types.specs.declared.structs.Fields.{Fields}
+use Rattle.c0_types.specs.declared.structs.StructEntry.{StructEntry}
+use Rattle.c0_types.specs.declared.structs.Structs.{Structs}
 use Rattle.c0_types.specs.declared.typedefs.Typedefs.{Typedefs}
 
 -- a type
@@ -22,6 +26,22 @@ resolved_of (Array' p a) = t.ArrayOf (resolved_of a)
 -- what each typedef stands for
 abbrev pub typedefs_of : Typedefs → t.Table t.ResolvedType
 typedefs_of x n = option_map resolved_of (get_by_text x.types n)
+
+-- a field
+abbrev pub field_entry_of : FieldEntry → ℕ × t.ResolvedType
+field_entry_of f = (f.number, resolved_of f.resolved)
+
+-- the fields of a struct
+abbrev pub field_table_of : Fields → t.Table (ℕ × t.ResolvedType)
+field_table_of x n = option_map field_entry_of (get_by_text x.entries n)
+
+-- a struct
+abbrev pub struct_entry_of : StructEntry → t.StructEntry
+struct_entry_of d = record { fields = field_table_of d.fields; cells = d.cells }
+
+-- the structs that are defined
+abbrev pub structs_of : Structs → t.Table t.StructEntry
+structs_of x n = option_map struct_entry_of (get_by_text x.entries n)
 
 -- Ok exactly where the rules give something, want of memory aside
 abbrev pub Answers : {T A : Type 0} → (T → A) → Result T Fault → Option A → Type 0

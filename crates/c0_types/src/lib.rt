@@ -3,6 +3,7 @@
 
 mod laws;
 pub mod resolved;
+pub mod structs;
 pub mod typedefs;
 
 pub use laws::{accepted_texts, elaborated, refused_texts};

@@ -3,12 +3,13 @@
 ghost use Rattle.std.specs.Prelude.{◌≡◌, ◌⊎◌, IfErr, OnOk, option_map};
 ghost use Rattle.c0_source.specs.declared.fault.FaultKind.TheVariants.{OutOfMemory};
 ghost use Rattle.c0_syntax.specs.Views.{name_of, type_of, type_of_kind};
-ghost use Rattle.c0_types.specs.FaultExpressions.{TypeCause};
-ghost use Rattle.c0_types.specs.Types.{no_names, resolved_type, with_name};
+ghost use Rattle.c0_types.specs.FaultExpressions.{ResultTypeCause, SmallTypeCause, TypeCause};
+ghost use Rattle.c0_types.specs.Types.{no_names, resolved_type, result_type, small_type, with_name};
 ghost use Rattle.c0_types.specs.Views.{Answers, resolved_of, typedefs_of};
 
 use crate::resolved::ResolvedType;
 use c0_source::fault::{Fault, FaultKind, Span};
+use c0_source::kind::Base;
 use c0_syntax::name::Name;
 use c0_syntax::value_type::{TypeKind, ValueType};
 use std::alloc::{AllocError, Global};
@@ -53,7 +54,34 @@ impl Typedefs {
         self.resolve_kind(alloc, &written.kind, written.span)
     }
 
-    // The same by its kind and its place.
+    /// The type of a local or a parameter. Beside what `resolve` refuses, a struct is.
+    pub fn resolve_small(&self, alloc: Global, written: &ValueType) -> Result<ResolvedType, Fault>
+        ensures answers { Answers resolved_of result (small_type (typedefs_of self.now) (type_of written.now)) }
+        ensures cause { IfErr result (λ f. (f.kind ≡ OutOfMemory) ⊎ SmallTypeCause (typedefs_of self.now) f written.now) }
+    {
+        let resolved = self.resolve(alloc, written)?;
+        if resolved.is_small() {
+            Ok(resolved)
+        } else {
+            Err(Fault {
+                kind: FaultKind::NotSmall,
+                span: written.span,
+            })
+        }
+    }
+
+    /// The type of a result: `void`, or a small one.
+    pub fn resolve_result(&self, alloc: Global, written: &ValueType) -> Result<ResolvedType, Fault>
+        ensures answers { Answers resolved_of result (result_type (typedefs_of self.now) (type_of written.now)) }
+        ensures cause { IfErr result (λ f. (f.kind ≡ OutOfMemory) ⊎ ResultTypeCause (typedefs_of self.now) f written.now) }
+    {
+        match written.kind {
+            TypeKind::Basic(Base::Void) => Ok(ResolvedType::Void),
+            _ => self.resolve_small(alloc, written),
+        }
+    }
+
+    // The same as `resolve`, by the kind and the place of a type.
     #[cycle(resolve)]
     fn resolve_kind(&self, alloc: Global, kind: &TypeKind, span: Span) -> Result<ResolvedType, Fault>
         ensures answers { Answers resolved_of result (resolved_type (typedefs_of self.now) (type_of_kind kind.now)) }
