@@ -9,7 +9,7 @@ use Rattle.c0_typed.specs.Typing as ty
 use Rattle.c0_types.specs.Types.{Name, is_among, number_in, IntType, same_type, same_types, Signature, Environment, numbered, is_ascii}
 use Rattle.c0_types.specs.Mentions.{Mention, OfVariable, OfFunction, OfText, function_of as called_of, text_of, declaration_mentions, program_mentions, texts_of, calls_of}
 use Rattle.c0_types.specs.Expressions.{num}
-use Rattle.c0_types.specs.Programs.{is_defined, field_types, Elaboration, typed_declaration, typed_declarations, beginning, main_name, is_main, is_callable, whole_agrees, program_from, typed_program}
+use Rattle.c0_types.specs.Programs.{is_defined, Elaboration, typed_declaration, typed_declarations, beginning, main_name, is_main, is_callable, whole_agrees, program_from, typed_program}
 use Rattle.c0_types.proofs.Rules.{both_true, same_type_is, same_types_are, AllSome, all_so, all_if, all_map}
 use Rattle.c0_types.proofs.Expressions.{Knows, IsNamed, AreNamed, named_left, named_right}
 use Rattle.c0_types.proofs.Declarations.{Later, Stands, Fitting, Goes, declaration_ok}
@@ -106,7 +106,6 @@ ascii_texts (y ∷ xs) e zero x q = let same : y ≡ x = cc q in subst (All (λ 
 ascii_texts (y ∷ xs) e (suc k) x q = ascii_texts xs (both_true (is_ascii y) (list_all is_ascii xs) e).1 k x q
 
 module _ (program : Program) (e : Elaboration) (en : Ends program (beginning program) e) where
-
   main_is : (o : Option Signature) → e.environment.functions main_name ≡ o → is_main o ≡ true
       → (f : t.Function) × (slice_get e.functions (number_in e.environment.function_names main_name) ≡ Some f) × (f.parameters ≡ []) × (f.result ≡ t.IntTy)
   main_is None q h = absurd (cc h)

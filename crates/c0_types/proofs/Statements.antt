@@ -66,8 +66,8 @@ module _ (p : t.Program) (env : Environment) (knows : Knows p env) (types : List
         v.0,
         map (num env) g.0 ++ v.1,
         v.2 ∙ ap (λ r. num env r ∷ v.0 ++ map (num env) k.declared ++ v.1) g.3 ∙ ap (λ l. num env s.result ∷ v.0 ++ l ++ v.1) ds
-        ∙ ap (λ l. num env s.result ∷ l ++ v.1) (sym (append_assoc v.0 (map (num env) s.declared) (map (num env) g.0)))
-        ∙ ap (λ l. num env s.result ∷ l) (append_assoc (v.0 ++ map (num env) s.declared) (map (num env) g.0) v.1),
+            ∙ ap (λ l. num env s.result ∷ l ++ v.1) (sym (append_assoc v.0 (map (num env) s.declared) (map (num env) g.0)))
+            ∙ ap (λ l. num env s.result ∷ l) (append_assoc (v.0 ++ map (num env) s.declared) (map (num env) g.0) v.1),
         v.3 ∙ g.2,
       )
 
@@ -209,9 +209,10 @@ module _ (p : t.Program) (env : Environment) (knows : Knows p env) (types : List
     statement_ok (IfElse c a b) s m =
         let first = named_left p env (mentions c ++ statement_mentions a) (statement_mentions b) m in
         all_go (Good s) (expression_as env BoolType s c) _ (λ z q. all_so (Good s) (Good s) (typed_statement env a s) _ (statement_ok a s (named_right p env (mentions c) _ first)) (λ x g.
-        all_so (Good (leave s x.scope)) (Good s) (typed_statement env b (leave s x.scope)) _ (statement_ok b (leave s x.scope) (named_right p env (mentions c ++ statement_mentions a) _ m)) (λ y i.
-        (grows_trans s x.scope y.scope g.0 i.0,
-         λ v sc. ((expression_has BoolType s c z (named_left p env (mentions c) _ first) sc q, (g.1 (within_back x.scope y.scope i.0 v) sc).0, (i.1 v sc).0), sc)))))
+        all_so (Good (leave s x.scope)) (Good s) (typed_statement env b (leave s x.scope)) _ (statement_ok b (leave s x.scope) (named_right p env (mentions c ++ statement_mentions a) _ m)) (λ y i. (
+          grows_trans s x.scope y.scope g.0 i.0,
+          λ v sc. ((expression_has BoolType s c z (named_left p env (mentions c) _ first) sc q, (g.1 (within_back x.scope y.scope i.0 v) sc).0, (i.1 v sc).0), sc),
+        ))))
     statement_ok (While c notes a) s m =
         let first = named_left p env (mentions c ++ spec_mentions (specs_in notes)) (statement_mentions a) m in
         all_go (Good s) (expression_as env BoolType s c) _ (λ z q. all_go (Good s) (conditions_of_all env Invariant (within s) (specs_in notes)) _ (λ xs r.
@@ -236,9 +237,15 @@ module _ (p : t.Program) (env : Environment) (knows : Knows p env) (types : List
               let vx = within_back x.scope y.scope gy.0 vy in
               let fx = gx.1 vx sc in
               let fy = gy.1 vy fx.1 in (
-                (fx.0,
-                 (conditions_have Invariant x.scope (specs_in notes) xs (named_right p env m3 (spec_mentions (specs_in notes)) n4) fx.1 r,
-                  expression_has BoolType x.scope c z (named_right p env m1 (mentions c) n2) fx.1 q, fy.0, (gw.1 v fx.1).0)),
+                (
+                  fx.0,
+                  (
+                    conditions_have Invariant x.scope (specs_in notes) xs (named_right p env m3 (spec_mentions (specs_in notes)) n4) fx.1 r,
+                    expression_has BoolType x.scope c z (named_right p env m1 (mentions c) n2) fx.1 q,
+                    fy.0,
+                    (gw.1 v fx.1).0,
+                  ),
+                ),
                 sc,
               ),
         )))))))

@@ -1,15 +1,14 @@
 -- Maps with names as keys, read as tables.
-use Rattle.std.proofs.Common.{◌≡◌, ℕ, List, [], ◌∷◌, refl, sym, ap, ◌∙◌, subst, Bool, true, false, Option, Some, None}
-use Rattle.std.specs.Prelude.{String, ◌&&◌, cond, nat_eq, bytes_eq, option_map}
+use Rattle.std.proofs.Common.{◌≡◌, [], ◌∷◌, refl, sym, ap, ◌∙◌, subst, Bool, true, false, Option, Some}
+use Rattle.std.specs.Prelude.{String, ◌&&◌, cond, bytes_eq, option_map}
 use Rattle.std.specs.BTreeMap.{BTreeMap, UpdatesBy, get_by_text}
 use Rattle.std.specs.Cmp.Lexicographic.{slice_cmp}
 use Rattle.std.specs.Ordering.{nat_cmp}
 use Rattle.std.specs.String.{string_cmp, string_bytes}
 use Rattle.std.proofs.lemmas.Map.Text.{btree_map_updates_text}
 use Rattle.std.proofs.lemmas.Bool.{eq-eqb}
-use Rattle.c0_types.specs.Types.{Name, Table, with_name}
+use Rattle.c0_types.specs.Types.{Name, with_name}
 use Rattle.c0_types.proofs.Rules.{same_name_is}
-use borrow.Author.Tests.{eqb-true}
 
 same_self : (n : Name) → bytes_eq n n ≡ true
 same_self [] = refl

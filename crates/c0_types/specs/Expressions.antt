@@ -10,7 +10,7 @@ use Rattle.c0_syntax.specs.declared.operator.PrefixOperator.TheVariants as p
 use Rattle.c0_syntax.specs.Trees.{ValueType, Expression, Number, Character, Truth, Null, Text, Variable, Parenthesized, Call, Alloc, AllocArray, Result, Length, Index, Field, PointerField, Unary, Binary, Conditional, Expressions, none, more}
 use Rattle.c0_typed.specs.Values as v
 use Rattle.c0_typed.specs.Trees as t
-use Rattle.c0_types.specs.Types.{and_so, provided, Name, number_in, ResolvedType, VoidType, IntType, BoolType, CharType, StringType, StructNamed, PointerTo, ArrayOf, same_type, resolved_type, is_small, Signature, Environment, field_of, numbered, cells_of, output_takes, output_named}
+use Rattle.c0_types.specs.Types.{and_so, provided, Name, number_in, ResolvedType, VoidType, IntType, BoolType, CharType, StringType, StructNamed, PointerTo, ArrayOf, same_type, resolved_type, is_small, Signature, Environment, numbered, cells_of, output_takes, output_named}
 
 -- ---- operators
 

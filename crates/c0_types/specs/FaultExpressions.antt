@@ -1,21 +1,18 @@
 -- What is wrong with a type or an expression, and at which place: the cause of each fault. Places stand in the trees of
 -- the code alone, so causes are told of those trees, by recursion; what stands around a node is told by the rules.
-use Rattle.std.specs.Prelude.{◌≡◌, ◌≢◌, ◌⊎◌, ℕ, zero, suc, ◌&&◌, nat_lt, Bool, true, false, List, [], ◌∷◌, length, Option, Some, None, find, bytes_eq}
-use Rattle.c0_source.specs.declared.kind.Base.{Base}
+use Rattle.std.specs.Prelude.{◌≡◌, ◌≢◌, ◌⊎◌, ℕ, suc, ◌&&◌, nat_lt, Bool, true, false, List, [], ◌∷◌, length, Option, Some, None}
 use Rattle.c0_source.specs.declared.fault.Fault.{Fault}
 use Rattle.c0_source.specs.declared.fault.FaultKind.{FaultKind}
 use Rattle.c0_source.specs.declared.fault.FaultKind.TheVariants as k
 use Rattle.c0_source.specs.declared.fault.Span.{Span}
-use Rattle.c0_source.specs.declared.kind.Operator.{Operator}
 use Rattle.c0_syntax.specs.declared.operator.PrefixOperator.{PrefixOperator}
 use Rattle.c0_syntax.specs.declared.operator.PrefixOperator.TheVariants as o
 use Rattle.c0_syntax.specs.declared.name.Name as n
 use Rattle.c0_syntax.specs.declared.value_type.ValueType as u
 use Rattle.c0_syntax.specs.declared.value_type.TypeKind.{TypeKind, Basic, Struct, Named, Pointer', Array'}
 use Rattle.c0_syntax.specs.declared.expression.ExpressionKind.{ExpressionKind, Row_of-Expression, end_of-Expression, more_of-Expression, Number, Character, Truth, Null, Text, Variable, Parenthesized', Call', Alloc, AllocArray', Result, Length', Index', Field', PointerField', Unary', Binary', Conditional'}
-use Rattle.c0_syntax.specs.Trees as s
 use Rattle.c0_syntax.specs.Views.{name_of, type_of, expression_of_kind}
-use Rattle.c0_types.specs.Types.{ResolvedType, VoidType, IntType, BoolType, StructNamed, PointerTo, ArrayOf, Table, base_type, resolved_type, result_type, same_type, is_small, Name, StructEntry, Environment, field_of, cells_of}
+use Rattle.c0_types.specs.Types.{ResolvedType, VoidType, IntType, BoolType, StructNamed, PointerTo, ArrayOf, Table, base_type, resolved_type, result_type, same_type, is_small, Name, StructEntry, Environment, cells_of}
 use Rattle.c0_types.specs.Expressions.{OperatorRule, OnNumbers, Compares, Conjunction, Disjunction, operator_rule, Typing, Has, IsNull, Place, Context, local_of, Callee, takes, gives, as_wanted, compared, pointed, lengthed, callee, typed_expression, typed_place}
 
 -- a fault of this kind at this place

@@ -1,12 +1,11 @@
 -- What is wrong with a name or a text where it stands, once types are right: a local that is not assigned, an assigned
 -- parameter in `ensures`, a function without a definition, a text beyond ASCII.
-use Rattle.std.specs.Prelude.{◌≡◌, ◌⊎◌, ℕ, Bool, true, false, List, [], ◌∷◌, Option, Some, None, option_map}
+use Rattle.std.specs.Prelude.{◌≡◌, ◌⊎◌, Bool, true, false, List, [], ◌∷◌, Option, Some, None, option_map}
 use Rattle.std.specs.String.{string_bytes}
 use Rattle.c0_source.specs.declared.fault.Fault.{Fault}
 use Rattle.c0_source.specs.declared.fault.FaultKind.{FaultKind}
 use Rattle.c0_source.specs.declared.fault.FaultKind.TheVariants as k
 use Rattle.c0_source.specs.declared.fault.Span.{Span}
-use Rattle.c0_syntax.specs.declared.name.Name as n
 use Rattle.c0_syntax.specs.declared.expression.Expression as e
 use Rattle.c0_syntax.specs.declared.expression.ExpressionKind.{ExpressionKind, Row_of-Expression, end_of-Expression, more_of-Expression, Text, Variable, Parenthesized', Call', AllocArray', Length', Index', Field', PointerField', Unary', Binary', Conditional'}
 use Rattle.c0_syntax.specs.declared.statement.Spec as p
@@ -19,7 +18,7 @@ use Rattle.c0_syntax.specs.declared.statement.StatementKind.{StatementKind, Row_
 use Rattle.c0_syntax.specs.Views.{name_of, expression_of, simple_of, statement_of, statement_of_kind}
 use Rattle.c0_types.specs.Types.{is_among}
 use Rattle.c0_types.specs.Mentions.{Mention, OfVariable, OfFunction, OfText, as_variable}
-use Rattle.c0_types.specs.Assignment.{Flow, Ended, Reached, left_scope, flow_of_part, flow_of_statement}
+use Rattle.c0_types.specs.Assignment.{Flow, Reached, left_scope, flow_of_part, flow_of_statement}
 use Rattle.c0_types.specs.FaultExpressions.{Told}
 
 -- ---- names in expressions

@@ -1,5 +1,5 @@
 -- What is wrong with a declaration or a program, and at which place.
-use Rattle.std.specs.Prelude.{◌≡◌, ◌⊎◌, ℕ, nat_le, Bool, true, false, ◌&&◌, ◌||◌, not, List, [], ◌∷◌, map, length, Option, Some, None, is_some}
+use Rattle.std.specs.Prelude.{◌≡◌, ◌⊎◌, nat_le, Bool, true, false, ◌&&◌, ◌||◌, not, List, [], ◌∷◌, map, length, Option, Some, None, is_some}
 use Rattle.std.specs.String.{string_bytes}
 use Rattle.c0_source.specs.declared.fault.Fault.{Fault}
 use Rattle.c0_source.specs.declared.fault.FaultKind.{FaultKind}
@@ -15,11 +15,11 @@ use Rattle.c0_syntax.specs.declared.program.DeclarationKind.TheVariants as d
 use Rattle.c0_syntax.specs.declared.program.Declaration.{Declaration}
 use Rattle.c0_syntax.specs.declared.program.Program.{Program}
 use Rattle.c0_syntax.specs.Views.{name_of, spec_of, statements_of, typed_name_of, header_of, declaration_of, program_of}
-use Rattle.c0_types.specs.Types.{Name, is_among, ResolvedType, VoidType, IntType, same_type, same_types, result_type, FieldEntry, Signature, Environment, output_named, is_ascii}
-use Rattle.c0_types.specs.Mentions.{Mention, OfVariable, OfFunction, OfText, specs_in, statements_assign}
+use Rattle.c0_types.specs.Types.{Name, is_among, ResolvedType, VoidType, same_type, result_type, FieldEntry, Signature, Environment, output_named, is_ascii}
+use Rattle.c0_types.specs.Mentions.{Mention, OfVariable, OfFunction, OfText, statements_assign}
 use Rattle.c0_types.specs.Expressions.{Context}
 use Rattle.c0_types.specs.Assignment.{Flow, Reached, has_ended, flow_of_statements}
-use Rattle.c0_types.specs.Statements.{Role, Precondition, Postcondition, role_of, same_role, Scope, is_function}
+use Rattle.c0_types.specs.Statements.{Precondition, Postcondition, role_of, same_role, is_function}
 use Rattle.c0_types.specs.Programs.{parameter_types, parameters_from, same_signature, signature, with_function, result_of, Parts, typed_parts, fields_of, cells_in, cell_limit, Elaboration, is_conio, typed_declaration, typed_declarations, beginning, main_name, is_defined, is_main, is_callable}
 use Rattle.c0_types.specs.FaultExpressions.{Told, TypeCause, SmallTypeCause, ResultTypeCause, HeldTypeCause}
 use Rattle.c0_types.specs.FaultStatements.{InCondition, InBody}

@@ -1,10 +1,9 @@
 -- What is wrong with a statement, and at which place. A statement stands behind others: what is in scope there is what
 -- the rules give of those.
-use Rattle.std.specs.Prelude.{◌≡◌, ◌⊎◌, ℕ, Bool, true, false, List, [], ◌∷◌, Option, Some, None, option_map}
+use Rattle.std.specs.Prelude.{◌≡◌, ◌⊎◌, Bool, true, false, List, [], ◌∷◌, Option, Some, None, option_map}
 use Rattle.c0_source.specs.declared.fault.Fault.{Fault}
 use Rattle.c0_source.specs.declared.fault.FaultKind.TheVariants as k
 use Rattle.c0_source.specs.declared.fault.Span.{Span}
-use Rattle.c0_syntax.specs.declared.operator.PrefixOperator.{PrefixOperator}
 use Rattle.c0_syntax.specs.declared.operator.PrefixOperator.TheVariants as o
 use Rattle.c0_syntax.specs.declared.name.Name as n
 use Rattle.c0_syntax.specs.declared.expression.Expression as e
@@ -22,7 +21,7 @@ use Rattle.c0_types.specs.Types.{ResolvedType, VoidType, IntType, BoolType, Stri
 use Rattle.c0_types.specs.Mentions.{as_variable}
 use Rattle.c0_types.specs.Expressions.{operator_rule, Context}
 use Rattle.c0_types.specs.Statements.{Role, Invariant, Assertion, role_of, same_role, Scope, Checked, leave, within, Destination, ToLocal, ToPlace, change_of, declares, is_taken, destination, typed_part, typed_statement}
-use Rattle.c0_types.specs.FaultExpressions.{Told, SmallTypeCause, Position, AsValue, AsPlace, Mistyped, CallCause, InExpression, InArguments}
+use Rattle.c0_types.specs.FaultExpressions.{Told, SmallTypeCause, AsValue, AsPlace, Mistyped, CallCause, InExpression, InArguments}
 
 -- the type of what a destination holds
 abbrev pub destination_type : Destination → ResolvedType

@@ -145,7 +145,7 @@ not_small =
     ∷ pair 34 (s_defined ∷ DeclareFunction (header struct_s f [] []) ∷ a_main ∷ []) (s_defined ∷ DeclareFunction (header (Pointer struct_s) f [] []) ∷ a_main ∷ [])
     -- what is assigned
     ∷ pair 34 (then_main (s_defined ∷ []) (initialize (Pointer struct_s) x (Alloc struct_s) ∷ assign (star (var x)) (star (var x)) ∷ []))
-        (then_main (s_defined ∷ []) (initialize (Pointer struct_s) x (Alloc struct_s) ∷ assign (PointerField (var x) x) (PointerField (var x) x) ∷ []))
+    (then_main (s_defined ∷ []) (initialize (Pointer struct_s) x (Alloc struct_s) ∷ assign (PointerField (var x) x) (PointerField (var x) x) ∷ []))
     -- an element of an array
     ∷ pair 34 (then_main (s_defined ∷ []) (evaluate (Index (AllocArray struct_s (num 1)) (num 0)) ∷ [])) (then_main (s_defined ∷ []) (evaluate (Field (Index (AllocArray struct_s (num 1)) (num 0)) x) ∷ []))
     ∷ []
@@ -198,13 +198,13 @@ abbrev pub not_assigned : List Pair
 not_assigned =
     -- int x; if (true) x = 1; x;   and an `else` that assigns it, too
     pair 38 (only_main (declare int x ∷ If (Truth true) (assign (var x) (num 1)) ∷ evaluate (var x) ∷ []))
-        (only_main (declare int x ∷ IfElse (Truth true) (assign (var x) (num 1)) (assign (var x) (num 2)) ∷ evaluate (var x) ∷ []))
+    (only_main (declare int x ∷ IfElse (Truth true) (assign (var x) (num 1)) (assign (var x) (num 2)) ∷ evaluate (var x) ∷ []))
     -- an `else` that assigns another local, and one that ends in error
     ∷ pair 38 (only_main (declare int x ∷ declare int y ∷ IfElse (Truth true) (assign (var x) (num 1)) (assign (var y) (num 2)) ∷ evaluate (var x) ∷ []))
-        (only_main (declare int x ∷ declare int y ∷ IfElse (Truth true) (assign (var x) (num 1)) (Error (Text [])) ∷ evaluate (var x) ∷ []))
+    (only_main (declare int x ∷ declare int y ∷ IfElse (Truth true) (assign (var x) (num 1)) (Error (Text [])) ∷ evaluate (var x) ∷ []))
     -- int x; while (true) x = 1; x;   and   x = 1; before
     ∷ pair 38 (only_main (declare int x ∷ While (Truth true) [] (assign (var x) (num 1)) ∷ evaluate (var x) ∷ []))
-        (only_main (declare int x ∷ assign (var x) (num 1) ∷ While (Truth true) [] (assign (var x) (num 1)) ∷ evaluate (var x) ∷ []))
+    (only_main (declare int x ∷ assign (var x) (num 1) ∷ While (Truth true) [] (assign (var x) (num 1)) ∷ evaluate (var x) ∷ []))
     -- int x; x += 1;   and   int x = 1; x += 1;
     ∷ pair 38 (only_main (declare int x ∷ add_to (var x) (num 1) ∷ [])) (only_main (initialize int x (num 1) ∷ add_to (var x) (num 1) ∷ []))
     -- int x; x++;   and   int x = 1; x++;
@@ -213,12 +213,12 @@ not_assigned =
     ∷ pair 38 (only_main (declare (Pointer int) x ∷ assign (star (var x)) (num 1) ∷ [])) (only_main (declare (Pointer int) x ∷ assign (var x) (Alloc int) ∷ assign (star (var x)) (num 1) ∷ []))
     -- the third part of `for` sees what its body assigned, and the condition does not
     ∷ pair 38 (only_main (declare int x ∷ For None (less (var x) (num 1)) None [] (assign (var x) (num 1)) ∷ []))
-        (only_main (declare int x ∷ For None (Truth true) (Some (Step (var x) c.Increment)) [] (assign (var x) (num 1)) ∷ []))
+    (only_main (declare int x ∷ For None (Truth true) (Some (Step (var x) c.Increment)) [] (assign (var x) (num 1)) ∷ []))
     -- behind `return` everything counts as assigned, locals declared there, too; not behind assert(false)
     ∷ pair 38 (main_with (Assert (Truth false) ∷ declare int x ∷ ReturnValue (var x) ∷ []) ∷ []) (main_with (ReturnValue (num 0) ∷ declare int x ∷ ReturnValue (var x) ∷ []) ∷ [])
     -- what a loop's body assigns does not count in an invariant
     ∷ pair 38 (only_main (declare int x ∷ While (Truth true) ((Contract k.LoopInvariant (equal (var x) (num 1)) ∷ []) ∷ []) (assign (var x) (num 1)) ∷ []))
-        (only_main (initialize int x (num 1) ∷ While (Truth true) ((Contract k.LoopInvariant (equal (var x) (num 1)) ∷ []) ∷ []) (assign (var x) (num 1)) ∷ []))
+    (only_main (initialize int x (num 1) ∷ While (Truth true) ((Contract k.LoopInvariant (equal (var x) (num 1)) ∷ []) ∷ []) (assign (var x) (num 1)) ∷ []))
     -- what follows in a scope of its own
     ∷ pair 38 (only_main (block (initialize int x (num 1) ∷ []) ∷ declare int x ∷ evaluate (var x) ∷ [])) (only_main (block (declare int x ∷ []) ∷ initialize int x (num 1) ∷ evaluate (var x) ∷ []))
     ∷ []
@@ -247,7 +247,7 @@ not_defined =
     ∷ pair 40 (then_main (f_declared ∷ []) (evaluate (call1 f (num 1)) ∷ [])) (then_main (f_declared ∷ []) (evaluate (call1 f (num 1)) ∷ []) ++ an_f ∷ [])
     -- in a contract of a function that is never called
     ∷ pair 40 (f_declared ∷ DefineFunction (header void g [] (Contract k.Requires (equal (call1 f (num 1)) (num 1)) ∷ [])) (in_order []) ∷ a_main ∷ [])
-        (f_declared ∷ DefineFunction (header void g [] (Contract k.Requires (equal (num 1) (num 1)) ∷ [])) (in_order []) ∷ a_main ∷ [])
+    (f_declared ∷ DefineFunction (header void g [] (Contract k.Requires (equal (num 1) (num 1)) ∷ [])) (in_order []) ∷ a_main ∷ [])
     -- behind a `return`
     ∷ pair 40 (f_declared ∷ main_with (ReturnValue (num 0) ∷ evaluate (call1 f (num 1)) ∷ []) ∷ []) (f_declared ∷ main_with (ReturnValue (num 0) ∷ evaluate (num 1) ∷ []) ∷ [])
     ∷ []
@@ -302,7 +302,7 @@ bad_contract =
     ∷ pair 44 (f_with [] (ReturnValue Result ∷ []) ∷ a_main ∷ []) (f_with [] (ReturnValue (var x) ∷ []) ∷ a_main ∷ [])
     -- \result of a function of void, and of int
     ∷ pair 44 (DefineFunction (header void f [] (Contract k.Ensures (equal Result Result) ∷ [])) (in_order []) ∷ a_main ∷ [])
-        (DefineFunction (header int f [] (Contract k.Ensures (equal Result Result) ∷ [])) (in_order (ReturnValue (num 1) ∷ [])) ∷ a_main ∷ [])
+    (DefineFunction (header int f [] (Contract k.Ensures (equal Result Result) ∷ [])) (in_order (ReturnValue (num 1) ∷ [])) ∷ a_main ∷ [])
     -- loop_invariant at a function, and requires
     ∷ pair 44 (f_with (Contract k.LoopInvariant (Truth true) ∷ []) (ReturnValue (num 1) ∷ []) ∷ a_main ∷ []) (f_with (Contract k.Requires (Truth true) ∷ []) (ReturnValue (num 1) ∷ []) ∷ a_main ∷ [])
     -- assert at a function
@@ -339,7 +339,7 @@ step_declares =
     pair 46 (only_main (For None (Truth true) (Some (Declare int x)) [] (block []) ∷ [])) (only_main (For (Some (Declare int x)) (Truth true) None [] (block []) ∷ []))
     -- for (int x = 0; true; int y = 1) {}   and   for (int x = 0; true; x++) {}
     ∷ pair 46 (only_main (For (Some (Initialize int x (num 0))) (Truth true) (Some (Initialize int y (num 1))) [] (block []) ∷ []))
-        (only_main (For (Some (Initialize int x (num 0))) (Truth true) (Some (Step (var x) c.Increment)) [] (block []) ∷ []))
+    (only_main (For (Some (Initialize int x (num 0))) (Truth true) (Some (Step (var x) c.Increment)) [] (block []) ∷ []))
     ∷ []
 
 -- uses of other libraries, or behind a declaration

@@ -4,6 +4,8 @@
 mod laws;
 pub mod resolved;
 pub mod structs;
+#[cfg(test)]
+mod tests;
 pub mod typedefs;
 
 pub use laws::{accepted_texts, elaborated, refused_texts};

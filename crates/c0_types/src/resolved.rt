@@ -41,7 +41,8 @@ impl ResolvedType {
     {
         match self {
             ResolvedType::Void | ResolvedType::Struct(_) => false,
-            ResolvedType::Int | ResolvedType::Bool | ResolvedType::Char | ResolvedType::Text => true,
+            ResolvedType::Int | ResolvedType::Bool | ResolvedType::Char | ResolvedType::Text =>
+                true,
             ResolvedType::Pointer(_) | ResolvedType::Array(_) => true,
         }
     }

@@ -95,7 +95,8 @@ impl Structs {
                 Some(entry) => Some(entry.cells),
                 None => None,
             },
-            ResolvedType::Int | ResolvedType::Bool | ResolvedType::Char | ResolvedType::Text => Some(1),
+            ResolvedType::Int | ResolvedType::Bool | ResolvedType::Char | ResolvedType::Text =>
+                Some(1),
             ResolvedType::Pointer(_) | ResolvedType::Array(_) => Some(1),
         }
     }

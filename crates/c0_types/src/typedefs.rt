@@ -83,7 +83,12 @@ impl Typedefs {
 
     // The same as `resolve`, by the kind and the place of a type.
     #[cycle(resolve)]
-    fn resolve_kind(&self, alloc: Global, kind: &TypeKind, span: Span) -> Result<ResolvedType, Fault>
+    fn resolve_kind(
+        &self,
+        alloc: Global,
+        kind: &TypeKind,
+        span: Span,
+    ) -> Result<ResolvedType, Fault>
         ensures answers { Answers resolved_of result (resolved_type (typedefs_of self.now) (type_of_kind kind.now)) }
         ensures cause { IfErr result (λ f. (f.kind ≡ OutOfMemory) ⊎ TypeCause (typedefs_of self.now) f kind.now span) }
     {

@@ -1,5 +1,4 @@
 use Rattle.std.proofs.Common.{rules, ◌≡◌, ap, ◌∙◌, string_bytes}
-use Rattle.std.proofs.lemmas.Result.{IfOk-at_ok}
 use Rattle.c0_syntax.specs.Views.{name_of}
 use Rattle.c0_types.specs.Types.{with_name}
 use Rattle.c0_types.specs.Views.{resolved_of, typedefs_of}
