@@ -1,11 +1,13 @@
 -- What code holds, read as the definitions have it.
-use Rattle.std.specs.Prelude.{◌≡◌, ◌⊎◌, ℕ, Option, Some, None, option_map, Result, Ok, Err}
+use Rattle.std.specs.Prelude.{◌≡◌, ◌⊎◌, ℕ, Option, Some, None, option_map, Result, Ok, Err, map}
 use Rattle.std.specs.String.{string_bytes}
 use Rattle.std.specs.BTreeMap.{get_by_text}
 use Rattle.c0_source.specs.declared.fault.Fault.{Fault}
 use Rattle.c0_source.specs.declared.fault.FaultKind.TheVariants as k
 use Rattle.c0_types.specs.Types as t
 use Rattle.c0_types.specs.declared.resolved.ResolvedType.{ResolvedType, Void, Int, Bool, Char, Text, Struct, Pointer', Array'}
+use Rattle.c0_types.specs.declared.signatures.Functions.{Functions}
+use Rattle.c0_types.specs.declared.signatures.Signature.{Signature}
 use Rattle.c0_types.specs.declared.structs.FieldEntry.{FieldEntry}
 use Rattle.c0_types.specs.declared.structs.Fields.{Fields}
 use Rattle.c0_types.specs.declared.structs.StructEntry.{StructEntry}
@@ -42,6 +44,14 @@ struct_entry_of d = record { fields = field_table_of d.fields; cells = d.cells }
 -- the structs that are defined
 abbrev pub structs_of : Structs → t.Table t.StructEntry
 structs_of x n = option_map struct_entry_of (get_by_text x.entries n)
+
+-- a function that is declared
+abbrev pub signature_of : Signature → t.Signature
+signature_of f = record { name = string_bytes f.name; result = resolved_of f.result; parameters = map resolved_of f.parameters.items; defined = f.defined }
+
+-- the functions that are declared
+abbrev pub functions_of : Functions → t.Table t.Signature
+functions_of x n = option_map signature_of (get_by_text x.entries n)
 
 -- Ok exactly where the rules give something, want of memory aside
 abbrev pub Answers : {T A : Type 0} → (T → A) → Result T Fault → Option A → Type 0

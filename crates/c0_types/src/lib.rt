@@ -3,6 +3,7 @@
 
 mod laws;
 pub mod resolved;
+pub mod signatures;
 pub mod structs;
 #[cfg(test)]
 mod tests;

@@ -1,6 +1,7 @@
 // Each call once; what they compute is in their contracts.
 
 use crate::resolved::ResolvedType;
+use crate::signatures::{Functions, Signature};
 use crate::structs::{FieldEntry, Fields, StructEntry, Structs};
 use crate::typedefs::Typedefs;
 use crate::{accepted_texts, elaborated, refused_texts};
@@ -91,5 +92,29 @@ fn structs_have_cells(rt: HostRuntime) -> Result<(), Fail> {
     )?;
     assert_eq!(rt; structs.cells(&named), Some(1));
     assert!(rt; structs.get("s").is_some());
+    Ok(())
+}
+
+fn taking(alloc: Global, parameter: ResolvedType) -> Result<Signature, AllocError> {
+    let mut parameters = Vec::new(alloc);
+    parameters.push(parameter)?;
+    Ok(Signature {
+        name: String::from_str(alloc, "f")?,
+        result: ResolvedType::Int,
+        parameters,
+        defined: false,
+    })
+}
+
+#[test]
+fn functions_are_declared(rt: HostRuntime) -> Result<(), Fail> {
+    let first = taking(rt.alloc(), ResolvedType::Int)?;
+    let second = taking(rt.alloc(), ResolvedType::Bool)?;
+    assert!(rt; first.same_as(&first));
+    assert!(rt; !first.same_as(&second));
+    let mut functions = Functions::new(rt.alloc());
+    functions.insert(String::from_str(rt.alloc(), "f")?, first)?;
+    assert!(rt; functions.get("f").is_some());
+    assert!(rt; functions.get("g").is_none());
     Ok(())
 }
