@@ -1,0 +1,9 @@
+pub mod Declarations
+pub mod Expressions
+pub mod Functions
+pub mod Programs
+pub mod Rules
+pub mod SameTypes
+pub mod Sizes
+pub mod Statements
+pub mod Tables
