@@ -114,6 +114,7 @@ module _ (g : Setting) (s : State) (p : Program) (a : Answer) where
 
   seeks_so : (o : ℕ) (c : Choice) → p.mode ≡ Bringing o → Leads s Q (seeks g p o c)
   seeks_so o choice.Next e = tt
+  seeks_so o (choice.Begin v) e = tt
   seeks_so o (choice.Look f) e = subst (IsCaused g p a) (sym e) tt
   seeks_so o (choice.Claim f) e =
       let t : State = act s (Claims g.mover o f) in
@@ -203,6 +204,7 @@ module _ (z : Sizes) (images : ℕ → Image) where
   other_program : (w u : World) (who : Actor) (c : Choice) (a : Answer) (k : ℕ) → acted z images w who c a ≡ Some u → (who ≡ actor.Program k) ⊎ (u.programs k ≡ w.programs k)
   other_program w u (actor.Program j) c a k e = elim (same_or k j) [ inl d ↦ inl (ap actor.Program (sym d)) | inr d ↦ inr (by_other w u j k d _ e) ]
   other_program w u (actor.Evacuator j) c a k e = inr (by_evacuator w u j k _ e)
+  other_program w u (actor.Fetcher j) c a k e = cc
 
   from_caused : (g : Setting) (p : Program) (a : Answer) (y : Mode) → IsCaused g p a y → HasFailed y → HasFailed p.mode ⊎ IsRefused g.size p.mode a
   from_caused g p a (Evicting o (NotStored v f)) is has = is

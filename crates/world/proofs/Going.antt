@@ -35,6 +35,7 @@ leads_next s Q choice.Next x ok = ok
 leads_next s Q (choice.Look f) x ok = tt
 leads_next s Q (choice.Claim f) x ok = tt
 leads_next s Q (choice.Mark o f) x ok = tt
+leads_next s Q (choice.Begin o) x ok = tt
 
 -- moving an object out stores nothing
 module _ {A : Type 0} (n : ℕ) (s : State) (m : ℕ) (a : Answer) (go : Eviction → A) (done failed : A) (Q : State → A → Type 0)
@@ -284,6 +285,7 @@ module _ (g : Setting) (s : State) (p : Program) (a : Answer) where
 
   seeks_to : (o : ℕ) (c : Choice) → IsAiming g p o → p.mode ≡ Bringing o → Leads s Q (seeks g p o c)
   seeks_to o choice.Next aiming e = tt
+  seeks_to o (choice.Begin v) aiming e = tt
   seeks_to o (choice.Look f) aiming e = stays s p refl refl still (subst (AimsIn g p) (sym e) aiming)
   seeks_to o (choice.Claim f) aiming e =
       let c : Call = Claims g.mover o f in

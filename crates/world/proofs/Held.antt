@@ -33,12 +33,14 @@ idle_counts s m choice.Next = tt
 idle_counts s m (choice.Look f) = λ o. refl
 idle_counts s m (choice.Claim f) = tt
 idle_counts s m (choice.Mark o f) = keeps_count s (Marks m o f) refl
+idle_counts s m (choice.Begin o) = tt
 
 moving_counts : (n : ℕ) (s : State) (m : ℕ) (e : Eviction) (c : Choice) (a : Answer) → Leads s (λ t (d : Option Eviction). CountsStay s t) (evacuator_turn n m (Some e) c a)
 moving_counts n s m e choice.Next a = evicts_counts n s m a Some None None e
 moving_counts n s m e (choice.Look f) a = tt
 moving_counts n s m e (choice.Claim f) a = tt
 moving_counts n s m e (choice.Mark o f) a = tt
+moving_counts n s m e (choice.Begin o) a = tt
 
 evacuator_counts : (n : ℕ) (s : State) (m : ℕ) (d : Option Eviction) (c : Choice) (a : Answer) → Leads s (λ t (d : Option Eviction). CountsStay s t) (evacuator_turn n m d c a)
 evacuator_counts n s m None c a = idle_counts s m c
@@ -78,6 +80,7 @@ module _ (laws : Laws) (h : Type 0) (sure : h) (z : Sizes) (images : ℕ → Ima
   by_actor : (w u : World) (who : Actor) (c : Choice) (a : Answer) → acted z images w who c a ≡ Some u → AllFollow z images w → AllHold z images w → AllHold z images u
   by_actor w u (actor.Program k) c a e all is = by_program w u k c a _ refl e all is
   by_actor w u (actor.Evacuator k) c a e all is = by_evacuator w u k c a _ refl e is
+  by_actor w u (actor.Fetcher k) c a e all is = cc
 
   all_hold : (w u : World) (e : Event) → event z images w e ≡ Some u → AllFollow z images w → AllHold z images w → AllHold z images u
   all_hold w u e b all is = by_actor w u e.actor e.choice e.answer (enabled (is_actor z e.actor && in_range z e.choice) (acted z images w e.actor e.choice e.answer) u b).1 all is

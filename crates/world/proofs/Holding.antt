@@ -177,6 +177,7 @@ module _ (g : Setting) (s : State) (p : Program) (a : Answer) (there : (k : ℕ)
 
   seeks_h : (o : ℕ) (c : Choice) → Leads s Q (seeks g p o c)
   seeks_h o choice.Next = tt
+  seeks_h o (choice.Begin v) = tt
   seeks_h o (choice.Look f) = same p refl
   seeks_h o (choice.Claim f) =
       let c : Call = Claims g.mover o f in

@@ -35,6 +35,7 @@ as_next_ok h n s m Q choice.Next x ok = ok
 as_next_ok h n s m Q (choice.Look f) x ok = tt
 as_next_ok h n s m Q (choice.Claim f) x ok = tt
 as_next_ok h n s m Q (choice.Mark o f) x ok = tt
+as_next_ok h n s m Q (choice.Begin o) x ok = tt
 
 module _ (h : Type 0) (g : Setting) (s : State) (p : Program) (a : Answer) (inv : Inv h g.size s) where
   -- the mode of the program, with what it has in hand
@@ -181,6 +182,7 @@ module _ (h : Type 0) (g : Setting) (s : State) (p : Program) (a : Answer) (inv 
 
   seeks_ok : (o : ℕ) (c : Choice) → OnlyBrings o (s.hand g.mover) → p.mode ≡ Bringing o → Ok (seeks g p o c)
   seeks_ok o choice.Next only m = tt
+  seeks_ok o (choice.Begin v) only m = tt
   seeks_ok o (choice.Look f) only m = subst (λ y. FitsMode h g.size s.far (s.hand g.mover) y) (sym m) only
   seeks_ok o (choice.Claim f) only m = claim_ok o f only m
   seeks_ok o (choice.Mark v f) only m = mark_ok o v f only m
@@ -237,6 +239,7 @@ module _ (h : Type 0) (n : ℕ) (s : State) (m : ℕ) where
   idle_ok choice.Next has = tt
   idle_ok (choice.Look f) has = has
   idle_ok (choice.Claim f) has = tt
+  idle_ok (choice.Begin o) has = tt
   idle_ok (choice.Mark o f) has =
       let t : State = act s (Marks m o f) in
       let tried = marks s m o f in (

@@ -48,12 +48,14 @@ idle_leads s m choice.Next = tt
 idle_leads s m (choice.Look f) = λ o i. refl
 idle_leads s m (choice.Claim f) = tt
 idle_leads s m (choice.Mark o f) = keeps_latest s (Marks m o f) refl
+idle_leads s m (choice.Begin o) = tt
 
 moving_leads : (n : ℕ) (s : State) (m : ℕ) (e : Eviction) (c : Choice) (a : Answer) → Leads s (Same s) (evacuator_turn n m (Some e) c a)
 moving_leads n s m e choice.Next a = leads_evicts n s m a Some None None (Same s) (λ t d same. same) (λ t same. same) (λ t same. same) e
 moving_leads n s m e (choice.Look f) a = tt
 moving_leads n s m e (choice.Claim f) a = tt
 moving_leads n s m e (choice.Mark o f) a = tt
+moving_leads n s m e (choice.Begin o) a = tt
 
 evacuator_leads : (n : ℕ) (s : State) (m : ℕ) (d : Option Eviction) (c : Choice) (a : Answer) → Leads s (Same s) (evacuator_turn n m d c a)
 evacuator_leads n s m None c a = idle_leads s m c
@@ -93,6 +95,7 @@ module _ (laws : Laws) (h : Type 0) (sure : h) (z : Sizes) (images : ℕ → Ima
   by_actor : (w u : World) (who : Actor) (c : Choice) (a : Answer) → acted z images w who c a ≡ Some u → IsSound h z w → AllFollow z images w → AllFollow z images u
   by_actor w u (actor.Program k) c a e is all = by_program w u k c a _ refl e is all
   by_actor w u (actor.Evacuator k) c a e is all = by_evacuator w u k c a _ refl e all
+  by_actor w u (actor.Fetcher k) c a e is all = cc
 
   pub all_follow : (w u : World) (e : Event) → event z images w e ≡ Some u → IsSound h z w → AllFollow z images w → AllFollow z images u
   all_follow w u e b is all = by_actor w u e.actor e.choice e.answer (enabled (is_actor z e.actor && in_range z e.choice) (acted z images w e.actor e.choice e.answer) u b).1 is all

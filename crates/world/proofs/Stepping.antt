@@ -143,6 +143,7 @@ by_actor : (h : Type 0) (z : Sizes) (images : ℕ → Image) (w u : World) (who 
     → (h → IsHonest z w who a) → IsSound h z w → Happened h z w who u
 by_actor h z images w u (actor.Program k) c a there e honest is = by_program h z images w u k c a _ (below k z.programs there) refl e honest is
 by_actor h z images w u (actor.Evacuator k) c a there e honest is = by_evacuator h z w u k c a _ (below k z.evacuators there) refl e is
+by_actor h z images w u (actor.Fetcher k) c a there e honest is = cc
 
 pub happened : (h : Type 0) (z : Sizes) (images : ℕ → Image) (w u : World) (e : Event) → event z images w e ≡ Some u → (h → IsHonest z w e.actor e.answer) → IsSound h z w → Happened h z w e.actor u
 happened h z images w u e is honest sound =

@@ -176,6 +176,7 @@ seeks g p o (choice.Look f) = Alone p
 seeks g p o (choice.Claim f) = Calls (Claims g.mover o f) (claimed_so g p o f)
 seeks g p o (choice.Mark v f) = Calls (Marks g.mover v f) (marked_so g p o v f)
 seeks g p o choice.Next = NotEnabled
+seeks g p o (choice.Begin v) = NotEnabled
 
 -- after a read of the store
 abbrev pub read_so : ℕ → ℕ → Option (List ℕ) → Mode

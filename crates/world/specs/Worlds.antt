@@ -1,5 +1,5 @@
 -- The world: programs and evacuators over one machine of words, frames and cells, and its events.
-use Rattle.std.specs.Prelude.{◌≡◌, ℕ, suc, ◌+◌, ◌*◌, ◌/◌, ◌<◌, cond, ◌&&◌, nat_lt, Bool, true, Option, Some, None, List, [], ◌∷◌}
+use Rattle.std.specs.Prelude.{◌≡◌, ℕ, suc, ◌+◌, ◌*◌, ◌/◌, ◌<◌, cond, ◌&&◌, nat_lt, Bool, true, false, Option, Some, None, List, [], ◌∷◌}
 use Rattle.code_form.specs.Form.{Image}
 use Rattle.pointer_word.specs.Hands.{upd, listed}
 use Rattle.pointer_word.specs.Machine.{Far, Kept, State, opening}
@@ -34,10 +34,11 @@ pub record Event : Type 0 where
 abbrev pub share : Sizes → ℕ
 share z = z.objects / z.programs
 
--- the number of an actor as a mover: programs first, from 1
+-- the number of an actor as a mover: programs first, from 1, then evacuators, then fetchers
 abbrev pub mover_of : Sizes → Actor → ℕ
 mover_of z (actor.Program k) = suc k
 mover_of z (actor.Evacuator k) = suc (z.programs + k)
+mover_of z (actor.Fetcher k) = suc (z.programs + z.evacuators + k)
 
 -- what program k runs on
 abbrev pub setting : Sizes → (ℕ → Image) → ℕ → Setting
@@ -53,11 +54,13 @@ in_range z choice.Next = true
 in_range z (choice.Look f) = nat_lt f z.frames
 in_range z (choice.Claim f) = nat_lt f z.frames
 in_range z (choice.Mark o f) = nat_lt o z.objects && nat_lt f z.frames
+in_range z (choice.Begin o) = nat_lt o z.objects
 
--- there is such an actor
+-- there is such an actor; there are no fetchers yet
 abbrev pub is_actor : Sizes → Actor → Bool
 is_actor z (actor.Program k) = nat_lt k z.programs
 is_actor z (actor.Evacuator k) = nat_lt k z.evacuators
+is_actor z (actor.Fetcher k) = false
 
 -- the world after a turn of program k
 abbrev pub with_program : World → ℕ → Option (State × Program) → Option World
@@ -73,6 +76,7 @@ with_evacuator w k (Some r) = Some (record w { lock = r.0; evacuators = upd w.ev
 abbrev pub acted : Sizes → (ℕ → Image) → World → Actor → Choice → Answer → Option World
 acted z images w (actor.Program k) c a = with_program w k (taken z.cells w.lock (program_turn (setting z images k) w.lock (w.programs k) c a))
 acted z images w (actor.Evacuator k) c a = with_evacuator w k (taken z.cells w.lock (evacuator_turn z.cells (mover_of z (actor.Evacuator k)) (w.evacuators k) c a))
+acted z images w (actor.Fetcher k) c a = None
 
 -- The world after an event; none where it isn't enabled
 abbrev pub event : Sizes → (ℕ → Image) → World → Event → Option World
@@ -92,6 +96,7 @@ ReadsHonestly n s _ read = Unit {0}
 abbrev pub IsHonest : Sizes → World → Actor → Answer → Type 0
 IsHonest z w (actor.Program k) a = ReadsHonestly z.cells w.lock (w.programs k).mode a.read
 IsHonest z w (actor.Evacuator k) a = Unit {0}
+IsHonest z w (actor.Fetcher k) a = Unit {0}
 
 -- A list of events leads from one world to another; h says that the store is honest
 abbrev pub Follows : Type 0 → Sizes → (ℕ → Image) → World → List Event → World → Type 0

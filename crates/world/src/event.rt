@@ -5,6 +5,7 @@
 pub enum Actor {
     Program(u32),
     Evacuator(u32),
+    Fetcher(u32),
 }
 
 /// What an actor chooses to do in an event.
@@ -18,4 +19,6 @@ pub enum Choice {
     Claim(u32),
     /// Tries to mark an object in a frame, to move it out.
     Mark(u32, u32),
+    /// Begins to bring an object in.
+    Begin(u32),
 }
