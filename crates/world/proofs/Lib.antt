@@ -1,3 +1,4 @@
+pub mod Showing
 pub mod Schedules
 pub mod Calling
 pub mod Moving

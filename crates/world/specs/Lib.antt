@@ -7,3 +7,5 @@ pub mod Following
 pub mod Causes
 pub mod Holding
 pub mod Rows
+pub mod Tables
+pub mod Shown

@@ -3,6 +3,8 @@
 
 mod event;
 mod laws;
+mod lock;
+mod machine;
 
 pub use event::{Actor, Choice};
 pub use laws::{every_schedule, programs_follow, wants, worked_schedules};
