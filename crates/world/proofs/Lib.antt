@@ -1,3 +1,4 @@
+pub mod Placing
 pub mod Showing
 pub mod Schedules
 pub mod Calling

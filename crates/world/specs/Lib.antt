@@ -7,5 +7,6 @@ pub mod Following
 pub mod Causes
 pub mod Holding
 pub mod Rows
+pub mod Seats
 pub mod Tables
 pub mod Shown

@@ -5,6 +5,7 @@ mod event;
 mod laws;
 mod lock;
 mod machine;
+mod program;
 
 pub use event::{Actor, Choice};
 pub use laws::{every_schedule, programs_follow, wants, worked_schedules};
