@@ -1,3 +1,5 @@
+pub mod MovedOut
+pub mod Acting
 pub mod Placing
 pub mod Showing
 pub mod Schedules

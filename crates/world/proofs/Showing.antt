@@ -12,6 +12,7 @@ use Rattle.remote_store.specs.Kept.{piece_cells}
 use Rattle.world.specs.declared.machine.Object.{Object}
 use Rattle.world.specs.declared.machine.Frame.{Frame}
 use Rattle.world.specs.Tables.{Tables, cells_at, frame_at, free, object_at, place_of, resting, with_cell, with_frame, with_object, word_of}
+use Rattle.world.specs.Worlds.{Sizes}
 use Rattle.world.specs.Shown.{IsObject, AreTables, Shown}
 
 -- reading behind a write
@@ -20,9 +21,12 @@ set_same xs k x d i e l = ap (λ j. get_or (set xs k x) j d) e ∙ get_or-set_sa
 
 -- ---- objects
 
-set_objects : (t : Tables) (word : ℕ → Word) (note : ℕ → Note) (frame : ℕ → ℕ) (cell : ℕ → ℕ → ℕ) (o : ℕ) (x : Object) (w : Word) (n : Note)
-    → AreTables t word note frame cell → o < length t.objects → IsObject x w n → (i : ℕ) → IsObject (object_at (with_object t o x) i) (upd word o w i) (upd note o n i)
-set_objects t word note frame cell o x w n shown inside is i = elim (same_or i o) [
+set_objects : (z : Sizes) (t : Tables) (word : ℕ → Word) (note : ℕ → Note) (frame : ℕ → ℕ) (cell : ℕ → ℕ → ℕ) (o : ℕ) (x : Object) (w : Word) (n : Note)
+    → AreTables z t word note frame cell → o < z.objects → IsObject x w n → (i : ℕ) → IsObject (object_at (with_object t o x) i) (upd word o w i) (upd note o n i)
+set_objects z t word note frame cell o x w n shown below is i =
+    let many = shown.objects_many in
+    let inside : o < length t.objects = omega arith in
+    elim (same_or i o) [
   | inl e ↦ subst (λ (y : Object). IsObject y (upd word o w i) (upd note o n i)) (sym (set_same t.objects o x resting i e inside))
       (subst (λ (v : Word). IsObject x v (upd note o n i)) (sym (upd-same word o w i e)) (subst (λ (m : Note). IsObject x w m) (sym (upd-same note o n i e)) is))
   | inr d ↦ subst (λ (y : Object). IsObject y (upd word o w i) (upd note o n i)) (sym (get_or-set_other t.objects o i x resting d))
@@ -30,45 +34,51 @@ set_objects t word note frame cell o x w n shown inside is i = elim (same_or i o
 ]
 
 -- one object's word and note
-pub object_set : (t : Tables) (word : ℕ → Word) (note : ℕ → Note) (frame : ℕ → ℕ) (cell : ℕ → ℕ → ℕ) (o : ℕ) (x : Object) (w : Word) (n : Note)
-    → AreTables t word note frame cell → o < length t.objects → IsObject x w n → AreTables (with_object t o x) (upd word o w) (upd note o n) frame cell
-object_set t word note frame cell o x w n shown inside is = record {
-  objects = set_objects t word note frame cell o x w n shown inside is;
+pub object_set : (z : Sizes) (t : Tables) (word : ℕ → Word) (note : ℕ → Note) (frame : ℕ → ℕ) (cell : ℕ → ℕ → ℕ) (o : ℕ) (x : Object) (w : Word) (n : Note)
+    → AreTables z t word note frame cell → o < z.objects → IsObject x w n → AreTables z (with_object t o x) (upd word o w) (upd note o n) frame cell
+object_set z t word note frame cell o x w n shown inside is = record {
+  objects = set_objects z t word note frame cell o x w n shown inside is;
   frames = shown.frames;
   cells = shown.cells;
   wide = shown.wide;
+  objects_many = length-set t.objects o x ∙ shown.objects_many;
+  frames_many = shown.frames_many;
 }
 
 -- its word alone
-pub word_set : (t : Tables) (word : ℕ → Word) (note : ℕ → Note) (frame : ℕ → ℕ) (cell : ℕ → ℕ → ℕ) (o : ℕ) (x : Object) (w : Word)
-    → AreTables t word note frame cell → o < length t.objects → IsObject x w (note o) → AreTables (with_object t o x) (upd word o w) note frame cell
-word_set t word note frame cell o x w shown inside is = record {
-  objects = λ i. subst (λ (m : Note). IsObject (object_at (with_object t o x) i) (upd word o w i) m) (same_note i) (set_objects t word note frame cell o x w (note o) shown inside is i);
+pub word_set : (z : Sizes) (t : Tables) (word : ℕ → Word) (note : ℕ → Note) (frame : ℕ → ℕ) (cell : ℕ → ℕ → ℕ) (o : ℕ) (x : Object) (w : Word)
+    → AreTables z t word note frame cell → o < z.objects → IsObject x w (note o) → AreTables z (with_object t o x) (upd word o w) note frame cell
+word_set z t word note frame cell o x w shown inside is = record {
+  objects = λ i. subst (λ (m : Note). IsObject (object_at (with_object t o x) i) (upd word o w i) m) (same_note i) (set_objects z t word note frame cell o x w (note o) shown inside is i);
   frames = shown.frames;
   cells = shown.cells;
   wide = shown.wide;
+  objects_many = length-set t.objects o x ∙ shown.objects_many;
+  frames_many = shown.frames_many;
 }
   where
     same_note : (i : ℕ) → upd note o (note o) i ≡ note i
     same_note i = elim (same_or i o) [ inl e ↦ upd-same note o (note o) i e ∙ ap note (sym e) | inr d ↦ upd-other note o (note o) i d ]
 
 -- its note alone
-pub note_set : (t : Tables) (word : ℕ → Word) (note : ℕ → Note) (frame : ℕ → ℕ) (cell : ℕ → ℕ → ℕ) (o : ℕ) (x : Object) (n : Note)
-    → AreTables t word note frame cell → o < length t.objects → IsObject x (word o) n → AreTables (with_object t o x) word (upd note o n) frame cell
-note_set t word note frame cell o x n shown inside is = record {
-  objects = λ i. subst (λ (m : Word). IsObject (object_at (with_object t o x) i) m (upd note o n i)) (same_word i) (set_objects t word note frame cell o x (word o) n shown inside is i);
+pub note_set : (z : Sizes) (t : Tables) (word : ℕ → Word) (note : ℕ → Note) (frame : ℕ → ℕ) (cell : ℕ → ℕ → ℕ) (o : ℕ) (x : Object) (n : Note)
+    → AreTables z t word note frame cell → o < z.objects → IsObject x (word o) n → AreTables z (with_object t o x) word (upd note o n) frame cell
+note_set z t word note frame cell o x n shown inside is = record {
+  objects = λ i. subst (λ (m : Word). IsObject (object_at (with_object t o x) i) m (upd note o n i)) (same_word i) (set_objects z t word note frame cell o x (word o) n shown inside is i);
   frames = shown.frames;
   cells = shown.cells;
   wide = shown.wide;
+  objects_many = length-set t.objects o x ∙ shown.objects_many;
+  frames_many = shown.frames_many;
 }
   where
     same_word : (i : ℕ) → upd word o (word o) i ≡ word i
     same_word i = elim (same_or i o) [ inl e ↦ upd-same word o (word o) i e ∙ ap word (sym e) | inr d ↦ upd-other word o (word o) i d ]
 
 -- a note that differs in its history alone
-pub history_set : (t : Tables) (word : ℕ → Word) (note : ℕ → Note) (frame : ℕ → ℕ) (cell : ℕ → ℕ → ℕ) (o : ℕ) (n : Note)
-    → AreTables t word note frame cell → n.count ≡ (note o).count → n.frame ≡ (note o).frame → n.writing ≡ (note o).writing → AreTables t word (upd note o n) frame cell
-history_set t word note frame cell o n shown a b c = record {
+pub history_set : (z : Sizes) (t : Tables) (word : ℕ → Word) (note : ℕ → Note) (frame : ℕ → ℕ) (cell : ℕ → ℕ → ℕ) (o : ℕ) (n : Note)
+    → AreTables z t word note frame cell → n.count ≡ (note o).count → n.frame ≡ (note o).frame → n.writing ≡ (note o).writing → AreTables z t word (upd note o n) frame cell
+history_set z t word note frame cell o n shown a b c = record {
   objects = λ i. elim (same_or i o) [
     | inl e ↦ subst (λ (m : Note). IsObject (object_at t i) (word i) m) (sym (upd-same note o n i e)) (here i e)
     | inr d ↦ subst (λ (m : Note). IsObject (object_at t i) (word i) m) (sym (upd-other note o n i d)) (shown.objects i)
@@ -76,6 +86,8 @@ history_set t word note frame cell o n shown a b c = record {
   frames = shown.frames;
   cells = shown.cells;
   wide = shown.wide;
+  objects_many = shown.objects_many;
+  frames_many = shown.frames_many;
 }
   where
     here : (i : ℕ) → i ≡ o → IsObject (object_at t i) (word i) n
@@ -92,9 +104,11 @@ history_set t word note frame cell o n shown a b c = record {
 -- ---- frames
 
 -- one frame's word
-pub frame_set : (t : Tables) (word : ℕ → Word) (note : ℕ → Note) (frame : ℕ → ℕ) (cell : ℕ → ℕ → ℕ) (f w : ℕ)
-    → AreTables t word note frame cell → f < length t.frames → AreTables (with_frame t f w) word note (upd frame f w) cell
-frame_set t word note frame cell f w shown inside =
+pub frame_set : (z : Sizes) (t : Tables) (word : ℕ → Word) (note : ℕ → Note) (frame : ℕ → ℕ) (cell : ℕ → ℕ → ℕ) (f w : ℕ)
+    → AreTables z t word note frame cell → f < z.frames → AreTables z (with_frame t f w) word note (upd frame f w) cell
+frame_set z t word note frame cell f w shown below =
+    let many = shown.frames_many in
+    let inside : f < length t.frames = omega arith in
     let x : Frame = record (frame_at t f) { word = w } in
     record {
       objects = shown.objects;
@@ -110,6 +124,8 @@ frame_set t word note frame cell f w shown inside =
         | inl e ↦ ap (λ (y : Frame). length y.cells) (set_same t.frames f x free i e inside) ∙ shown.wide f
         | inr d ↦ ap (λ (y : Frame). length y.cells) (get_or-set_other t.frames f i x free d) ∙ shown.wide i
       ];
+      objects_many = shown.objects_many;
+      frames_many = length-set t.frames f x ∙ shown.frames_many;
     }
 
 -- the cells of a row behind a write
@@ -120,9 +136,11 @@ row_set ws row k v j same l = elim (same_or j k) [
 ]
 
 -- one cell
-pub cell_set : (t : Tables) (word : ℕ → Word) (note : ℕ → Note) (frame : ℕ → ℕ) (cell : ℕ → ℕ → ℕ) (f k v : ℕ)
-    → AreTables t word note frame cell → f < length t.frames → k < piece_cells → AreTables (with_cell t f k v) word note frame (upd cell f (upd (cell f) k v))
-cell_set t word note frame cell f k v shown inside below =
+pub cell_set : (z : Sizes) (t : Tables) (word : ℕ → Word) (note : ℕ → Note) (frame : ℕ → ℕ) (cell : ℕ → ℕ → ℕ) (f k v : ℕ)
+    → AreTables z t word note frame cell → f < z.frames → k < piece_cells → AreTables z (with_cell t f k v) word note frame (upd cell f (upd (cell f) k v))
+cell_set z t word note frame cell f k v shown there below =
+    let many = shown.frames_many in
+    let inside : f < length t.frames = omega arith in
     let ws : List ℕ = cells_at t f in
     let x : Frame = record (frame_at t f) { cells = set ws k v } in
     let l : k < length ws = subst (λ n. k < n) (sym (shown.wide f)) below in
@@ -140,6 +158,8 @@ cell_set t word note frame cell f k v shown inside below =
         | inl e ↦ ap (λ (y : Frame). length y.cells) (set_same t.frames f x free i e inside) ∙ (length-set ws k v ∙ shown.wide f)
         | inr d ↦ ap (λ (y : Frame). length y.cells) (get_or-set_other t.frames f i x free d) ∙ shown.wide i
       ];
+      objects_many = shown.objects_many;
+      frames_many = length-set t.frames f x ∙ shown.frames_many;
     }
 
 -- ---- what lies in the tables

@@ -10,3 +10,4 @@ pub mod Rows
 pub mod Seats
 pub mod Tables
 pub mod Shown
+pub mod Acting

@@ -7,6 +7,7 @@ use Rattle.remote_store.specs.Kept.{piece_cells}
 use Rattle.remote_store.specs.declared.berth.Berth.{Berth}
 use Rattle.world.specs.declared.machine.Object.{Object}
 use Rattle.world.specs.InHand.{WasPut}
+use Rattle.world.specs.Worlds.{Sizes}
 use Rattle.world.specs.Tables.{Tables, cells_at, frame_at, object_at, word_of}
 
 -- an object's row is its word, and what its owner knows but for the history
@@ -16,16 +17,18 @@ pub record IsObject (x : Object) (w : Word) (n : Note) : Type 0 where
   pub told : n.frame ≡ x.told
   pub writing : n.writing ≡ x.writing
 
--- the rows are these words, notes, frame words and cells
-pub record AreTables (t : Tables) (word : ℕ → Word) (note : ℕ → Note) (frame : ℕ → ℕ) (cell : ℕ → ℕ → ℕ) : Type 0 where
+-- the rows are these words, notes, frame words and cells, as many as there are objects and frames
+pub record AreTables (z : Sizes) (t : Tables) (word : ℕ → Word) (note : ℕ → Note) (frame : ℕ → ℕ) (cell : ℕ → ℕ → ℕ) : Type 0 where
   pub objects : (o : ℕ) → IsObject (object_at t o) (word o) (note o)
   pub frames : (f : ℕ) → frame f ≡ (frame_at t f).word
   pub cells : (f i : ℕ) → cell f i ≡ listed (cells_at t f) i
   pub wide : (f : ℕ) → length (cells_at t f) ≡ piece_cells
+  pub objects_many : length t.objects ≡ z.objects
+  pub frames_many : length t.frames ≡ z.frames
 
 -- the rows are those of a state
-abbrev pub Shown : Tables → State → Type 0
-Shown t s = AreTables t s.word s.note s.frame s.cell
+abbrev pub Shown : Sizes → Tables → State → Type 0
+Shown z t s = AreTables z t s.word s.note s.frame s.cell
 
 module _ {C : Type 0} (content : C → Option (List ℕ)) where
   -- what the berth of the object o keeps, where there is one, is what the machine's store cell holds

@@ -1,5 +1,5 @@
 -- What code keeps of the machine: a row for each object, and one for each frame.
-use Rattle.std.specs.Prelude.{ℕ, false, Option, Some, None, List, [], slice_index_or, slice_set, replicate}
+use Rattle.std.specs.Prelude.{ℕ, Bool, true, false, ◌&&◌, ◌==◌, Option, Some, None, List, [], slice_index_or, slice_set, replicate}
 use Rattle.pointer_word.specs.Words as words
 use Rattle.remote_store.specs.Kept.{piece_cells}
 use Rattle.world.specs.declared.machine.Place.{Place}
@@ -54,3 +54,12 @@ with_frame t f w = record t { frames = slice_set t.frames f (record (frame_at t 
 -- one cell of a frame changed
 abbrev pub with_cell : Tables → ℕ → ℕ → ℕ → Tables
 with_cell t f i v = record t { frames = slice_set t.frames f (record (frame_at t f) { cells = slice_set (cells_at t f) i v }) }
+
+-- in this frame with no hold, and marked by this mover
+abbrev pub is_marked_at : Place → ℕ → ℕ → ℕ → Bool
+is_marked_at (p.Leaving g j true) c f m = (g == f) && ((j == m) && (c == 0))
+is_marked_at _ c f m = false
+
+-- so of an object
+abbrev pub is_marked_by : Object → ℕ → ℕ → Bool
+is_marked_by x f m = is_marked_at x.place x.count f m

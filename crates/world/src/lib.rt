@@ -2,6 +2,7 @@
 #![tactic(auto)]
 
 mod event;
+mod evict;
 mod laws;
 mod lock;
 mod machine;

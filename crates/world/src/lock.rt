@@ -22,6 +22,7 @@ impl<S: RawStore> Lock<S> {
     pub(crate) fn put(&mut self, port: &mut Port<S>, object: usize, words: &[u64]) -> bool
         requires { length words.now ≡ piece_cells }
         ensures machine { self.new.machine ≡ self.old.machine }
+        ensures many { length self.new.berths.items ≡ length self.old.berths.items }
         ensures far { (far : ℕ → Far) → AreFar S.content self.old.berths.items far → object < length self.old.berths.items
             → AreFar S.content self.new.berths.items (upd far object (put_of result words.now)) }
     {

@@ -4,8 +4,9 @@ ghost use Rattle.pointer_word.specs.Hands.{upd};
 ghost use Rattle.pointer_word.specs.Machine.{State, after_clear, after_close, after_open, after_told};
 ghost use Rattle.pointer_word.specs.Words.{cleared, counted, framed};
 ghost use Rattle.remote_store.specs.Kept.{piece_cells};
-ghost use Rattle.world.specs.Tables.{cells_at, frame_at, free, object_at, place_of, resting, with_cell, with_frame, with_object, word_of};
+ghost use Rattle.world.specs.Tables.{cells_at, frame_at, free, is_marked_by, object_at, place_of, resting, with_cell, with_frame, with_object, word_of};
 ghost use Rattle.world.specs.Shown.{Shown};
+ghost use Rattle.world.specs.Worlds.{Sizes};
 
 use pointer_word::Word;
 use remote_store::PIECE_CELLS;
@@ -81,7 +82,17 @@ impl Object {
         }
     }
 
-    /// The place, with neither a mark.
+    /// Whether it has no hold, and this mover's mark in this frame stands.
+    pub(crate) fn is_marked(self, frame: usize, mover: u16) -> bool
+        ensures { result ≡ is_marked_by self frame mover }
+    {
+        match self.place {
+            Place::Leaving(at, by, true) => at == frame && by == mover && self.count == 0,
+            _ => false,
+        }
+    }
+
+    /// The place with no mark.
     fn cleared(self) -> Place
         ensures { place_of result ≡ cleared (place_of self.place) }
     {
@@ -192,7 +203,7 @@ impl Machine {
     /// One hold of the object more, whose owner is told where it is.
     pub(crate) fn open(&mut self, object: usize)
         requires { (object_at self.old object).count < 4 }
-        ensures { (s : State) → Shown self.old s → object < length self.old.objects → Shown self.new (after_open s object) }
+        ensures { (z : Sizes) (s : State) → Shown z self.old s → object < z.objects → Shown z self.new (after_open s object) }
     {
         let row = self.object(object);
         let opened = Object {
@@ -207,7 +218,7 @@ impl Machine {
     /// One hold of the object less; with the last one goes what its owner knows.
     pub(crate) fn close(&mut self, object: usize)
         requires { 0 < (object_at self.old object).count }
-        ensures { (s : State) → Shown self.old s → Shown self.new (after_close s object) }
+        ensures { (z : Sizes) (s : State) → Shown z self.old s → Shown z self.new (after_close s object) }
     {
         let row = self.object(object);
         let last = row.count == 1;
@@ -222,7 +233,7 @@ impl Machine {
 
     /// The object is not marked, and its owner may write where it knows the frame.
     pub(crate) fn clear(&mut self, object: usize)
-        ensures { (s : State) → Shown self.old s → object < length self.old.objects → Shown self.new (after_clear s object) }
+        ensures { (z : Sizes) (s : State) → Shown z self.old s → object < z.objects → Shown z self.new (after_clear s object) }
     {
         let row = self.object(object);
         let cleared = Object {
@@ -236,7 +247,7 @@ impl Machine {
 
     /// The object's owner is told where it is.
     pub(crate) fn tell(&mut self, object: usize)
-        ensures { (s : State) → Shown self.old s → object < length self.old.objects → Shown self.new (after_told s object) }
+        ensures { (z : Sizes) (s : State) → Shown z self.old s → object < z.objects → Shown z self.new (after_told s object) }
     {
         let row = self.object(object);
         let told = Object {
@@ -250,8 +261,8 @@ impl Machine {
 
     /// The object is elsewhere.
     pub(crate) fn put_place(&mut self, object: usize, place: Place)
-        ensures { (s : State) → Shown self.old s → object < length self.old.objects
-            → Shown self.new (record s { word = upd s.word object (counted (s.word object).count (place_of place)) }) }
+        ensures { (z : Sizes) (s : State) → Shown z self.old s → object < z.objects
+            → Shown z self.new (record s { word = upd s.word object (counted (s.word object).count (place_of place)) }) }
     {
         let row = self.object(object);
         let moved = Object {
@@ -265,7 +276,7 @@ impl Machine {
 
     /// The frame has another word.
     pub(crate) fn put_frame_word(&mut self, frame: usize, word: u64)
-        ensures { (s : State) → Shown self.old s → frame < length self.old.frames → Shown self.new (record s { frame = upd s.frame frame word }) }
+        ensures { (z : Sizes) (s : State) → Shown z self.old s → frame < z.frames → Shown z self.new (record s { frame = upd s.frame frame word }) }
     {
         self.set_frame_word(frame, word);
     }
@@ -273,8 +284,8 @@ impl Machine {
     /// A cell of the frame has another value.
     pub(crate) fn put_cell(&mut self, frame: usize, index: usize, value: u64)
         requires { index < piece_cells }
-        ensures { (s : State) → Shown self.old s → frame < length self.old.frames
-            → Shown self.new (record s { cell = upd s.cell frame (upd (s.cell frame) index value) }) }
+        ensures { (z : Sizes) (s : State) → Shown z self.old s → frame < z.frames
+            → Shown z self.new (record s { cell = upd s.cell frame (upd (s.cell frame) index value) }) }
     {
         self.set_cell(frame, index, value);
     }

@@ -6,9 +6,9 @@ use Rattle.world.proofs.Showing.{cell_set}
 use Rattle.world.proofs.machine.Machine.put_cell.Goals as goal
 
 pub returns : goal.returns
-returns c s shown inside =
+returns c z s shown inside =
     let f = c.args.frame in
     let k = c.args.index in
     let v = c.args.value in
-    subst (λ (t : Tables). AreTables t s.word s.note s.frame (upd s.cell f (upd (s.cell f) k v))) (sym c.set_cell.ensures)
-        (cell_set c.args.self.now s.word s.note s.frame s.cell f k v shown inside c.requires)
+    subst (λ (t : Tables). AreTables z t s.word s.note s.frame (upd s.cell f (upd (s.cell f) k v))) (sym c.set_cell.ensures)
+        (cell_set z c.args.self.now s.word s.note s.frame s.cell f k v shown inside c.requires)
