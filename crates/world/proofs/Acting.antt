@@ -8,7 +8,9 @@ use Rattle.pointer_word.specs.Legal.{legal}
 use Rattle.pointer_word.specs.Sound.{Inv, FrameOk, PlaceOk}
 use Rattle.pointer_word.proofs.Legal.{may_legal}
 use Rattle.remote_store.specs.Kept.{piece_cells}
-use Rattle.world.specs.Acting.{Leads, Unread}
+use Rattle.world.specs.declared.event.Step.{Step}
+use Rattle.world.specs.declared.event.Step.TheVariants as step
+use Rattle.world.specs.Acting.{Goes, Leads}
 use Rattle.world.specs.Shown.{Shown}
 use Rattle.world.specs.Tables.{Tables, frame_at, object_at, place_of, resting, word_of}
 use Rattle.world.specs.Worlds.{Sizes}
@@ -29,6 +31,11 @@ refused_call s c go e = ap (λ b. after_call (cond b (Some (act s c)) None) go) 
 pub leads_call : {A : Type 0} (s : State) (turn : Answer → Turn A) (honest : Answer → Type 0) (Q : State → A → Type 0) (a : Answer) (c : Call) (go : State → A)
     → honest a → turn a ≡ Calls c go → legal piece_cells s c ≡ true → Q (act s c) (go (act s c)) → Leads s turn honest Q
 leads_call s turn honest Q a c go h e l q = (a, h, ((act s c, go (act s c)), ap (taken piece_cells s) e ∙ taken_call s c go l, q))
+
+-- what is the same, said otherwise
+pub goes_same : {A : Type 0} (s : State) (turn : Answer → Turn A) (honest : Answer → Type 0) (Q : State → A → Type 0) (same same' : Type 0) (r : Step) → (same → same') → Goes s turn honest Q same r → Goes s turn honest Q same' r
+goes_same s turn honest Q same same' step.Took f g = g
+goes_same s turn honest Q same same' step.NotEnabled f g = (g.0, f g.1)
 
 -- ---- what lies in the tables
 

@@ -1,3 +1,5 @@
+pub mod Happening
+pub mod Evacuating
 pub mod MovedOut
 pub mod Acting
 pub mod Placing

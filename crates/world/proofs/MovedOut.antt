@@ -1,14 +1,14 @@
 -- an event of moving out, as code takes it
-use Rattle.std.proofs.Common.{◌≡◌, ◌≢◌, inl, inr, ℕ, suc, ◌+◌, ◌<◌, ◌≤◌, Bool, true, false, cond, ◌&&◌, List, [], ◌∷◌, ◌++◌, length, take, get_or, Option, Some, None, refl, sym, ap, ◌∙◌, subst, arith, add-one}
+use Rattle.std.proofs.Common.{◌≡◌, ◌≢◌, inl, inr, ℕ, suc, ◌+◌, ◌<◌, ◌≤◌, Bool, true, false, cond, ◌&&◌, List, [], ◌∷◌, ◌++◌, length, take, get_or, Option, Some, None, refl, sym, ap, ◌∙◌, subst, arith, eq-eqb}
 use Rattle.std.specs.Prelude.{◌==◌, nat_lt}
 use Rattle.std.proofs.Math.ListN.{set}
 use Rattle.std.proofs.lemmas.List.{length-take-le, take_all, take_more_set}
 use Rattle.std.proofs.lemmas.Bool.Decides.{nat_tests}
 use Rattle.pointer_word.specs.Words.{Place, Away, Coming, Here, Leaving, Word, counted}
-use Rattle.pointer_word.specs.Hands.{Hand, committing, known, listed, upd}
-use Rattle.pointer_word.specs.Machine.{State, after_commit}
-use Rattle.pointer_word.specs.Calls.{Aborts, Commits, Copies, Puts, Releases, IsPut, act, commit_at}
-use Rattle.pointer_word.specs.Legal.{legal}
+use Rattle.pointer_word.specs.Hands.{Hand, committing, known, listed, marking, upd}
+use Rattle.pointer_word.specs.Machine.{State, after_commit, after_mark}
+use Rattle.pointer_word.specs.Calls.{Aborts, Commits, Copies, Marks, Puts, Releases, IsPut, act, commit_at, mark_at}
+use Rattle.pointer_word.specs.Legal.{acts, holds, legal}
 use Rattle.pointer_word.specs.Sound.{Inv}
 use Rattle.pointer_word.proofs.Legal.{may_legal}
 use Rattle.pointer_word.proofs.Upd.{upd-same}
@@ -17,12 +17,12 @@ use Rattle.remote_store.specs.declared.berth.Berth.{Berth}
 use Rattle.world.specs.declared.machine.Object.{Object}
 use Rattle.world.specs.declared.machine.Place.{Place as RustPlace}
 use Rattle.world.specs.declared.machine.Place.TheVariants as p
-use Rattle.world.specs.Acting.{Leads, Moves, Outcome, On, Done, Failed, Shows, Unread}
+use Rattle.world.specs.Acting.{Leads, Moves, Outcome, On, Done, Failed, Shows, Unread, resumes}
 use Rattle.world.specs.InHand.{FitsEviction, MovesOut}
 use Rattle.world.specs.Programs.{Eviction, Copying, Stored, NotStored, Refused, Freed}
 use Rattle.world.specs.Shown.{AreFar, AreTables, Shown}
-use Rattle.world.specs.Tables.{Tables, cells_at, is_marked_at, is_marked_by, object_at, place_of, word_of}
-use Rattle.world.specs.Turns.{Answer, Turn, Calls, committed_so, evicts, put_of, put_so}
+use Rattle.world.specs.Tables.{Tables, cells_at, is_at_rest_in, is_here_at, is_marked_at, is_marked_by, object_at, place_of, word_of}
+use Rattle.world.specs.Turns.{Answer, Turn, Calls, after_call, committed_so, evicts, put_of, put_so, taken}
 use Rattle.world.specs.Worlds.{Sizes}
 use Rattle.world.proofs.Acting.{leads_call, leaving_inside, plain}
 
@@ -132,3 +132,75 @@ module _ {C : Type 0} (content : C → Option (List ℕ)) (h : Type 0) (z : Size
       (ap (λ y. cond y (Calls (Copies m f (length ws)) (λ (u : State). On (Copying o f (ws ++ u.cell f (length ws) ∷ [])))) (Calls (Puts m o (put_of b ws)) (λ (u : State). On (put_so b o f)))) (below_false (length ws) piece_cells (omega arith)))
       (may_legal h piece_cells s (Puts m o (put_of b ws)) (is.fits.0.0, can_put b ws size))
       (record { tables = shows.tables; far = subst (λ y. AreFar content berths' (upd s.far o (put_of b y))) (sym all) (kept (omega arith)); many = same ∙ shows.many }, refl)
+
+-- ---- marks
+
+marks_yes : (s : State) (m o f c : ℕ) (x : RustPlace) → (s.word o).count ≡ c → is_here_at x c f ≡ true → mark_at s m o f (place_of x) ≡ after_mark s m o f
+marks_yes s m o f c p.Away e q = cc
+marks_yes s m o f c (p.Coming j) e q = cc
+marks_yes s m o f c (p.Here g) e q = ap (λ n. cond ((g == f) && (n == 0)) (after_mark s m o f) s) e ∙ ap (λ b. cond b (after_mark s m o f) s) q
+marks_yes s m o f c (p.Leaving g j k) e q = cc
+
+marks_no : (s : State) (m o f c : ℕ) (x : RustPlace) → (s.word o).count ≡ c → is_here_at x c f ≡ false → mark_at s m o f (place_of x) ≡ s
+marks_no s m o f c p.Away e q = refl
+marks_no s m o f c (p.Coming j) e q = refl
+marks_no s m o f c (p.Here g) e q = ap (λ n. cond ((g == f) && (n == 0)) (after_mark s m o f) s) e ∙ ap (λ b. cond b (after_mark s m o f) s) q
+marks_no s m o f c (p.Leaving g j k) e q = refl
+
+module _ {C : Type 0} (content : C → Option (List ℕ)) (z : Sizes) (t : Tables) (berths : List (Berth C)) (m : ℕ) (s : State) (shows : Shows content z t berths s) where
+  -- a try to mark leads to a state that the tables show, and it is known whether the mover has the berth
+  abbrev pub MarkedSo : ℕ → ℕ → Tables → List (Berth C) → Bool → Type 0
+  MarkedSo o f t' berths' b = let u : State = act s (Marks m o f) in Shows content z t' berths' u × (holds (u.hand m).leaving o ≡ b)
+
+  pub marked : (o f : ℕ) (t' : Tables) → o < z.objects → is_at_rest_in (object_at t o) f ≡ true
+      → (Shown z t s → o < z.objects → AreTables z t' (upd s.word o (counted (s.word o).count (Leaving f m true))) s.note s.frame s.cell) → MarkedSo o f t' berths true
+  marked o f t' inside e told =
+      let x = object_at t o in
+      let u : State = after_mark s m o f in
+      let hand : u.hand m ≡ marking (s.hand m) o f = upd-same s.hand m (marking (s.hand m) o f) m refl in
+      let count : (s.word o).count ≡ x.count = ap (λ (w : Word). w.count) (shows.tables.objects o).word in
+      let place : (s.word o).place ≡ place_of x.place = ap (λ (w : Word). w.place) (shows.tables.objects o).word in
+      let same : act s (Marks m o f) ≡ u = ap (mark_at s m o f) place ∙ marks_yes s m o f x.count x.place count e in
+      subst (λ (v : State). Shows content z t' berths v × (holds (v.hand m).leaving o ≡ true)) (sym same)
+          (record { tables = told shows.tables inside; far = shows.far; many = shows.many }, ap (λ (y : Hand). holds y.leaving o) hand ∙ eq-eqb o o refl)
+
+  pub not_marked : (o f : ℕ) → (s.hand m).leaving ≡ None → is_at_rest_in (object_at t o) f ≡ false → MarkedSo o f t berths false
+  not_marked o f none e =
+      let x = object_at t o in
+      let count : (s.word o).count ≡ x.count = ap (λ (w : Word). w.count) (shows.tables.objects o).word in
+      let place : (s.word o).place ≡ place_of x.place = ap (λ (w : Word). w.place) (shows.tables.objects o).word in
+      let same : act s (Marks m o f) ≡ s = ap (mark_at s m o f) place ∙ marks_no s m o f x.count x.place count e in
+      subst (λ (v : State). Shows content z t berths v × (holds (v.hand m).leaving o ≡ false)) (sym same) (shows, ap (λ y. holds y o) none)
+
+-- ---- whoever moves out
+
+call_maps : {A : Type 0} (x : Option State) (f : Outcome → A) (go : State → Outcome) (r : State × Outcome) → after_call x go ≡ Some r → after_call x (λ t. f (go t)) ≡ Some (r.0, f r.1)
+call_maps None f go r e = cc
+call_maps (Some t) f go r e = let k : Some (t, go t) ≡ Some r = e in let q : (t, go t) ≡ r = cc in ap (λ (y : State × Outcome). Some (y.0, f y.1)) q
+
+cond_maps : {A : Type 0} (n : ℕ) (s : State) (b : Bool) (f : Outcome → A) (x y : Turn Outcome) (x' y' : Turn A) (r : State × Outcome)
+    → (taken n s x ≡ Some r → taken n s x' ≡ Some (r.0, f r.1)) → (taken n s y ≡ Some r → taken n s y' ≡ Some (r.0, f r.1))
+    → taken n s (cond b x y) ≡ Some r → taken n s (cond b x' y') ≡ Some (r.0, f r.1)
+cond_maps n s true f x y x' y' r p q e = p e
+cond_maps n s false f x y x' y' r p q e = q e
+
+pub evicts_maps : {A : Type 0} (n m : ℕ) (s : State) (a : Answer) (e : Eviction) (go : Eviction → A) (done failed : A) (r : State × Outcome)
+    → taken n s (evicts n m a e On Done Failed) ≡ Some r → taken n s (evicts n m a e go done failed) ≡ Some (r.0, resumes go done failed r.1)
+evicts_maps {A} n m s a (Copying o f words) go done failed r e =
+    let g = resumes go done failed in
+    cond_maps n s (nat_lt (length words) n) g
+    (Calls (Copies m f (length words)) (λ t. On (Copying o f (words ++ t.cell f (length words) ∷ [])))) (Calls (Puts m o (put_of a.stored words)) (λ t. On (put_so a.stored o f)))
+    (Calls (Copies m f (length words)) (λ t. go (Copying o f (words ++ t.cell f (length words) ∷ [])))) (Calls (Puts m o (put_of a.stored words)) (λ t. go (put_so a.stored o f))) r
+    (call_maps (acts n s (Copies m f (length words))) g (λ t. On (Copying o f (words ++ t.cell f (length words) ∷ []))) r)
+    (call_maps (acts n s (Puts m o (put_of a.stored words))) g (λ t. On (put_so a.stored o f)) r) e
+evicts_maps n m s a (Stored o f) go done failed r e = call_maps (acts n s (Commits m o f)) (resumes go done failed) (λ t. On (committed_so (known (t.hand m).freed) o f)) r e
+evicts_maps n m s a (NotStored o f) go done failed r e = call_maps (acts n s (Aborts m o f)) (resumes go done failed) (λ t. Failed) r e
+evicts_maps n m s a (Refused o f) go done failed r e = call_maps (acts n s (Aborts m o f)) (resumes go done failed) (λ t. Done) r e
+evicts_maps n m s a (Freed f) go done failed r e = call_maps (acts n s (Releases m f)) (resumes go done failed) (λ t. Done) r e
+
+-- a turn of whoever moves out
+pub leads_on : {A : Type 0} (m : ℕ) (s : State) (e : Eviction) (go : Eviction → A) (done failed : A) (P : State → Type 0) (o : Outcome) (q : A) → resumes go done failed o ≡ q
+    → Leads s (λ a. evicts piece_cells m a e On Done Failed) Unread (λ u r. P u × (r ≡ o)) → Leads s (λ a. evicts piece_cells m a e go done failed) Unread (λ u r. P u × (r ≡ q))
+leads_on m s e go done failed P o q so l =
+    let r = l.2.0 in
+    (l.0, l.1, ((r.0, resumes go done failed r.1), evicts_maps piece_cells m s l.0 e go done failed r l.2.1, (l.2.2.0, ap (resumes go done failed) l.2.2.1 ∙ so)))

@@ -63,3 +63,12 @@ is_marked_at _ c f m = false
 -- so of an object
 abbrev pub is_marked_by : Object → ℕ → ℕ → Bool
 is_marked_by x f m = is_marked_at x.place x.count f m
+
+-- in this frame with no hold, and no mover moves it
+abbrev pub is_here_at : Place → ℕ → ℕ → Bool
+is_here_at (p.Here g) c f = (g == f) && (c == 0)
+is_here_at _ c f = false
+
+-- so of an object
+abbrev pub is_at_rest_in : Object → ℕ → Bool
+is_at_rest_in x f = is_here_at x.place x.count f

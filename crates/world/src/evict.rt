@@ -1,10 +1,11 @@
 //! Moving an object out of its frame, an event at a time.
-ghost use Rattle.std.specs.Prelude.{◌≡◌, ◌<◌, ◌≤◌, ℕ, List, Some, length};
-ghost use Rattle.pointer_word.specs.Calls.{Aborts, Releases, act};
+ghost use Rattle.std.specs.Prelude.{◌≡◌, ◌<◌, ◌≤◌, ℕ, List, None, Some, false, length, option_map};
+ghost use Rattle.pointer_word.specs.Calls.{Aborts, Marks, Releases, act};
+ghost use Rattle.pointer_word.specs.Legal.{holds};
 ghost use Rattle.pointer_word.specs.Machine.{State};
 ghost use Rattle.pointer_word.specs.Sound.{Inv};
 ghost use Rattle.remote_store.specs.Kept.{piece_cells};
-ghost use Rattle.world.specs.Acting.{Done, Failed, Leads, Moves, On, Shows, Unread, outcome_of};
+ghost use Rattle.world.specs.Acting.{Done, Failed, Leads, Moves, On, Shows, Unread, outcome_of, resumes};
 ghost use Rattle.world.specs.InHand.{MovesOut};
 ghost use Rattle.world.specs.Seats.{eviction_of};
 ghost use Rattle.world.specs.Turns.{evicts};
@@ -24,6 +25,38 @@ pub(crate) enum Evicted {
     Done,
     /// It has ended, because the store failed.
     Failed,
+}
+
+impl Evicted {
+    /// How it goes on, if it does.
+    pub(crate) fn eviction(self) -> Option<Eviction>
+        ensures { (words : List ℕ) → option_map (λ e. eviction_of e words) result ≡ resumes Some None None (outcome_of self words) }
+    {
+        match self {
+            Evicted::On(eviction) => Some(eviction),
+            Evicted::Done | Evicted::Failed => None,
+        }
+    }
+}
+
+/// Tries to mark the object in the frame, to move it out. False where it isn't there, or is held, or moves already.
+pub(crate) fn mark<S: RawStore>(
+    lock: &mut Lock<S>,
+    mover: u16,
+    object: usize,
+    frame: usize,
+) -> bool
+    ensures marks { (z : Sizes) (s : State) → object < z.objects → (s.hand mover).leaving ≡ None → Shows S.content z lock.old.machine lock.old.berths.items s
+        → let t = act s (Marks mover object frame) in Shows S.content z lock.new.machine lock.new.berths.items t × (holds (t.hand mover).leaving object ≡ result) }
+    ensures refused { result ≡ false → lock.new ≡ lock.old }
+{
+    if lock.machine.object(object).is_at_rest(frame) {
+        lock.machine
+            .put_place(object, Place::Leaving(frame, mover, true));
+        true
+    } else {
+        false
+    }
 }
 
 /// Copies the next cell.

@@ -2,11 +2,13 @@
 #![tactic(auto)]
 
 mod event;
+mod evacuator;
 mod evict;
 mod laws;
 mod lock;
 mod machine;
 mod program;
+mod world;
 
 pub use event::{Actor, Choice};
 pub use laws::{every_schedule, programs_follow, wants, worked_schedules};

@@ -4,7 +4,7 @@ ghost use Rattle.pointer_word.specs.Hands.{upd};
 ghost use Rattle.pointer_word.specs.Machine.{State, after_clear, after_close, after_open, after_told};
 ghost use Rattle.pointer_word.specs.Words.{cleared, counted, framed};
 ghost use Rattle.remote_store.specs.Kept.{piece_cells};
-ghost use Rattle.world.specs.Tables.{cells_at, frame_at, free, is_marked_by, object_at, place_of, resting, with_cell, with_frame, with_object, word_of};
+ghost use Rattle.world.specs.Tables.{cells_at, frame_at, free, is_at_rest_in, is_marked_by, object_at, place_of, resting, with_cell, with_frame, with_object, word_of};
 ghost use Rattle.world.specs.Shown.{Shown};
 ghost use Rattle.world.specs.Worlds.{Sizes};
 
@@ -88,6 +88,16 @@ impl Object {
     {
         match self.place {
             Place::Leaving(at, by, true) => at == frame && by == mover && self.count == 0,
+            _ => false,
+        }
+    }
+
+    /// Whether it is in this frame with no hold, and no mover moves it.
+    pub(crate) fn is_at_rest(self, frame: usize) -> bool
+        ensures { result ≡ is_at_rest_in self frame }
+    {
+        match self.place {
+            Place::Here(at) => at == frame && self.count == 0,
             _ => false,
         }
     }
