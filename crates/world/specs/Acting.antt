@@ -1,5 +1,5 @@
 -- What a turn comes to where code takes it.
-use Rattle.std.specs.Prelude.{◌≡◌, ℕ, suc, ◌+◌, ◌%◌, List, length, Option, Some, None, option_map, slice_get}
+use Rattle.std.specs.Prelude.{◌≡◌, ℕ, suc, ◌+◌, ◌%◌, ◌≤◌, List, length, Option, Some, None, option_map, slice_get}
 use Rattle.code_form.specs.Form.{Image}
 use Rattle.pointer_word.specs.Machine.{State}
 use Rattle.pointer_word.specs.Sound.{Inv}
@@ -99,3 +99,17 @@ module _ {C : Type 0} (content : C → Option (List ℕ)) where
       (a : Answer) × (h → IsHonest z w actor a) × ((u : World) × (event z images w (record { actor = actor; choice = choice; answer = a }) ≡ Some u) × IsWorld h z images t berths seats movers u)
   Stepped h z images t berths seats movers w actor choice same step.NotEnabled =
       ((a : Answer) → event z images w (record { actor = actor; choice = choice; answer = a }) ≡ None) × same
+
+  -- A program that code holds, with what it has in hand: its objects are there
+  pub record Seated (h : Type 0) (z : Sizes) (t : Tables) (berths : List (Berth C)) (x : Seat) (s : State) (p : Program) : Type 0 where
+    pub shows : Shows z t berths s
+    pub program : IsProgram x p
+    pub inv : Inv h piece_cells s
+    pub fits : FitsMode h piece_cells s.far (s.hand x.setting.mover) p.mode
+    pub limit : x.setting.limit ≤ z.objects
+    pub size : x.setting.size ≡ piece_cells
+
+  -- A program takes a turn exactly where it is enabled, and is then what the turn makes of it; what is read is what an honest store may give
+  abbrev pub Turns : (h : Type 0) → (t t' : Tables) → (berths berths' : List (Berth C)) → (x x' : Seat) → (State → Program → Answer → Turn Program) → Type 0 → Step → Type 0
+  Turns h t t' berths berths' x x' turn same r = (z : Sizes) (s : State) (p : Program) → Seated h z t berths x s p
+      → Goes s (turn s p) (λ a. h → ReadsHonestly piece_cells s p.mode a.read) (λ u q. Shows z t' berths' u × IsProgram x' q × (x'.setting ≡ x.setting)) same r

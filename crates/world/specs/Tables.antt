@@ -72,3 +72,8 @@ is_here_at _ c f = false
 -- so of an object
 abbrev pub is_at_rest_in : Object → ℕ → Bool
 is_at_rest_in x f = is_here_at x.place x.count f
+
+-- in its store cell
+abbrev pub is_away_at : Place → Bool
+is_away_at p.Away = true
+is_away_at _ = false

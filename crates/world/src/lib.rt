@@ -1,6 +1,7 @@
 //! Every interleaving of programs with movers that move objects in and out, as a pure machine over events.
 #![tactic(auto)]
 
+mod bring;
 mod event;
 mod evacuator;
 mod evict;

@@ -4,7 +4,7 @@ ghost use Rattle.pointer_word.specs.Hands.{upd};
 ghost use Rattle.pointer_word.specs.Machine.{State, after_clear, after_close, after_open, after_told};
 ghost use Rattle.pointer_word.specs.Words.{cleared, counted, framed};
 ghost use Rattle.remote_store.specs.Kept.{piece_cells};
-ghost use Rattle.world.specs.Tables.{cells_at, frame_at, free, is_at_rest_in, is_marked_by, object_at, place_of, resting, with_cell, with_frame, with_object, word_of};
+ghost use Rattle.world.specs.Tables.{cells_at, frame_at, free, is_at_rest_in, is_away_at, is_marked_by, object_at, place_of, resting, with_cell, with_frame, with_object, word_of};
 ghost use Rattle.world.specs.Shown.{Shown};
 ghost use Rattle.world.specs.Worlds.{Sizes};
 
@@ -80,6 +80,13 @@ impl Object {
             told: None,
             writing: false,
         }
+    }
+
+    /// Whether it is in its store cell.
+    pub(crate) fn is_away(self) -> bool
+        ensures { result ≡ is_away_at self.place }
+    {
+        matches!(self.place, Place::Away)
     }
 
     /// Whether it has no hold, and this mover's mark in this frame stands.

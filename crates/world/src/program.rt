@@ -5,14 +5,21 @@ ghost use Rattle.code_form.specs.Form.{image_of};
 ghost use Rattle.code_form.specs.Placed.{next_object, object_at, pieces as pieces_of};
 ghost use Rattle.code_form.specs.Touches.{IsCell, IsWithin};
 ghost use Rattle.code_form.specs.declared.touch.Touch.TheVariants.{Allocs};
+ghost use Rattle.pointer_word.specs.Machine.{Far, State};
 ghost use Rattle.remote_store.specs.Kept.{piece_cells};
-ghost use Rattle.std.specs.Prelude.{◌≡◌, ◌+◌, ◌-◌, ◌/◌, ◌<◌, ◌≤◌, ◌^◌, ℕ, IfOk, MatchResult, None, Some, length, option_map, slice_index, slice_set, replicate};
-ghost use Rattle.world.specs.Programs.{hold_at};
-ghost use Rattle.world.specs.Seats.{IsSteady, Waits, begin, finished, next_touch};
+ghost use Rattle.std.specs.Prelude.{◌≡◌, ◌+◌, ◌-◌, ◌/◌, ◌<◌, ◌≤◌, ◌^◌, ℕ, IfOk, MatchResult, None, Some, length, option_map, slice_index, slice_set, true};
+ghost use Rattle.world.specs.Acting.{Done, Failed, Leads, Moves, On, Shows, Unread, outcome_of};
+ghost use Rattle.world.specs.Programs.{first_hold, hold_at};
+ghost use Rattle.world.specs.Seats.{IsSteady, Waits, begin, eviction_of, finished, next_touch};
+ghost use Rattle.world.specs.Shown.{AreFar};
+ghost use Rattle.world.specs.Turns.{evicts};
+ghost use Rattle.world.specs.Worlds.{IsHonestRead, Sizes};
 
 use cells::{Stop, Want};
 use code_form::{Cell, Execution, Image, Touch, effect_laws, heap_laws};
-use remote_store::PIECE_CELLS;
+use crate::evict::{Evicted, evict};
+use crate::lock::Lock;
+use remote_store::{PIECE_CELLS, Port, RawStore};
 use std::alloc::{AllocError, Global};
 use std::marker::Model;
 
@@ -49,8 +56,10 @@ pub(crate) enum Mode {
     Bringing(usize),
     /// It has claimed the frame, and is to read the store.
     Reading(usize, usize),
-    /// It fills the frame.
+    /// It fills the frame with what it has read.
     Filling(usize, usize, usize),
+    /// It fills the frame with zeros.
+    Clearing(usize, usize, usize),
     /// It moves another object out, for the sake of the frame.
     Evicting(usize, Eviction),
     /// Its store failed, and it gives up the frame that it claimed.
@@ -139,11 +148,47 @@ impl<'a> Program<'a> {
         self.mode = mode;
     }
 
-    /// What it copies or fills a frame with.
-    pub(crate) fn words(&self) -> &[u64]
-        ensures { result.now ≡ self.now.words }
+    /// The word with which it fills the cell of this index.
+    pub(crate) fn word(&self, index: usize) -> u64
+        requires { index < piece_cells }
+        ensures { result ≡ slice_index self.now.words index }
     {
-        &self.words
+        self.words[index]
+    }
+
+    /// Gets the object's words from its berth. False where the store failed or what it read has another header.
+    pub(crate) fn get<S: RawStore>(
+        &mut self,
+        lock: &Lock<S>,
+        port: &mut Port<S>,
+        object: usize,
+    ) -> bool
+        ensures after { self.new ≡ record self.old { words = self.new.words } }
+        ensures got { result ≡ true → (far : ℕ → Far) → AreFar S.content lock.now.berths.items far → S.honest → IsHonestRead piece_cells (far object) (Some self.new.words) }
+    {
+        lock.get(port, object, &mut self.words)
+    }
+
+    /// An event of moving an object out.
+    pub(crate) fn evict<S: RawStore>(
+        &mut self,
+        lock: &mut Lock<S>,
+        port: &mut Port<S>,
+        eviction: Eviction,
+    ) -> Evicted
+        ensures after { self.new ≡ record self.old { words = self.new.words } }
+        ensures leads { (z : Sizes) (s : State) → let e = eviction_of eviction self.old.words in
+            Moves S.content S.honest z lock.old.machine lock.old.berths.items self.old.setting.mover e s → Leads s (λ a. evicts piece_cells self.old.setting.mover a e On Done Failed) Unread
+            (λ u r. Shows S.content z lock.new.machine lock.new.berths.items u × (r ≡ outcome_of result self.new.words)) }
+    {
+        evict(lock, port, self.mover, eviction, &mut self.words)
+    }
+
+    /// The lowest scope that holds something, and what it holds.
+    pub(crate) fn first_hold(&self) -> Option<(usize, Hold)>
+        ensures { result ≡ first_hold self.now.holds }
+    {
+        first_of_holds(&self.holds)
     }
 
     /// What the scope holds.
@@ -265,4 +310,16 @@ pub(crate) fn pieces(cells: u64) -> u64
 {
     let size = PIECE_CELLS as u64;
     cells / size + if cells % size == 0 { 0 } else { 1 }
+}
+
+/// The lowest of these that is there, by its number.
+fn first_of_holds(holds: &[Option<Hold>]) -> Option<(usize, Hold)>
+    ensures { result ≡ first_hold holds.now }
+{
+    for (scope, hold) in holds.iter().enumerate() {
+        if let Some(hold) = hold {
+            return Some((scope, *hold));
+        }
+    }
+    None
 }

@@ -49,7 +49,21 @@ impl<'a, S: RawStore> World<'a, S> {
         }
     }
 
-    /// An actor does what it chooses.
+    /// A program does what it chooses, where that is in range.
+    fn step_program(&mut self, number: usize, choice: Choice) -> Step
+        ensures { (z : Sizes) (images : ℕ → Image) (w : Defined) → in_range z choice ≡ true → IsWorld S.content S.honest z images self.old.lock.machine self.old.lock.berths.items self.old.programs.items self.old.evacuators.items w
+            → Stepped S.content S.honest z images self.new.lock.machine self.new.lock.berths.items self.new.programs.items self.new.evacuators.items w (Actor.Program number) choice ((self.new.lock ≡ self.old.lock) × (self.new.programs.items ≡ self.old.programs.items) × (self.new.evacuators.items ≡ self.old.evacuators.items)) result }
+    {
+        if number < self.programs.len() {
+            let (program, port) = &mut self.programs[number];
+            let _ = (program, port, choice);
+            Step::NotEnabled
+        } else {
+            Step::NotEnabled
+        }
+    }
+
+    /// An actor does what it chooses. Took exactly where the world has that step, which is then made; else nothing changes.
     pub fn step(&mut self, actor: Actor, choice: Choice) -> Step
         ensures { (z : Sizes) (images : ℕ → Image) (w : Defined) → IsWorld S.content S.honest z images self.old.lock.machine self.old.lock.berths.items self.old.programs.items self.old.evacuators.items w
             → Stepped S.content S.honest z images self.new.lock.machine self.new.lock.berths.items self.new.programs.items self.new.evacuators.items w actor choice ((self.new.lock ≡ self.old.lock) × (self.new.programs.items ≡ self.old.programs.items) × (self.new.evacuators.items ≡ self.old.evacuators.items)) result }
@@ -58,7 +72,7 @@ impl<'a, S: RawStore> World<'a, S> {
             return Step::NotEnabled;
         }
         match actor {
-            Actor::Program(_number) => Step::NotEnabled,
+            Actor::Program(number) => self.step_program(number as usize, choice),
             Actor::Evacuator(number) => self.step_evacuator(number as usize, choice),
             Actor::Fetcher(_) => Step::NotEnabled,
         }
