@@ -31,6 +31,10 @@ both false b e = cc
 pub mark_inside : (z : Sizes) (o f : ℕ) → in_range z (choice.Mark o f) ≡ true → o < z.objects
 mark_inside z o f e = below o z.objects (both (nat_lt o z.objects) (nat_lt f z.frames) e).0
 
+-- and a frame that is there
+pub frame_inside : (z : Sizes) (f : ℕ) → in_range z (choice.Claim f) ≡ true → f < z.frames
+frame_inside z f e = below f z.frames e
+
 module _ {C : Type 0} (content : C → Option (List ℕ)) (h : Type 0) (z : Sizes) (t : Tables) (berths : List (Berth C)) (x : Evacuator) (s : State) (is : Evacuates content h z t berths x s) where
   pub idle_fits : x.eviction ≡ None → FitsEvacuator piece_cells s.far (s.hand x.mover) None
   idle_fits e = subst (λ d. FitsEvacuator piece_cells s.far (s.hand x.mover) (option_map (λ y. eviction_of y x.words) d)) e is.fits

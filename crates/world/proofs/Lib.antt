@@ -1,3 +1,4 @@
+pub mod Firsts
 pub mod BroughtIn
 pub mod Happening
 pub mod Evacuating

@@ -84,7 +84,7 @@ module _ {C : Type 0} (content : C → Option (List ℕ)) (h : Type 0) (z : Size
       let u : State = after_commit s m o f in
       let hand : u.hand m ≡ committing (s.hand m) f = upd-same s.hand m (committing (s.hand m) f) m refl in
       commit_to o f t' u (Freed f) is (ap (commit_at s m o f) (place_is o shows.tables) ∙ commits_yes s m o f (object_at t o).count (object_at t o).place (count_is o shows.tables) e)
-      (record { tables = told shows.tables inside; far = shows.far; many = shows.many }) (ap (λ (x : Hand). committed_so (known x.freed) o f) hand)
+      (record { tables = told shows.tables inside; far = shows.far; many = shows.many; objects_few = shows.objects_few; frames_few = shows.frames_few }) (ap (λ (x : Hand). committed_so (known x.freed) o f) hand)
 
   pub not_committed : (o f : ℕ) → Moves content h z t berths m (Stored o f) s → is_marked_by (object_at t o) f m ≡ false → LeadsTo (Stored o f) t berths (On (Refused o f))
   not_committed o f is e =
@@ -112,7 +112,7 @@ module _ {C : Type 0} (content : C → Option (List ℕ)) (h : Type 0) (z : Size
       (λ u. On (Copying o f (ws ++ u.cell f (length ws) ∷ []))) refl
       (ap (λ b. cond b (Calls (Copies m f (length ws)) (λ (u : State). On (Copying o f (ws ++ u.cell f (length ws) ∷ [])))) (Calls (Puts m o (put_of true ws)) (λ (u : State). On (put_so true o f)))) (below_true (length ws) piece_cells (omega arith)))
       (may_legal h piece_cells s (Copies m f (length ws)) (o, is.fits.0.0, is.fits.0.1))
-      (record { tables = shows.tables; far = shows.far; many = shows.many }, ap (λ x. On (Copying o f x)) more)
+      (record { tables = shows.tables; far = shows.far; many = shows.many; objects_few = shows.objects_few; frames_few = shows.frames_few }, ap (λ x. On (Copying o f x)) more)
 
   can_put : (b : Bool) (words : List ℕ) → length words ≡ piece_cells → IsPut piece_cells (put_of b words)
   can_put true words l = l
@@ -131,7 +131,7 @@ module _ {C : Type 0} (content : C → Option (List ℕ)) (h : Type 0) (z : Size
       leads_call s (λ a. evicts piece_cells m a (Copying o f ws) On Done Failed) Unread (λ u q. Shows content z t berths' u × (q ≡ On (put_so b o f))) a (Puts m o (put_of b ws)) (λ _. On (put_so b o f)) refl
       (ap (λ y. cond y (Calls (Copies m f (length ws)) (λ (u : State). On (Copying o f (ws ++ u.cell f (length ws) ∷ [])))) (Calls (Puts m o (put_of b ws)) (λ (u : State). On (put_so b o f)))) (below_false (length ws) piece_cells (omega arith)))
       (may_legal h piece_cells s (Puts m o (put_of b ws)) (is.fits.0.0, can_put b ws size))
-      (record { tables = shows.tables; far = subst (λ y. AreFar content berths' (upd s.far o (put_of b y))) (sym all) (kept (omega arith)); many = same ∙ shows.many }, refl)
+      (record { tables = shows.tables; far = subst (λ y. AreFar content berths' (upd s.far o (put_of b y))) (sym all) (kept (omega arith)); many = same ∙ shows.many; objects_few = shows.objects_few; frames_few = shows.frames_few }, refl)
 
 -- ---- marks
 
@@ -162,7 +162,7 @@ module _ {C : Type 0} (content : C → Option (List ℕ)) (z : Sizes) (t : Table
       let place : (s.word o).place ≡ place_of x.place = ap (λ (w : Word). w.place) (shows.tables.objects o).word in
       let same : act s (Marks m o f) ≡ u = ap (mark_at s m o f) place ∙ marks_yes s m o f x.count x.place count e in
       subst (λ (v : State). Shows content z t' berths v × (holds (v.hand m).leaving o ≡ true)) (sym same)
-          (record { tables = told shows.tables inside; far = shows.far; many = shows.many }, ap (λ (y : Hand). holds y.leaving o) hand ∙ eq-eqb o o refl)
+          (record { tables = told shows.tables inside; far = shows.far; many = shows.many; objects_few = shows.objects_few; frames_few = shows.frames_few }, ap (λ (y : Hand). holds y.leaving o) hand ∙ eq-eqb o o refl)
 
   pub not_marked : (o f : ℕ) → (s.hand m).leaving ≡ None → is_at_rest_in (object_at t o) f ≡ false → MarkedSo o f t berths false
   not_marked o f none e =

@@ -11,7 +11,7 @@ use Rattle.pointer_word.proofs.Upd.{upd-same, upd-other, same_or}
 use Rattle.remote_store.specs.Kept.{piece_cells}
 use Rattle.world.specs.declared.machine.Object.{Object}
 use Rattle.world.specs.declared.machine.Frame.{Frame}
-use Rattle.world.specs.Tables.{Tables, cells_at, frame_at, free, object_at, place_of, resting, with_cell, with_frame, with_object, word_of}
+use Rattle.world.specs.Tables.{Tables, cells_at, frame_at, frame_word, free, object_at, place_of, resting, with_cell, with_frame, with_object, word_of}
 use Rattle.world.specs.Worlds.{Sizes}
 use Rattle.world.specs.Shown.{IsObject, AreTables, Shown}
 
@@ -104,17 +104,17 @@ history_set z t word note frame cell o n shown a b c = record {
 -- ---- frames
 
 -- one frame's word
-pub frame_set : (z : Sizes) (t : Tables) (word : ℕ → Word) (note : ℕ → Note) (frame : ℕ → ℕ) (cell : ℕ → ℕ → ℕ) (f w : ℕ)
-    → AreTables z t word note frame cell → f < z.frames → AreTables z (with_frame t f w) word note (upd frame f w) cell
-frame_set z t word note frame cell f w shown below =
+pub frame_set : (z : Sizes) (t : Tables) (word : ℕ → Word) (note : ℕ → Note) (frame : ℕ → ℕ) (cell : ℕ → ℕ → ℕ) (f : ℕ) (held : Option ℕ)
+    → AreTables z t word note frame cell → f < z.frames → AreTables z (with_frame t f held) word note (upd frame f (frame_word held)) cell
+frame_set z t word note frame cell f held shown below =
     let many = shown.frames_many in
     let inside : f < length t.frames = omega arith in
-    let x : Frame = record (frame_at t f) { word = w } in
+    let x : Frame = record (frame_at t f) { held_for = held } in
     record {
       objects = shown.objects;
       frames = λ i. elim (same_or i f) [
-        | inl e ↦ upd-same frame f w i e ∙ sym (ap (λ (y : Frame). y.word) (set_same t.frames f x free i e inside))
-        | inr d ↦ upd-other frame f w i d ∙ (shown.frames i ∙ sym (ap (λ (y : Frame). y.word) (get_or-set_other t.frames f i x free d)))
+        | inl e ↦ upd-same frame f (frame_word held) i e ∙ sym (ap (λ (y : Frame). frame_word y.held_for) (set_same t.frames f x free i e inside))
+        | inr d ↦ upd-other frame f (frame_word held) i d ∙ (shown.frames i ∙ sym (ap (λ (y : Frame). frame_word y.held_for) (get_or-set_other t.frames f i x free d)))
       ];
       cells = λ i j. elim (same_or i f) [
         | inl e ↦ ap (λ k. cell k j) e ∙ (shown.cells f j ∙ sym (ap (λ (y : Frame). listed y.cells j) (set_same t.frames f x free i e inside)))
@@ -147,8 +147,8 @@ cell_set z t word note frame cell f k v shown there below =
     record {
       objects = shown.objects;
       frames = λ i. elim (same_or i f) [
-        | inl e ↦ ap frame e ∙ (shown.frames f ∙ sym (ap (λ (y : Frame). y.word) (set_same t.frames f x free i e inside)))
-        | inr d ↦ shown.frames i ∙ sym (ap (λ (y : Frame). y.word) (get_or-set_other t.frames f i x free d))
+        | inl e ↦ ap frame e ∙ (shown.frames f ∙ sym (ap (λ (y : Frame). frame_word y.held_for) (set_same t.frames f x free i e inside)))
+        | inr d ↦ shown.frames i ∙ sym (ap (λ (y : Frame). frame_word y.held_for) (get_or-set_other t.frames f i x free d))
       ];
       cells = λ i j. elim (same_or i f) [
         | inl e ↦ ap (λ (g : ℕ → ℕ). g j) (upd-same cell f (upd (cell f) k v) i e) ∙ (row_set ws (cell f) k v j (shown.cells f) l ∙ sym (ap (λ (y : Frame). listed y.cells j) (set_same t.frames f x free i e inside)))
@@ -172,10 +172,10 @@ in_objects t o d = elim (eqb_tells 0 (suc o - length t.objects)) [
 ]
 
 -- a frame whose word isn't 0 is in the table
-pub in_frames : (t : Tables) (f : ℕ) → 0 < (frame_at t f).word → f < length t.frames
+pub in_frames : (t : Tables) (f : ℕ) → 0 < frame_word (frame_at t f).held_for → f < length t.frames
 in_frames t f l = elim (eqb_tells 0 (suc f - length t.frames)) [
   | inl e ↦ let z = e.1 in omega arith
-  | inr e ↦ let z = e.1 in let r : (frame_at t f).word ≡ 0 = ap (λ (y : Frame). y.word) (get_or_past t.frames f free (omega arith)) in absurd (omega arith)
+  | inr e ↦ let z = e.1 in let r : frame_word (frame_at t f).held_for ≡ 0 = ap (λ (y : Frame). frame_word y.held_for) (get_or_past t.frames f free (omega arith)) in absurd (omega arith)
 ]
 
 zeros : (n i : ℕ) → 0 ≡ listed (replicate n 0) i

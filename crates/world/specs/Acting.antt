@@ -68,6 +68,8 @@ module _ {C : Type 0} (content : C → Option (List ℕ)) where
     pub tables : Shown z t s
     pub far : AreFar content berths s.far
     pub many : length berths ≡ z.objects
+    pub objects_few : z.objects ≤ 16777216
+    pub frames_few : z.frames ≤ 1048576
 
   -- A mover with this in hand moves an object out of the machine that code holds; h says that the store is honest
   pub record Moves (h : Type 0) (z : Sizes) (t : Tables) (berths : List (Berth C)) (m : ℕ) (x : Eviction) (s : State) : Type 0 where
@@ -109,7 +111,13 @@ module _ {C : Type 0} (content : C → Option (List ℕ)) where
     pub limit : x.setting.limit ≤ z.objects
     pub size : x.setting.size ≡ piece_cells
 
-  -- A program takes a turn exactly where it is enabled, and is then what the turn makes of it; what is read is what an honest store may give
+  -- Where the sizes are as given, a program takes a turn exactly where it is enabled, and is then what the turn makes of it; what is read is what an honest
+  -- store may give
+  abbrev pub TurnsIn : (Sizes → Type 0) → (h : Type 0) → (t t' : Tables) → (berths berths' : List (Berth C)) → (x x' : Seat) → (State → Program → Answer → Turn Program) → Type 0 → Step → Type 0
+  TurnsIn given h t t' berths berths' x x' turn same r = (z : Sizes) (s : State) (p : Program) → given z → Seated h z t berths x s p
+      → Goes s (turn s p) (λ a. h → ReadsHonestly piece_cells s p.mode a.read) (λ u q. Shows z t' berths' u × IsProgram x' q × (x'.setting ≡ x.setting)) same r
+
+  -- the same for any sizes
   abbrev pub Turns : (h : Type 0) → (t t' : Tables) → (berths berths' : List (Berth C)) → (x x' : Seat) → (State → Program → Answer → Turn Program) → Type 0 → Step → Type 0
   Turns h t t' berths berths' x x' turn same r = (z : Sizes) (s : State) (p : Program) → Seated h z t berths x s p
       → Goes s (turn s p) (λ a. h → ReadsHonestly piece_cells s p.mode a.read) (λ u q. Shows z t' berths' u × IsProgram x' q × (x'.setting ≡ x.setting)) same r

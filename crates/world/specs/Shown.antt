@@ -8,7 +8,7 @@ use Rattle.remote_store.specs.declared.berth.Berth.{Berth}
 use Rattle.world.specs.declared.machine.Object.{Object}
 use Rattle.world.specs.InHand.{WasPut}
 use Rattle.world.specs.Worlds.{Sizes}
-use Rattle.world.specs.Tables.{Tables, cells_at, frame_at, object_at, word_of}
+use Rattle.world.specs.Tables.{Tables, cells_at, frame_at, frame_word, object_at, word_of}
 
 -- an object's row is its word, and what its owner knows but for the history
 pub record IsObject (x : Object) (w : Word) (n : Note) : Type 0 where
@@ -20,7 +20,7 @@ pub record IsObject (x : Object) (w : Word) (n : Note) : Type 0 where
 -- the rows are these words, notes, frame words and cells, as many as there are objects and frames
 pub record AreTables (z : Sizes) (t : Tables) (word : ℕ → Word) (note : ℕ → Note) (frame : ℕ → ℕ) (cell : ℕ → ℕ → ℕ) : Type 0 where
   pub objects : (o : ℕ) → IsObject (object_at t o) (word o) (note o)
-  pub frames : (f : ℕ) → frame f ≡ (frame_at t f).word
+  pub frames : (f : ℕ) → frame f ≡ frame_word (frame_at t f).held_for
   pub cells : (f i : ℕ) → cell f i ≡ listed (cells_at t f) i
   pub wide : (f : ℕ) → length (cells_at t f) ≡ piece_cells
   pub objects_many : length t.objects ≡ z.objects

@@ -1,5 +1,5 @@
 -- What code keeps of the machine: a row for each object, and one for each frame.
-use Rattle.std.specs.Prelude.{ℕ, Bool, true, false, ◌&&◌, ◌==◌, Option, Some, None, List, [], slice_index_or, slice_set, replicate}
+use Rattle.std.specs.Prelude.{ℕ, suc, Bool, true, false, ◌&&◌, ◌==◌, Option, Some, None, List, [], slice_index_or, slice_set, replicate}
 use Rattle.pointer_word.specs.Words as words
 use Rattle.remote_store.specs.Kept.{piece_cells}
 use Rattle.world.specs.declared.machine.Place.{Place}
@@ -29,7 +29,7 @@ resting = record { count = 0; place = p.Away; told = None; writing = false }
 
 -- a frame that nobody holds
 abbrev pub free : Frame
-free = record { word = 0; cells = replicate piece_cells 0 }
+free = record { held_for = None; cells = replicate piece_cells 0 }
 
 -- outside the table objects rest
 abbrev pub object_at : Tables → ℕ → Object
@@ -39,6 +39,11 @@ object_at t o = slice_index_or t.objects o resting
 abbrev pub frame_at : Tables → ℕ → Frame
 frame_at t f = slice_index_or t.frames f free
 
+-- the word of a frame that is held for this object, or is free
+abbrev pub frame_word : Option ℕ → ℕ
+frame_word None = 0
+frame_word (Some o) = suc o
+
 -- the cells of a frame
 abbrev pub cells_at : Tables → ℕ → List ℕ
 cells_at t f = (frame_at t f).cells
@@ -47,9 +52,9 @@ cells_at t f = (frame_at t f).cells
 abbrev pub with_object : Tables → ℕ → Object → Tables
 with_object t o x = record t { objects = slice_set t.objects o x }
 
--- one frame's word changed
-abbrev pub with_frame : Tables → ℕ → ℕ → Tables
-with_frame t f w = record t { frames = slice_set t.frames f (record (frame_at t f) { word = w }) }
+-- one frame held for another object, or free
+abbrev pub with_frame : Tables → ℕ → Option ℕ → Tables
+with_frame t f y = record t { frames = slice_set t.frames f (record (frame_at t f) { held_for = y }) }
 
 -- one cell of a frame changed
 abbrev pub with_cell : Tables → ℕ → ℕ → ℕ → Tables

@@ -7,13 +7,15 @@ ghost use Rattle.pointer_word.specs.Sound.{Inv};
 ghost use Rattle.remote_store.specs.Kept.{piece_cells};
 ghost use Rattle.world.specs.Acting.{Done, Failed, Leads, Moves, On, Shows, Unread, outcome_of, resumes};
 ghost use Rattle.world.specs.InHand.{MovesOut};
-ghost use Rattle.world.specs.Seats.{eviction_of};
+ghost use Rattle.world.specs.Seats.{IsSteady, Waits, eviction_of, mode_of};
+ghost use Rattle.world.specs.Programs.{Bringing, Evicting, Retreating};
+ghost use Rattle.code_form.specs.declared.touch.Touch.{Touch};
 ghost use Rattle.world.specs.Turns.{evicts};
 ghost use Rattle.world.specs.Worlds.{Sizes};
 
 use crate::lock::Lock;
 use crate::machine::Place;
-use crate::program::Eviction;
+use crate::program::{Eviction, Mode};
 use remote_store::{PIECE_CELLS, Port, RawStore};
 
 /// What an event of moving out leads to.
@@ -35,6 +37,20 @@ impl Evicted {
         match self {
             Evicted::On(eviction) => Some(eviction),
             Evicted::Done | Evicted::Failed => None,
+        }
+    }
+}
+
+impl Evicted {
+    /// The mode of a program that moves an object out to bring this one in.
+    pub(crate) fn mode(self, object: usize) -> Mode
+        ensures mode { (words : List ℕ) → mode_of result words ≡ resumes (λ e. Evicting object e) (Bringing object) (Retreating object) (outcome_of self words) }
+        ensures waits { (x : Touch) → IsSteady x → Waits result x }
+    {
+        match self {
+            Evicted::On(eviction) => Mode::Evicting(object, eviction),
+            Evicted::Done => Mode::Bringing(object),
+            Evicted::Failed => Mode::Retreating(object),
         }
     }
 }
@@ -130,7 +146,7 @@ fn release<S: RawStore>(lock: &mut Lock<S>, frame: usize)
     ensures { (m : ℕ) (z : Sizes) (s : State) → Inv S.honest piece_cells s → (s.hand m).freed ≡ Some frame → Shows S.content z lock.old.machine lock.old.berths.items s
         → Shows S.content z lock.new.machine lock.new.berths.items (act s (Releases m frame)) }
 {
-    lock.machine.put_frame_word(frame, 0);
+    lock.machine.hold_frame(frame, None);
 }
 
 /// An event of a mover that moves an object out. It is always enabled.

@@ -1,10 +1,10 @@
 //! The words, frames and cells of the world, and what the owner of each object knows.
-ghost use Rattle.std.specs.Prelude.{◌≡◌, ◌<◌, ◌≤◌, ℕ, IfOk, Some, None, length, replicate, slice_index};
+ghost use Rattle.std.specs.Prelude.{◌≡◌, ◌<◌, ◌≤◌, ℕ, IfOk, Some, None, is_none, length, replicate, slice_index};
 ghost use Rattle.pointer_word.specs.Hands.{upd};
 ghost use Rattle.pointer_word.specs.Machine.{State, after_clear, after_close, after_open, after_told};
 ghost use Rattle.pointer_word.specs.Words.{cleared, counted, framed};
 ghost use Rattle.remote_store.specs.Kept.{piece_cells};
-ghost use Rattle.world.specs.Tables.{cells_at, frame_at, free, is_at_rest_in, is_away_at, is_marked_by, object_at, place_of, resting, with_cell, with_frame, with_object, word_of};
+ghost use Rattle.world.specs.Tables.{cells_at, frame_at, frame_word, free, is_at_rest_in, is_away_at, is_marked_by, object_at, place_of, resting, with_cell, with_frame, with_object, word_of};
 ghost use Rattle.world.specs.Shown.{Shown};
 ghost use Rattle.world.specs.Worlds.{Sizes};
 
@@ -35,10 +35,10 @@ pub(crate) struct Object {
     pub(crate) writing: bool,
 }
 
-/// A frame's word, and its cells.
+/// The object for which a frame is held, whose number and one more is the frame's word, and its cells. The word of one that is free is 0.
 #[derive(Clone, Copy, PartialEq, Eq, Debug)]
 pub(crate) struct Frame {
-    pub(crate) word: u64,
+    pub(crate) held_for: Option<usize>,
     pub(crate) cells: [u64; PIECE_CELLS],
 }
 
@@ -134,7 +134,7 @@ impl Machine {
             frames: Vec::from_elem(
                 alloc,
                 Frame {
-                    word: 0,
+                    held_for: None,
                     cells: [0; PIECE_CELLS],
                 },
                 frames,
@@ -175,14 +175,14 @@ impl Machine {
         }
     }
 
-    /// A frame's word; 0 where there is no such frame.
-    pub(crate) fn frame_word(&self, frame: usize) -> u64
-        ensures { result ≡ (frame_at self.now frame).word }
+    /// Whether nobody holds the frame.
+    pub(crate) fn is_free(&self, frame: usize) -> bool
+        ensures { result ≡ is_none (frame_at self.now frame).held_for }
     {
         if frame < self.frames.len() {
-            self.frames[frame].word
+            self.frames[frame].held_for.is_none()
         } else {
-            0
+            true
         }
     }
 
@@ -198,12 +198,12 @@ impl Machine {
         }
     }
 
-    fn set_frame_word(&mut self, frame: usize, word: u64)
-        ensures { self.new ≡ with_frame self.old frame word }
+    fn set_frame(&mut self, frame: usize, held_for: Option<usize>)
+        ensures { self.new ≡ with_frame self.old frame held_for }
     {
         if frame < self.frames.len() {
             let row = &mut self.frames[frame];
-            row.word = word;
+            row.held_for = held_for;
         }
     }
 
@@ -291,11 +291,11 @@ impl Machine {
         self.put_object(object, moved);
     }
 
-    /// The frame has another word.
-    pub(crate) fn put_frame_word(&mut self, frame: usize, word: u64)
-        ensures { (z : Sizes) (s : State) → Shown z self.old s → frame < z.frames → Shown z self.new (record s { frame = upd s.frame frame word }) }
+    /// The frame is held for another object, or is free.
+    pub(crate) fn hold_frame(&mut self, frame: usize, held_for: Option<usize>)
+        ensures { (z : Sizes) (s : State) → Shown z self.old s → frame < z.frames → Shown z self.new (record s { frame = upd s.frame frame (frame_word held_for) }) }
     {
-        self.set_frame_word(frame, word);
+        self.set_frame(frame, held_for);
     }
 
     /// A cell of the frame has another value.

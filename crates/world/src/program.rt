@@ -316,9 +316,9 @@ pub(crate) fn pieces(cells: u64) -> u64
 fn first_of_holds(holds: &[Option<Hold>]) -> Option<(usize, Hold)>
     ensures { result ≡ first_hold holds.now }
 {
-    for (scope, hold) in holds.iter().enumerate() {
-        if let Some(hold) = hold {
-            return Some((scope, *hold));
+    for scope in 0..holds.len() {
+        if let Some(hold) = holds[scope] {
+            return Some((scope, hold));
         }
     }
     None
