@@ -1,3 +1,11 @@
+pub mod Firsts
+pub mod BroughtIn
+pub mod Happening
+pub mod Evacuating
+pub mod MovedOut
+pub mod Acting
+pub mod Placing
+pub mod Showing
 pub mod Schedules
 pub mod Calling
 pub mod Moving
