@@ -11,6 +11,7 @@ mod line_tests;
 mod lock;
 mod machine;
 mod program;
+mod replay;
 mod world;
 
 pub use event::{Actor, Choice};
