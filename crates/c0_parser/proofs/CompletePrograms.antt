@@ -38,15 +38,15 @@ longer_fields (x ∷ xs) rest = omega (arith, longer_type x.value_type (Word x.n
 
 -- ---- parameters
 
-abbrev parameters_of : List TypedName → Option (List Terminal) → List Terminal → ReadParameters
+abbrev parameters_of : List TypedName → Option ℕ → List Terminal → ReadParameters
 parameters_of xs over rest = record { parameters = xs; over = over; rest = rest }
 
 record GoodParameters (types : Names) (d room n : ℕ) (x : TypedName) (xs : List TypedName) (rest : List Terminal) : Type 0 where
-  over : Option (List Terminal)
+  over : Option ℕ
   is : read_parameters types d room n (emit_typed_name x (emit_more_parameters xs rest)) ≡ Ok (parameters_of (x ∷ xs) over rest)
   few : suc (length xs) ≤ room → over ≡ None
 
-few_by : (room : ℕ) (at : List Terminal) (later : Option (List Terminal)) (count : ℕ) → (count ≤ less room → later ≡ None) → suc count ≤ room → over_by room at later ≡ None
+few_by : (room : ℕ) (at : ℕ) (later : Option ℕ) (count : ℕ) → (count ≤ less room → later ≡ None) → suc count ≤ room → over_by room at later ≡ None
 few_by zero at later count h le = absurd (omega arith)
 few_by (suc room) at later count h le = h (omega arith)
 
@@ -56,12 +56,12 @@ complete_parameters types x xs d room zero rest w h lt = absurd (omega arith)
 complete_parameters types x [] d room (suc n) rest w h lt =
     let us = Word x.name ∷ Sign k.RParen ∷ rest in
     let r = complete_type types x.value_type d us w.0 (omega arith) tt in
-    record { over = over_by room us None; is = rw (r, w.1) refl; few = λ le. few_by room us None 0 (λ _. refl) le }
+    record { over = over_by room (length us) None; is = rw (r, w.1) refl; few = λ le. few_by room (length us) None 0 (λ _. refl) le }
 complete_parameters types x (y ∷ ys) d room (suc n) rest w h lt =
     let us = Word x.name ∷ Sign k.Comma ∷ emit_typed_name y (emit_more_parameters ys rest) in
     let r = complete_type types x.value_type d us w.0 (omega arith) tt in
     let o = complete_parameters types y ys d (less room) n rest w.2 (omega arith) (omega arith) in
-    record { over = over_by room us o.over; is = rw (r, w.1, o.is) refl; few = λ le. few_by room us o.over (suc (length ys)) o.few le }
+    record { over = over_by room (length us) o.over; is = rw (r, w.1, o.is) refl; few = λ le. few_by room (length us) o.over (suc (length ys)) o.few le }
 
 parameters_go : (types : Names) (d : ℕ) (kind : Kind) (ts : List Terminal) → BeginsSimple kind → parameters_by types d kind ts ≡ read_parameters types d 1024 (length ts) ts
 parameters_go types d k.RParen ts b = absurd b
@@ -72,7 +72,7 @@ longer_more [] rest = omega arith
 longer_more (x ∷ xs) rest = omega (arith, longer_type x.value_type (Word x.name ∷ emit_more_parameters xs rest), longer_more xs rest)
 
 record GoodAll (types : Names) (d : ℕ) (xs : List TypedName) (rest : List Terminal) : Type 0 where
-  over : Option (List Terminal)
+  over : Option ℕ
   is : parameters_by types d (plain_at (emit_parameters xs rest)) (emit_parameters xs rest) ≡ Ok (parameters_of xs over rest)
   few : length xs ≤ 1024 → over ≡ None
 
@@ -90,12 +90,12 @@ longer_parameters (x ∷ xs) rest = omega (arith, longer_type x.value_type (Word
 
 -- ---- headers
 
-abbrev header_of : Header → Option (List Terminal) → List Terminal → List Terminal → ReadHeader
+abbrev header_of : Header → Option ℕ → ℕ → List Terminal → ReadHeader
 header_of h over at rest = record { header = h; at = at; over = over; rest = rest }
 
 record GoodHeader (types : Names) (d : ℕ) (h : Header) (rest : List Terminal) : Type 0 where
-  over : Option (List Terminal)
-  at : List Terminal
+  over : Option ℕ
+  at : ℕ
   is : read_header types d (emit_header h rest) ≡ Ok (header_of h over at rest)
   few : length h.parameters ≤ 1024 → over ≡ None
 
@@ -107,7 +107,7 @@ header_is types h d rest w low b =
     let r = complete_type types h.result d at w.0 (omega arith) tt in
     let g = parameters_are types h.parameters d us w.2 (omega arith) in
     let n = complete_annotations types h.annotations d (suc (length us)) rest w.3 (omega arith) (omega (arith, longer_annotations h.annotations rest)) b in
-    record { over = g.over; at = at; is = rw (r, w.1, g.is, n) refl; few = g.few }
+    record { over = g.over; at = length at; is = rw (r, w.1, g.is, n) refl; few = g.few }
 
 longer_header : (h : Header) (rest : List Terminal) → length rest < length (emit_header h rest)
 longer_header h rest =

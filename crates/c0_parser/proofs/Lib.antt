@@ -13,3 +13,8 @@ pub mod Turned
 pub mod Stepped
 pub mod TextValues
 pub mod ExpressionLoops
+pub mod Rows
+pub mod ListLoops
+pub mod StatementLoops
+pub mod ProgramLoops
+pub mod ParsedTokens

@@ -73,7 +73,7 @@ record SoundParameters (types : Names) (d room : ℕ) (ts : List Terminal) (r : 
   tail : List TypedName
   is : r.parameters ≡ head ∷ tail
 
-few_by : (room : ℕ) (at : List Terminal) (later : Option (List Terminal)) (count : ℕ) → (later ≡ None → count ≤ less room) → over_by room at later ≡ None → suc count ≤ room
+few_by : (room : ℕ) (at : ℕ) (later : Option ℕ) (count : ℕ) → (later ≡ None → count ≤ less room) → over_by room at later ≡ None → suc count ≤ room
 few_by zero at later count h e = absurd cc
 few_by (suc room) at later count h e = let le = h e in omega arith
 
@@ -103,7 +103,7 @@ parameters_sound types d (suc n) room ts r e =
       spelled = t.spelled ∙ ap (emit_type b.0.value_type) behind;
       formed = (t.formed, x.1, o.formed);
       shallow = omega (arith, t.shallow, o.shallow);
-      few = λ h. few_by room b.0.rest bo.0.over (length bo.0.parameters) o.few h;
+      few = λ h. few_by room (length b.0.rest) bo.0.over (length bo.0.parameters) o.few h;
       head = typed b.0 bx.0;
       tail = bo.0.parameters;
       is = refl;
@@ -128,7 +128,7 @@ record SoundHeader (types : Names) (d : ℕ) (ts : List Terminal) (r : ReadHeade
   few : r.over ≡ None → length r.header.parameters ≤ 1024
 
 abbrev header_by : ReadType → Read (List ℕ) → ReadParameters → Read (List (List Spec)) → ReadHeader
-header_by t x ps ns = record { header = record { result = t.value_type; name = x.value; parameters = ps.parameters; annotations = ns.value }; at = t.rest; over = ps.over; rest = ns.rest }
+header_by t x ps ns = record { header = record { result = t.value_type; name = x.value; parameters = ps.parameters; annotations = ns.value }; at = length t.rest; over = ps.over; rest = ns.rest }
 
 header_sound : (types : Names) (d : ℕ) (ts : List Terminal) (r : ReadHeader) → read_header types d ts ≡ Ok r → SoundHeader types d ts r
 unfolding read_header
@@ -161,11 +161,11 @@ record SoundDeclaration (types : Names) (loops : Bool) (all : ℕ) (ts : List Te
   few : locals_declaration r.declaration ≤ 1024
   rooms : all ≡ defined_by r.declaration + r.room
 
-small_ok : (over : Option (List Terminal)) (n : ℕ) → small over ≡ Ok n → over ≡ None
+small_ok : (over : Option ℕ) (n : ℕ) → small over ≡ Ok n → over ≡ None
 small_ok None n e = refl
 small_ok (Some at) n e = absurd cc
 
-end_sound : (types : Names) (loops : Bool) (all : ℕ) (start at : List Terminal) (over : Option (List Terminal)) (kind : Kind) (h : Header) (ts : List Terminal) (r : ReadDeclaration) → SoundHeader types 199 start (record { header = h; at = at; over = over; rest = ts })
+end_sound : (types : Names) (loops : Bool) (all : ℕ) (start : List Terminal) (at : ℕ) (over : Option ℕ) (kind : Kind) (h : Header) (ts : List Terminal) (r : ReadDeclaration) → SoundHeader types 199 start (record { header = h; at = at; over = over; rest = ts })
     → plain_at ts ≡ kind → end_by types loops 199 all at over kind h ts ≡ Ok r → SoundDeclaration types loops all start r
 end_sound types loops all start at over k.Semi h ts r s is e =
     subst (SoundDeclaration types loops all start) (ok_is _ r e) (record { spelled = s.spelled ∙ ap (emit_header h) (sign_at ts k.Semi is tt); formed = s.formed; shallow = omega (arith, s.shallow); few = omega arith; rooms = omega arith })

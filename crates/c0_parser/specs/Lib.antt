@@ -4,4 +4,6 @@ pub mod ReadStatements
 pub mod ReadPrograms
 pub mod Tokens
 pub mod Found
+pub mod FoundPrograms
+pub mod Parsing
 pub mod Laws

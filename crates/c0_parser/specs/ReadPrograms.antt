@@ -1,11 +1,12 @@
 -- Declarations and whole programs, read from left to right.
-use Rattle.std.specs.Prelude.{ℕ, zero, suc, ◌-◌, Bool, false, List, [], ◌∷◌, length, Option, Some, None, Ok}
+use Rattle.std.specs.Prelude.{ℕ, zero, suc, ◌-◌, Bool, false, List, [], ◌∷◌, length, Option, Some, None, Ok, Err}
 use Rattle.c0_source.specs.declared.kind.Kind.{Kind}
 use Rattle.c0_source.specs.declared.kind.Kind.TheVariants as k
 use Rattle.c0_source.specs.Terminals.{Terminal, Use}
 use Rattle.c0_syntax.specs.Trees.{TypedName, Header, Declaration, UseLibrary, DeclareStruct, DefineStruct, Typedef, DeclareFunction, DefineFunction, Program}
 use Rattle.c0_syntax.specs.Programs.{type_names_after}
-use Rattle.c0_parser.specs.Outcome.{Outcome, ◌>>=◌, Read, refuse, too_large, plain_at, bytes_at, next, lparen, semi, any_name, new_name}
+use Rattle.c0_parser.specs.declared.read_error.ReadError.TheVariants.{TooLarge}
+use Rattle.c0_parser.specs.Outcome.{Outcome, ◌>>=◌, Read, refuse, plain_at, bytes_at, next, lparen, semi, any_name, new_name}
 use Rattle.c0_parser.specs.ReadExpressions.{ReadType, read_type}
 use Rattle.c0_parser.specs.ReadStatements.{read_annotations, read_body}
 
@@ -23,20 +24,20 @@ unfoldable pub read_fields : List (List ℕ) → ℕ → ℕ → List Terminal �
 read_fields types d zero ts = refuse ts
 read_fields types d (suc n) ts = fields_by types d (read_fields types d n) (plain_at ts) ts
 
--- Parameters, and where the one stands that is the first too many for a definition: the tokens from its name on, or none.
+-- Parameters, and where the one stands that is the first too many for a definition: how many tokens stand from its name on, or none.
 pub record ReadParameters : Type 0 where
   pub parameters : List TypedName
-  pub over : Option (List Terminal)
+  pub over : Option ℕ
   pub rest : List Terminal
 
 -- where the first parameter stands that is too many, by how many more there may be
-abbrev pub over_by : ℕ → List Terminal → Option (List Terminal) → Option (List Terminal)
+abbrev pub over_by : ℕ → ℕ → Option ℕ → Option ℕ
 over_by zero at later = Some at
 over_by (suc room) at later = later
 
 -- one more parameter, before the others
 abbrev pub add_parameter : ℕ → ReadType → Read (List ℕ) → ReadParameters → ReadParameters
-add_parameter room t x xs = record { parameters = record { value_type = t.value_type; name = x.value } ∷ xs.parameters; over = over_by room t.rest xs.over; rest = xs.rest }
+add_parameter room t x xs = record { parameters = record { value_type = t.value_type; name = x.value } ∷ xs.parameters; over = over_by room (length t.rest) xs.over; rest = xs.rest }
 
 -- one less, and none of none
 abbrev pub less : ℕ → ℕ
@@ -69,23 +70,23 @@ pub record ReadDeclaration : Type 0 where
   pub rest : List Terminal
 
 -- no parameter is too many
-abbrev pub small : Option (List Terminal) → Outcome ℕ
+abbrev pub small : Option ℕ → Outcome ℕ
 small None = Ok 0
-small (Some at) = too_large at
+small (Some at) = Err (TooLarge at)
 
--- behind a header whose name stands at `at`
-abbrev pub end_by : List (List ℕ) → Bool → ℕ → ℕ → List Terminal → Option (List Terminal) → Kind → Header → List Terminal → Outcome ReadDeclaration
+-- behind a header from whose name on `at` tokens stand
+abbrev pub end_by : List (List ℕ) → Bool → ℕ → ℕ → ℕ → Option ℕ → Kind → Header → List Terminal → Outcome ReadDeclaration
 end_by types loops d room at over k.Semi h ts = Ok (record { declaration = DeclareFunction h; room = room; rest = next ts })
-end_by types loops d zero at over k.LBrace h ts = too_large at
+end_by types loops d zero at over k.LBrace h ts = Err (TooLarge at)
 end_by types loops d (suc room) at over k.LBrace h ts =
     small over >>= λ _. read_body types loops d (1024 - length h.parameters) (next ts) >>= λ body. Ok (record { declaration = DefineFunction h body.value; room = room; rest = body.rest })
 end_by types loops d room at over _ h ts = refuse ts
 
--- a header, the tokens from its name on, and from the name of a parameter that is too many
+-- a header, how many tokens stand from its name on, and from the name of a parameter that is too many
 pub record ReadHeader : Type 0 where
   pub header : Header
-  pub at : List Terminal
-  pub over : Option (List Terminal)
+  pub at : ℕ
+  pub over : Option ℕ
   pub rest : List Terminal
 
 -- a function up to its body
@@ -93,7 +94,7 @@ unfoldable pub read_header : List (List ℕ) → ℕ → List Terminal → Outco
 read_header types d ts =
     read_type types d ts >>= λ t. new_name types t.rest >>= λ x. lparen x.rest >>= λ us. parameters_by types d (plain_at us) us
     >>= λ ps. read_annotations types d (suc (length ps.rest)) ps.rest
-    >>= λ ns. Ok (record { header = record { result = t.value_type; name = x.value; parameters = ps.parameters; annotations = ns.value }; at = t.rest; over = ps.over; rest = ns.rest })
+    >>= λ ns. Ok (record { header = record { result = t.value_type; name = x.value; parameters = ps.parameters; annotations = ns.value }; at = length t.rest; over = ps.over; rest = ns.rest })
 
 -- a function, declared or defined
 unfoldable pub function : List (List ℕ) → Bool → ℕ → ℕ → List Terminal → Outcome ReadDeclaration

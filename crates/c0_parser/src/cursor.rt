@@ -20,6 +20,11 @@ use c0_syntax::name::Name;
 use std::alloc::Global;
 use std::marker::Model;
 
+mod annotations;
+mod declarations;
+mod expressions;
+mod simple_statements;
+mod statements;
 mod value_types;
 
 /// The tokens that are left, and where the one before them ends.

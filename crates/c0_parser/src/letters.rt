@@ -8,7 +8,7 @@ ghost use Rattle.c0_parser.specs.Tokens.{byte_value as spec_byte_value};
 
 use std::alloc::{AllocError, Global};
 
-fn push_byte(text: &mut String, byte: u8) -> Result<(), AllocError>
+pub(crate) fn push_byte(text: &mut String, byte: u8) -> Result<(), AllocError>
     requires { byte < 128 }
     ensures { IfOk result (λ _. string_bytes text.new ≡ string_bytes text.old ++ byte ∷ []) }
 {

@@ -7,14 +7,14 @@ use Rattle.code_form.specs.Code.{is_blocked}
 use Rattle.code_form.specs.Form.{Image}
 use Rattle.code_form.specs.Placed.{pieces}
 use Rattle.pointer_word.specs.Machine.{State}
-use Rattle.pointer_word.specs.Calls.{Call, Copies, Puts, act}
+use Rattle.pointer_word.specs.Calls.{Call, act}
 use Rattle.pointer_word.specs.Legal.{holds, is_put, legal}
 use Rattle.world.specs.declared.event.Actor.{Actor}
 use Rattle.world.specs.declared.event.Actor.TheVariants as actor
 use Rattle.world.specs.declared.event.Choice.{Choice}
 use Rattle.world.specs.declared.event.Choice.TheVariants as choice
 use Rattle.world.specs.Programs.{Eviction, Copying, Stored, NotStored, Refused, Freed, Hold, Mode, Ready, Missing, Bringing, Reading, Filling, Evicting, Releasing, Retreating, Closing, Wanted, Program, Setting, next_touch, next_free, first_hold}
-use Rattle.world.specs.Turns.{Answer, Turn, NotEnabled, Alone, Calls, after_call, taken, as_next, put_of, evicts, allocates, ends_by, ready, by_mode, program_turn, evacuator_turn}
+use Rattle.world.specs.Turns.{Answer, Turn, NotEnabled, Alone, Calls, after_call, taken, as_next, put_of, evicts, ends_by, ready, by_mode, program_turn, evacuator_turn}
 use Rattle.world.specs.Worlds.{Sizes, World, Event, mover_of, setting, in_range, is_actor, with_program, with_evacuator, acted, event}
 use Rattle.world.specs.InHand.{FitsEviction, FitsMode, FitsEvacuator, HandsFit}
 use Rattle.world.proofs.Moving.{below, not_below}

@@ -1,5 +1,5 @@
 -- the call of an actor's turn meets what is asked of its caller
-use Rattle.std.proofs.Common.{◌≡◌, ◌⊎◌, inl, inr, ℕ, zero, suc, ◌+◌, ◌<◌, ◌≤◌, Bool, true, false, cond, not, ◌&&◌, List, [], ◌∷◌, length, Option, Some, None, refl, sym, ap, ◌∙◌, subst, arith}
+use Rattle.std.proofs.Common.{◌≡◌, ◌⊎◌, inl, inr, ℕ, zero, suc, ◌+◌, ◌<◌, ◌≤◌, Bool, true, false, cond, List, [], ◌∷◌, length, Option, Some, None, refl, sym, ap, ◌∙◌, subst, arith}
 use Rattle.std.specs.Prelude.{◌==◌, ◌%◌, nat_lt, nat_le}
 use Rattle.std.proofs.Math.Nat.{mod-lt}
 use Rattle.std.proofs.lemmas.Bool.Decides.{nat_tests}
@@ -8,24 +8,23 @@ use Rattle.code_form.specs.declared.touch.Touch.{Touch}
 use Rattle.code_form.specs.declared.touch.Touch.TheVariants as touch
 use Rattle.code_form.specs.Code.{is_blocked}
 use Rattle.code_form.specs.Placed.{pieces}
-use Rattle.pointer_word.specs.Hands.{Hand, known, listed}
+use Rattle.pointer_word.specs.Hands.{known, listed}
 use Rattle.pointer_word.specs.Machine.{State}
-use Rattle.pointer_word.specs.Calls.{Call, Begins, Arrives, Puts, Filled}
-use Rattle.pointer_word.specs.Asked.{Asked, HasNoFrame, HasNothing}
-use Rattle.pointer_word.specs.Legal.{legal}
-use Rattle.pointer_word.specs.Ordered.{IsFilled, IsCopied}
+use Rattle.pointer_word.specs.Calls.{Puts}
+use Rattle.pointer_word.specs.Asked.{Asked, HasNothing}
+use Rattle.pointer_word.specs.Ordered.{IsFilled}
 use Rattle.pointer_word.proofs.Asking.{asked_may}
 use Rattle.pointer_word.proofs.Legal.{may_legal}
 use Rattle.world.specs.declared.event.Choice.{Choice}
 use Rattle.world.specs.declared.event.Choice.TheVariants as choice
 use Rattle.world.specs.Programs.{Eviction, Copying, Stored, NotStored, Refused, Freed, Hold, Mode, Ready, Missing, Bringing, Reading, Filling, Evicting, Releasing, Retreating, Closing, Wanted, Program, Setting, next_touch, object_of, object_or_none, next_free, hold_at, in_mode, first_hold}
-use Rattle.world.specs.Turns.{Answer, Turn, NotEnabled, Alone, Calls, as_next, put_of, put_so, evicts, evacuator_idle, evacuator_turn, grows, closes, aims_at, loads_from, loads_by, stores_to, stores_by, leaves_by, ends_by, ready, began, seeks, fills, gives_up, by_mode}
+use Rattle.world.specs.Turns.{Answer, Turn, NotEnabled, Alone, Calls, as_next, put_of, put_so, evicts, evacuator_idle, evacuator_turn, aims_at, loads_from, loads_by, stores_to, stores_by, leaves_by, ends_by, ready, seeks, fills, gives_up, by_mode}
 use Rattle.world.specs.InHand.{MovesOut, FitsEviction, OnlyBrings, BringsInto, IsPromised, FitsMode, FitsEvacuator}
 use Rattle.world.specs.Holding.{one, count_of}
 use Rattle.world.specs.Enabled.{is_turn}
 use Rattle.world.specs.Scopes.{IsNext, IsAiming, AimsIn}
 use Rattle.world.proofs.Able.{able}
-use Rattle.world.proofs.Counting.{one_same, hold_there, first_at}
+use Rattle.world.proofs.Counting.{one_same, first_at}
 use Rattle.world.proofs.Holding.{InShare, Holds1}
 use Rattle.world.proofs.Moving.{below, not_below}
 

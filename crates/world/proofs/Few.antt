@@ -1,5 +1,5 @@
 -- a program has no more scopes than its function with the most
-use Rattle.std.proofs.Common.{◌≡◌, ℕ, zero, suc, ◌+◌, ◌<◌, ◌≤◌, Bool, true, false, cond, ◌&&◌, List, [], ◌∷◌, length, Option, Some, None, refl, sym, ap, ◌∙◌, subst, arith}
+use Rattle.std.proofs.Common.{◌≡◌, ℕ, zero, suc, ◌+◌, ◌<◌, ◌≤◌, Bool, true, false, cond, ◌&&◌, List, [], ◌∷◌, length, Option, Some, None, refl, arith}
 use Rattle.std.specs.Prelude.{map, nat_lt, replicate, slice_get, slice_index, is_none}
 use Rattle.std.proofs.lemmas.Bool.Decides.{nat_tests}
 use Rattle.std.proofs.lemmas.List.{length-map, length-replicate, length-set}
@@ -9,7 +9,7 @@ use Rattle.code_form.specs.declared.touch.Cell.{Cell}
 use Rattle.code_form.specs.declared.touch.Touch.TheVariants as touch
 use Rattle.code_form.specs.Form.{Block, Function, Image, Instruction, Simple, Aim, Load, Store, Leave, Call, Jump, Branch, Return, ReturnVoid, Error}
 use Rattle.code_form.specs.Effects.{Effect, Plain, Aims, Loads, Saves, Leaves, Allocs, Ends, Wrong, Nothing}
-use Rattle.code_form.specs.Code.{if_zero, has, on_kind, place_fits, Frame, Core, Running, Stopped, Stuck, Did, Goes, Sets, Makes, Prints, Stops, Fails, op_did, text_at, Scope, Shut, Aimed, Stale, on, set_to, gives, written, act, after, begins, calls, can_use, call_fits, effect, entered, enters_at, held, held_by, jumps, load_by, most_scopes, offset, returns, errs, store_by}
+use Rattle.code_form.specs.Code.{if_zero, has, on_kind, place_fits, Frame, Core, Running, Stopped, Stuck, Did, Goes, Sets, Makes, Prints, Stops, Fails, op_did, text_at, Scope, Shut, Aimed, Stale, on, gives, written, act, after, begins, calls, can_use, call_fits, effect, entered, enters_at, held, held_by, jumps, load_by, most_scopes, offset, returns, errs, store_by}
 use Rattle.code_form.specs.Touches.{resumed, touch_of}
 
 -- none of these calls has more scopes than n

@@ -1,6 +1,6 @@
 -- in every world that is reached each program's holds are counted and known, its scopes are as its code's, and each call meets what is asked of its caller
 use Rattle.std.proofs.Common.{◌≡◌, ◌≢◌, ◌⊎◌, inl, inr, ℕ, zero, suc, ◌+◌, ◌-◌, ◌*◌, ◌<◌, ◌≤◌, Bool, true, false, cond, ◌&&◌, List, [], ◌∷◌, length, Option, Some, None, refl, sym, ap, ◌∙◌, subst, arith}
-use Rattle.std.specs.Prelude.{◌/◌, nat_lt, is_some, slice_get, slice_set, replicate}
+use Rattle.std.specs.Prelude.{◌/◌, nat_lt, is_some, slice_get, replicate}
 use Rattle.std.proofs.lemmas.Bool.Decides.{nat_tests}
 use Rattle.std.proofs.lemmas.List.{length-set}
 use Rattle.std.proofs.lemmas.Nat.{div-mul-add}
@@ -24,15 +24,15 @@ use Rattle.world.specs.Turns.{Answer, Turn, NotEnabled, Alone, Calls, after_call
 use Rattle.world.specs.Worlds.{Sizes, World, Event, share, mover_of, setting, start, in_range, is_actor, with_program, with_evacuator, acted, event, Follows}
 use Rattle.world.specs.Steps.{IsSound}
 use Rattle.world.specs.Holding.{count_of, HoldsFit}
-use Rattle.world.specs.Enabled.{is_turn, has_turn, is_open, owner_of, OneAsked}
+use Rattle.world.specs.Enabled.{has_turn, is_enabled, owner_of, OneAsked}
 use Rattle.world.specs.Scopes.{IsAiming, AimsIn, object_in, IsAsCode, IsShut, IsAimed, ScopeFits, IsFramed}
-use Rattle.world.proofs.Able.{able, actor_able, event_able}
+use Rattle.world.proofs.Able.{actor_able, event_able}
 use Rattle.world.proofs.Asking.{AsksTurn, ToldFit, HoldTold, IsPending, asked_able, asks_program, asks_evacuator, counts_one}
-use Rattle.world.proofs.Following.{Laws, Within1, goes_within, not_in_both}
+use Rattle.world.proofs.Following.{Laws, Within1, goes_within}
 use Rattle.world.proofs.Going.{Goes, program_leads}
 use Rattle.world.proofs.Holding.{InShare, Held, Kept, Opened, Closed, Written, Holds1, aims_there, mode_h, holds_on}
 use Rattle.world.proofs.Moving.{below}
-use Rattle.world.proofs.Notes.{noted, note_stays, noted_own}
+use Rattle.world.proofs.Notes.{note_stays, noted_own}
 use Rattle.world.proofs.Reached.{begin, leads_taken}
 use Rattle.world.proofs.Scopes.{scopes_lead}
 use Rattle.world.proofs.Stepping.{enabled, happened, starts}
@@ -223,7 +223,7 @@ module _ (laws : Laws) (h : Type 0) (z : Sizes) (images : ℕ → Image) (some :
   open_so w who c a true e sound all = ap (λ (q : Bool). (is_actor z who && in_range z c) && q) (actor_open w who c a e sound all)
   open_so w who c a false e sound all = not_there (is_actor z who) (in_range z c) _ _ e
 
-  pub event_open : (w : World) (e : Event) → IsSound h z w → AllFit z images w → is_some (event z images w e) ≡ is_open z images w e
+  pub event_open : (w : World) (e : Event) → IsSound h z w → AllFit z images w → is_some (event z images w e) ≡ is_enabled z images w e
   event_open w e sound all = event_able z images w e ∙ open_so w e.actor e.choice e.answer (is_actor z e.actor) refl sound all
 
 -- ---- the beginning
@@ -330,7 +330,7 @@ module _ (laws : Laws) (h : Type 0) (z : Sizes) (images : ℕ → Image) (events
       let holds = (reached_fit.1 k).holds in
       record { own = holds.own; counted = λ o b. (reached_fit.0.lock.owner o).counts ∙ holds.counted o b }
 
-  pub reached_open : (e : Event) → is_some (event z images v e) ≡ is_open z images v e
+  pub reached_open : (e : Event) → is_some (event z images v e) ≡ is_enabled z images v e
   reached_open e = event_open laws h z images some v e reached_fit.0 reached_fit.1
 
   pub reached_asked : (e : Event) (u : World) → event z images v e ≡ Some u → OneAsked h z v e.actor u

@@ -1,7 +1,7 @@
 -- who is no actor has nothing in hand, and what is no program is as it began
-use Rattle.std.proofs.Common.{◌≡◌, ◌≢◌, ◌⊎◌, inl, inr, ℕ, zero, suc, ◌+◌, ◌<◌, ◌≤◌, Bool, true, false, ◌&&◌, List, [], ◌∷◌, Option, Some, None, refl, sym, ap, ◌∙◌, subst, arith}
+use Rattle.std.proofs.Common.{◌≡◌, ◌≢◌, ◌⊎◌, inl, inr, ℕ, ◌+◌, ◌<◌, ◌≤◌, Bool, true, false, ◌&&◌, List, [], ◌∷◌, Some, refl, sym, ap, ◌∙◌, subst, arith}
 use Rattle.code_form.specs.Form.{Image}
-use Rattle.pointer_word.specs.Hands.{Hand, empty_handed}
+use Rattle.pointer_word.specs.Hands.{empty_handed}
 use Rattle.world.specs.declared.event.Actor.{Actor}
 use Rattle.world.specs.declared.event.Actor.TheVariants as actor
 use Rattle.world.specs.Programs.{Program, begun}

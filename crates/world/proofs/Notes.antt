@@ -2,7 +2,7 @@
 use Rattle.std.proofs.Common.{◌≡◌, ◌≢◌, ◌⊎◌, inl, inr, ℕ, ◌-◌, ◌<◌, Bool, true, false, cond, ◌&&◌, Option, Some, None, refl, sym, ap, ◌∙◌, subst, arith, ne_eqb}
 use Rattle.std.specs.Prelude.{◌==◌}
 use Rattle.pointer_word.specs.Words.{Place, Away, Coming, Here, Leaving, Word, counted, framed}
-use Rattle.pointer_word.specs.Hands.{Note, upd, known, opened, closed, writable, told, added}
+use Rattle.pointer_word.specs.Hands.{Note, known, opened, closed, writable, told, added}
 use Rattle.pointer_word.specs.Machine.{State, after_begin, after_claim, after_mark, after_commit, after_leave, after_arrive}
 use Rattle.pointer_word.specs.Calls.{Call, Opens, Closes, Clears, Stores, Begins, Claims, Fills, Arrives, Unclaims, Retreats, Marks, Copies, Puts, Commits, Aborts, Leaves, Releases, told_where, begin_at, mark_at, commit_at, leave_at, act}
 use Rattle.pointer_word.specs.Asked.{Asked}

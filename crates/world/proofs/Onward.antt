@@ -1,5 +1,5 @@
 -- a program that is ready goes on, where its code does
-use Rattle.std.proofs.Common.{◌≡◌, ◌⊎◌, inl, inr, ℕ, ◌+◌, ◌<◌, ◌≤◌, Bool, true, false, cond, not, ◌&&◌, length, Option, Some, None, refl, sym, ap, ◌∙◌, subst, arith, eq-eqb}
+use Rattle.std.proofs.Common.{◌≡◌, ◌⊎◌, inl, inr, ℕ, ◌+◌, ◌<◌, Bool, true, false, cond, ◌&&◌, length, Option, Some, None, refl, sym, ap, ◌∙◌, subst, arith, eq-eqb}
 use Rattle.std.specs.Prelude.{◌==◌, ◌%◌, is_some, nat_lt, nat_le}
 use Rattle.std.proofs.lemmas.Bool.Decides.{nat_tests}
 use Rattle.code_form.specs.declared.touch.Cell.{Cell}
@@ -19,10 +19,10 @@ use Rattle.world.specs.Programs.{Hold, Ready, Program, Setting, next_touch, obje
 use Rattle.world.specs.Turns.{Answer, Turn, NotEnabled, aims_at, loads_from, loads_by, stores_to, stores_by, leaves_by, ends_by, ready, by_mode, program_turn}
 use Rattle.world.specs.Worlds.{Sizes, World, setting, event}
 use Rattle.world.specs.Steps.{IsSound}
-use Rattle.world.specs.Enabled.{is_turn, is_open, CanGo}
+use Rattle.world.specs.Enabled.{is_turn, CanGo}
 use Rattle.world.specs.Scopes.{IsNext, object_in, IsAsCode, Shuts, IsShut, ScopeFits}
-use Rattle.world.proofs.Asking.{HoldTold, IsPending, ToldFit}
-use Rattle.world.proofs.Fitting.{AllFit, Fit1, event_open}
+use Rattle.world.proofs.Asking.{ToldFit}
+use Rattle.world.proofs.Fitting.{AllFit, event_open}
 use Rattle.world.proofs.Following.{Laws, Within1}
 
 either : {A : Type 0} (b : Bool) (x y : Turn A) → is_turn x ≡ true → is_turn y ≡ true → is_turn (cond b x y) ≡ true

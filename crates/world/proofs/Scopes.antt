@@ -1,26 +1,26 @@
 -- the scopes of a program hold what those of its code's run do, but for what an instruction under way has shut or opened
-use Rattle.std.proofs.Common.{◌≡◌, ◌≢◌, ◌⊎◌, inl, inr, ℕ, zero, suc, ◌+◌, ◌<◌, ◌≤◌, Bool, true, false, cond, not, ◌&&◌, List, [], ◌∷◌, length, Option, Some, None, refl, sym, ap, ◌∙◌, subst, arith}
+use Rattle.std.proofs.Common.{◌≡◌, ◌≢◌, ◌⊎◌, inl, inr, ℕ, zero, suc, ◌+◌, ◌<◌, Bool, true, false, cond, not, ◌&&◌, List, [], ◌∷◌, length, Option, Some, None, refl, sym, ap, ◌∙◌, subst, arith}
 use Rattle.std.specs.Prelude.{◌==◌, ◌%◌, nat_lt, nat_le, slice_set}
 use Rattle.std.proofs.lemmas.Bool.Decides.{nat_tests}
 use Rattle.std.proofs.lemmas.List.{get_or-set_same, get_or-set_other}
-use Rattle.cells.specs.declared.ending.Want.TheVariants.{OutOfMemory, NoObjects, StoreFailed}
+use Rattle.cells.specs.declared.ending.Want.TheVariants.{OutOfMemory}
 use Rattle.code_form.specs.declared.touch.Cell.{Cell}
 use Rattle.code_form.specs.declared.touch.Touch.{Touch}
 use Rattle.code_form.specs.declared.touch.Touch.TheVariants as touch
 use Rattle.code_form.specs.Effects.{Effect, Plain, Aims, Loads, Saves, Leaves, Allocs, Ends, Wrong, Nothing}
-use Rattle.code_form.specs.Code.{Core, effect, held, is_blocked, code}
+use Rattle.code_form.specs.Code.{Core, effect, held, is_blocked}
 use Rattle.code_form.specs.Placed.{pieces, object_at}
 use Rattle.code_form.specs.Touches.{cell_option, resumed, touch_of}
 use Rattle.code_form.specs.Tracked.{HoldsSame, HoldsSameBut, IsTracked}
-use Rattle.pointer_word.specs.Hands.{known, listed}
+use Rattle.pointer_word.specs.Hands.{known}
 use Rattle.pointer_word.specs.Machine.{Far, Never, Kept, Unknown, State}
-use Rattle.pointer_word.specs.Calls.{Call, Opens, Begins, Claims, Marks, Commits, act}
+use Rattle.pointer_word.specs.Calls.{Opens, Begins, Claims, Marks, act}
 use Rattle.pointer_word.specs.Legal.{holds}
 use Rattle.pointer_word.proofs.Upd.{same_or}
 use Rattle.world.specs.declared.event.Choice.{Choice}
 use Rattle.world.specs.declared.event.Choice.TheVariants as choice
 use Rattle.world.specs.Programs.{Eviction, Copying, Stored, NotStored, Refused, Freed, Hold, Mode, Ready, Missing, Bringing, Reading, Filling, Evicting, Releasing, Retreating, Closing, Wanted, Program, Setting, cells_in, next_touch, object_of, object_or_none, next_free, hold_at, holding, in_mode, finished, first_hold, behind, may_grow, rest_of}
-use Rattle.world.specs.Turns.{Answer, Turn, NotEnabled, Calls, evicts, grows, closes, found, aims_at, loads_from, loads_by, stores_to, stores_by, leaves_by, allocates, ends_by, ready, began, to_fill, seeks, read_so, fills, closed_so, gives_up, by_mode, program_turn}
+use Rattle.world.specs.Turns.{Answer, NotEnabled, Calls, evicts, grows, closes, found, aims_at, loads_from, loads_by, stores_to, stores_by, leaves_by, ends_by, ready, began, to_fill, seeks, read_so, fills, closed_so, gives_up, by_mode, program_turn}
 use Rattle.world.specs.Scopes.{IsNext, IsAiming, AimsIn, object_in, IsAsCode, Shuts, IsShut, IsAimed, ScopeFits}
 use Rattle.world.proofs.Counting.{hold_there, first_at}
 use Rattle.world.proofs.Following.{Laws, Within1, Tidies, tidy_next}

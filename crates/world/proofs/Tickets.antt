@@ -1,29 +1,29 @@
 -- each frame that is held has a ticket of its own: of a scope, of an aim that is under way, or of an evacuator
-use Rattle.std.proofs.Common.{◌≡◌, ◌≢◌, ◌⊎◌, inl, inr, ℕ, zero, suc, ◌+◌, ◌-◌, ◌*◌, ◌<◌, ◌≤◌, Bool, true, false, cond, not, ◌&&◌, List, [], ◌∷◌, length, Option, Some, None, refl, sym, ap, ◌∙◌, subst, arith, ne_eqb}
+use Rattle.std.proofs.Common.{◌≡◌, ◌≢◌, ◌⊎◌, inl, inr, ℕ, zero, suc, ◌+◌, ◌-◌, ◌*◌, ◌<◌, ◌≤◌, Bool, true, false, cond, not, ◌&&◌, List, [], ◌∷◌, Option, Some, None, refl, sym, ap, ◌∙◌, subst, arith, ne_eqb}
 use Rattle.std.specs.Prelude.{◌==◌, ◌/◌, ◌%◌, nat_lt}
 use Rattle.std.proofs.Math.Nat.{mod-lt}
 use Rattle.std.proofs.lemmas.Nat.{div-add-mod'}
-use Rattle.std.proofs.lemmas.Bool.Decides.{eqb_tells, nat_tests}
+use Rattle.std.proofs.lemmas.Bool.Decides.{nat_tests}
 use Rattle.cells.specs.declared.ending.Want.TheVariants.{OutOfMemory, NoObjects, StoreFailed}
 use Rattle.code_form.specs.Form.{Image}
 use Rattle.code_form.specs.Code.{held as held_in, most_scopes}
 use Rattle.code_form.specs.Touches.{cell_option}
-use Rattle.pointer_word.specs.Words.{Place, Away, Coming, Here, Leaving, Word, counted, framed}
+use Rattle.pointer_word.specs.Words.{Place, Away, Coming, Here, Leaving, counted, framed}
 use Rattle.pointer_word.specs.Hands.{Hand, empty_handed}
 use Rattle.pointer_word.specs.Machine.{Far, Holder, Nobody, Object, Claimer, Freer, State}
 use Rattle.pointer_word.specs.Asked.{HasNothing}
-use Rattle.pointer_word.specs.Sound.{Inv, PlaceOk, FrameOk}
+use Rattle.pointer_word.specs.Sound.{PlaceOk, FrameOk}
 use Rattle.pointer_word.proofs.Upd.{same_or}
-use Rattle.world.specs.Programs.{Eviction, Copying, Stored, NotStored, Refused, Freed, Hold, Mode, Ready, Missing, Bringing, Reading, Filling, Evicting, Releasing, Retreating, Closing, Wanted, Program, Setting, begun, object_or_none, hold_at}
+use Rattle.world.specs.Programs.{Eviction, Copying, Stored, NotStored, Refused, Freed, Hold, Mode, Ready, Missing, Bringing, Reading, Filling, Evicting, Releasing, Retreating, Closing, Wanted, Program, Setting, object_or_none, hold_at}
 use Rattle.world.specs.Worlds.{Sizes, World, share, setting}
-use Rattle.world.specs.InHand.{MovesOut, FitsEviction, OnlyBrings, BringsInto, FitsMode, FitsEvacuator}
+use Rattle.world.specs.InHand.{FitsEviction, OnlyBrings, BringsInto, FitsMode, FitsEvacuator}
 use Rattle.world.specs.Steps.{IsSound}
 use Rattle.world.specs.Holding.{one, count_of}
 use Rattle.world.specs.Scopes.{IsAiming, AimsIn, object_in, IsAsCode, IsShut, IsAimed, ScopeFits}
 use Rattle.world.specs.Enough.{scopes_below, need, IsUnheld}
 use Rattle.world.proofs.Enough.{Ticketed, enough}
 use Rattle.world.proofs.Few.{FewScopes, few_aimed, few_held}
-use Rattle.world.proofs.Fitting.{Fit1, AllFit}
+use Rattle.world.proofs.Fitting.{AllFit}
 use Rattle.world.proofs.Idle.{IsNobody, Rests}
 use Rattle.world.proofs.Moving.{below, not_below}
 

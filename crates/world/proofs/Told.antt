@@ -1,5 +1,5 @@
 -- the owner was told a frame of each object that its scopes hold, but for one whose aim is under way
-use Rattle.std.proofs.Common.{◌≡◌, ◌≢◌, ◌⊎◌, inl, inr, ℕ, suc, ◌+◌, ◌<◌, ◌≤◌, Bool, true, false, cond, not, ◌&&◌, List, [], ◌∷◌, length, Option, Some, None, refl, sym, ap, ◌∙◌, subst, arith}
+use Rattle.std.proofs.Common.{◌≡◌, ◌⊎◌, inl, inr, ℕ, ◌+◌, ◌<◌, Bool, true, false, cond, not, ◌&&◌, List, [], length, Option, Some, None, refl, sym, ap, ◌∙◌, subst, arith}
 use Rattle.std.specs.Prelude.{◌==◌, ◌%◌, nat_lt, nat_le, slice_set}
 use Rattle.std.proofs.lemmas.Bool.Decides.{nat_tests}
 use Rattle.std.proofs.lemmas.List.{get_or-set_same, get_or-set_other}
@@ -10,7 +10,7 @@ use Rattle.code_form.specs.Code.{is_blocked}
 use Rattle.code_form.specs.Placed.{pieces}
 use Rattle.pointer_word.specs.Hands.{known, listed}
 use Rattle.pointer_word.specs.Machine.{Far, Never, Kept, Unknown, State}
-use Rattle.pointer_word.specs.Calls.{Call, Opens, Closes, Clears, Stores, Begins, Claims, Fills, Arrives, Unclaims, Retreats, Marks, Copies, Puts, Commits, Aborts, Releases, act}
+use Rattle.pointer_word.specs.Calls.{Call, Opens, Closes, Clears, Stores, Begins, Claims, Fills, Arrives, Unclaims, Marks, Copies, Puts, Commits, Aborts, Releases, act}
 use Rattle.pointer_word.specs.Legal.{holds}
 use Rattle.pointer_word.specs.Sound.{Inv}
 use Rattle.pointer_word.proofs.Upd.{same_or}

@@ -24,8 +24,8 @@ has_turn z images w (actor.Evacuator k) c a = is_turn (evacuator_turn z.cells (m
 has_turn z images w (actor.Fetcher k) c a = false
 
 -- there are such an actor, object and frame, and there is something that the actor does
-abbrev pub is_open : Sizes → (ℕ → Image) → World → Event → Bool
-is_open z images w e = (is_actor z e.actor && in_range z e.choice) && has_turn z images w e.actor e.choice e.answer
+abbrev pub is_enabled : Sizes → (ℕ → Image) → World → Event → Bool
+is_enabled z images w e = (is_actor z e.actor && in_range z e.choice) && has_turn z images w e.actor e.choice e.answer
 
 -- the owner of an object, by its number as a mover: the program in whose share it is; 0, which is no mover, where it is in none
 abbrev pub owner_of : Sizes → ℕ → ℕ

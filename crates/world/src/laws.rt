@@ -9,7 +9,7 @@ ghost use Rattle.pointer_word.specs.Sound.{IsSafe};
 ghost use Rattle.world.specs.declared.event.Actor.TheVariants.{Program};
 ghost use Rattle.world.specs.declared.event.Choice.TheVariants.{Next};
 ghost use Rattle.world.specs.Causes.{HasCause, HasFailed, IsCaused};
-ghost use Rattle.world.specs.Enabled.{CanGo, OneAsked, is_open};
+ghost use Rattle.world.specs.Enabled.{CanGo, OneAsked, is_enabled};
 ghost use Rattle.world.specs.Enough.{IsUnheld, need};
 ghost use Rattle.world.specs.Following.{IsAt};
 ghost use Rattle.world.specs.Holding.{HoldsFit};
@@ -76,8 +76,8 @@ pub fn answers()
 /// stopped nor blocked, and aims none but its four scopes. Each call that is made meets what is asked of its caller: an
 /// owner names objects of its own, and a mover what it has in hand.
 pub fn enabled_calls()
-    ensures enabled { (z : Sizes) (images : ℕ → Image) (events : List Event) (v : World) (e : Event) → 0 < z.cells → Follows (Unit {0}) z images (start images) events v → is_some (event z images v e) ≡ is_open z images v e }
-    ensures enabled_unsound { (z : Sizes) (images : ℕ → Image) (events : List Event) (v : World) (e : Event) → 0 < z.cells → Follows ⊥ z images (start images) events v → is_some (event z images v e) ≡ is_open z images v e }
+    ensures enabled { (z : Sizes) (images : ℕ → Image) (events : List Event) (v : World) (e : Event) → 0 < z.cells → Follows (Unit {0}) z images (start images) events v → is_some (event z images v e) ≡ is_enabled z images v e }
+    ensures enabled_unsound { (z : Sizes) (images : ℕ → Image) (events : List Event) (v : World) (e : Event) → 0 < z.cells → Follows ⊥ z images (start images) events v → is_some (event z images v e) ≡ is_enabled z images v e }
     ensures goes_on { (z : Sizes) (images : ℕ → Image) (events : List Event) (v : World) (k : ℕ) (a : Answer) → 0 < z.cells → Follows ⊥ z images (start images) events v → k < z.programs → (v.programs k).mode ≡ Ready → is_blocked (v.programs k).core ≡ false → CanGo (next_touch (setting z images k) (v.programs k)) → is_some (event z images v (record { actor = Program k; choice = Next; answer = a })) ≡ true }
     ensures asked { (z : Sizes) (images : ℕ → Image) (events : List Event) (v u : World) (e : Event) → 0 < z.cells → Follows (Unit {0}) z images (start images) events v → event z images v e ≡ Some u → OneAsked (Unit {0}) z v e.actor u }
     ensures asked_unsound { (z : Sizes) (images : ℕ → Image) (events : List Event) (v u : World) (e : Event) → 0 < z.cells → Follows ⊥ z images (start images) events v → event z images v e ≡ Some u → OneAsked ⊥ z v e.actor u }

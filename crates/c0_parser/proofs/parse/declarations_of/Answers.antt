@@ -1,0 +1,20 @@
+use Rattle.std.proofs.Common.{◌≡◌, ◌-◌, ap, sym, refl, ◌∙◌, length, map, take}
+use Rattle.std.proofs.lemmas.List.{length-map, take-map}
+use Rattle.c0_lexer.specs.Lexed.{lexeme}
+use Rattle.c0_source.specs.Terminals.{terminals}
+use Rattle.c0_syntax.specs.Levels.{has_loops}
+use Rattle.c0_syntax.specs.Views.{declaration_of}
+use Rattle.c0_parser.specs.Parsing.{before_last, read_from}
+use Rattle.c0_parser.specs.ReadPrograms.{read_program}
+use Rattle.c0_parser.proofs.Turned.{gives_along}
+use Rattle.c0_parser.proofs.ParsedTokens.{are_taken, last_left}
+use Rattle.c0_parser.proofs.parse.declarations_of.Goals as goal
+
+pub new-cursor-requires : goal.new-cursor-requires
+new-cursor-requires c = rw (c.before_last.ensures, last_left c.args.tokens.now) (are_taken (length (map lexeme c.args.tokens.now) - 1) (map lexeme c.args.tokens.now) c.requires)
+
+pub returns : goal.returns
+returns c =
+    let inner : map lexeme c.before_last.result.now ≡ before_last (map lexeme c.args.tokens.now) = ap (map lexeme) c.before_last.ensures ∙ last_left c.args.tokens.now in
+    let seen : c.new-cursor.result ≡ read_from (map lexeme c.args.tokens.now) = c.new-cursor.ensures ∙ ap terminals inner in
+    gives_along (λ v. map declaration_of v.items) c.program.result _ _ (ap (λ l. read_program l c.new-cursor.result) c.with_loops.ensures ∙ ap (read_program (has_loops c.args.level)) seen) c.program.ensures

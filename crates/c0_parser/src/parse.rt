@@ -1,0 +1,97 @@
+// From the tokens of a text to its program.
+
+ghost use Rattle.std.specs.Prelude.{◌≡◌, ◌≢◌, ◌-◌, ◌≤◌, length, map, take, IfErr, IfOk};
+ghost use Rattle.c0_source.specs.declared.fault.FaultKind.TheVariants as f;
+ghost use Rattle.c0_lexer.specs.Lexed.{lexeme};
+ghost use Rattle.c0_syntax.specs.Levels.{has_loops};
+ghost use Rattle.c0_syntax.specs.Programs.{Reads};
+ghost use Rattle.c0_syntax.specs.Trees as t;
+ghost use Rattle.c0_syntax.specs.Views.{declaration_of, program_of};
+ghost use Rattle.c0_parser.specs.Outcome.{Gives};
+ghost use Rattle.c0_parser.specs.ReadPrograms.{read_program};
+ghost use Rattle.c0_parser.specs.Parsing.{IsReadFault, fault_by, place_of, read_from};
+ghost use Rattle.c0_parser.specs.Tokens.{AreTokens};
+
+use crate::cursor::Cursor;
+use crate::read_error::ReadError;
+use c0_lexer::token::Token;
+use c0_source::fault::{Fault, FaultKind};
+use c0_syntax::level::Level;
+use c0_syntax::program::{Declaration, Program};
+use std::alloc::Global;
+
+/// Where the token starts from which on `left` tokens stand, the end of the text not among them.
+fn place(tokens: &[Token<'_>], left: usize) -> usize
+    requires { AreTokens (map lexeme tokens.now) }
+    ensures value { result ≡ place_of (map lexeme tokens.now) left }
+    ensures small { result ≤ 1048576 }
+{
+    let before = tokens.len().saturating_sub(1).saturating_sub(left);
+    match tokens.get(before) {
+        Some(token) => token.start,
+        None => 0,
+    }
+}
+
+fn fault_of(tokens: &[Token<'_>], error: ReadError) -> Fault
+    requires { AreTokens (map lexeme tokens.now) }
+    ensures { result ≡ fault_by (map lexeme tokens.now) error }
+{
+    match error {
+        ReadError::OutOfMemory => Fault::out_of_memory(),
+        ReadError::Syntax(left) => Fault::at(FaultKind::Syntax, place(tokens, left)),
+        ReadError::TooDeep(left) => Fault::at(FaultKind::TooDeep, place(tokens, left)),
+        ReadError::TooLarge(left) => Fault::at(FaultKind::TooLarge, place(tokens, left)),
+    }
+}
+
+/// Whether there are `break` and `continue`.
+fn with_loops(level: Level) -> bool
+    ensures { result ≡ has_loops level }
+{
+    match level {
+        Level::Core => false,
+        Level::Loops => true,
+    }
+}
+
+/// The tokens before the last one.
+fn before_last<'a>(tokens: &'a [Token<'a>]) -> &'a [Token<'a>]
+    ensures { result.now ≡ take (length tokens.now - 1) tokens.now }
+{
+    match tokens {
+        [] => tokens,
+        [inner @ .., _] => inner,
+    }
+}
+
+/// The declarations that the tokens read as, without the last token.
+fn declarations_of<'a>(
+    alloc: Global,
+    tokens: &'a [Token<'a>],
+    level: Level,
+) -> Result<Vec<Declaration>, ReadError>
+    requires { AreTokens (map lexeme tokens.now) }
+    ensures { Gives (λ v. map declaration_of v.items) result (read_program (has_loops level) (read_from (map lexeme tokens.now))) }
+{
+    let mut cursor = Cursor::new(alloc, before_last(tokens));
+    cursor.program(with_loops(level))
+}
+
+/// The program that the tokens of a text read as, where the last one is the end of the text. Its fault is 20 at the first token with which
+/// no reading goes on, 21 at one where a tree is more than 200 nodes deep, 22 at the name of a local or a function that is too many, or 50,
+/// where memory runs out.
+pub fn parse<'a>(alloc: Global, tokens: &'a [Token<'a>], level: Level) -> Result<Program, Fault>
+    requires { AreTokens (map lexeme tokens.now) }
+    // What is given is what the tokens read as.
+    ensures found { IfOk result (λ p. Reads (has_loops level) (read_from (map lexeme tokens.now)) (program_of p)) }
+    // Where none is given, they read as no program, unless memory ran out.
+    ensures refused { IfErr result (λ fault. fault.kind ≢ f.OutOfMemory → (p : t.Program) → Reads (has_loops level) (read_from (map lexeme tokens.now)) p → ⊥) }
+    // Which fault it is, and where.
+    ensures fault { IfErr result (λ fault. IsReadFault (has_loops level) (map lexeme tokens.now) fault) }
+{
+    match declarations_of(alloc, tokens, level) {
+        Ok(declarations) => Ok(Program { declarations }),
+        Err(error) => Err(fault_of(tokens, error)),
+    }
+}
