@@ -1,5 +1,5 @@
 //! A program's turns as it brings an object in, and as it gives up because its store failed.
-ghost use Rattle.std.specs.Prelude.{◌≡◌, ◌<◌, ◌≤◌, ℕ, suc, List, true, cond};
+ghost use Rattle.std.specs.Prelude.{◌≡◌, ◌<◌, ◌≤◌, ℕ, suc, List, true, false, cond};
 ghost use Rattle.pointer_word.specs.Calls.{Arrives, Begins, Claims, Fills, Marks, Retreats, Unclaims};
 ghost use Rattle.pointer_word.specs.Hands.{known, listed};
 ghost use Rattle.pointer_word.specs.Machine.{Far};

@@ -5,6 +5,7 @@ mod bring;
 mod event;
 mod evacuator;
 mod evict;
+mod instruct;
 mod laws;
 mod lock;
 mod machine;
