@@ -1,3 +1,4 @@
+pub mod Instructed
 pub mod Firsts
 pub mod BroughtIn
 pub mod Happening
