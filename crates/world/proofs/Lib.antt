@@ -1,3 +1,4 @@
+pub mod Dispatched
 pub mod Instructed
 pub mod Firsts
 pub mod BroughtIn

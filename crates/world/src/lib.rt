@@ -10,6 +10,7 @@ mod laws;
 mod lock;
 mod machine;
 mod program;
+mod turn;
 mod world;
 
 pub use event::{Actor, Choice};

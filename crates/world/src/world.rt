@@ -56,8 +56,7 @@ impl<'a, S: RawStore> World<'a, S> {
     {
         if number < self.programs.len() {
             let (program, port) = &mut self.programs[number];
-            let _ = (program, port, choice);
-            Step::NotEnabled
+            program.turn(&mut self.lock, port, choice)
         } else {
             Step::NotEnabled
         }
