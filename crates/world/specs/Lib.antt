@@ -11,3 +11,4 @@ pub mod Seats
 pub mod Tables
 pub mod Shown
 pub mod Acting
+pub mod Opened

@@ -9,9 +9,13 @@ mod instruct;
 mod laws;
 mod lock;
 mod machine;
+mod make;
 mod program;
 mod turn;
+#[cfg(test)]
+mod tests;
 mod world;
 
-pub use event::{Actor, Choice};
+pub use event::{Actor, Choice, Step};
 pub use laws::{every_schedule, programs_follow, wants, worked_schedules};
+pub use world::World;
