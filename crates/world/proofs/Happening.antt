@@ -1,7 +1,8 @@
 -- the world behind an event that code took
-use Rattle.std.proofs.Common.{◌≡◌, ◌≢◌, ◌⊎◌, inl, inr, ℕ, suc, ◌+◌, ◌<◌, Bool, true, false, cond, ◌&&◌, List, [], ◌∷◌, ◌++◌, length, get_or, Option, Some, None, refl, sym, ap, ◌∙◌, subst, arith}
+use Rattle.std.proofs.Common.{◌≡◌, ◌≢◌, ◌⊎◌, inl, inr, ℕ, suc, ◌+◌, ◌*◌, ◌/◌, ◌<◌, ◌≤◌, Bool, true, false, cond, ◌&&◌, List, [], ◌∷◌, ◌++◌, length, get_or, Option, Some, None, refl, sym, ap, ◌∙◌, subst, suc-mul, arith}
 use Rattle.std.specs.Prelude.{nat_lt, slice_get}
 use Rattle.std.proofs.Math.ListN.{set}
+use Rattle.std.proofs.Math.Nat.{mul-div-le, mul-le-mul_right}
 use Rattle.std.proofs.lemmas.Bool.Decides.{nat_tests}
 use Rattle.std.proofs.lemmas.List.{length-set, get_or-set_same, get_or-set_other, set-get_or}
 use Rattle.std.proofs.lemmas.Option.{slice_get-get_or, slice_get_past, slice_get_within}
@@ -18,14 +19,14 @@ use Rattle.world.specs.declared.event.Actor.TheVariants as actor
 use Rattle.world.specs.declared.event.Choice.{Choice}
 use Rattle.world.specs.declared.event.Step.{Step}
 use Rattle.world.specs.declared.event.Step.TheVariants as step
-use Rattle.world.specs.Acting.{Evacuates, Goes, IsProgram, IsWorld, Shows, Stepped, Unread, eviction_in}
-use Rattle.world.specs.InHand.{FitsEvacuator}
-use Rattle.world.specs.Programs.{Eviction}
+use Rattle.world.specs.Acting.{Evacuates, Goes, IsProgram, IsWorld, Seated, Shows, Stepped, Unread, eviction_in}
+use Rattle.world.specs.InHand.{FitsEvacuator, FitsMode}
+use Rattle.world.specs.Programs.{Eviction, Setting}
 use Rattle.world.specs.Seats.{Seat}
 use Rattle.world.specs.Steps.{IsSound}
 use Rattle.world.specs.Tables.{Tables}
-use Rattle.world.specs.Turns.{Answer, Turn, evacuator_turn, taken}
-use Rattle.world.specs.Worlds.{Event, Follows, IsHonest, Sizes, World, acted, event, in_range, is_actor, mover_of, setting, start, with_evacuator, with_program}
+use Rattle.world.specs.Turns.{Answer, evacuator_turn, program_turn, taken}
+use Rattle.world.specs.Worlds.{Event, Follows, IsHonest, ReadsHonestly, Sizes, World, acted, event, in_range, is_actor, mover_of, setting, start, with_evacuator, with_program}
 use Rattle.world.proofs.Stepping.{reached}
 
 -- one more event
@@ -46,6 +47,15 @@ got_set xs k y j x e =
           let same : get_or (set xs k y) j x ≡ y = ap (λ i. get_or (set xs k y) i x) q ∙ get_or-set_same xs k y x (omega arith) in sym r ∙ same))
       | inr d ↦ inr (d, slice_get-get_or xs j x (omega arith) ∙ (ap Some (sym (get_or-set_other xs k j y x d)) ∙ (sym read ∙ e)))
     ]
+
+-- the share of a program ends within the objects
+in_share : (n p k : ℕ) → k < p → k * (n / p) + n / p ≤ n
+in_share n p k l =
+    let q : ℕ = n / p in
+    let all : p * q ≤ n = mul-div-le n p in
+    let most : suc k * q ≤ p * q = mul-le-mul_right q l in
+    let one : suc k * q ≡ k * q + q = suc-mul k q in
+    omega arith
 
 module _ {C P : Type 0} (content : C → Option (List ℕ)) (h : Type 0) (z : Sizes) (images : ℕ → Image) (t : Tables) (berths : List (Berth C)) (seats : List (Seat × P)) (movers : List (Evacuator × P)) (w : World)
     (is : IsWorld content h z images t berths seats movers w) where
@@ -107,6 +117,70 @@ module _ {C P : Type 0} (content : C → Option (List ℕ)) (h : Type 0) (z : Si
           cells = is.cells;
           programs_many = is.programs_many;
           evacuators_many = length-set movers k (x', p') ∙ is.evacuators_many;
+        }))
+
+  -- ---- a program
+
+  module _ (k : ℕ) (x : Seat × P) (here : slice_get seats k ≡ Some x) where
+    program_low : k < z.programs
+    program_low = let l = slice_get_within seats k x here in let many = is.programs_many in omega arith
+
+    program_there : nat_lt k z.programs ≡ true
+    program_there = is_below k z.programs program_low
+
+    set_so : x.0.setting ≡ setting z images k
+    set_so = (is.programs k x here).1
+
+    limit_is : x.0.setting.limit ≤ z.objects
+    limit_is = subst (λ n. n ≤ z.objects) (sym (ap (λ (g : Setting). g.limit) set_so)) (in_share z.objects z.programs k program_low)
+
+    -- what it has in hand
+    pub seated : Seated content h z t berths x.0 w.lock (w.programs k)
+    seated =
+        let own = is.programs k x here in
+        let fits = sound.hands.program k program_low in
+        record {
+          shows = is.shows;
+          program = own.0;
+          inv = subst (λ n. Inv h n w.lock) is.cells sound.lock;
+          fits = subst (λ m. FitsMode h piece_cells w.lock.far (w.lock.hand m) (w.programs k).mode) (sym (ap (λ (g : Setting). g.mover) set_so))
+              (subst (λ n. FitsMode h n w.lock.far (w.lock.hand (suc k)) (w.programs k).mode) is.cells fits);
+          limit = limit_is;
+          size = ap (λ (g : Setting). g.size) set_so ∙ is.cells;
+        }
+
+    -- its event is its turn
+    turn_event : (c : Choice) (a : Answer) → in_range z c ≡ true
+        → event z images w (record { actor = actor.Program k; choice = c; answer = a }) ≡ with_program w k (taken piece_cells w.lock (program_turn x.0.setting w.lock (w.programs k) c a))
+    turn_event c a inside =
+        let acts : ℕ → Setting → Option World = λ n g. with_program w k (taken n w.lock (program_turn g w.lock (w.programs k) c a)) in
+        ap (λ b. cond b (acts z.cells (setting z images k)) None) (true_and (nat_lt k z.programs) (in_range z c) program_there inside) ∙
+        (ap (λ n. acts n (setting z images k)) is.cells ∙ ap (acts piece_cells) (sym set_so))
+
+    pub program_stepped : (c : Choice) (t' : Tables) (berths' : List (Berth C)) (x' : Seat) (p' : P) (same same' : Type 0) (r : Step) → in_range z c ≡ true → (same → same')
+        → Goes w.lock (λ a. program_turn x.0.setting w.lock (w.programs k) c a) (λ a. h → ReadsHonestly piece_cells w.lock (w.programs k).mode a.read)
+          (λ u q. Shows content z t' berths' u × IsProgram x' q × (x'.setting ≡ x.0.setting)) same r
+        → Stepped content h z images t' berths' (set seats k (x', p')) movers w (actor.Program k) c same' r
+    program_stepped c t' berths' x' p' same same' step.NotEnabled inside told g = ((λ a. turn_event c a inside ∙ ap (with_program w k) (g.0 a)), told g.1)
+    program_stepped c t' berths' x' p' same same' step.Took inside told g =
+        let a : Answer = g.0 in
+        let r = g.2.0 in
+        let e : Event = record { actor = actor.Program k; choice = c; answer = a } in
+        let u : World = record w { lock = r.0; programs = upd w.programs k r.1 } in
+        let happens : event z images w e ≡ Some u = turn_event c a inside ∙ ap (with_program w k) g.2.1 in
+        let honest : h → IsHonest z w (actor.Program k) a = λ y. subst (λ n. ReadsHonestly n w.lock (w.programs k).mode a.read) (sym is.cells) (g.1 y) in
+        (a, honest, (u, happens, record {
+          shows = g.2.2.0;
+          programs = λ j y q. elim (got_set seats k (x', p') j y q) [
+            | inl s ↦ subst (λ (v : Seat × P). IsProgram v.0 (upd w.programs k r.1 j) × (v.0.setting ≡ setting z images j)) (sym s.1)
+                (subst (IsProgram x') (sym (upd-same w.programs k r.1 j s.0)) g.2.2.1, g.2.2.2 ∙ (set_so ∙ ap (setting z images) (sym s.0)))
+            | inr s ↦ (subst (IsProgram y.0) (sym (upd-other w.programs k r.1 j s.0)) (is.programs j y s.1).0, (is.programs j y s.1).1)
+          ];
+          evacuators = is.evacuators;
+          reached = (is.reached.0 ++ e ∷ [], follows_push h z images (start images) w u is.reached.0 e is.reached.1 happens honest);
+          cells = is.cells;
+          programs_many = length-set seats k (x', p') ∙ is.programs_many;
+          evacuators_many = is.evacuators_many;
         }))
 
 -- an element that was read

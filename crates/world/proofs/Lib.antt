@@ -1,3 +1,5 @@
+pub mod Dispatched
+pub mod Instructed
 pub mod Firsts
 pub mod BroughtIn
 pub mod Happening

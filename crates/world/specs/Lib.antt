@@ -17,3 +17,4 @@ pub mod Seats
 pub mod Tables
 pub mod Shown
 pub mod Acting
+pub mod Opened

@@ -1,5 +1,5 @@
 -- What code keeps of the machine: a row for each object, and one for each frame.
-use Rattle.std.specs.Prelude.{ℕ, suc, Bool, true, false, ◌&&◌, ◌==◌, Option, Some, None, List, [], slice_index_or, slice_set, replicate}
+use Rattle.std.specs.Prelude.{◌≡◌, ℕ, suc, ◌<◌, Bool, true, false, ◌&&◌, ◌==◌, Option, Some, None, List, [], slice_index_or, slice_set, replicate}
 use Rattle.pointer_word.specs.Words as words
 use Rattle.remote_store.specs.Kept.{piece_cells}
 use Rattle.world.specs.declared.machine.Place.{Place}
@@ -82,3 +82,7 @@ is_at_rest_in x f = is_here_at x.place x.count f
 abbrev pub is_away_at : Place → Bool
 is_away_at p.Away = true
 is_away_at _ = false
+
+-- the number of the frame, if any, has 24 bits
+abbrev pub FrameFits : words.Place → Type 0
+FrameFits p = (f : ℕ) → words.framed p ≡ Some f → f < 16777216

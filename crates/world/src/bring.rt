@@ -1,5 +1,5 @@
 //! A program's turns as it brings an object in, and as it gives up because its store failed.
-ghost use Rattle.std.specs.Prelude.{◌≡◌, ◌<◌, ◌≤◌, ℕ, suc, List, true, cond};
+ghost use Rattle.std.specs.Prelude.{◌≡◌, ◌<◌, ◌≤◌, ℕ, suc, List, true, false, cond};
 ghost use Rattle.pointer_word.specs.Calls.{Arrives, Begins, Claims, Fills, Marks, Retreats, Unclaims};
 ghost use Rattle.pointer_word.specs.Hands.{known, listed};
 ghost use Rattle.pointer_word.specs.Machine.{Far};
@@ -32,7 +32,7 @@ impl<'a> Program<'a> {
     }
 
     /// Tries to begin to bring the object in.
-    fn begin<S: RawStore>(&mut self, lock: &mut Lock<S>, object: usize) -> Step
+    pub(crate) fn begin<S: RawStore>(&mut self, lock: &mut Lock<S>, object: usize) -> Step
         requires mode { self.old.mode ≡ Mode.Missing object }
         requires steady { IsSteady (next_touch self.old) }
         ensures { Turns S.content S.honest lock.old.machine lock.new.machine lock.old.berths.items lock.new.berths.items self.old self.new
@@ -106,7 +106,7 @@ impl<'a> Program<'a> {
     }
 
     /// Seeks a frame for the object that it brings in.
-    fn seek<S: RawStore>(
+    pub(crate) fn seek<S: RawStore>(
         &mut self,
         lock: &mut Lock<S>,
         object: usize,
@@ -128,7 +128,7 @@ impl<'a> Program<'a> {
     }
 
     /// Reads the store.
-    fn read<S: RawStore>(
+    pub(crate) fn read<S: RawStore>(
         &mut self,
         lock: &Lock<S>,
         port: &mut Port<S>,
@@ -148,7 +148,7 @@ impl<'a> Program<'a> {
     }
 
     /// The frame is filled: the object is in it, and the aim completes.
-    fn arrive<S: RawStore>(
+    pub(crate) fn arrive<S: RawStore>(
         &mut self,
         lock: &mut Lock<S>,
         object: usize,
@@ -170,7 +170,7 @@ impl<'a> Program<'a> {
     }
 
     /// Fills the next cell of the frame with this value, and is then in this mode; or the object arrives.
-    fn fill<S: RawStore>(
+    pub(crate) fn fill<S: RawStore>(
         &mut self,
         lock: &mut Lock<S>,
         object: usize,
@@ -190,7 +190,7 @@ impl<'a> Program<'a> {
     }
 
     /// An event of moving another object out.
-    fn move_out<S: RawStore>(
+    pub(crate) fn move_out<S: RawStore>(
         &mut self,
         lock: &mut Lock<S>,
         port: &mut Port<S>,
@@ -207,7 +207,7 @@ impl<'a> Program<'a> {
     }
 
     /// Gives up the frame that it claimed.
-    fn release<S: RawStore>(&mut self, lock: &mut Lock<S>, object: usize, frame: usize)
+    pub(crate) fn release<S: RawStore>(&mut self, lock: &mut Lock<S>, object: usize, frame: usize)
         requires { self.old.mode ≡ Mode.Releasing object frame }
         ensures { Turns S.content S.honest lock.old.machine lock.new.machine lock.old.berths.items lock.new.berths.items self.old self.new
             (λ s p a. Calls (Unclaims self.old.setting.mover frame) (λ t. in_mode p (Retreating object))) (Unit {0}) Step.Took }
@@ -217,7 +217,7 @@ impl<'a> Program<'a> {
     }
 
     /// Gives up the object that it brings in.
-    fn retreat<S: RawStore>(&mut self, lock: &mut Lock<S>, object: usize)
+    pub(crate) fn retreat<S: RawStore>(&mut self, lock: &mut Lock<S>, object: usize)
         requires { self.old.mode ≡ Mode.Retreating object }
         ensures { Turns S.content S.honest lock.old.machine lock.new.machine lock.old.berths.items lock.new.berths.items self.old self.new
             (λ s p a. Calls (Retreats self.old.setting.mover object) (λ t. in_mode p Closing)) (Unit {0}) Step.Took }

@@ -5,17 +5,24 @@ mod bring;
 mod event;
 mod evacuator;
 mod evict;
+mod instruct;
 mod laws;
 mod line;
 mod line_tests;
 mod lock;
 mod machine;
+mod make;
 mod program;
 mod replay;
+#[cfg(test)]
+mod tests;
+mod turn;
 mod world;
 
-pub use event::{Actor, Choice};
+pub use event::{Actor, Choice, Step};
 pub use laws::{
     answers, enabled_calls, enough_frames, every_schedule, programs_follow, scopes_follow, wants,
     worked_schedules,
 };
+pub use replay::{Refused, Report, replay};
+pub use world::World;

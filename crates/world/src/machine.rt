@@ -1,10 +1,10 @@
 //! The words, frames and cells of the world, and what the owner of each object knows.
-ghost use Rattle.std.specs.Prelude.{◌≡◌, ◌<◌, ◌≤◌, ℕ, IfOk, Some, None, is_none, length, replicate, slice_index};
+ghost use Rattle.std.specs.Prelude.{◌≡◌, ◌<◌, ◌^◌, IfOk, Some, None, is_none, length, replicate, slice_index};
 ghost use Rattle.pointer_word.specs.Hands.{upd};
 ghost use Rattle.pointer_word.specs.Machine.{State, after_clear, after_close, after_open, after_told};
-ghost use Rattle.pointer_word.specs.Words.{cleared, counted, framed};
+ghost use Rattle.pointer_word.specs.Words.{cleared, counted, framed, pack, place_bits};
 ghost use Rattle.remote_store.specs.Kept.{piece_cells};
-ghost use Rattle.world.specs.Tables.{cells_at, frame_at, frame_word, free, is_at_rest_in, is_away_at, is_marked_by, object_at, place_of, resting, with_cell, with_frame, with_object, word_of};
+ghost use Rattle.world.specs.Tables.{cells_at, frame_at, frame_word, free, is_at_rest_in, is_away_at, is_marked_by, object_at, place_of, resting, with_cell, with_frame, with_object, word_of, FrameFits};
 ghost use Rattle.world.specs.Shown.{Shown};
 ghost use Rattle.world.specs.Worlds.{Sizes};
 
@@ -69,6 +69,25 @@ impl Place {
     }
 }
 
+impl Place {
+    /// The bits of the place in a word.
+    fn bits(self) -> u64
+        ensures value { FrameFits (place_of self) → result ≡ place_bits (place_of self) }
+        ensures room { result < 2 ^ 61 }
+    {
+        match self {
+            Place::Away => 0,
+            Place::Coming(mover) => 0x4_0000 + mover as u64 * 0x1000_0000_0000,
+            Place::Here(frame) => 0x8_0000 + (frame as u64 % 0x100_0000) * 0x10_0000,
+            Place::Leaving(frame, mover, marked) => {
+                let mark = if marked { 0x1_0000 } else { 0 };
+                let at = (frame as u64 % 0x100_0000) * 0x10_0000;
+                mark + 0x2_0000 + 0x8_0000 + at + mover as u64 * 0x1000_0000_0000
+            }
+        }
+    }
+}
+
 impl Object {
     /// An object in its store cell, with no hold.
     fn resting() -> Object
@@ -79,6 +98,15 @@ impl Object {
             place: Place::Away,
             told: None,
             writing: false,
+        }
+    }
+
+    /// The bits of its word, whose frame has 24 of them.
+    pub(crate) fn word(self) -> Word
+        ensures { FrameFits (place_of self.place) → result.bits ≡ pack (word_of self) }
+    {
+        Word {
+            bits: self.count as u64 + self.place.bits(),
         }
     }
 

@@ -191,6 +191,13 @@ impl<'a> Program<'a> {
         first_of_holds(&self.holds)
     }
 
+    /// How many scopes it may hold objects by.
+    pub(crate) fn scopes(&self) -> usize
+        ensures { result ≡ length self.now.holds }
+    {
+        self.holds.len()
+    }
+
     /// What the scope holds.
     pub(crate) fn hold(&self, scope: usize) -> Option<Hold>
         ensures { result ≡ hold_at self.now.holds scope }
@@ -250,6 +257,7 @@ impl<'a> Program<'a> {
     pub(crate) fn next(&self) -> u64
         ensures value { result ≡ next_object piece_cells self.now.setting.base (sizes (allocations_of self.now.core)) }
         ensures room { result ≤ self.now.setting.limit }
+        ensures small { result ≤ 16777216 }
     {
         self.next
     }
