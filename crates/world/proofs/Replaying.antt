@@ -1,11 +1,13 @@
 -- the lines of a schedule, one after another
 use Rattle.std.proofs.Common.{◌≡◌, ◌≢◌, ℕ, zero, suc, ◌+◌, ◌<◌, List, [], ◌∷◌, ◌++◌, length, Option, Some, None, append_assoc, append-nil, length-append, refl, sym, ap, ◌∙◌, subst, arith}
 use Rattle.std.specs.Prelude.{codes}
+use Rattle.cells.specs.declared.ending.Ended.{Ended}
 use Rattle.code_form.specs.Form.{Image}
 use Rattle.world.specs.declared.event.Actor.{Actor}
 use Rattle.world.specs.declared.event.Actor.TheVariants as actor
+use Rattle.world.specs.Programs.{Program}
 use Rattle.world.specs.Lines.{Line, IsLine, IsLine32, spell, spell_actor, spell_choice}
-use Rattle.world.specs.Reports.{event_of, AreLines, HasCome, HasLed, Leads}
+use Rattle.world.specs.Reports.{event_of, AreEnds, AreLines, HasCome, HasLed, IsEnded, Leads}
 use Rattle.world.specs.Turns.{Answer}
 use Rattle.world.specs.Worlds.{IsHonest, Sizes, World, event}
 
@@ -55,3 +57,9 @@ some_actor (actor.Fetcher k) = omega arith
 pub shorter : (x : Line) (others rest : List ℕ) → IsLine x others rest → length others < length rest
 shorter x others rest is =
     omega (arith, ap length is.1, length-append (spell x) others, length-append (spell_actor x.actor) (spell_choice x.choice ++ codes "\n"), some_actor x.actor)
+
+-- ---- ends
+
+pub ends_more : (programs : ℕ → Program) (k : ℕ) (es : List Ended) (e : Ended) → AreEnds programs k es → IsEnded (programs (k + length es)) e → AreEnds programs k (es ++ e ∷ [])
+ends_more programs k [] e are is = (subst (λ (j : ℕ). IsEnded (programs j) e) (omega arith) is, tt)
+ends_more programs k (f ∷ es) e are is = (are.0, ends_more programs (suc k) es e are.1 (subst (λ (j : ℕ). IsEnded (programs j) e) (omega arith) is))

@@ -9,6 +9,8 @@ use Rattle.code_form.specs.Code.{output_of, stop_of}
 use Rattle.code_form.specs.Form.{Image}
 use Rattle.world.specs.Lines.{Line, IsLine, IsLine32, IsNoLine, spell}
 use Rattle.world.specs.Programs.{Program, Wanted}
+use Rattle.world.specs.declared.replay.Refused.{Refused}
+use Rattle.world.specs.declared.replay.Refused.TheVariants as refused
 use Rattle.world.specs.Turns.{Answer}
 use Rattle.world.specs.Worlds.{Event, IsHonest, Sizes, World, event, start}
 
@@ -70,3 +72,8 @@ pub record IsReport (h : Type 0) (z : Sizes) (images : ℕ → Image) (schedule 
   pub led : HasLed h z images (start images) schedule world
   pub all : length ends ≡ z.programs
   pub ended : AreEnds world.programs 0 ends
+
+-- why a schedule is refused: a line of it, or want of memory
+abbrev pub IsRefusal : Type 0 → Sizes → (ℕ → Image) → List ℕ → Refused → Type 0
+IsRefusal h z images schedule (refused.Line line) = IsRefusedLine h z images (start images) schedule line
+IsRefusal h z images schedule refused.OutOfMemory = Unit {0}

@@ -2,6 +2,7 @@
 #![tactic(auto)]
 
 mod bring;
+mod ends;
 mod event;
 mod evacuator;
 mod evict;

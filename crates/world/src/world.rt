@@ -22,9 +22,9 @@ use std::alloc::Global;
 /// A world as code keeps it: the machine with its berths, and each actor with its way to the store.
 #[derive(Drop)]
 pub struct World<'a, S: RawStore> {
-    lock: Lock<S>,
-    programs: Vec<(Program<'a>, Port<S>)>,
-    evacuators: Vec<(Evacuator, Port<S>)>,
+    pub(crate) lock: Lock<S>,
+    pub(crate) programs: Vec<(Program<'a>, Port<S>)>,
+    pub(crate) evacuators: Vec<(Evacuator, Port<S>)>,
 }
 
 impl<'a, S: RawStore> World<'a, S> {
