@@ -9,8 +9,8 @@ use Rattle.code_form.specs.Code.{output_of, stop_of}
 use Rattle.code_form.specs.Form.{Image}
 use Rattle.world.specs.Lines.{Line, IsLine, IsLine32, IsNoLine, spell}
 use Rattle.world.specs.Programs.{Program, Wanted}
-use Rattle.world.specs.declared.replay.Refused.{Refused}
-use Rattle.world.specs.declared.replay.Refused.TheVariants as refused
+use Rattle.world.specs.declared.schedule.Refused.{Refused}
+use Rattle.world.specs.declared.schedule.Refused.TheVariants as refused
 use Rattle.world.specs.Turns.{Answer}
 use Rattle.world.specs.Worlds.{Event, IsHonest, Sizes, World, event, start}
 

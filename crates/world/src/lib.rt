@@ -14,7 +14,7 @@ mod lock;
 mod machine;
 mod make;
 mod program;
-mod replay;
+mod schedule;
 #[cfg(test)]
 mod tests;
 mod turn;
@@ -25,5 +25,5 @@ pub use laws::{
     answers, enabled_calls, enough_frames, every_schedule, programs_follow, scopes_follow, wants,
     worked_schedules,
 };
-pub use replay::{Refused, Report, replay};
+pub use schedule::{Refused, Report, replay};
 pub use world::World;

@@ -3,7 +3,7 @@ use Rattle.std.proofs.Common.{sym}
 use Rattle.std.proofs.lemmas.Bool.{eqb-true}
 use Rattle.world.specs.Lines.{Line}
 use Rattle.world.proofs.Replaying.{come_more, has_led, shorter}
-use Rattle.world.proofs.replay.follow.Goals as goal
+use Rattle.world.proofs.schedule.follow.Goals as goal
 
 pub loop-rest-preserved : goal.loop-rest-preserved
 loop-rest-preserved g c =

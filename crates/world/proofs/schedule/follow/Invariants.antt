@@ -4,7 +4,7 @@ use Rattle.world.specs.Acting.{IsWorld}
 use Rattle.world.specs.Reports.{HasCome}
 use Rattle.world.specs.Worlds.{Sizes}
 use Rattle.world.specs.Worlds.{World as Defined}
-use Rattle.world.proofs.replay.follow.Given as goal
+use Rattle.world.proofs.schedule.follow.Given as goal
 
 abbrev pub invariant-loop-rest : goal.invariant-loop-rest
 invariant-loop-rest g l =
