@@ -79,10 +79,13 @@ impl Place {
             Place::Away => 0,
             Place::Coming(mover) => 0x4_0000 + mover as u64 * 0x1000_0000_0000,
             Place::Here(frame) => 0x8_0000 + (frame as u64 % 0x100_0000) * 0x10_0000,
-            Place::Leaving(frame, mover, marked) => {
-                let mark = if marked { 0x1_0000 } else { 0 };
+            Place::Leaving(frame, mover, false) => {
                 let at = (frame as u64 % 0x100_0000) * 0x10_0000;
-                mark + 0x2_0000 + 0x8_0000 + at + mover as u64 * 0x1000_0000_0000
+                0xa_0000 + at + mover as u64 * 0x1000_0000_0000
+            }
+            Place::Leaving(frame, mover, true) => {
+                let at = (frame as u64 % 0x100_0000) * 0x10_0000;
+                0xb_0000 + at + mover as u64 * 0x1000_0000_0000
             }
         }
     }

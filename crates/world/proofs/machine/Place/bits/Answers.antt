@@ -1,0 +1,5 @@
+use Rattle.std.proofs.Common.{◌<◌, refl, arith}
+use Rattle.world.proofs.machine.Place.bits.Goals as goal
+
+pub returns-in-Here-clause-value : goal.returns-in-Here-clause-value
+returns-in-Here-clause-value c = rw c.in-Here.is (λ fits. let l : c.in-Here.frame < 16777216 = fits c.in-Here.frame refl in omega arith)
