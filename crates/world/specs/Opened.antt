@@ -1,11 +1,18 @@
 -- What a world is made of where code opens it, and what is told of a world.
-use Rattle.std.specs.Prelude.{◌≡◌, ℕ, suc, ◌+◌, ◌*◌, Option, Some, None, List, [], length, map, option_map, slice_get, slice_index_or}
+use Rattle.std.specs.Prelude.{◌≡◌, ◌≢◌, ℕ, suc, ◌+◌, ◌*◌, ◌%◌, Option, Some, None, List, [], length, map, option_map, slice_get, slice_index_or}
+use Rattle.cells.specs.declared.ending.Ended.{Ended}
+use Rattle.cells.specs.declared.ending.Run.{Run}
+use Rattle.cells.specs.declared.ending.Run.TheVariants as run
+use Rattle.cells.specs.declared.ending.Want.{Want}
+use Rattle.cells.specs.Stops.{stop_of as stop_read}
 use Rattle.code_form.specs.declared.form.Image.{Image as RustImage}
+use Rattle.code_form.specs.Code.{output_of, stop_of}
 use Rattle.code_form.specs.Form.{Image, image_of}
 use Rattle.pointer_word.specs.Machine.{State}
 use Rattle.pointer_word.specs.Words.{framed}
 use Rattle.remote_store.specs.Kept.{piece_cells}
 use Rattle.world.specs.declared.evacuator.Evacuator.{Evacuator}
+use Rattle.world.specs.Programs.{Program, Wanted}
 use Rattle.world.specs.Seats.{Seat, begin}
 use Rattle.world.specs.Worlds.{Sizes}
 
@@ -32,3 +39,15 @@ AreIdle {P} programs movers = (k : ℕ) (x : Evacuator × P) → slice_get mover
 -- the cell i of the frame where the object o is, where it is in one
 abbrev pub cell_of : State → ℕ → ℕ → Option ℕ
 cell_of s o i = option_map (λ f. s.cell f i) (framed (s.word o).place)
+
+-- how a program runs: it has stopped so, or wants this, or neither
+abbrev pub IsRun : Run → Program → Type 0
+IsRun run.Running p = (stop_of p.core ≡ None) × ((w : Want) → p.mode ≢ Wanted w)
+IsRun (run.Stopped x) p = stop_of p.core ≡ Some (stop_read x)
+IsRun (run.Wanted w) p = p.mode ≡ Wanted w
+
+-- what a program's end tells: its output, how it runs, and how many instructions it has completed, modulo 2^64
+pub record Tells (e : Ended) (p : Program) : Type 0 where
+  pub output : e.output.items ≡ output_of p.core
+  pub run : IsRun e.run p
+  pub completed : e.completed ≡ p.completed % 18446744073709551616

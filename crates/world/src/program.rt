@@ -8,14 +8,15 @@ ghost use Rattle.code_form.specs.declared.touch.Touch.TheVariants.{Allocs};
 ghost use Rattle.pointer_word.specs.Machine.{Far, State};
 ghost use Rattle.remote_store.specs.Kept.{piece_cells};
 ghost use Rattle.std.specs.Prelude.{◌≡◌, ◌+◌, ◌-◌, ◌/◌, ◌<◌, ◌≤◌, ◌^◌, ℕ, IfOk, MatchResult, None, Some, length, option_map, slice_index, slice_set, true};
-ghost use Rattle.world.specs.Acting.{Done, Failed, Leads, Moves, On, Shows, Unread, outcome_of};
-ghost use Rattle.world.specs.Programs.{first_hold, hold_at};
+ghost use Rattle.world.specs.Acting.{Done, Failed, IsProgram, Leads, Moves, On, Shows, Unread, outcome_of};
+ghost use Rattle.world.specs.Programs.{Program as Defined, first_hold, hold_at};
+ghost use Rattle.world.specs.Opened.{IsRun};
 ghost use Rattle.world.specs.Seats.{IsSteady, Waits, begin, eviction_of, finished, next_touch};
 ghost use Rattle.world.specs.Shown.{AreFar};
 ghost use Rattle.world.specs.Turns.{evicts};
 ghost use Rattle.world.specs.Worlds.{IsHonestRead, Sizes};
 
-use cells::{Stop, Want};
+use cells::{Run, Stop, Want};
 use code_form::{Cell, Execution, Image, Touch, effect_laws, heap_laws};
 use crate::evict::{Evicted, evict};
 use crate::lock::Lock;
@@ -244,6 +245,19 @@ impl<'a> Program<'a> {
         ensures { option_map stop_read result ≡ stop_of self.now.core }
     {
         self.execution.stop()
+    }
+
+    /// How it runs: that it goes on, has stopped, or wants something.
+    pub(crate) fn run(&self) -> Run
+        ensures { (p : Defined) → IsProgram self.now p → IsRun result p }
+    {
+        match self.mode() {
+            Mode::Wanted(want) => Run::Wanted(want),
+            _ => match self.stop() {
+                Some(stop) => Run::Stopped(stop),
+                None => Run::Running,
+            },
+        }
     }
 
     /// How many instructions were completed, modulo 2^64.

@@ -2,7 +2,7 @@
 ghost use Rattle.std.specs.Prelude.{◌≡◌, ◌≢◌, ◌<◌, ◌≤◌, ℕ, IfOk, IfErr, length, true};
 ghost use Rattle.code_form.specs.Form.{Image as ImageOf};
 ghost use Rattle.remote_store.specs.Kept.{piece_cells};
-ghost use Rattle.world.specs.Opened.{cell_of, images_of, sizes_of};
+ghost use Rattle.world.specs.Opened.{Tells, cell_of, images_of, sizes_of};
 ghost use Rattle.pointer_word.specs.Words.{pack};
 ghost use Rattle.world.specs.Acting.{IsWorld, Stepped};
 ghost use Rattle.world.specs.Worlds.{Sizes, World as Defined, in_range, start};
@@ -13,11 +13,11 @@ use crate::lock::Lock;
 use crate::machine::Machine;
 use crate::make::{new_berths, new_evacuators, new_programs};
 use crate::program::Program;
-use cells::Want;
+use cells::{Ended, Want};
 use code_form::Image;
 use pointer_word::Word;
 use remote_store::{Config, Port, RawStore, Stores};
-use std::alloc::Global;
+use std::alloc::{AllocError, Global};
 
 /// A world as code keeps it: the machine with its berths, and each actor with its way to the store.
 #[derive(Drop)]
@@ -79,6 +79,21 @@ impl<'a, S: RawStore> World<'a, S> {
             Some(frame) => Some(self.lock.machine.cell(frame, index)),
             None => None,
         }
+    }
+
+    /// What a report tells of a program: its output, how it runs, and how many instructions it has completed, modulo 2^64. `Err`
+    /// where memory is refused.
+    pub fn ended(&self, alloc: Global, number: usize) -> Result<Ended, AllocError>
+        requires { number < length self.now.programs.items }
+        ensures { IfOk result (λ e. (z : Sizes) (images : ℕ → ImageOf) (w : Defined) → IsWorld S.content S.honest z images self.now.lock.machine self.now.lock.berths.items self.now.programs.items self.now.evacuators.items w
+            → Tells e (w.programs number)) }
+    {
+        let (program, _port) = &self.programs[number];
+        Ok(Ended {
+            output: Vec::from_slice(alloc, program.output())?,
+            run: program.run(),
+            completed: program.completed(),
+        })
     }
 
     /// Whether there are an object and a frame of these numbers.
