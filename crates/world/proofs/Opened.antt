@@ -15,8 +15,10 @@ use Rattle.world.specs.declared.machine.Frame.{Frame}
 use Rattle.world.specs.declared.machine.Object.{Object}
 use Rattle.world.specs.declared.program.Eviction.{Eviction as RustEviction}
 use Rattle.world.specs.Acting.{IsProgram, IsWorld}
-use Rattle.world.specs.Opened.{AreBegun, AreIdle, cell_of, images_of, sizes_of}
-use Rattle.world.specs.Programs.{begun}
+use Rattle.cells.specs.declared.ending.Ended.{Ended}
+use Rattle.code_form.specs.Code.{output_of}
+use Rattle.world.specs.Opened.{AreBegun, AreIdle, IsRun, Tells, cell_of, images_of, sizes_of}
+use Rattle.world.specs.Programs.{Program, begun}
 use Rattle.world.specs.Seats.{Seat, begin, eviction_of}
 use Rattle.world.specs.Shown.{AreFar, IsFar, IsObject, Shown}
 use Rattle.world.specs.Tables.{FrameFits, Tables, cells_at, frame_word, free, object_at, place_of, resting}
@@ -147,3 +149,7 @@ begun_next images share number n x p same l read e =
     let next : number + 1 ≡ suc number = omega arith in
     e ∙ (ap (λ (y : Image). begin y (number * share) (number * share + share) (number + 1)) image ∙ (ap (begin (images_of images number) (number * share) (number * share + share)) next ∙
     ap (λ k. begin (images_of images k) (k * share) (k * share + share) (suc k)) same))
+
+-- what is told of a program that code holds
+pub tells : (e : Ended) (x : Seat) (p : Program) → IsProgram x p → e.output.items ≡ output_of x.core → IsRun e.run p → e.completed ≡ x.completed → Tells e p
+tells e x p is output run completed = record { output = output ∙ ap output_of (sym is.core); run = run; completed = completed ∙ is.completed }
