@@ -75,10 +75,13 @@ told_inside h z t s o f inv shown e = at (s.word o).place refl
   where
     none : None ≡ Some f → ⊥
     none q = cc
+
     one : {i j : ℕ} → Some i ≡ Some j → i ≡ j
     one q = cc
+
     here : (p : Place) → (s.word o).place ≡ p → framed p ≡ Some f → s.who f ≡ Object o → f < z.frames
     here p q r k = frame_inside z t s f shown (subst (FrameOk s f) k (inv.frame f)).0
+
     at : (p : Place) → (s.word o).place ≡ p → f < z.frames
     at Away q = absurd (none (ap framed (sym q) ∙ ((inv.owner o).placed f e).0))
     at (Coming m) q = absurd (none (ap framed (sym q) ∙ ((inv.owner o).placed f e).0))

@@ -109,8 +109,10 @@ framed_inside h z t s o f inv shown e = at (s.word o).place refl
   where
     holds : (p : Place) → (s.word o).place ≡ p → PlaceOk h piece_cells s o p
     holds p q = subst (PlaceOk h piece_cells s o) q (inv.object o)
+
     there : s.who f ≡ ObjectHolds o → f < z.frames
     there k = frame_inside z t s f shown (subst (FrameOk s f) k (inv.frame f)).0
+
     at : (p : Place) → (s.word o).place ≡ p → f < z.frames
     at Away q = let k : None ≡ Some f = ap framed (sym q) ∙ e in cc
     at (Coming m) q = let k : None ≡ Some f = ap framed (sym q) ∙ e in cc

@@ -2,8 +2,8 @@
 #![tactic(auto)]
 
 mod bring;
-mod event;
 mod evacuator;
+mod event;
 mod evict;
 mod instruct;
 mod laws;
@@ -11,9 +11,9 @@ mod lock;
 mod machine;
 mod make;
 mod program;
-mod turn;
 #[cfg(test)]
 mod tests;
+mod turn;
 mod world;
 
 pub use event::{Actor, Choice, Step};

@@ -149,11 +149,7 @@ impl Object {
 
 impl Machine {
     /// Every object away with no hold, and every frame free and zero.
-    pub(crate) fn new(
-        alloc: Global,
-        objects: usize,
-        frames: usize,
-    ) -> Result<Machine, AllocError>
+    pub(crate) fn new(alloc: Global, objects: usize, frames: usize) -> Result<Machine, AllocError>
         ensures { IfOk result (λ m. m ≡ record { objects = replicate objects resting; frames = replicate frames free }) }
     {
         Ok(Machine {

@@ -16,6 +16,8 @@ loop-alloc-preserved g c =
     let ok = c.loop-alloc.programs.ok.0 in
     let n = length-append seats (y ∷ []) in
     let size : length c.push.new.self.items ≡ length (seats ++ y ∷ []) = ap length e in
-    let below : length seats < length c.args.images.now = omega arith in
-    (omega arith, begun_push c.args.images.now c.args.share seats c.push.new.self.items y e i.1
-    (begun_next c.args.images.now c.args.share c.len-number.result (length seats) c.index-images-number.result c.in-Ok.program (omega arith) below c.index-images-number.is c.in-Ok.ensures))
+    let below : length seats < length c.args.images.now = omega arith in (
+      omega arith,
+      begun_push c.args.images.now c.args.share seats c.push.new.self.items y e i.1
+          (begun_next c.args.images.now c.args.share c.len-number.result (length seats) c.index-images-number.result c.in-Ok.program (omega arith) below c.index-images-number.is c.in-Ok.ensures),
+    )
