@@ -53,7 +53,7 @@ leaving_inside h z t s m o inv shown e =
 pub bringing_inside : (h : Type 0) (z : Sizes) (t : Tables) (s : State) (m o : ℕ) → Inv h piece_cells s → Shown z t s → (s.hand m).bringing ≡ Some o → o < z.objects
 bringing_inside h z t s m o inv shown e = place_inside z t s o (Coming m) shown ((inv.mover m).brings o e) (λ q. cc)
 
-frame_inside : (z : Sizes) (t : Tables) (s : State) (f : ℕ) → Shown z t s → 0 < s.frame f → f < z.frames
+pub frame_inside : (z : Sizes) (t : Tables) (s : State) (f : ℕ) → Shown z t s → 0 < s.frame f → f < z.frames
 frame_inside z t s f shown l =
     let many = shown.frames_many in
     let inside : f < length t.frames = in_frames t f (subst (λ n. 0 < n) (shown.frames f) l) in
@@ -75,10 +75,13 @@ told_inside h z t s o f inv shown e = at (s.word o).place refl
   where
     none : None ≡ Some f → ⊥
     none q = cc
+
     one : {i j : ℕ} → Some i ≡ Some j → i ≡ j
     one q = cc
+
     here : (p : Place) → (s.word o).place ≡ p → framed p ≡ Some f → s.who f ≡ Object o → f < z.frames
     here p q r k = frame_inside z t s f shown (subst (FrameOk s f) k (inv.frame f)).0
+
     at : (p : Place) → (s.word o).place ≡ p → f < z.frames
     at Away q = absurd (none (ap framed (sym q) ∙ ((inv.owner o).placed f e).0))
     at (Coming m) q = absurd (none (ap framed (sym q) ∙ ((inv.owner o).placed f e).0))

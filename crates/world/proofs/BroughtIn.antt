@@ -217,10 +217,19 @@ module _ {C : Type 0} (content : C → Option (List ℕ)) (h : Type 0) (z : Size
   pub reads : (o f : ℕ) (words : List ℕ) (x' : Seat) → x.mode ≡ m.Reading o f → (h → IsHonestRead piece_cells (s.far o) (Some words)) → x' ≡ record x { words = words; mode = m.Filling o f 0 }
       → TurnsTo (λ a. Alone (in_mode p (read_so o f a.read))) t berths x'
   reads o f words x' e honest same =
-      let a : Answer = record { stored = true; read = Some words; grew = true } in
-      (a, (λ k. subst (λ (y : Mode). ReadsHonestly piece_cells s y (Some words)) (sym (mode_is (m.Reading o f) e)) (honest k)), ((s, in_mode p (Filling o f words 0)), refl, (is.shows,
-      subst (λ (y : Seat). IsProgram y (in_mode p (Filling o f words 0))) (sym same) (record { core = is.program.core; holds = is.program.holds; mode = refl; completed = is.program.completed }),
-      ap (λ (k : Seat). k.setting) same)))
+      let a : Answer = record { stored = true; read = Some words; grew = true } in (
+        a,
+        (λ k. subst (λ (y : Mode). ReadsHonestly piece_cells s y (Some words)) (sym (mode_is (m.Reading o f) e)) (honest k)),
+        (
+          (s, in_mode p (Filling o f words 0)),
+          refl,
+          (
+            is.shows,
+            subst (λ (y : Seat). IsProgram y (in_mode p (Filling o f words 0))) (sym same) (record { core = is.program.core; holds = is.program.holds; mode = refl; completed = is.program.completed }),
+            ap (λ (k : Seat). k.setting) same,
+          ),
+        ),
+      )
 
   pub reads_not : (o f : ℕ) (words : List ℕ) (x' : Seat) → x' ≡ record x { words = words; mode = m.Releasing o f } → TurnsTo (λ a. Alone (in_mode p (read_so o f a.read))) t berths x'
   reads_not o f words x' same =
@@ -308,9 +317,19 @@ module _ {C : Type 0} (content : C → Option (List ℕ)) (h : Type 0) (z : Size
       → TurnsTo (λ a. evicts piece_cells x.setting.mover a (eviction_of y x.words) (λ d. in_mode p (Evicting o d)) (in_mode p (Bringing o)) (in_mode p (Retreating o))) t' berths' x'
   moves_on o y r t' berths' words mode x' l so same =
       let go : Outcome → Program = resumes (λ d. in_mode p (Evicting o d)) (in_mode p (Bringing o)) (in_mode p (Retreating o)) in
-      let k = leads_on x.setting.mover s (eviction_of y x.words) (λ d. in_mode p (Evicting o d)) (in_mode p (Bringing o)) (in_mode p (Retreating o)) (Shows content z t' berths') r (go r) refl l in
-      (k.0, (λ _. subst (ReadsHonestly piece_cells s p.mode) (sym k.1) (reads_none piece_cells s p.mode)), (k.2.0, k.2.1, (k.2.2.0,
-      subst (IsProgram x') (sym k.2.2.1) (subst (λ (y : Seat). IsProgram y (go r)) (sym same) (becomes r so)), ap (λ (k : Seat). k.setting) same)))
+      let k = leads_on x.setting.mover s (eviction_of y x.words) (λ d. in_mode p (Evicting o d)) (in_mode p (Bringing o)) (in_mode p (Retreating o)) (Shows content z t' berths') r (go r) refl l in (
+        k.0,
+        (λ _. subst (ReadsHonestly piece_cells s p.mode) (sym k.1) (reads_none piece_cells s p.mode)),
+        (
+          k.2.0,
+          k.2.1,
+          (
+            k.2.2.0,
+            subst (IsProgram x') (sym k.2.2.1) (subst (λ (y : Seat). IsProgram y (go r)) (sym same) (becomes r so)),
+            ap (λ (k : Seat). k.setting) same,
+          ),
+        ),
+      )
     where
       becomes : (r : Outcome) → mode_of mode words ≡ resumes (λ d. Evicting o d) (Bringing o) (Retreating o) r
           → IsProgram (record x { words = words; mode = mode }) (resumes (λ d. in_mode p (Evicting o d)) (in_mode p (Bringing o)) (in_mode p (Retreating o)) r)

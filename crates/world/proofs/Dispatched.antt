@@ -26,13 +26,13 @@ pub fills_cell : (g : Setting) (p : Program) (o f k : ℕ) (words : List ℕ) �
     → fills g p o f words k ≡ Calls (Fills g.mover f k (listed words k)) (λ t. in_mode p (Filling o f words (suc k)))
 fills_cell g p o f k words e l =
     ap (λ b. cond b (Calls (Fills g.mover f k (listed words k)) (λ (t : State). in_mode p (Filling o f words (suc k)))) (Calls (Arrives g.mover o f false true) (λ t. finished g p 0)))
-        (ap (nat_lt k) e ∙ below_true k piece_cells l)
+    (ap (nat_lt k) e ∙ below_true k piece_cells l)
 
 pub fills_all : (g : Setting) (p : Program) (o f k : ℕ) (words : List ℕ) → g.size ≡ piece_cells → piece_cells ≤ k
     → fills g p o f words k ≡ Calls (Arrives g.mover o f false true) (λ t. finished g p 0)
 fills_all g p o f k words e l =
     ap (λ b. cond b (Calls (Fills g.mover f k (listed words k)) (λ (t : State). in_mode p (Filling o f words (suc k)))) (Calls (Arrives g.mover o f false true) (λ t. finished g p 0)))
-        (ap (nat_lt k) e ∙ below_false k piece_cells l)
+    (ap (nat_lt k) e ∙ below_false k piece_cells l)
 
 -- a turn that isn't what is next
 not_next : (c : Choice) (x : Turn Program) → (c ≡ choice.Next → ⊥) → as_next c x ≡ NotEnabled

@@ -64,4 +64,4 @@ pub turn_on : (x : Evacuator) (s : State) (c : Choice) (e : RustEviction) (hones
     → Leads s (λ a. evicts piece_cells x.mover a (eviction_of e x.words) Some None None) honest Q → Leads s (λ a. evacuator_turn piece_cells x.mover (eviction_in x) c a) honest Q
 turn_on x s c e honest Q q k l =
     subst (λ (y : Choice). Leads s (λ a. evacuator_turn piece_cells x.mover (eviction_in x) y a) honest Q) (sym q)
-        (subst (λ (d : Option RustEviction). Leads s (λ a. evacuator_turn piece_cells x.mover (option_map (λ y. eviction_of y x.words) d) choice.Next a) honest Q) k l)
+    (subst (λ (d : Option RustEviction). Leads s (λ a. evacuator_turn piece_cells x.mover (option_map (λ y. eviction_of y x.words) d) choice.Next a) honest Q) k l)

@@ -43,8 +43,11 @@ got_set xs k y j x e =
     let size = length-set xs k y in
     let read = slice_get-get_or (set xs k y) j x within in
     elim (same_or j k) [
-      | inl q ↦ inl (q, (let r : get_or (set xs k y) j x ≡ x = (let s : Some (get_or (set xs k y) j x) ≡ Some x = sym read ∙ e in cc) in
-          let same : get_or (set xs k y) j x ≡ y = ap (λ i. get_or (set xs k y) i x) q ∙ get_or-set_same xs k y x (omega arith) in sym r ∙ same))
+      | inl q ↦ inl (
+        q,
+        (let r : get_or (set xs k y) j x ≡ x = (let s : Some (get_or (set xs k y) j x) ≡ Some x = sym read ∙ e in cc) in
+            let same : get_or (set xs k y) j x ≡ y = ap (λ i. get_or (set xs k y) i x) q ∙ get_or-set_same xs k y x (omega arith) in sym r ∙ same),
+      )
       | inr d ↦ inr (d, slice_get-get_or xs j x (omega arith) ∙ (ap Some (sym (get_or-set_other xs k j y x d)) ∙ (sym read ∙ e)))
     ]
 
@@ -104,20 +107,27 @@ module _ {C P : Type 0} (content : C → Option (List ℕ)) (h : Type 0) (z : Si
         let r = g.2.0 in
         let e : Event = record { actor = actor.Evacuator k; choice = c; answer = a } in
         let u : World = record w { lock = r.0; evacuators = upd w.evacuators k r.1 } in
-        let happens : event z images w e ≡ Some u = event_is c a inside ∙ ap (with_evacuator w k) g.2.1 in
-        (a, (λ _. tt), (u, happens, record {
-          shows = g.2.2.0;
-          programs = is.programs;
-          evacuators = λ j y q. elim (got_set movers k (x', p') j y q) [
-            | inl s ↦ subst (λ (v : Evacuator × P). (upd w.evacuators k r.1 j ≡ eviction_in v.0) × (v.0.mover ≡ suc (z.programs + j))) (sym s.1)
-                (upd-same w.evacuators k r.1 j s.0 ∙ g.2.2.1, mover ∙ ((is.evacuators k x here).1 ∙ ap (λ i. suc (z.programs + i)) (sym s.0)))
-            | inr s ↦ (upd-other w.evacuators k r.1 j s.0 ∙ (is.evacuators j y s.1).0, (is.evacuators j y s.1).1)
-          ];
-          reached = (is.reached.0 ++ e ∷ [], follows_push h z images (start images) w u is.reached.0 e is.reached.1 happens (λ _. tt));
-          cells = is.cells;
-          programs_many = is.programs_many;
-          evacuators_many = length-set movers k (x', p') ∙ is.evacuators_many;
-        }))
+        let happens : event z images w e ≡ Some u = event_is c a inside ∙ ap (with_evacuator w k) g.2.1 in (
+          a,
+          (λ _. tt),
+          (
+            u,
+            happens,
+            record {
+              shows = g.2.2.0;
+              programs = is.programs;
+              evacuators = λ j y q. elim (got_set movers k (x', p') j y q) [
+                | inl s ↦ subst (λ (v : Evacuator × P). (upd w.evacuators k r.1 j ≡ eviction_in v.0) × (v.0.mover ≡ suc (z.programs + j))) (sym s.1)
+                    (upd-same w.evacuators k r.1 j s.0 ∙ g.2.2.1, mover ∙ ((is.evacuators k x here).1 ∙ ap (λ i. suc (z.programs + i)) (sym s.0)))
+                | inr s ↦ (upd-other w.evacuators k r.1 j s.0 ∙ (is.evacuators j y s.1).0, (is.evacuators j y s.1).1)
+              ];
+              reached = (is.reached.0 ++ e ∷ [], follows_push h z images (start images) w u is.reached.0 e is.reached.1 happens (λ _. tt));
+              cells = is.cells;
+              programs_many = is.programs_many;
+              evacuators_many = length-set movers k (x', p') ∙ is.evacuators_many;
+            },
+          ),
+        )
 
   -- ---- a program
 
@@ -159,7 +169,7 @@ module _ {C P : Type 0} (content : C → Option (List ℕ)) (h : Type 0) (z : Si
 
     pub program_stepped : (c : Choice) (t' : Tables) (berths' : List (Berth C)) (x' : Seat) (p' : P) (same same' : Type 0) (r : Step) → in_range z c ≡ true → (same → same')
         → Goes w.lock (λ a. program_turn x.0.setting w.lock (w.programs k) c a) (λ a. h → ReadsHonestly piece_cells w.lock (w.programs k).mode a.read)
-          (λ u q. Shows content z t' berths' u × IsProgram x' q × (x'.setting ≡ x.0.setting)) same r
+        (λ u q. Shows content z t' berths' u × IsProgram x' q × (x'.setting ≡ x.0.setting)) same r
         → Stepped content h z images t' berths' (set seats k (x', p')) movers w (actor.Program k) c same' r
     program_stepped c t' berths' x' p' same same' step.NotEnabled inside told g = ((λ a. turn_event c a inside ∙ ap (with_program w k) (g.0 a)), told g.1)
     program_stepped c t' berths' x' p' same same' step.Took inside told g =
@@ -168,20 +178,27 @@ module _ {C P : Type 0} (content : C → Option (List ℕ)) (h : Type 0) (z : Si
         let e : Event = record { actor = actor.Program k; choice = c; answer = a } in
         let u : World = record w { lock = r.0; programs = upd w.programs k r.1 } in
         let happens : event z images w e ≡ Some u = turn_event c a inside ∙ ap (with_program w k) g.2.1 in
-        let honest : h → IsHonest z w (actor.Program k) a = λ y. subst (λ n. ReadsHonestly n w.lock (w.programs k).mode a.read) (sym is.cells) (g.1 y) in
-        (a, honest, (u, happens, record {
-          shows = g.2.2.0;
-          programs = λ j y q. elim (got_set seats k (x', p') j y q) [
-            | inl s ↦ subst (λ (v : Seat × P). IsProgram v.0 (upd w.programs k r.1 j) × (v.0.setting ≡ setting z images j)) (sym s.1)
-                (subst (IsProgram x') (sym (upd-same w.programs k r.1 j s.0)) g.2.2.1, g.2.2.2 ∙ (set_so ∙ ap (setting z images) (sym s.0)))
-            | inr s ↦ (subst (IsProgram y.0) (sym (upd-other w.programs k r.1 j s.0)) (is.programs j y s.1).0, (is.programs j y s.1).1)
-          ];
-          evacuators = is.evacuators;
-          reached = (is.reached.0 ++ e ∷ [], follows_push h z images (start images) w u is.reached.0 e is.reached.1 happens honest);
-          cells = is.cells;
-          programs_many = length-set seats k (x', p') ∙ is.programs_many;
-          evacuators_many = is.evacuators_many;
-        }))
+        let honest : h → IsHonest z w (actor.Program k) a = λ y. subst (λ n. ReadsHonestly n w.lock (w.programs k).mode a.read) (sym is.cells) (g.1 y) in (
+          a,
+          honest,
+          (
+            u,
+            happens,
+            record {
+              shows = g.2.2.0;
+              programs = λ j y q. elim (got_set seats k (x', p') j y q) [
+                | inl s ↦ subst (λ (v : Seat × P). IsProgram v.0 (upd w.programs k r.1 j) × (v.0.setting ≡ setting z images j)) (sym s.1)
+                    (subst (IsProgram x') (sym (upd-same w.programs k r.1 j s.0)) g.2.2.1, g.2.2.2 ∙ (set_so ∙ ap (setting z images) (sym s.0)))
+                | inr s ↦ (subst (IsProgram y.0) (sym (upd-other w.programs k r.1 j s.0)) (is.programs j y s.1).0, (is.programs j y s.1).1)
+              ];
+              evacuators = is.evacuators;
+              reached = (is.reached.0 ++ e ∷ [], follows_push h z images (start images) w u is.reached.0 e is.reached.1 happens honest);
+              cells = is.cells;
+              programs_many = length-set seats k (x', p') ∙ is.programs_many;
+              evacuators_many = is.evacuators_many;
+            },
+          ),
+        )
 
 -- an element that was read
 pub at_index : {A : Type 0} (xs : List A) (k : ℕ) (x : A) → k < length xs → x ≡ get_or xs k x → slice_get xs k ≡ Some x

@@ -255,10 +255,16 @@ module _ {C : Type 0} (content : C → Option (List ℕ)) (h : Type 0) (z : Size
       let a : Answer = record { stored = true; read = None; grew = false } in
       let touches : touch_next x.setting p ≡ touch.Allocs cells = ap (λ c. touch_of (effect x.setting.image c)) core_is ∙ next in
       let q : Program = in_mode p (Wanted OutOfMemory) in
-      let grew : grows x.setting p a ≡ q = ap (λ y. cond (may_grow y (rest_of p.core)) q (finished_as x.setting p 0)) touches in
-      (a, (λ _. reads_none piece_cells s p.mode), ((s, q), ap (taken piece_cells s)
-      (ap (λ b. cond b (Alone (grows x.setting p a)) (Alone (in_mode p (Wanted NoObjects)))) (fits_is n cells true e (le_true (n + pieces piece_cells cells) x.setting.limit (omega arith))) ∙ ap Alone grew),
-      (is.shows, program_mode x x' p (m.Wanted OutOfMemory) (Wanted OutOfMemory) is.program same refl, ap (λ (j : Seat). j.setting) same)))
+      let grew : grows x.setting p a ≡ q = ap (λ y. cond (may_grow y (rest_of p.core)) q (finished_as x.setting p 0)) touches in (
+        a,
+        (λ _. reads_none piece_cells s p.mode),
+        (
+          (s, q),
+          ap (taken piece_cells s)
+              (ap (λ b. cond b (Alone (grows x.setting p a)) (Alone (in_mode p (Wanted NoObjects)))) (fits_is n cells true e (le_true (n + pieces piece_cells cells) x.setting.limit (omega arith))) ∙ ap Alone grew),
+          (is.shows, program_mode x x' p (m.Wanted OutOfMemory) (Wanted OutOfMemory) is.program same refl, ap (λ (j : Seat). j.setting) same),
+        ),
+      )
 
   -- ---- giving up
 

@@ -1,3 +1,4 @@
+pub mod Opened
 pub mod Dispatched
 pub mod Instructed
 pub mod Firsts

@@ -162,7 +162,7 @@ module _ {C : Type 0} (content : C → Option (List ℕ)) (z : Sizes) (t : Table
       let place : (s.word o).place ≡ place_of x.place = ap (λ (w : Word). w.place) (shows.tables.objects o).word in
       let same : act s (Marks m o f) ≡ u = ap (mark_at s m o f) place ∙ marks_yes s m o f x.count x.place count e in
       subst (λ (v : State). Shows content z t' berths v × (holds (v.hand m).leaving o ≡ true)) (sym same)
-          (record { tables = told shows.tables inside; far = shows.far; many = shows.many; objects_few = shows.objects_few; frames_few = shows.frames_few }, ap (λ (y : Hand). holds y.leaving o) hand ∙ eq-eqb o o refl)
+      (record { tables = told shows.tables inside; far = shows.far; many = shows.many; objects_few = shows.objects_few; frames_few = shows.frames_few }, ap (λ (y : Hand). holds y.leaving o) hand ∙ eq-eqb o o refl)
 
   pub not_marked : (o f : ℕ) → (s.hand m).leaving ≡ None → is_at_rest_in (object_at t o) f ≡ false → MarkedSo o f t berths false
   not_marked o f none e =

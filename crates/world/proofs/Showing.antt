@@ -27,11 +27,11 @@ set_objects z t word note frame cell o x w n shown below is i =
     let many = shown.objects_many in
     let inside : o < length t.objects = omega arith in
     elim (same_or i o) [
-  | inl e ↦ subst (λ (y : Object). IsObject y (upd word o w i) (upd note o n i)) (sym (set_same t.objects o x resting i e inside))
-      (subst (λ (v : Word). IsObject x v (upd note o n i)) (sym (upd-same word o w i e)) (subst (λ (m : Note). IsObject x w m) (sym (upd-same note o n i e)) is))
-  | inr d ↦ subst (λ (y : Object). IsObject y (upd word o w i) (upd note o n i)) (sym (get_or-set_other t.objects o i x resting d))
-      (subst (λ (v : Word). IsObject (object_at t i) v (upd note o n i)) (sym (upd-other word o w i d)) (subst (λ (m : Note). IsObject (object_at t i) (word i) m) (sym (upd-other note o n i d)) (shown.objects i)))
-]
+      | inl e ↦ subst (λ (y : Object). IsObject y (upd word o w i) (upd note o n i)) (sym (set_same t.objects o x resting i e inside))
+          (subst (λ (v : Word). IsObject x v (upd note o n i)) (sym (upd-same word o w i e)) (subst (λ (m : Note). IsObject x w m) (sym (upd-same note o n i e)) is))
+      | inr d ↦ subst (λ (y : Object). IsObject y (upd word o w i) (upd note o n i)) (sym (get_or-set_other t.objects o i x resting d))
+          (subst (λ (v : Word). IsObject (object_at t i) v (upd note o n i)) (sym (upd-other word o w i d)) (subst (λ (m : Note). IsObject (object_at t i) (word i) m) (sym (upd-other note o n i d)) (shown.objects i)))
+    ]
 
 -- one object's word and note
 pub object_set : (z : Sizes) (t : Tables) (word : ℕ → Word) (note : ℕ → Note) (frame : ℕ → ℕ) (cell : ℕ → ℕ → ℕ) (o : ℕ) (x : Object) (w : Word) (n : Note)

@@ -63,12 +63,7 @@ impl Evacuator {
     }
 
     /// Goes on with moving out.
-    fn go_on<S: RawStore>(
-        &mut self,
-        lock: &mut Lock<S>,
-        port: &mut Port<S>,
-        eviction: Eviction,
-    )
+    fn go_on<S: RawStore>(&mut self, lock: &mut Lock<S>, port: &mut Port<S>, eviction: Eviction)
         requires { self.old.eviction ≡ Some eviction }
         ensures mover { self.new.mover ≡ self.old.mover }
         ensures leads { (z : Sizes) (s : State) → Evacuates S.content S.honest z lock.old.machine lock.old.berths.items self.old s

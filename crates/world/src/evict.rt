@@ -56,12 +56,7 @@ impl Evicted {
 }
 
 /// Tries to mark the object in the frame, to move it out. False where it isn't there, or is held, or moves already.
-pub(crate) fn mark<S: RawStore>(
-    lock: &mut Lock<S>,
-    mover: u16,
-    object: usize,
-    frame: usize,
-) -> bool
+pub(crate) fn mark<S: RawStore>(lock: &mut Lock<S>, mover: u16, object: usize, frame: usize) -> bool
     ensures marks { (z : Sizes) (s : State) → object < z.objects → (s.hand mover).leaving ≡ None → Shows S.content z lock.old.machine lock.old.berths.items s
         → let t = act s (Marks mover object frame) in Shows S.content z lock.new.machine lock.new.berths.items t × (holds (t.hand mover).leaving object ≡ result) }
     ensures refused { result ≡ false → lock.new ≡ lock.old }
@@ -115,12 +110,7 @@ fn put<S: RawStore>(
 }
 
 /// Tries to commit: the object is away where its mark still stands and it has no hold.
-fn commit<S: RawStore>(
-    lock: &mut Lock<S>,
-    mover: u16,
-    object: usize,
-    frame: usize,
-) -> Evicted
+fn commit<S: RawStore>(lock: &mut Lock<S>, mover: u16, object: usize, frame: usize) -> Evicted
     ensures { (words : List ℕ) (z : Sizes) (s : State) → let e = eviction_of (Eviction.Stored object frame) words in
         Moves S.content S.honest z lock.old.machine lock.old.berths.items mover e s → Leads s (λ a. evicts piece_cells mover a e On Done Failed) Unread
         (λ u r. Shows S.content z lock.new.machine lock.new.berths.items u × (r ≡ outcome_of result words)) }

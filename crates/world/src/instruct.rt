@@ -34,12 +34,7 @@ impl<'a> Program<'a> {
     }
 
     /// Opens a hold of the object for the scope, whose aim completes where the object is in a frame.
-    fn open_hold<S: RawStore>(
-        &mut self,
-        lock: &mut Lock<S>,
-        scope: usize,
-        object: usize,
-    ) -> Step
+    fn open_hold<S: RawStore>(&mut self, lock: &mut Lock<S>, scope: usize, object: usize) -> Step
         requires steady { IsSteady (next_touch self.old) }
         requires own { object < self.old.setting.limit }
         ensures { Turns S.content S.honest lock.old.machine lock.new.machine lock.old.berths.items lock.new.berths.items self.old self.new
@@ -128,12 +123,7 @@ impl<'a> Program<'a> {
     }
 
     /// A load in the frame where the program was told the object to be.
-    fn load_told<S: RawStore>(
-        &mut self,
-        lock: &mut Lock<S>,
-        object: usize,
-        index: usize,
-    ) -> Step
+    fn load_told<S: RawStore>(&mut self, lock: &mut Lock<S>, object: usize, index: usize) -> Step
         requires steady { IsSteady (next_touch self.old) }
         requires index { index < piece_cells }
         ensures { Turns S.content S.honest lock.old.machine lock.new.machine lock.old.berths.items lock.new.berths.items self.old self.new
@@ -208,12 +198,7 @@ impl<'a> Program<'a> {
     }
 
     /// The scope begins to write.
-    fn begin_write<S: RawStore>(
-        &mut self,
-        lock: &mut Lock<S>,
-        scope: usize,
-        object: usize,
-    ) -> Step
+    fn begin_write<S: RawStore>(&mut self, lock: &mut Lock<S>, scope: usize, object: usize) -> Step
         ensures { Turns S.content S.honest lock.old.machine lock.new.machine lock.old.berths.items lock.new.berths.items self.old self.new
             (λ s p a. Calls (Clears object) (λ t. holding p scope (Some (record { object = object; writes = true })))) ((lock.new ≡ lock.old) × (self.new ≡ self.old)) result }
     {
@@ -266,12 +251,7 @@ impl<'a> Program<'a> {
     }
 
     /// The scope is to hold the piece of this cell, or nothing.
-    fn aim<S: RawStore>(
-        &mut self,
-        lock: &mut Lock<S>,
-        scope: usize,
-        wanted: Option<Cell>,
-    ) -> Step
+    fn aim<S: RawStore>(&mut self, lock: &mut Lock<S>, scope: usize, wanted: Option<Cell>) -> Step
         requires steady { IsSteady (next_touch self.old) }
         requires cell { IsCellOrNone self.old.core wanted }
         ensures { Turns S.content S.honest lock.old.machine lock.new.machine lock.old.berths.items lock.new.berths.items self.old self.new

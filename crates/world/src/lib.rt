@@ -3,8 +3,8 @@
 
 mod bring;
 mod ends;
-mod event;
 mod evacuator;
+mod event;
 mod evict;
 mod instruct;
 mod laws;

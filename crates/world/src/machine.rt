@@ -1,8 +1,8 @@
 //! The words, frames and cells of the world, and what the owner of each object knows.
-ghost use Rattle.std.specs.Prelude.{◌≡◌, ◌<◌, ◌^◌, IfOk, Some, None, is_none, length, replicate, slice_index};
+ghost use Rattle.std.specs.Prelude.{◌≡◌, ◌<◌, ◌≤◌, ◌^◌, IfOk, Some, None, is_none, length, replicate, slice_index};
 ghost use Rattle.pointer_word.specs.Hands.{upd};
 ghost use Rattle.pointer_word.specs.Machine.{State, after_clear, after_close, after_open, after_told};
-ghost use Rattle.pointer_word.specs.Words.{cleared, counted, framed, pack, place_bits};
+ghost use Rattle.pointer_word.specs.Words.{cleared, counted, framed, mark_bit, pack, place_bits};
 ghost use Rattle.remote_store.specs.Kept.{piece_cells};
 ghost use Rattle.world.specs.Tables.{cells_at, frame_at, frame_word, free, is_at_rest_in, is_away_at, is_marked_by, object_at, place_of, resting, with_cell, with_frame, with_object, word_of, FrameFits};
 ghost use Rattle.world.specs.Shown.{Shown};
@@ -80,9 +80,8 @@ impl Place {
             Place::Coming(mover) => 0x4_0000 + mover as u64 * 0x1000_0000_0000,
             Place::Here(frame) => 0x8_0000 + (frame as u64 % 0x100_0000) * 0x10_0000,
             Place::Leaving(frame, mover, marked) => {
-                let mark = if marked { 0x1_0000 } else { 0 };
                 let at = (frame as u64 % 0x100_0000) * 0x10_0000;
-                mark + 0x2_0000 + 0x8_0000 + at + mover as u64 * 0x1000_0000_0000
+                mark_bits(marked) + 0xa_0000 + at + mover as u64 * 0x1000_0000_0000
             }
         }
     }
@@ -150,11 +149,7 @@ impl Object {
 
 impl Machine {
     /// Every object away with no hold, and every frame free and zero.
-    pub(crate) fn new(
-        alloc: Global,
-        objects: usize,
-        frames: usize,
-    ) -> Result<Machine, AllocError>
+    pub(crate) fn new(alloc: Global, objects: usize, frames: usize) -> Result<Machine, AllocError>
         ensures { IfOk result (λ m. m ≡ record { objects = replicate objects resting; frames = replicate frames free }) }
     {
         Ok(Machine {
@@ -334,4 +329,12 @@ impl Machine {
     {
         self.set_cell(frame, index, value);
     }
+}
+
+/// The bits of a mark that stands or doesn't.
+fn mark_bits(marked: bool) -> u64
+    ensures value { result ≡ mark_bit marked }
+    ensures room { result ≤ 65536 }
+{
+    if marked { 0x1_0000 } else { 0 }
 }

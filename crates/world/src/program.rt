@@ -15,10 +15,10 @@ ghost use Rattle.world.specs.Shown.{AreFar};
 ghost use Rattle.world.specs.Turns.{evicts};
 ghost use Rattle.world.specs.Worlds.{IsHonestRead, Sizes};
 
-use cells::{Stop, Want};
-use code_form::{Cell, Execution, Image, Touch, effect_laws, heap_laws};
 use crate::evict::{Evicted, evict};
 use crate::lock::Lock;
+use cells::{Stop, Want};
+use code_form::{Cell, Execution, Image, Touch, effect_laws, heap_laws};
 use remote_store::{PIECE_CELLS, Port, RawStore};
 use std::alloc::{AllocError, Global};
 use std::marker::Model;

@@ -193,8 +193,7 @@ fn no_objects(rt: HostRuntime) -> Result<(), Fail> {
         Instruction::Alloc { to: 0, layout: 0 },
     ]?;
     let images = vec![in rt.alloc(); image_with(rt.alloc(), code)?]?;
-    let made: Result<World<FarHeap>, Want> =
-        World::new(rt.alloc(), &images, &two_frames(FarHeap));
+    let made: Result<World<FarHeap>, Want> = World::new(rt.alloc(), &images, &two_frames(FarHeap));
     assert!(rt; made.is_ok());
     let Ok(mut world) = made else {
         return Ok(());

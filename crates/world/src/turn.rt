@@ -58,12 +58,7 @@ impl<'a> Program<'a> {
     }
 
     /// Goes on in this mode.
-    fn advance<S: RawStore>(
-        &mut self,
-        lock: &mut Lock<S>,
-        port: &mut Port<S>,
-        mode: Mode,
-    ) -> Step
+    fn advance<S: RawStore>(&mut self, lock: &mut Lock<S>, port: &mut Port<S>, mode: Mode) -> Step
         requires mode { self.old.mode ≡ mode }
         requires waits { Waits mode (next_touch self.old) }
         ensures { Turns S.content S.honest lock.old.machine lock.new.machine lock.old.berths.items lock.new.berths.items self.old self.new
@@ -76,12 +71,8 @@ impl<'a> Program<'a> {
                 self.read(lock, port, object, frame);
                 Step::Took
             }
-            Mode::Filling(object, frame, index) => {
-                self.fill_next(lock, object, frame, index)
-            }
-            Mode::Clearing(object, frame, index) => {
-                self.clear_next(lock, object, frame, index)
-            }
+            Mode::Filling(object, frame, index) => { self.fill_next(lock, object, frame, index) }
+            Mode::Clearing(object, frame, index) => { self.clear_next(lock, object, frame, index) }
             Mode::Evicting(object, eviction) => {
                 self.move_out(lock, port, object, eviction);
                 Step::Took

@@ -14,7 +14,7 @@ returns-then-put g c m z s is =
     let words = c.args.words.now in
     let now = c.put.new.self in
     subst (λ (t : Tables). LeadsTo g.S.RawStore.content h z old.machine old.berths.items m s (Copying o f (take c.args.copied words)) t now.berths.items (On (Stored o f))) (sym c.put.ensures.machine)
-        (put_out g.S.RawStore.content h z old.machine old.berths.items m s o f c.args.copied words true now.berths.items is c.requires.0 c.requires.1 (c.if-put.ensures.far s.far is.shows.far) c.put.ensures.many)
+    (put_out g.S.RawStore.content h z old.machine old.berths.items m s o f c.args.copied words true now.berths.items is c.requires.0 c.requires.1 (c.if-put.ensures.far s.far is.shows.far) c.put.ensures.many)
 
 pub returns-else-put : goal.returns-else-put
 returns-else-put g c m z s is =
@@ -25,4 +25,4 @@ returns-else-put g c m z s is =
     let words = c.args.words.now in
     let now = c.put.new.self in
     subst (λ (t : Tables). LeadsTo g.S.RawStore.content h z old.machine old.berths.items m s (Copying o f (take c.args.copied words)) t now.berths.items (On (NotStored o f))) (sym c.put.ensures.machine)
-        (put_out g.S.RawStore.content h z old.machine old.berths.items m s o f c.args.copied words false now.berths.items is c.requires.0 c.requires.1 (c.if-put.ensures.far s.far is.shows.far) c.put.ensures.many)
+    (put_out g.S.RawStore.content h z old.machine old.berths.items m s o f c.args.copied words false now.berths.items is c.requires.0 c.requires.1 (c.if-put.ensures.far s.far is.shows.far) c.put.ensures.many)

@@ -11,4 +11,4 @@ returns c z s shown inside =
     let k = c.args.index in
     let v = c.args.value in
     subst (λ (t : Tables). AreTables z t s.word s.note s.frame (upd s.cell f (upd (s.cell f) k v))) (sym c.set_cell.ensures)
-        (cell_set z c.args.self.now s.word s.note s.frame s.cell f k v shown inside c.requires)
+    (cell_set z c.args.self.now s.word s.note s.frame s.cell f k v shown inside c.requires)

@@ -12,4 +12,4 @@ invariant_of-self-2 c =
     let i = c.self.inside in
     let room = subst (λ (x : Seat). next_object piece_cells x.setting.base (sizes (allocations_of x.core)) + pieces piece_cells c.args.cells ≤ x.setting.limit) (sym c.self.view_is) c.requires.room in
     extended_seat c.effect_laws.ensures.tidy i.base i.limit i.execution c.allocate.new.self i.firsts.items c.push.new.self.items i.next c.args.cells c.pieces.result i.mode c.self.invariant
-        (ap next_touch c.self.view_is ∙ c.requires.next) room c.pieces.ensures c.in_ok-push.ensures.items c.in_default.ensures
+    (ap next_touch c.self.view_is ∙ c.requires.next) room c.pieces.ensures c.in_ok-push.ensures.items c.in_default.ensures

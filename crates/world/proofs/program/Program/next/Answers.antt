@@ -11,4 +11,4 @@ pub returns-clause-value : goal.returns-clause-value
 returns-clause-value c =
     let i = c.self.inside in
     subst (λ (x : Seat). i.next ≡ next_object piece_cells x.setting.base (sizes (allocations_of x.core))) c.self.view_is
-        (next_is i.base (sizes (allocations_of i.execution.core)) (reverse i.firsts.items) i.next c.self.invariant.placed)
+    (next_is i.base (sizes (allocations_of i.execution.core)) (reverse i.firsts.items) i.next c.self.invariant.placed)
