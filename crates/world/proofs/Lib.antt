@@ -1,3 +1,14 @@
+pub mod Opened
+pub mod Dispatched
+pub mod Instructed
+pub mod Firsts
+pub mod BroughtIn
+pub mod Happening
+pub mod Evacuating
+pub mod MovedOut
+pub mod Acting
+pub mod Placing
+pub mod Showing
 pub mod Schedules
 pub mod Calling
 pub mod Moving

@@ -13,3 +13,8 @@ pub mod Rows
 pub mod Scopes
 pub mod Enabled
 pub mod Enough
+pub mod Seats
+pub mod Tables
+pub mod Shown
+pub mod Acting
+pub mod Opened

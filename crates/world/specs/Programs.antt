@@ -8,6 +8,7 @@ use Rattle.code_form.specs.Form.{Operation, Print, Println, Printint, Printbool,
 use Rattle.code_form.specs.Code.{Core, Running, Stopped, Stuck, sizes, allocations_of, code, effect}
 use Rattle.code_form.specs.Placed.{next_object, object_at}
 use Rattle.code_form.specs.Touches.{resumed, touch_of}
+pub use Rattle.world.specs.declared.program.Hold.{Hold}
 
 -- how far a mover is that moves an object out of a frame
 pub data Eviction : Type 0 where
@@ -21,11 +22,6 @@ pub data Eviction : Type 0 where
   Refused : (object frame : ℕ) → Eviction
   -- the object is away, and the frame is not released yet
   Freed : (frame : ℕ) → Eviction
-
--- what a scope of a program holds, and whether it has begun to write there
-pub record Hold : Type 0 where
-  pub object : ℕ
-  pub writes : Bool
 
 -- where a program is within its next instruction
 pub data Mode : Type 0 where

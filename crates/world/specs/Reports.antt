@@ -7,8 +7,10 @@ use Rattle.cells.specs.declared.ending.Want.{Want}
 use Rattle.cells.specs.Stops.{stop_of as stop_read}
 use Rattle.code_form.specs.Code.{output_of, stop_of}
 use Rattle.code_form.specs.Form.{Image}
-use Rattle.world.specs.Lines.{Line, IsLine32, IsNoLine, spell}
+use Rattle.world.specs.Lines.{Line, IsLine, IsLine32, IsNoLine, spell}
 use Rattle.world.specs.Programs.{Program, Wanted}
+use Rattle.world.specs.declared.schedule.Refused.{Refused}
+use Rattle.world.specs.declared.schedule.Refused.TheVariants as refused
 use Rattle.world.specs.Turns.{Answer}
 use Rattle.world.specs.Worlds.{Event, IsHonest, Sizes, World, event, start}
 
@@ -43,28 +45,35 @@ abbrev pub AreEnds : (ℕ → Program) → ℕ → List Ended → Type 0
 AreEnds programs k [] = Unit {0}
 AreEnds programs k (e ∷ es) = IsEnded (programs k) e × AreEnds programs (suc k) es
 
--- all lines of the schedule lead to a world, and these are the ends of its programs
-pub record IsReport (h : Type 0) (z : Sizes) (images : ℕ → Image) (schedule : List ℕ) (ends : List Ended) : Type 0 where
-  pub lines : List Line
-  pub world : World
-  pub text : AreLines lines schedule
-  pub leads : Leads h z images (start images) lines world
-  pub all : length ends ≡ z.programs
-  pub ended : AreEnds world.programs 0 ends
+-- all lines of the schedule lead from the world w to the world v
+abbrev pub HasLed : Type 0 → Sizes → (ℕ → Image) → World → List ℕ → World → Type 0
+HasLed h z images w schedule v = (lines : List Line) × AreLines lines schedule × Leads h z images w lines v
 
--- in the world w, what comes next in the schedule is no line, or a line that is not enabled, whatever is answered
-abbrev pub IsStuckAt : Sizes → (ℕ → Image) → World → List ℕ → Type 0
-IsStuckAt z images w text = IsNoLine text ⊎ ((x : Line) × (rest : List ℕ) × IsLine32 x × (text ≡ spell x ++ rest) × ((a : Answer) → event z images w (event_of x a) ≡ None))
-
--- the lines before this one, counted from 1, lead to a world in which it is no line or is not enabled
-pub record IsRefusedLine (h : Type 0) (z : Sizes) (images : ℕ → Image) (schedule : List ℕ) (line : ℕ) : Type 0 where
+-- the lines before this one, counted from 1, lead from the world w to the world v, and the rest of the schedule stands behind them
+pub record HasCome (h : Type 0) (z : Sizes) (images : ℕ → Image) (w : World) (schedule rest : List ℕ) (line : ℕ) (v : World) : Type 0 where
   pub before : List Line
-  pub world : World
   pub text : List ℕ
-  pub rest : List ℕ
   pub cut : schedule ≡ text ++ rest
   pub lines : AreLines before text
   pub count : line ≡ suc (length before)
-  pub leads : Leads h z images (start images) before world
-  pub more : 0 < length rest
-  pub refused : IsStuckAt z images world rest
+  pub leads : Leads h z images w before v
+
+-- what comes next in the schedule is, in the world w, no line, or a line that is not enabled, whatever is answered
+abbrev pub IsStuckAt : Sizes → (ℕ → Image) → World → List ℕ → Type 0
+IsStuckAt z images w text = IsNoLine text ⊎ ((x : Line) × (rest : List ℕ) × IsLine x rest text × ((a : Answer) → event z images w (event_of x a) ≡ None))
+
+-- the lines before this one, counted from 1, lead from the world w to one in which it is no line or is not enabled
+abbrev pub IsRefusedLine : Type 0 → Sizes → (ℕ → Image) → World → List ℕ → ℕ → Type 0
+IsRefusedLine h z images w schedule line = (v : World) × (rest : List ℕ) × HasCome h z images w schedule rest line v × (0 < length rest) × IsStuckAt z images v rest
+
+-- all lines of the schedule lead from the beginning to a world, and these are the ends of its programs
+pub record IsReport (h : Type 0) (z : Sizes) (images : ℕ → Image) (schedule : List ℕ) (ends : List Ended) : Type 0 where
+  pub world : World
+  pub led : HasLed h z images (start images) schedule world
+  pub all : length ends ≡ z.programs
+  pub ended : AreEnds world.programs 0 ends
+
+-- why a schedule is refused: a line of it, or want of memory
+abbrev pub IsRefusal : Type 0 → Sizes → (ℕ → Image) → List ℕ → Refused → Type 0
+IsRefusal h z images schedule (refused.Line line) = IsRefusedLine h z images (start images) schedule line
+IsRefusal h z images schedule refused.OutOfMemory = Unit {0}

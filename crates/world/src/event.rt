@@ -22,3 +22,11 @@ pub enum Choice {
     /// Begins to bring an object in.
     Begin(u32),
 }
+
+/// Whether an actor took a step.
+#[derive(Clone, Copy, PartialEq, Eq, Debug)]
+pub enum Step {
+    Took,
+    /// There is no such step in the world as it is; nothing has changed.
+    NotEnabled,
+}

@@ -1,0 +1,211 @@
+-- the world behind an event that code took
+use Rattle.std.proofs.Common.{◌≡◌, ◌≢◌, ◌⊎◌, inl, inr, ℕ, suc, ◌+◌, ◌*◌, ◌/◌, ◌<◌, ◌≤◌, Bool, true, false, cond, ◌&&◌, List, [], ◌∷◌, ◌++◌, length, get_or, Option, Some, None, refl, sym, ap, ◌∙◌, subst, suc-mul, arith}
+use Rattle.std.specs.Prelude.{nat_lt, slice_get}
+use Rattle.std.proofs.Math.ListN.{set}
+use Rattle.std.proofs.Math.Nat.{mul-div-le, mul-le-mul_right}
+use Rattle.std.proofs.lemmas.Bool.Decides.{nat_tests}
+use Rattle.std.proofs.lemmas.List.{length-set, get_or-set_same, get_or-set_other, set-get_or}
+use Rattle.std.proofs.lemmas.Option.{slice_get-get_or, slice_get_past, slice_get_within}
+use Rattle.code_form.specs.Form.{Image}
+use Rattle.pointer_word.specs.Hands.{upd}
+use Rattle.pointer_word.specs.Machine.{State}
+use Rattle.pointer_word.specs.Sound.{Inv}
+use Rattle.pointer_word.proofs.Upd.{same_or, upd-same, upd-other}
+use Rattle.remote_store.specs.Kept.{piece_cells}
+use Rattle.remote_store.specs.declared.berth.Berth.{Berth}
+use Rattle.world.specs.declared.evacuator.Evacuator.{Evacuator}
+use Rattle.world.specs.declared.event.Actor.{Actor}
+use Rattle.world.specs.declared.event.Actor.TheVariants as actor
+use Rattle.world.specs.declared.event.Choice.{Choice}
+use Rattle.world.specs.declared.event.Step.{Step}
+use Rattle.world.specs.declared.event.Step.TheVariants as step
+use Rattle.world.specs.Acting.{Evacuates, Goes, IsProgram, IsWorld, Seated, Shows, Stepped, Unread, eviction_in}
+use Rattle.world.specs.InHand.{FitsEvacuator, FitsMode}
+use Rattle.world.specs.Programs.{Eviction, Setting}
+use Rattle.world.specs.Seats.{Seat}
+use Rattle.world.specs.Steps.{IsSound}
+use Rattle.world.specs.Tables.{Tables}
+use Rattle.world.specs.Turns.{Answer, evacuator_turn, program_turn, taken}
+use Rattle.world.specs.Worlds.{Event, Follows, IsHonest, ReadsHonestly, Sizes, World, acted, event, in_range, is_actor, mover_of, setting, start, with_evacuator, with_program}
+use Rattle.world.proofs.Stepping.{reached}
+
+-- one more event
+pub follows_push : (h : Type 0) (z : Sizes) (images : ℕ → Image) (w v u : World) (es : List Event) (e : Event) → Follows h z images w es v → event z images v e ≡ Some u → (h → IsHonest z v e.actor e.answer)
+    → Follows h z images w (es ++ e ∷ []) u
+follows_push h z images w v u [] e f q honest =
+    (u, subst (λ (x : World). event z images x e ≡ Some u) f q, subst (λ (x : World). h → IsHonest z x e.actor e.answer) f honest, refl)
+follows_push h z images w v u (d ∷ es) e f q honest = (f.0, f.1, f.2, follows_push h z images f.0 v u es e f.3 q honest)
+
+-- reading a list behind a write
+pub got_set : {A : Type 0} (xs : List A) (k : ℕ) (y : A) (j : ℕ) (x : A) → slice_get (set xs k y) j ≡ Some x → ((j ≡ k) × (x ≡ y)) ⊎ ((j ≢ k) × (slice_get xs j ≡ Some x))
+got_set xs k y j x e =
+    let within = slice_get_within (set xs k y) j x e in
+    let size = length-set xs k y in
+    let read = slice_get-get_or (set xs k y) j x within in
+    elim (same_or j k) [
+      | inl q ↦ inl (
+        q,
+        (let r : get_or (set xs k y) j x ≡ x = (let s : Some (get_or (set xs k y) j x) ≡ Some x = sym read ∙ e in cc) in
+            let same : get_or (set xs k y) j x ≡ y = ap (λ i. get_or (set xs k y) i x) q ∙ get_or-set_same xs k y x (omega arith) in sym r ∙ same),
+      )
+      | inr d ↦ inr (d, slice_get-get_or xs j x (omega arith) ∙ (ap Some (sym (get_or-set_other xs k j y x d)) ∙ (sym read ∙ e)))
+    ]
+
+-- the share of a program ends within the objects
+in_share : (n p k : ℕ) → k < p → k * (n / p) + n / p ≤ n
+in_share n p k l =
+    let q : ℕ = n / p in
+    let all : p * q ≤ n = mul-div-le n p in
+    let most : suc k * q ≤ p * q = mul-le-mul_right q l in
+    let one : suc k * q ≡ k * q + q = suc-mul k q in
+    omega arith
+
+module _ {C P : Type 0} (content : C → Option (List ℕ)) (h : Type 0) (z : Sizes) (images : ℕ → Image) (t : Tables) (berths : List (Berth C)) (seats : List (Seat × P)) (movers : List (Evacuator × P)) (w : World)
+    (is : IsWorld content h z images t berths seats movers w) where
+  pub sound : IsSound h z w
+  sound = reached h z images w is.reached.0 is.reached.1
+
+  true_and : (a b : Bool) → a ≡ true → b ≡ true → (a && b) ≡ true
+  true_and a b e f = ap (λ (q : Bool). q && b) e ∙ f
+
+  is_below : (a b : ℕ) → a < b → nat_lt a b ≡ true
+  is_below a b l = grind (arith, nat_tests)
+
+  module _ (k : ℕ) (x : Evacuator × P) (here : slice_get movers k ≡ Some x) where
+    evacuator_there : nat_lt k z.evacuators ≡ true
+    evacuator_there = let l = slice_get_within movers k x here in let many = is.evacuators_many in is_below k z.evacuators (omega arith)
+
+    -- what it has in hand
+    pub evacuates : Evacuates content h z t berths x.0 w.lock
+    evacuates =
+        let own = is.evacuators k x here in
+        let l = slice_get_within movers k x here in
+        let many = is.evacuators_many in
+        let fits = sound.hands.evacuator k (omega arith) in
+        record {
+          shows = is.shows;
+          inv = subst (λ n. Inv h n w.lock) is.cells sound.lock;
+          fits = subst (λ n. FitsEvacuator n w.lock.far (w.lock.hand x.0.mover) (eviction_in x.0)) is.cells
+              (subst (λ m. FitsEvacuator z.cells w.lock.far (w.lock.hand m) (eviction_in x.0)) (sym own.1) (subst (FitsEvacuator z.cells w.lock.far (w.lock.hand (suc (z.programs + k)))) own.0 fits));
+        }
+
+    -- its event is its turn
+    event_is : (c : Choice) (a : Answer) → in_range z c ≡ true
+        → event z images w (record { actor = actor.Evacuator k; choice = c; answer = a }) ≡ with_evacuator w k (taken piece_cells w.lock (evacuator_turn piece_cells x.0.mover (eviction_in x.0) c a))
+    event_is c a inside =
+        let own = is.evacuators k x here in
+        let acts : ℕ → ℕ → Option Eviction → Option World = λ n m d. with_evacuator w k (taken n w.lock (evacuator_turn n m d c a)) in
+        ap (λ b. cond b (acts z.cells (suc (z.programs + k)) (w.evacuators k)) None) (true_and (nat_lt k z.evacuators) (in_range z c) evacuator_there inside) ∙
+        (ap (λ n. acts n (suc (z.programs + k)) (w.evacuators k)) is.cells ∙ (ap (λ m. acts piece_cells m (w.evacuators k)) (sym own.1) ∙ ap (acts piece_cells x.0.mover) own.0))
+
+    pub evacuator_stepped : (c : Choice) (t' : Tables) (berths' : List (Berth C)) (x' : Evacuator) (p' : P) (same same' : Type 0) (r : Step) → in_range z c ≡ true → x'.mover ≡ x.0.mover → (same → same')
+        → Goes w.lock (λ a. evacuator_turn piece_cells x.0.mover (eviction_in x.0) c a) Unread (λ u d. Shows content z t' berths' u × (d ≡ eviction_in x')) same r
+        → Stepped content h z images t' berths' seats (set movers k (x', p')) w (actor.Evacuator k) c same' r
+    evacuator_stepped c t' berths' x' p' same same' step.NotEnabled inside mover told g = ((λ a. event_is c a inside ∙ ap (with_evacuator w k) (g.0 a)), told g.1)
+    evacuator_stepped c t' berths' x' p' same same' step.Took inside mover told g =
+        let a : Answer = g.0 in
+        let r = g.2.0 in
+        let e : Event = record { actor = actor.Evacuator k; choice = c; answer = a } in
+        let u : World = record w { lock = r.0; evacuators = upd w.evacuators k r.1 } in
+        let happens : event z images w e ≡ Some u = event_is c a inside ∙ ap (with_evacuator w k) g.2.1 in (
+          a,
+          (λ _. tt),
+          (
+            u,
+            happens,
+            record {
+              shows = g.2.2.0;
+              programs = is.programs;
+              evacuators = λ j y q. elim (got_set movers k (x', p') j y q) [
+                | inl s ↦ subst (λ (v : Evacuator × P). (upd w.evacuators k r.1 j ≡ eviction_in v.0) × (v.0.mover ≡ suc (z.programs + j))) (sym s.1)
+                    (upd-same w.evacuators k r.1 j s.0 ∙ g.2.2.1, mover ∙ ((is.evacuators k x here).1 ∙ ap (λ i. suc (z.programs + i)) (sym s.0)))
+                | inr s ↦ (upd-other w.evacuators k r.1 j s.0 ∙ (is.evacuators j y s.1).0, (is.evacuators j y s.1).1)
+              ];
+              reached = (is.reached.0 ++ e ∷ [], follows_push h z images (start images) w u is.reached.0 e is.reached.1 happens (λ _. tt));
+              cells = is.cells;
+              programs_many = is.programs_many;
+              evacuators_many = length-set movers k (x', p') ∙ is.evacuators_many;
+            },
+          ),
+        )
+
+  -- ---- a program
+
+  module _ (k : ℕ) (x : Seat × P) (here : slice_get seats k ≡ Some x) where
+    program_low : k < z.programs
+    program_low = let l = slice_get_within seats k x here in let many = is.programs_many in omega arith
+
+    program_there : nat_lt k z.programs ≡ true
+    program_there = is_below k z.programs program_low
+
+    set_so : x.0.setting ≡ setting z images k
+    set_so = (is.programs k x here).1
+
+    limit_is : x.0.setting.limit ≤ z.objects
+    limit_is = subst (λ n. n ≤ z.objects) (sym (ap (λ (g : Setting). g.limit) set_so)) (in_share z.objects z.programs k program_low)
+
+    -- what it has in hand
+    pub seated : Seated content h z t berths x.0 w.lock (w.programs k)
+    seated =
+        let own = is.programs k x here in
+        let fits = sound.hands.program k program_low in
+        record {
+          shows = is.shows;
+          program = own.0;
+          inv = subst (λ n. Inv h n w.lock) is.cells sound.lock;
+          fits = subst (λ m. FitsMode h piece_cells w.lock.far (w.lock.hand m) (w.programs k).mode) (sym (ap (λ (g : Setting). g.mover) set_so))
+              (subst (λ n. FitsMode h n w.lock.far (w.lock.hand (suc k)) (w.programs k).mode) is.cells fits);
+          limit = limit_is;
+          size = ap (λ (g : Setting). g.size) set_so ∙ is.cells;
+        }
+
+    -- its event is its turn
+    turn_event : (c : Choice) (a : Answer) → in_range z c ≡ true
+        → event z images w (record { actor = actor.Program k; choice = c; answer = a }) ≡ with_program w k (taken piece_cells w.lock (program_turn x.0.setting w.lock (w.programs k) c a))
+    turn_event c a inside =
+        let acts : ℕ → Setting → Option World = λ n g. with_program w k (taken n w.lock (program_turn g w.lock (w.programs k) c a)) in
+        ap (λ b. cond b (acts z.cells (setting z images k)) None) (true_and (nat_lt k z.programs) (in_range z c) program_there inside) ∙
+        (ap (λ n. acts n (setting z images k)) is.cells ∙ ap (acts piece_cells) (sym set_so))
+
+    pub program_stepped : (c : Choice) (t' : Tables) (berths' : List (Berth C)) (x' : Seat) (p' : P) (same same' : Type 0) (r : Step) → in_range z c ≡ true → (same → same')
+        → Goes w.lock (λ a. program_turn x.0.setting w.lock (w.programs k) c a) (λ a. h → ReadsHonestly piece_cells w.lock (w.programs k).mode a.read)
+        (λ u q. Shows content z t' berths' u × IsProgram x' q × (x'.setting ≡ x.0.setting)) same r
+        → Stepped content h z images t' berths' (set seats k (x', p')) movers w (actor.Program k) c same' r
+    program_stepped c t' berths' x' p' same same' step.NotEnabled inside told g = ((λ a. turn_event c a inside ∙ ap (with_program w k) (g.0 a)), told g.1)
+    program_stepped c t' berths' x' p' same same' step.Took inside told g =
+        let a : Answer = g.0 in
+        let r = g.2.0 in
+        let e : Event = record { actor = actor.Program k; choice = c; answer = a } in
+        let u : World = record w { lock = r.0; programs = upd w.programs k r.1 } in
+        let happens : event z images w e ≡ Some u = turn_event c a inside ∙ ap (with_program w k) g.2.1 in
+        let honest : h → IsHonest z w (actor.Program k) a = λ y. subst (λ n. ReadsHonestly n w.lock (w.programs k).mode a.read) (sym is.cells) (g.1 y) in (
+          a,
+          honest,
+          (
+            u,
+            happens,
+            record {
+              shows = g.2.2.0;
+              programs = λ j y q. elim (got_set seats k (x', p') j y q) [
+                | inl s ↦ subst (λ (v : Seat × P). IsProgram v.0 (upd w.programs k r.1 j) × (v.0.setting ≡ setting z images j)) (sym s.1)
+                    (subst (IsProgram x') (sym (upd-same w.programs k r.1 j s.0)) g.2.2.1, g.2.2.2 ∙ (set_so ∙ ap (setting z images) (sym s.0)))
+                | inr s ↦ (subst (IsProgram y.0) (sym (upd-other w.programs k r.1 j s.0)) (is.programs j y s.1).0, (is.programs j y s.1).1)
+              ];
+              evacuators = is.evacuators;
+              reached = (is.reached.0 ++ e ∷ [], follows_push h z images (start images) w u is.reached.0 e is.reached.1 happens honest);
+              cells = is.cells;
+              programs_many = length-set seats k (x', p') ∙ is.programs_many;
+              evacuators_many = is.evacuators_many;
+            },
+          ),
+        )
+
+-- an element that was read
+pub at_index : {A : Type 0} (xs : List A) (k : ℕ) (x : A) → k < length xs → x ≡ get_or xs k x → slice_get xs k ≡ Some x
+at_index xs k x l e = slice_get-get_or xs k x l ∙ ap Some (sym e)
+
+-- an element written back as it was
+pub set_back : {A P : Type 0} (xs : List (A × P)) (k : ℕ) (x : A × P) (a : A) (p : P) → x ≡ get_or xs k x → a ≡ x.0 → p ≡ x.1 → set xs k (a, p) ≡ xs
+set_back {A} {P} xs k x a p e f g =
+    let pair : (a, p) ≡ x = ap (λ (y : A). (y, p)) f ∙ ap (λ (y : P). (x.0, y)) g in
+    ap (set xs k) (pair ∙ e) ∙ set-get_or xs k x

@@ -1,0 +1,153 @@
+-- the opening world, as code makes it, and what is told of a world
+use Rattle.std.proofs.Common.{◌≡◌, ◌⊎◌, inl, inr, ℕ, zero, suc, ◌+◌, ◌*◌, ◌/◌, ◌<◌, ◌≤◌, List, [], ◌∷◌, ◌++◌, length, get_or, Option, Some, None, refl, sym, ap, ◌∙◌, subst, arith}
+use Rattle.std.specs.Prelude.{replicate, slice_get, option_map}
+use Rattle.std.proofs.lemmas.List.{length-replicate}
+use Rattle.code_form.specs.declared.form.Image.{Image as RustImage}
+use Rattle.code_form.specs.Form.{Image, image_of}
+use Rattle.pointer_word.specs.Words.{Place, Away, Coming, Here, Leaving, Word, counted, framed}
+use Rattle.pointer_word.specs.Hands.{blank, listed}
+use Rattle.pointer_word.specs.Machine.{Never, State, Object as ObjectHolds}
+use Rattle.pointer_word.specs.Sound.{Inv, FrameOk, PlaceOk}
+use Rattle.remote_store.specs.Kept.{piece_cells}
+use Rattle.remote_store.specs.declared.berth.Berth.{Berth}
+use Rattle.world.specs.declared.evacuator.Evacuator.{Evacuator}
+use Rattle.world.specs.declared.machine.Frame.{Frame}
+use Rattle.world.specs.declared.machine.Object.{Object}
+use Rattle.world.specs.declared.program.Eviction.{Eviction as RustEviction}
+use Rattle.world.specs.Acting.{IsProgram, IsWorld}
+use Rattle.cells.specs.declared.ending.Ended.{Ended}
+use Rattle.code_form.specs.Code.{output_of}
+use Rattle.world.specs.Opened.{AreBegun, AreIdle, cell_of, images_of, sizes_of}
+use Rattle.world.specs.Programs.{Program, begun}
+use Rattle.world.specs.Seats.{Seat, begin, eviction_of}
+use Rattle.world.specs.Shown.{AreFar, IsFar, IsObject, Shown}
+use Rattle.world.specs.Tables.{FrameFits, Tables, cells_at, frame_word, free, object_at, place_of, resting}
+use Rattle.world.specs.Worlds.{Sizes, World, start}
+use Rattle.world.proofs.Acting.{frame_inside}
+use Rattle.world.proofs.Happening.{sound}
+
+-- what stands where, behind a push
+pub push_tells : {A : Type 0} (xs : List A) (y : A) (k : ℕ) (x : A) → slice_get (xs ++ y ∷ []) k ≡ Some x → ((k ≡ length xs) × (x ≡ y)) ⊎ (slice_get xs k ≡ Some x)
+push_tells [] y zero x e = inl (refl, (let q : Some y ≡ Some x = e in cc))
+push_tells [] y (suc k) x e = cc
+push_tells (a ∷ xs) y zero x e = inr e
+push_tells (a ∷ xs) y (suc k) x e = elim (push_tells xs y k x e) [ inl q ↦ inl (ap suc q.0, q.1) | inr q ↦ inr q ]
+
+same_at : {A : Type 0} (n : ℕ) (a : A) (i : ℕ) → get_or (replicate n a) i a ≡ a
+same_at zero a i = refl
+same_at (suc n) a zero = refl
+same_at (suc n) a (suc i) = same_at n a i
+
+zeros_at : (n i : ℕ) → 0 ≡ listed (replicate n 0) i
+zeros_at n i = sym (same_at n 0 i)
+
+module _ {C : Type 0} (content : C → Option (List ℕ)) where
+  far_new : (berths : List (Berth C)) (b : Berth C) → AreFar content berths (λ _. Never) → b.version ≡ 0 → (o : ℕ) (y : Option (Berth C)) → slice_get (berths ++ b ∷ []) o ≡ y → IsFar content o Never y
+  far_new berths b all new o None e = tt
+  far_new berths b all new o (Some c) e = elim (push_tells berths b o c e) [
+    | inl q ↦ ap (λ (k : Berth C). k.version) q.1 ∙ new
+    | inr q ↦ subst (IsFar content o Never) q (all o)
+  ]
+
+  -- one more berth into which nothing was put
+  pub far_push : (berths berths' : List (Berth C)) (b : Berth C) → berths' ≡ berths ++ b ∷ [] → AreFar content berths (λ _. Never) → b.version ≡ 0 → AreFar content berths' (λ _. Never)
+  far_push berths berths' b e all new = subst (λ l. AreFar content l (λ _. Never)) (sym e) (λ o. far_new berths b all new o (slice_get (berths ++ b ∷ []) o) refl)
+
+-- one more program at its beginning
+pub begun_push : {P : Type 0} (images : List RustImage) (share : ℕ) (seats seats' : List (Seat × P)) (y : Seat × P) → seats' ≡ seats ++ y ∷ [] → AreBegun images share seats
+    → y.0 ≡ begin (images_of images (length seats)) (length seats * share) (length seats * share + share) (suc (length seats)) → AreBegun images share seats'
+begun_push {P} images share seats seats' y e all new =
+    subst (AreBegun images share) (sym e) (λ k x q. elim (push_tells seats y k x q) [
+      | inl r ↦ subst (λ (n : ℕ). x.0 ≡ begin (images_of images n) (n * share) (n * share + share) (suc n)) (sym r.0) (ap (λ (v : Seat × P). v.0) r.1 ∙ new)
+      | inr r ↦ all k x r
+    ])
+
+-- one more evacuator that is idle
+pub idle_push : {P : Type 0} (programs : ℕ) (movers movers' : List (Evacuator × P)) (y : Evacuator × P) → movers' ≡ movers ++ y ∷ [] → AreIdle programs movers → y.0.eviction ≡ None → y.0.mover ≡ suc (programs + length movers)
+    → AreIdle programs movers'
+idle_push {P} programs movers movers' y e all none mover =
+    subst (AreIdle programs) (sym e) (λ k x q. elim (push_tells movers y k x q) [
+      | inl r ↦ (ap (λ (v : Evacuator × P). v.0.eviction) r.1 ∙ none, ap (λ (v : Evacuator × P). v.0.mover) r.1 ∙ (mover ∙ ap (λ n. suc (programs + n)) (sym r.0)))
+      | inr r ↦ all k x r
+    ])
+
+-- the opening world
+pub opens_world : {C P : Type 0} (content : C → Option (List ℕ)) (h : Type 0) (images : List RustImage) (frames objects evacuators : ℕ) (t : Tables) (berths : List (Berth C)) (seats : List (Seat × P)) (movers : List (Evacuator × P))
+    → t ≡ record { objects = replicate objects resting; frames = replicate frames free } → objects ≤ 16777216 → frames ≤ 1048576
+    → length berths ≡ objects → AreFar content berths (λ _. Never) → length seats ≡ length images → AreBegun images (objects / length images) seats → length movers ≡ evacuators → AreIdle (length images) movers
+    → IsWorld content h (sizes_of (length images) frames objects evacuators) (images_of images) t berths seats movers (start (images_of images))
+opens_world {C} {P} content h images frames objects evacuators t berths seats movers e few few_frames many far seats_many begun_all movers_many idle_all = record {
+  shows = record {
+    tables = subst (λ (y : Tables). Shown (sizes_of (length images) frames objects evacuators) y (start (images_of images)).lock) (sym e) (record {
+      objects = λ o. subst (λ (x : Object). IsObject x (counted 0 Away) blank) (sym (same_at objects resting o)) (record { word = refl; count = refl; told = refl; writing = refl });
+      frames = λ f. sym (ap (λ (x : Frame). frame_word x.held_for) (same_at frames free f));
+      cells = λ f i. zeros_at piece_cells i ∙ sym (ap (λ (x : Frame). listed x.cells i) (same_at frames free f));
+      wide = λ f. ap (λ (x : Frame). length x.cells) (same_at frames free f);
+      objects_many = length-replicate objects resting;
+      frames_many = length-replicate frames free;
+    });
+    far = far;
+    many = many;
+    objects_few = few;
+    frames_few = few_frames;
+  };
+  programs = λ k x q. let is = begun_all k x q in (
+    subst (λ (y : Seat). IsProgram y (begun (images_of images k))) (sym is) (record { core = refl; holds = refl; mode = refl; completed = refl }),
+    ap (λ (y : Seat). y.setting) is,
+  );
+  evacuators = λ k x q. let is = idle_all k x q in (sym (ap (option_map (λ (y : RustEviction). eviction_of y x.0.words)) is.0), is.1);
+  reached = ([], refl);
+  cells = refl;
+  programs_many = seats_many;
+  evacuators_many = movers_many;
+}
+
+-- ---- words and cells
+
+framed_inside : (h : Type 0) (z : Sizes) (t : Tables) (s : State) (o f : ℕ) → Inv h piece_cells s → Shown z t s → framed (s.word o).place ≡ Some f → f < z.frames
+framed_inside h z t s o f inv shown e = at (s.word o).place refl
+  where
+    holds : (p : Place) → (s.word o).place ≡ p → PlaceOk h piece_cells s o p
+    holds p q = subst (PlaceOk h piece_cells s o) q (inv.object o)
+
+    there : s.who f ≡ ObjectHolds o → f < z.frames
+    there k = frame_inside z t s f shown (subst (FrameOk s f) k (inv.frame f)).0
+
+    at : (p : Place) → (s.word o).place ≡ p → f < z.frames
+    at Away q = let k : None ≡ Some f = ap framed (sym q) ∙ e in cc
+    at (Coming m) q = let k : None ≡ Some f = ap framed (sym q) ∙ e in cc
+    at (Here g k) q = let r : Some g ≡ Some f = ap framed (sym q) ∙ e in let i : g ≡ f = cc in there (subst (λ j. s.who j ≡ ObjectHolds o) i (holds (Here g k) q).1)
+    at (Leaving g m k) q = let r : Some g ≡ Some f = ap framed (sym q) ∙ e in let i : g ≡ f = cc in there (subst (λ j. s.who j ≡ ObjectHolds o) i (holds (Leaving g m k) q).1)
+
+module _ {C P : Type 0} (content : C → Option (List ℕ)) (h : Type 0) (z : Sizes) (images : ℕ → Image) (t : Tables) (berths : List (Berth C)) (seats : List (Seat × P)) (movers : List (Evacuator × P)) (w : World)
+    (is : IsWorld content h z images t berths seats movers w) where
+  -- a frame's number fits its word
+  pub frame_fits : (o : ℕ) → FrameFits (place_of (object_at t o).place)
+  frame_fits o f e =
+      let shown = is.shows.tables in
+      let few = is.shows.frames_few in
+      let place : framed (w.lock.word o).place ≡ framed (place_of (object_at t o).place) = ap (λ (y : Word). framed y.place) (shown.objects o).word in
+      let inv : Inv h piece_cells w.lock = subst (λ n. Inv h n w.lock) is.cells (sound content h z images t berths seats movers w is).lock in
+      let inside = framed_inside h z t w.lock o f inv shown (place ∙ e) in
+      omega arith
+
+  pub no_cell : (o i : ℕ) → None ≡ framed (place_of (object_at t o).place) → None ≡ cell_of w.lock o i
+  no_cell o i e = ap (option_map (λ f. w.lock.cell f i)) (e ∙ sym (ap (λ (y : Word). framed y.place) (is.shows.tables.objects o).word))
+
+  pub the_cell : (o i f v : ℕ) → Some f ≡ framed (place_of (object_at t o).place) → v ≡ listed (cells_at t f) i → Some v ≡ cell_of w.lock o i
+  the_cell o i f v e q = ap Some (q ∙ sym (is.shows.tables.cells f i)) ∙ ap (option_map (λ g. w.lock.cell g i)) (e ∙ sym (ap (λ (y : Word). framed y.place) (is.shows.tables.objects o).word))
+
+-- an image that was read
+image_at : (images : List RustImage) (n : ℕ) (x : RustImage) → n < length images → x ≡ get_or images n x → image_of x ≡ images_of images n
+image_at [] n x l e = absurd (omega arith)
+image_at (y ∷ images) zero x l e = ap image_of e
+image_at (y ∷ images) (suc n) x l e = image_at images n x (omega arith) e
+
+-- a program that was made as the next
+pub begun_next : (images : List RustImage) (share number n : ℕ) (x : RustImage) (p : Seat) → number ≡ n → n < length images → x ≡ get_or images number x
+    → p ≡ begin (image_of x) (number * share) (number * share + share) (number + 1) → p ≡ begin (images_of images n) (n * share) (n * share + share) (suc n)
+begun_next images share number n x p same l read e =
+    let image : image_of x ≡ images_of images number = image_at images number x (omega arith) read in
+    let next : number + 1 ≡ suc number = omega arith in
+    e ∙ (ap (λ (y : Image). begin y (number * share) (number * share + share) (number + 1)) image ∙ (ap (begin (images_of images number) (number * share) (number * share + share)) next ∙
+    ap (λ k. begin (images_of images k) (k * share) (k * share + share) (suc k)) same))

@@ -1,0 +1,15 @@
+use Rattle.std.proofs.Common.{Some, None, sym}
+use Rattle.world.specs.Acting.{Shows, eviction_in, outcome_of}
+use Rattle.world.specs.Seats.{eviction_of}
+use Rattle.world.proofs.Evacuating.{moves}
+use Rattle.world.proofs.MovedOut.{leads_on}
+use Rattle.world.proofs.evacuator.Evacuator.go_on.Goals as goal
+
+pub returns-clause-leads : goal.returns-clause-leads
+returns-clause-leads g c z s is =
+    let h : Type 0 = g.S.RawStore.honest in
+    let old = c.args.lock.now in
+    let x = c.args.self.now in
+    let now = c.evict.new.lock in
+    leads_on x.mover s (eviction_of c.args.eviction x.words) Some None None (Shows g.S.RawStore.content z now.machine now.berths.items) (outcome_of c.evict.result c.evict.new.words) _
+    (sym (c.eviction-self.ensures c.evict.new.words)) (c.evict.ensures.leads z s (moves g.S.RawStore.content h z old.machine old.berths.items x s is c.args.eviction c.requires))

@@ -1,0 +1,28 @@
+use Rattle.std.proofs.Common.{true, false, subst, sym, take}
+use Rattle.world.specs.Acting.{On}
+use Rattle.world.specs.Programs.{Copying, Stored, NotStored}
+use Rattle.world.specs.Tables.{Tables}
+use Rattle.world.proofs.MovedOut.{LeadsTo, put_out}
+use Rattle.world.proofs.evict.put.Goals as goal
+
+pub returns-then-put : goal.returns-then-put
+returns-then-put g c m z s is =
+    let h : Type 0 = g.S.RawStore.honest in
+    let old = c.args.lock.now in
+    let o = c.args.object in
+    let f = c.args.frame in
+    let words = c.args.words.now in
+    let now = c.put.new.self in
+    subst (λ (t : Tables). LeadsTo g.S.RawStore.content h z old.machine old.berths.items m s (Copying o f (take c.args.copied words)) t now.berths.items (On (Stored o f))) (sym c.put.ensures.machine)
+    (put_out g.S.RawStore.content h z old.machine old.berths.items m s o f c.args.copied words true now.berths.items is c.requires.0 c.requires.1 (c.if-put.ensures.far s.far is.shows.far) c.put.ensures.many)
+
+pub returns-else-put : goal.returns-else-put
+returns-else-put g c m z s is =
+    let h : Type 0 = g.S.RawStore.honest in
+    let old = c.args.lock.now in
+    let o = c.args.object in
+    let f = c.args.frame in
+    let words = c.args.words.now in
+    let now = c.put.new.self in
+    subst (λ (t : Tables). LeadsTo g.S.RawStore.content h z old.machine old.berths.items m s (Copying o f (take c.args.copied words)) t now.berths.items (On (NotStored o f))) (sym c.put.ensures.machine)
+    (put_out g.S.RawStore.content h z old.machine old.berths.items m s o f c.args.copied words false now.berths.items is c.requires.0 c.requires.1 (c.if-put.ensures.far s.far is.shows.far) c.put.ensures.many)

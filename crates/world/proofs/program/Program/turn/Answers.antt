@@ -1,0 +1,23 @@
+use Rattle.std.proofs.Common.{refl, ap, ◌∙◌}
+use Rattle.world.specs.declared.event.Choice.TheVariants as choice
+use Rattle.world.specs.declared.program.Mode.TheVariants as m
+use Rattle.world.specs.Turns.{program_turn}
+use Rattle.world.proofs.Acting.{goes_same}
+use Rattle.world.proofs.Dispatched.{not_enabled, turn_is}
+use Rattle.world.proofs.Instructed.{goes_turn}
+use Rattle.world.proofs.program.Program.turn.Goals as goal
+
+pub returns-in-Bringing : goal.returns-in-Bringing
+returns-in-Bringing g c z s p inside is =
+    let x = c.args.self.now in
+    goes_same s _ _ _ _ _ c.seek.result (λ k. (k.0, refl, k.1)) (goes_turn s _ _ _ _ _ c.seek.result (λ a. turn_is x s p (m.Bringing c.in-Bringing.object) c.args.choice a is.program c.in-Bringing.ensures.value) (c.seek.ensures z s p inside is))
+
+pub returns-in-Next : goal.returns-in-Next
+returns-in-Next g c z s p inside is =
+    let x = c.args.self.now in
+    goes_turn s _ _ _ _ _ c.advance.result (λ a. ap (λ y. program_turn x.setting s p y a) c.in-Next.is ∙ turn_is x s p c.mode.result choice.Next a is.program c.mode.ensures.value) (c.advance.ensures z s p is)
+
+pub returns-in_default-choice : goal.returns-in_default-choice
+returns-in_default-choice g c z s p inside is =
+    let x = c.args.self.now in
+    ((λ a. not_enabled x s p c.mode.result c.args.choice a is.program c.mode.ensures.value c.in_default.not-Bringing c.in_default-choice.not-Next), (refl, refl, refl))

@@ -1,0 +1,17 @@
+use Rattle.std.proofs.Common.{List, length, subst}
+use Rattle.code_form.specs.declared.form.Image.{Image}
+use Rattle.world.specs.Opened.{images_of, sizes_of}
+use Rattle.world.specs.Reports.{IsReport}
+use Rattle.world.specs.Worlds.{start}
+use Rattle.world.proofs.schedule.replay.Goals as goal
+
+pub returns-in-Ok-ends : goal.returns-in-Ok-ends
+returns-in-Ok-ends g c =
+    let now = c.args.config.now in
+    let given : List Image = c.deref.result.now in
+    let images = images_of given in
+    let z = sizes_of (length given) now.frames now.objects now.evacuators in
+    let led = c.in_default-follow.ensures z images (start images) c.in-Ok.ensures.opens in
+    let told = c.in-Ok-ends.ensures z images led.0 led.2 in
+    subst (λ (xs : List Image). IsReport g.M.S.RawStore.honest (sizes_of (length xs) now.frames now.objects now.evacuators) (images_of xs) c.args.schedule.now c.in-Ok-ends.ended.items) c.deref.ensures.value
+    (record { world = led.0; led = led.1; all = told.0; ended = told.1 })

@@ -1,0 +1,123 @@
+-- What a turn comes to where code takes it.
+use Rattle.std.specs.Prelude.{◌≡◌, ℕ, suc, ◌+◌, ◌%◌, ◌≤◌, List, length, Option, Some, None, option_map, slice_get}
+use Rattle.code_form.specs.Form.{Image}
+use Rattle.pointer_word.specs.Machine.{State}
+use Rattle.pointer_word.specs.Sound.{Inv}
+use Rattle.remote_store.specs.Kept.{piece_cells}
+use Rattle.remote_store.specs.declared.berth.Berth.{Berth}
+use Rattle.world.specs.declared.event.Actor.{Actor}
+use Rattle.world.specs.declared.event.Choice.{Choice}
+use Rattle.world.specs.declared.event.Step.{Step}
+use Rattle.world.specs.declared.event.Step.TheVariants as step
+use Rattle.world.specs.declared.evacuator.Evacuator.{Evacuator}
+use Rattle.world.specs.declared.evict.Evicted.{Evicted}
+use Rattle.world.specs.declared.evict.Evicted.TheVariants as e
+use Rattle.world.specs.InHand.{FitsEvacuator, FitsEviction, FitsMode}
+use Rattle.world.specs.Programs.{Eviction, Program}
+use Rattle.world.specs.Seats.{Seat, eviction_of, mode_of}
+use Rattle.world.specs.Shown.{AreFar, Shown}
+use Rattle.world.specs.Tables.{Tables}
+use Rattle.world.specs.Turns.{Answer, Turn, taken}
+use Rattle.world.specs.Worlds.{Event, Follows, IsHonest, ReadsHonestly, Sizes, World, event, setting, start}
+
+-- for an answer of this kind a turn is enabled, and leads to what Q says
+abbrev pub Leads : {A : Type 0} → State → (Answer → Turn A) → (Answer → Type 0) → (State → A → Type 0) → Type 0
+Leads {A} s turn honest Q = (a : Answer) × honest a × ((r : State × A) × (taken piece_cells s (turn a) ≡ Some r) × Q r.0 r.1)
+
+-- A turn is taken exactly where it is enabled, and leads to what Q says. One that isn't taken is not enabled, whatever is answered, and all is the same
+abbrev pub Goes : {A : Type 0} → State → (Answer → Turn A) → (Answer → Type 0) → (State → A → Type 0) → Type 0 → Step → Type 0
+Goes s turn honest Q same step.Took = Leads s turn honest Q
+Goes s turn honest Q same step.NotEnabled = ((a : Answer) → taken piece_cells s (turn a) ≡ None) × same
+
+-- nothing was read
+abbrev pub Unread : Answer → Type 0
+Unread a = a.read ≡ None
+
+-- what an event of moving out leads to: it goes on, or it ends well, or the store failed
+pub data Outcome : Type 0 where
+  On : Eviction → Outcome
+  Done : Outcome
+  Failed : Outcome
+
+-- what a mover goes on as, by what the event of moving out led to
+abbrev pub resumes : {A : Type 0} → (Eviction → A) → A → A → Outcome → A
+resumes go done failed (On e) = go e
+resumes go done failed Done = done
+resumes go done failed Failed = failed
+
+-- the outcome that code holds, by the words that were copied
+abbrev pub outcome_of : Evicted → List ℕ → Outcome
+outcome_of (e.On x) words = On (eviction_of x words)
+outcome_of e.Done words = Done
+outcome_of e.Failed words = Failed
+
+-- a program that code holds, and one of the definitions
+pub record IsProgram (x : Seat) (p : Program) : Type 0 where
+  pub core : p.core ≡ x.core
+  pub holds : p.holds ≡ x.holds
+  pub mode : p.mode ≡ mode_of x.mode x.words
+  pub completed : x.completed ≡ p.completed % 18446744073709551616
+
+-- how far an evacuator is that code holds
+abbrev pub eviction_in : Evacuator → Option Eviction
+eviction_in x = option_map (λ e. eviction_of e x.words) x.eviction
+
+module _ {C : Type 0} (content : C → Option (List ℕ)) where
+  -- the tables and berths of code show a state
+  pub record Shows (z : Sizes) (t : Tables) (berths : List (Berth C)) (s : State) : Type 0 where
+    pub tables : Shown z t s
+    pub far : AreFar content berths s.far
+    pub many : length berths ≡ z.objects
+    pub objects_few : z.objects ≤ 16777216
+    pub frames_few : z.frames ≤ 1048576
+
+  -- A mover with this in hand moves an object out of the machine that code holds; h says that the store is honest
+  pub record Moves (h : Type 0) (z : Sizes) (t : Tables) (berths : List (Berth C)) (m : ℕ) (x : Eviction) (s : State) : Type 0 where
+    pub shows : Shows z t berths s
+    pub inv : Inv h piece_cells s
+    pub fits : FitsEviction piece_cells s.far (s.hand m) x
+
+  -- an evacuator that code holds has in hand what it says
+  pub record Evacuates (h : Type 0) (z : Sizes) (t : Tables) (berths : List (Berth C)) (x : Evacuator) (s : State) : Type 0 where
+    pub shows : Shows z t berths s
+    pub inv : Inv h piece_cells s
+    pub fits : FitsEvacuator piece_cells s.far (s.hand x.mover) (eviction_in x)
+
+  -- The world w, of these sizes and with these images, is what code holds: its tables and berths, and its programs and evacuators, each beside
+  -- its way to the store. It was reached by events, over an honest store where h holds
+  pub record IsWorld {P : Type 0} (h : Type 0) (z : Sizes) (images : ℕ → Image) (t : Tables) (berths : List (Berth C)) (seats : List (Seat × P)) (movers : List (Evacuator × P)) (w : World) : Type 0 where
+    pub shows : Shows z t berths w.lock
+    pub programs : (k : ℕ) (x : Seat × P) → slice_get seats k ≡ Some x → IsProgram x.0 (w.programs k) × (x.0.setting ≡ setting z images k)
+    pub evacuators : (k : ℕ) (x : Evacuator × P) → slice_get movers k ≡ Some x → (w.evacuators k ≡ eviction_in x.0) × (x.0.mover ≡ suc (z.programs + k))
+    pub reached : (events : List Event) × Follows h z images (start images) events w
+    pub cells : z.cells ≡ piece_cells
+    pub programs_many : length seats ≡ z.programs
+    pub evacuators_many : length movers ≡ z.evacuators
+
+  -- An actor has done what it chose exactly where the definition has that event, for an answer that an honest store may give; else no answer makes it an
+  -- event, and all is the same
+  abbrev pub Stepped : {P : Type 0} → (h : Type 0) → Sizes → (ℕ → Image) → Tables → List (Berth C) → List (Seat × P) → List (Evacuator × P) → World → Actor → Choice → Type 0 → Step → Type 0
+  Stepped h z images t berths seats movers w actor choice same step.Took =
+      (a : Answer) × (h → IsHonest z w actor a) × ((u : World) × (event z images w (record { actor = actor; choice = choice; answer = a }) ≡ Some u) × IsWorld h z images t berths seats movers u)
+  Stepped h z images t berths seats movers w actor choice same step.NotEnabled =
+      ((a : Answer) → event z images w (record { actor = actor; choice = choice; answer = a }) ≡ None) × same
+
+  -- A program that code holds, with what it has in hand: its objects are there
+  pub record Seated (h : Type 0) (z : Sizes) (t : Tables) (berths : List (Berth C)) (x : Seat) (s : State) (p : Program) : Type 0 where
+    pub shows : Shows z t berths s
+    pub program : IsProgram x p
+    pub inv : Inv h piece_cells s
+    pub fits : FitsMode h piece_cells s.far (s.hand x.setting.mover) p.mode
+    pub limit : x.setting.limit ≤ z.objects
+    pub size : x.setting.size ≡ piece_cells
+
+  -- Where the sizes are as given, a program takes a turn exactly where it is enabled, and is then what the turn makes of it; what is read is what an honest
+  -- store may give
+  abbrev pub TurnsIn : (Sizes → Type 0) → (h : Type 0) → (t t' : Tables) → (berths berths' : List (Berth C)) → (x x' : Seat) → (State → Program → Answer → Turn Program) → Type 0 → Step → Type 0
+  TurnsIn given h t t' berths berths' x x' turn same r = (z : Sizes) (s : State) (p : Program) → given z → Seated h z t berths x s p
+      → Goes s (turn s p) (λ a. h → ReadsHonestly piece_cells s p.mode a.read) (λ u q. Shows z t' berths' u × IsProgram x' q × (x'.setting ≡ x.setting)) same r
+
+  -- the same for any sizes
+  abbrev pub Turns : (h : Type 0) → (t t' : Tables) → (berths berths' : List (Berth C)) → (x x' : Seat) → (State → Program → Answer → Turn Program) → Type 0 → Step → Type 0
+  Turns h t t' berths berths' x x' turn same r = (z : Sizes) (s : State) (p : Program) → Seated h z t berths x s p
+      → Goes s (turn s p) (λ a. h → ReadsHonestly piece_cells s p.mode a.read) (λ u q. Shows z t' berths' u × IsProgram x' q × (x'.setting ≡ x.setting)) same r

@@ -1,0 +1,86 @@
+//! What is told of programs.
+ghost use Rattle.std.specs.Prelude.{◌≡◌, ◌≢◌, ◌<◌, ℕ, IfOk, List, MatchOption, length};
+ghost use Rattle.cells.specs.declared.ending.Want.{Want as WantOf};
+ghost use Rattle.code_form.specs.Form.{Image};
+ghost use Rattle.world.specs.Acting.{IsProgram, IsWorld};
+ghost use Rattle.world.specs.Programs.{Program as Defined, Wanted};
+ghost use Rattle.world.specs.Reports.{AreEnds, IsEnded, RunsAs};
+ghost use Rattle.world.specs.Seats.{mode_of};
+ghost use Rattle.world.specs.Worlds.{Sizes, World as DefinedWorld};
+
+use crate::program::{Mode, Program};
+use crate::world::World;
+use cells::{Ended, Run, Want};
+use remote_store::RawStore;
+use std::alloc::{AllocError, Global};
+
+impl Mode {
+    /// What the program wants, if it wants something.
+    fn want(self) -> Option<Want>
+        ensures { MatchOption result ((words : List ℕ) (want : WantOf) → mode_of self words ≢ Wanted want) (λ want. self ≡ Mode.Wanted want) }
+    {
+        match self {
+            Mode::Wanted(want) => Some(want),
+            Mode::Ready | Mode::Closing => None,
+            Mode::Missing(_) | Mode::Bringing(_) | Mode::Retreating(_) => None,
+            Mode::Reading(_, _) | Mode::Releasing(_, _) | Mode::Evicting(_, _) => None,
+            Mode::Filling(_, _, _) | Mode::Clearing(_, _, _) => None,
+        }
+    }
+}
+
+/// How a program has stopped or what it wants, or that it runs.
+fn run_of(program: &Program<'_>) -> Run
+    ensures { (p : Defined) → IsProgram program.now p → RunsAs p result }
+{
+    match program.stop() {
+        Some(stop) => Run::Stopped(stop),
+        None => match program.mode().want() {
+            Some(want) => Run::Wanted(want),
+            None => Run::Running,
+        },
+    }
+}
+
+/// What a program printed, how it runs, and how many instructions it completed. `Err` where memory is refused for the output.
+fn end_of(alloc: Global, program: &Program<'_>) -> Result<Ended, AllocError>
+    ensures { IfOk result (λ e. (p : Defined) → IsProgram program.now p → IsEnded p e) }
+{
+    let output = program.output().to_vec(alloc)?;
+    Ok(Ended {
+        output,
+        run: run_of(program),
+        completed: program.completed(),
+    })
+}
+
+impl<'a, S: RawStore> World<'a, S> {
+    /// What a program printed, how it runs, and how many instructions it completed, modulo 2^64. `Err` where memory is refused for the
+    /// output.
+    pub fn ended(&self, alloc: Global, program: usize) -> Result<Ended, AllocError>
+        requires { program < length self.now.programs.items }
+        ensures { IfOk result (λ e. (z : Sizes) (images : ℕ → Image) (w : DefinedWorld) → IsWorld S.content S.honest z images self.now.lock.machine self.now.lock.berths.items self.now.programs.items self.now.evacuators.items w
+            → IsEnded (w.programs program) e) }
+    {
+        end_of(alloc, &self.programs[program].0)
+    }
+
+    /// How many programs there are.
+    pub fn programs(&self) -> usize
+        ensures { result ≡ length self.now.programs.items }
+    {
+        self.programs.len()
+    }
+
+    /// The same of each program, in order.
+    pub(crate) fn ends(&self, alloc: Global) -> Result<Vec<Ended>, AllocError>
+        ensures { IfOk result (λ v. (z : Sizes) (images : ℕ → Image) (w : DefinedWorld) → IsWorld S.content S.honest z images self.now.lock.machine self.now.lock.berths.items self.now.programs.items self.now.evacuators.items w
+            → (length v.items ≡ z.programs) × AreEnds w.programs 0 v.items) }
+    {
+        let mut ends = Vec::new(alloc);
+        for program in 0..self.programs() {
+            ends.push(self.ended(alloc, program)?)?;
+        }
+        Ok(ends)
+    }
+}

@@ -1,0 +1,60 @@
+//! The machine with its berths, and a mover's calls of the store.
+ghost use Rattle.std.specs.Prelude.{◌≡◌, ◌≢◌, ◌<◌, ℕ, IfOk, List, Some, MatchBool, length, slice_get, true};
+ghost use Rattle.pointer_word.specs.Hands.{upd};
+ghost use Rattle.pointer_word.specs.Machine.{Far};
+ghost use Rattle.remote_store.specs.Kept.{piece_cells};
+ghost use Rattle.world.specs.Shown.{AreFar, IsNew};
+ghost use Rattle.world.specs.Turns.{put_of};
+ghost use Rattle.world.specs.Worlds.{IsHonestRead};
+
+use crate::machine::Machine;
+use remote_store::{Berth, PIECE_CELLS, Port, RawStore};
+
+/// The machine's tables, and the berth of each object.
+#[derive(Drop)]
+pub(crate) struct Lock<S: RawStore> {
+    pub(crate) machine: Machine,
+    pub(crate) berths: Vec<Berth<S::Cell>>,
+}
+
+impl<S: RawStore> Lock<S> {
+    /// Puts the object's words into its berth. False where the store failed.
+    pub(crate) fn put(&mut self, port: &mut Port<S>, object: usize, words: &[u64]) -> bool
+        requires { length words.now ≡ piece_cells }
+        ensures machine { self.new.machine ≡ self.old.machine }
+        ensures many { length self.new.berths.items ≡ length self.old.berths.items }
+        ensures far { (far : ℕ → Far) → AreFar S.content self.old.berths.items far → object < length self.old.berths.items
+            → AreFar S.content self.new.berths.items (upd far object (put_of result words.now)) }
+    {
+        if object < self.berths.len() {
+            let berth = &mut self.berths[object];
+            berth.put(port, object, words).is_ok()
+        } else {
+            false
+        }
+    }
+
+    /// Whether nothing was ever put into the object's berth.
+    pub(crate) fn is_new(&self, object: usize) -> bool
+        ensures { (far : ℕ → Far) → AreFar S.content self.now.berths.items far → IsNew result (far object) }
+    {
+        if object < self.berths.len() {
+            self.berths[object].version == 0
+        } else {
+            true
+        }
+    }
+
+    /// Gets the object's words from its berth. False where the store failed or what it read has another header; then the words stay.
+    pub(crate) fn get(&self, port: &mut Port<S>, object: usize, words: &mut [u64]) -> bool
+        requires { length words.old ≡ piece_cells }
+        ensures length { length words.new ≡ piece_cells }
+        ensures got { result ≡ true → (far : ℕ → Far) → AreFar S.content self.now.berths.items far → S.honest → IsHonestRead piece_cells (far object) (Some words.new) }
+    {
+        if object < self.berths.len() && self.berths[object].version > 0 {
+            self.berths[object].get(port, object, words).is_ok()
+        } else {
+            false
+        }
+    }
+}

@@ -1,0 +1,89 @@
+//! How a world is made.
+ghost use Rattle.code_form.specs.Form.{image_of};
+ghost use Rattle.pointer_word.specs.Machine.{Never};
+ghost use Rattle.std.specs.Prelude.{◌≡◌, ◌≢◌, ◌+◌, ◌*◌, ◌<◌, ◌≤◌, ℕ, IfErr, IfOk, None, length};
+ghost use Rattle.world.specs.Shown.{AreFar};
+ghost use Rattle.world.specs.Opened.{AreBegun, AreIdle};
+
+use crate::evacuator::Evacuator;
+use crate::program::Program;
+use cells::Want;
+use code_form::Image;
+use remote_store::{Berth, Port, RawStore, Stores};
+use std::alloc::Global;
+
+/// A berth for each object, into which nothing was put yet.
+pub(crate) fn new_berths<S: RawStore>(
+    alloc: Global,
+    store: &S,
+    objects: usize,
+) -> Result<Vec<Berth<S::Cell>>, Want>
+    ensures made { IfOk result (λ v. (length v.items ≡ objects) × AreFar S.content v.items (λ _. Never)) }
+    ensures wants { IfErr result (λ want. want ≢ Want.NoObjects) }
+{
+    let mut berths = Vec::new(alloc);
+    while berths.len() < objects {
+        let cell = store.cell(alloc)?;
+        if let Err(_refused) = berths.push(Berth::new(cell)) {
+            return Err(Want::OutOfMemory);
+        }
+    }
+    Ok(berths)
+}
+
+/// Each image's program at its beginning, with a share of the objects and a way to the store.
+pub(crate) fn new_programs<'a, S: RawStore, M: Stores<S = S>>(
+    alloc: Global,
+    stores: &M,
+    images: &'a [Image],
+    share: u64,
+) -> Result<Vec<(Program<'a>, Port<S>)>, Want>
+    requires few { length images.now ≤ 256 }
+    requires share { share ≤ 16777216 }
+    requires room { length images.now * share ≤ 16777216 }
+    ensures made { IfOk result (λ v. (length v.items ≡ length images.now) × AreBegun images.now share v.items) }
+    ensures wants { IfErr result (λ want. want ≢ Want.NoObjects) }
+{
+    let mut programs = Vec::new(alloc);
+    while programs.len() < images.len() {
+        let number = programs.len();
+        let base = number as u64 * share;
+        let Ok(program) = Program::new(
+            alloc,
+            &images[number],
+            base,
+            base + share,
+            number as u16 + 1,
+        ) else {
+            return Err(Want::OutOfMemory);
+        };
+        let port = Port::new(stores.one(alloc)?);
+        if let Err(_refused) = programs.push((program, port)) {
+            return Err(Want::OutOfMemory);
+        }
+    }
+    Ok(programs)
+}
+
+/// Evacuators that are idle, whose numbers as movers are those behind `programs`, each with a way to the store.
+pub(crate) fn new_evacuators<S: RawStore, M: Stores<S = S>>(
+    alloc: Global,
+    stores: &M,
+    programs: usize,
+    count: usize,
+) -> Result<Vec<(Evacuator, Port<S>)>, Want>
+    requires { (programs ≤ 256) × (count ≤ 64) }
+    ensures made { IfOk result (λ v. (length v.items ≡ count) × AreIdle programs v.items) }
+    ensures wants { IfErr result (λ want. want ≢ Want.NoObjects) }
+{
+    let mut evacuators = Vec::new(alloc);
+    while evacuators.len() < count {
+        let number = programs + evacuators.len() + 1;
+        let port = Port::new(stores.one(alloc)?);
+        let evacuator = Evacuator::new(number as u16);
+        if let Err(_refused) = evacuators.push((evacuator, port)) {
+            return Err(Want::OutOfMemory);
+        }
+    }
+    Ok(evacuators)
+}

@@ -1,0 +1,88 @@
+//! Schedules, replayed.
+ghost use Rattle.std.specs.Prelude.{◌≡◌, ◌<◌, ◌≤◌, ℕ, MatchOption, MatchResult, length};
+ghost use Rattle.code_form.specs.Form.{Image as ImageOf};
+ghost use Rattle.world.specs.Acting.{IsWorld};
+ghost use Rattle.world.specs.Opened.{images_of, sizes_of};
+ghost use Rattle.world.specs.Reports.{HasLed, IsRefusal, IsRefusedLine, IsReport};
+ghost use Rattle.world.specs.Worlds.{Sizes, World as Defined};
+
+use crate::event::Step;
+use crate::line::read_line;
+use crate::world::World;
+use cells::Ended;
+use code_form::Image;
+use remote_store::{Config, RawStore, Stores};
+use std::alloc::Global;
+use thiserror::Error;
+
+/// What each program printed, how it runs, and how many instructions it completed, after all lines of a schedule.
+#[derive(Debug, Drop)]
+pub struct Report {
+    pub ended: Vec<Ended>,
+}
+
+/// Why a schedule is not replayed.
+#[derive(Clone, Copy, PartialEq, Eq, Debug, Error)]
+pub enum Refused {
+    /// This line, counted from 1, can't be read or is not enabled.
+    #[error("refused line {line}")]
+    Line { line: u64 },
+    /// A growth of memory was refused, or a store could not be made.
+    #[error("out of memory")]
+    OutOfMemory,
+}
+
+/// Does the lines of a schedule in turn. The number of the first that can't be read or is not enabled, if there is one.
+pub(crate) fn follow<S: RawStore>(world: &mut World<'_, S>, schedule: &[u8]) -> Option<u64>
+    ensures { (z : Sizes) (images : ℕ → ImageOf) (w : Defined) → IsWorld S.content S.honest z images world.old.lock.machine world.old.lock.berths.items world.old.programs.items world.old.evacuators.items w
+        → MatchOption result ((v : Defined) × HasLed S.honest z images w schedule.now v × IsWorld S.content S.honest z images world.new.lock.machine world.new.lock.berths.items world.new.programs.items world.new.evacuators.items v)
+        (λ line. IsRefusedLine S.honest z images w schedule.now line) }
+{
+    let mut rest = schedule;
+    let mut line = 1;
+    while !rest.is_empty() {
+        let Some((actor, choice, others)) = read_line(rest) else {
+            return Some(line);
+        };
+        match world.step(actor, choice) {
+            Step::Took => {
+                rest = others;
+                line += 1;
+            }
+            Step::NotEnabled => return Some(line),
+        }
+    }
+    None
+}
+
+/// What each program came to after all lines of a schedule, over stores that `config` makes. A line is an actor (`p`, `e` or `f` and its number),
+/// then nothing, or a blank and a verb with its numbers (`look F`, `claim F`, `mark O F`, `begin O`), and a newline.
+///
+/// `Line` names the first line that can't be read or is not enabled, counted from 1. `OutOfMemory` where a growth was refused, or a store
+/// could not be made. There are 1 to 256 images, and no fetchers yet.
+pub fn replay<M: Stores + Drop>(
+    alloc: Global,
+    images: Vec<Image>,
+    config: &Config<M>,
+    schedule: &[u8],
+) -> Result<Report, Refused>
+    requires images { (0 < length images.items) × (length images.items ≤ 256) }
+    requires frames { (0 < config.now.frames) × (config.now.frames ≤ 1048576) }
+    requires objects { (0 < config.now.objects) × (config.now.objects ≤ 16777216) }
+    requires evacuators { config.now.evacuators ≤ 64 }
+    requires fetchers { config.now.fetchers ≡ 0 }
+    ensures { MatchResult result
+        (λ report. IsReport M.S.honest (sizes_of (length images.items) config.now.frames config.now.objects config.now.evacuators) (images_of images.items) schedule.now report.ended.items)
+        (λ refused. IsRefusal M.S.honest (sizes_of (length images.items) config.now.frames config.now.objects config.now.evacuators) (images_of images.items) schedule.now refused) }
+{
+    let Ok(mut world) = World::new(alloc, &images, config) else {
+        return Err(Refused::OutOfMemory);
+    };
+    if let Some(line) = follow(&mut world, schedule) {
+        return Err(Refused::Line { line });
+    }
+    match world.ends(alloc) {
+        Ok(ended) => Ok(Report { ended }),
+        Err(_refused) => Err(Refused::OutOfMemory),
+    }
+}

@@ -1,0 +1,203 @@
+//! Worked schedules, driven through the world that code keeps.
+use crate::{Actor, Choice, Step, World};
+use cells::Want;
+use code_form::{Block, Fact, Function, Image, Instruction, Kind};
+use remote_store::{Config, FarHeap, FaultPlan, FaultStores, RawStore, Stores};
+use std::alloc::{AllocError, Global};
+use std::test::Fail;
+
+const PROGRAM: Actor = Actor::Program(0);
+
+const EVACUATOR: Actor = Actor::Evacuator(0);
+
+/// One block with these instructions, over a pointer and a number.
+fn image_with(alloc: Global, code: Vec<Instruction>) -> Result<Image, AllocError> {
+    let block = Block {
+        facts: vec![in alloc; Fact::Shut(0)]?,
+        code,
+    };
+    let main = Function {
+        result: Some(Kind::Int),
+        parameters: 0,
+        kinds: vec![in alloc; Kind::Ptr(0), Kind::Int]?,
+        scopes: 1,
+        blocks: vec![in alloc; block]?,
+    };
+    Ok(Image {
+        texts: Vec::new(alloc),
+        layouts: vec![in alloc; vec![in alloc; Kind::Int]?]?,
+        functions: vec![in alloc; main]?,
+    })
+}
+
+/// Writes 5 into a new struct, reads it back and returns it.
+fn five(alloc: Global) -> Result<Image, AllocError> {
+    let aim = Instruction::Aim {
+        scope: 0,
+        register: 0,
+        offset: None,
+        displacement: 0,
+    };
+    let code = vec![in alloc;
+        Instruction::Alloc { to: 0, layout: 0 },
+        Instruction::Const { to: 1, value: 5 },
+        Instruction::CheckNull { register: 0 },
+        aim,
+        Instruction::Store { scope: 0, from: 1 },
+        Instruction::Leave { scope: 0 },
+        aim,
+        Instruction::Load { to: 1, scope: 0 },
+        Instruction::Leave { scope: 0 },
+        Instruction::Return { from: 1 },
+    ]?;
+    image_with(alloc, code)
+}
+
+/// Two frames, one object and one evacuator, over these stores.
+fn two_frames<M: Stores + Drop>(stores: M) -> Config<M> {
+    Config {
+        frames: 2,
+        objects: 1,
+        evacuators: 1,
+        fetchers: 0,
+        stores,
+    }
+}
+
+/// How many of so many lines are taken.
+fn take<S: RawStore>(world: &mut World<S>, actor: Actor, lines: u32) -> u32 {
+    let mut taken = 0u32;
+    for _ in 0..lines {
+        if world.step(actor, Choice::Next) == Step::Took {
+            taken = taken.wrapping_add(1);
+        }
+    }
+    taken
+}
+
+/// The program writes the object in frame 0: 74 lines, of which it answers how many are taken.
+fn write<S: RawStore>(world: &mut World<S>) -> u32 {
+    let before = take(world, PROGRAM, 5);
+    let claimed = world.step(PROGRAM, Choice::Claim(0)) == Step::Took;
+    before
+        .wrapping_add(claimed as u32)
+        .wrapping_add(take(world, PROGRAM, 68))
+}
+
+#[test]
+fn moved_out_and_brought_back(rt: HostRuntime) -> Result<(), Fail> {
+    let images = vec![in rt.alloc(); five(rt.alloc())?]?;
+    let made = World::new(rt.alloc(), &images, &two_frames(FarHeap));
+    assert!(rt; made.is_ok());
+    let Ok(mut world) = made else {
+        return Ok(());
+    };
+    assert_eq!(rt; world.word(0).bits, 0);
+    assert_eq!(rt; world.cell(0, 0), None);
+    assert_eq!(rt; write(&mut world), 74);
+    assert_eq!(rt; world.word(0).bits, 0x8_0000);
+    assert_eq!(rt; world.cell(0, 0), Some(5));
+    assert_eq!(rt; world.step(EVACUATOR, Choice::Next), Step::NotEnabled);
+    assert_eq!(rt; world.step(EVACUATOR, Choice::Mark(0, 2)), Step::NotEnabled);
+    assert_eq!(rt; world.step(EVACUATOR, Choice::Mark(0, 1)), Step::Took);
+    assert_eq!(rt; world.word(0).bits, 0x8_0000);
+    assert_eq!(rt; world.step(EVACUATOR, Choice::Look(1)), Step::Took);
+    assert_eq!(rt; world.step(EVACUATOR, Choice::Mark(0, 0)), Step::Took);
+    assert_eq!(rt; world.word(0).bits, 0x2000_000b_0000);
+    assert_eq!(rt; take(&mut world, EVACUATOR, 67), 67);
+    assert_eq!(rt; world.word(0).bits, 0);
+    assert_eq!(rt; world.cell(0, 0), None);
+    assert_eq!(rt; take(&mut world, PROGRAM, 2), 2);
+    assert_eq!(rt; world.word(0).bits, 0x1000_0004_0001);
+    assert_eq!(rt; world.step(PROGRAM, Choice::Next), Step::NotEnabled);
+    assert_eq!(rt; world.step(PROGRAM, Choice::Claim(1)), Step::Took);
+    assert_eq!(rt; take(&mut world, PROGRAM, 68), 68);
+    assert_eq!(rt; world.word(0).bits, 0x18_0000);
+    assert_eq!(rt; world.cell(0, 0), Some(5));
+    assert_eq!(rt; take(&mut world, PROGRAM, 2), 1);
+    Ok(())
+}
+
+#[test]
+fn held_meanwhile(rt: HostRuntime) -> Result<(), Fail> {
+    let images = vec![in rt.alloc(); five(rt.alloc())?]?;
+    let made = World::new(rt.alloc(), &images, &two_frames(FarHeap));
+    assert!(rt; made.is_ok());
+    let Ok(mut world) = made else {
+        return Ok(());
+    };
+    assert_eq!(rt; write(&mut world), 74);
+    assert_eq!(rt; world.step(EVACUATOR, Choice::Mark(0, 0)), Step::Took);
+    assert_eq!(rt; take(&mut world, EVACUATOR, 64), 64);
+    assert_eq!(rt; take(&mut world, PROGRAM, 1), 1);
+    assert_eq!(rt; world.word(0).bits, 0x2000_000b_0001);
+    assert_eq!(rt; take(&mut world, EVACUATOR, 3), 3);
+    assert_eq!(rt; world.word(0).bits, 0x8_0001);
+    assert_eq!(rt; take(&mut world, EVACUATOR, 1), 0);
+    assert_eq!(rt; take(&mut world, PROGRAM, 4), 3);
+    assert_eq!(rt; world.word(0).bits, 0x8_0000);
+    Ok(())
+}
+
+#[test]
+fn a_put_that_fails(rt: HostRuntime) -> Result<(), Fail> {
+    let images = vec![in rt.alloc(); five(rt.alloc())?]?;
+    let made = FaultStores::new(rt.alloc(), FarHeap, FaultPlan::From(1));
+    assert!(rt; made.is_ok());
+    let Ok(stores) = made else {
+        return Ok(());
+    };
+    let made = World::new(rt.alloc(), &images, &two_frames(stores));
+    assert!(rt; made.is_ok());
+    let Ok(mut world) = made else {
+        return Ok(());
+    };
+    assert_eq!(rt; write(&mut world), 74);
+    assert_eq!(rt; world.step(EVACUATOR, Choice::Mark(0, 0)), Step::Took);
+    assert_eq!(rt; take(&mut world, EVACUATOR, 66), 66);
+    assert_eq!(rt; world.word(0).bits, 0x8_0000);
+    assert_eq!(rt; take(&mut world, EVACUATOR, 1), 0);
+    assert_eq!(rt; take(&mut world, PROGRAM, 4), 4);
+    assert_eq!(rt; take(&mut world, PROGRAM, 1), 0);
+    Ok(())
+}
+
+#[test]
+fn a_get_that_fails(rt: HostRuntime) -> Result<(), Fail> {
+    let images = vec![in rt.alloc(); five(rt.alloc())?]?;
+    let made = FaultStores::new(rt.alloc(), FarHeap, FaultPlan::Only(2));
+    assert!(rt; made.is_ok());
+    let Ok(stores) = made else {
+        return Ok(());
+    };
+    let made = World::new(rt.alloc(), &images, &two_frames(stores));
+    assert!(rt; made.is_ok());
+    let Ok(mut world) = made else {
+        return Ok(());
+    };
+    assert_eq!(rt; write(&mut world), 74);
+    assert_eq!(rt; world.step(EVACUATOR, Choice::Mark(0, 0)), Step::Took);
+    assert_eq!(rt; take(&mut world, EVACUATOR, 67), 67);
+    assert_eq!(rt; take(&mut world, PROGRAM, 2), 2);
+    assert_eq!(rt; world.step(PROGRAM, Choice::Claim(1)), Step::Took);
+    assert_eq!(rt; take(&mut world, PROGRAM, 4), 4);
+    assert_eq!(rt; world.word(0).bits, 0);
+    assert_eq!(rt; take(&mut world, PROGRAM, 1), 0);
+    Ok(())
+}
+
+#[test]
+fn no_objects(rt: HostRuntime) -> Result<(), Fail> {
+    let code = vec![in rt.alloc();
+        Instruction::Alloc { to: 0, layout: 0 },
+        Instruction::Alloc { to: 0, layout: 0 },
+    ]?;
+    let images = vec![in rt.alloc(); image_with(rt.alloc(), code)?]?;
+    let made: Result<World<FarHeap>, Want> = World::new(rt.alloc(), &images, &two_frames(FarHeap));
+    assert!(rt; made.is_ok());
+    let Ok(mut world) = made else {
+        return Ok(());
+    };
+    assert_eq!(rt; take(&mut world, PROGRAM, 3), 2);
+    Ok(())
+}

@@ -1,0 +1,140 @@
+//! The world: a machine, programs and evacuators, and its events.
+ghost use Rattle.std.specs.Prelude.{◌≡◌, ◌≢◌, ◌<◌, ◌≤◌, ℕ, IfOk, IfErr, length, true};
+ghost use Rattle.code_form.specs.Form.{Image as ImageOf};
+ghost use Rattle.remote_store.specs.Kept.{piece_cells};
+ghost use Rattle.world.specs.Opened.{cell_of, images_of, sizes_of};
+ghost use Rattle.pointer_word.specs.Words.{pack};
+ghost use Rattle.world.specs.Acting.{IsWorld, Stepped};
+ghost use Rattle.world.specs.Worlds.{Sizes, World as Defined, in_range, start};
+
+use crate::evacuator::Evacuator;
+use crate::event::{Actor, Choice, Step};
+use crate::lock::Lock;
+use crate::machine::Machine;
+use crate::make::{new_berths, new_evacuators, new_programs};
+use crate::program::Program;
+use cells::Want;
+use code_form::Image;
+use pointer_word::Word;
+use remote_store::{Config, Port, RawStore, Stores};
+use std::alloc::Global;
+
+/// A world as code keeps it: the machine with its berths, and each actor with its way to the store.
+#[derive(Drop)]
+pub struct World<'a, S: RawStore> {
+    pub(crate) lock: Lock<S>,
+    pub(crate) programs: Vec<(Program<'a>, Port<S>)>,
+    pub(crate) evacuators: Vec<(Evacuator, Port<S>)>,
+}
+
+impl<'a, S: RawStore> World<'a, S> {
+    /// The opening world: every object away with no hold, every frame free and zero, nothing in the store, each program at its
+    /// beginning and each evacuator idle. `OutOfMemory` where a growth was refused, and the wants of making the stores and their cells.
+    pub fn new<M: Stores<S = S> + Drop>(
+        alloc: Global,
+        images: &'a [Image],
+        config: &Config<M>,
+    ) -> Result<World<'a, S>, Want>
+        requires images { (0 < length images.now) × (length images.now ≤ 256) }
+        requires frames { (0 < config.now.frames) × (config.now.frames ≤ 1048576) }
+        requires objects { (0 < config.now.objects) × (config.now.objects ≤ 16777216) }
+        requires evacuators { config.now.evacuators ≤ 64 }
+        requires fetchers { config.now.fetchers ≡ 0 }
+        ensures opens { IfOk result (λ world. IsWorld S.content S.honest (sizes_of (length images.now) config.now.frames config.now.objects config.now.evacuators) (images_of images.now)
+            world.lock.machine world.lock.berths.items world.programs.items world.evacuators.items (start (images_of images.now))) }
+        ensures wants { IfErr result (λ want. want ≢ Want.NoObjects) }
+    {
+        let objects = config.objects as usize;
+        let Ok(machine) = Machine::new(alloc, objects, config.frames as usize) else {
+            return Err(Want::OutOfMemory);
+        };
+        let store = config.stores.one(alloc)?;
+        let berths = new_berths(alloc, &store, objects)?;
+        let share = objects / images.len();
+        let programs = new_programs(alloc, &config.stores, images, share as u64)?;
+        let count = config.evacuators as usize;
+        let evacuators = new_evacuators(alloc, &config.stores, images.len(), count)?;
+        Ok(World {
+            lock: Lock { machine, berths },
+            programs,
+            evacuators,
+        })
+    }
+
+    /// An object's word.
+    pub fn word(&self, object: u32) -> Word
+        ensures { (z : Sizes) (images : ℕ → ImageOf) (w : Defined) → IsWorld S.content S.honest z images self.now.lock.machine self.now.lock.berths.items self.now.programs.items self.now.evacuators.items w
+            → result.bits ≡ pack (w.lock.word object) }
+    {
+        self.lock.machine.object(object as usize).word()
+    }
+
+    /// The cell of this index of the frame where the object is, if it is in one.
+    pub fn cell(&self, object: u32, index: usize) -> Option<u64>
+        requires { index < piece_cells }
+        ensures { (z : Sizes) (images : ℕ → ImageOf) (w : Defined) → IsWorld S.content S.honest z images self.now.lock.machine self.now.lock.berths.items self.now.programs.items self.now.evacuators.items w
+            → result ≡ cell_of w.lock object index }
+    {
+        match self.lock.machine.object(object as usize).place.frame() {
+            Some(frame) => Some(self.lock.machine.cell(frame, index)),
+            None => None,
+        }
+    }
+
+    /// Whether there are an object and a frame of these numbers.
+    fn is_in_range(&self, choice: Choice) -> bool
+        ensures { (z : Sizes) → (length self.now.lock.machine.objects ≡ z.objects) → (length self.now.lock.machine.frames ≡ z.frames) → result ≡ in_range z choice }
+    {
+        let objects = self.lock.machine.objects();
+        let frames = self.lock.machine.frames();
+        match choice {
+            Choice::Next => true,
+            Choice::Look(frame) | Choice::Claim(frame) => (frame as usize) < frames,
+            Choice::Mark(object, frame) => {
+                (object as usize) < objects && (frame as usize) < frames
+            }
+            Choice::Begin(object) => (object as usize) < objects,
+        }
+    }
+
+    /// An evacuator does what it chooses, where that is in range.
+    fn step_evacuator(&mut self, number: usize, choice: Choice) -> Step
+        ensures { (z : Sizes) (images : ℕ → ImageOf) (w : Defined) → in_range z choice ≡ true → IsWorld S.content S.honest z images self.old.lock.machine self.old.lock.berths.items self.old.programs.items self.old.evacuators.items w
+            → Stepped S.content S.honest z images self.new.lock.machine self.new.lock.berths.items self.new.programs.items self.new.evacuators.items w (Actor.Evacuator number) choice ((self.new.lock ≡ self.old.lock) × (self.new.programs.items ≡ self.old.programs.items) × (self.new.evacuators.items ≡ self.old.evacuators.items)) result }
+    {
+        if number < self.evacuators.len() {
+            let (evacuator, port) = &mut self.evacuators[number];
+            evacuator.turn(&mut self.lock, port, choice)
+        } else {
+            Step::NotEnabled
+        }
+    }
+
+    /// A program does what it chooses, where that is in range.
+    fn step_program(&mut self, number: usize, choice: Choice) -> Step
+        ensures { (z : Sizes) (images : ℕ → ImageOf) (w : Defined) → in_range z choice ≡ true → IsWorld S.content S.honest z images self.old.lock.machine self.old.lock.berths.items self.old.programs.items self.old.evacuators.items w
+            → Stepped S.content S.honest z images self.new.lock.machine self.new.lock.berths.items self.new.programs.items self.new.evacuators.items w (Actor.Program number) choice ((self.new.lock ≡ self.old.lock) × (self.new.programs.items ≡ self.old.programs.items) × (self.new.evacuators.items ≡ self.old.evacuators.items)) result }
+    {
+        if number < self.programs.len() {
+            let (program, port) = &mut self.programs[number];
+            program.turn(&mut self.lock, port, choice)
+        } else {
+            Step::NotEnabled
+        }
+    }
+
+    /// An actor does what it chooses. Took exactly where the world has that step, which is then made; else nothing changes.
+    pub fn step(&mut self, actor: Actor, choice: Choice) -> Step
+        ensures { (z : Sizes) (images : ℕ → ImageOf) (w : Defined) → IsWorld S.content S.honest z images self.old.lock.machine self.old.lock.berths.items self.old.programs.items self.old.evacuators.items w
+            → Stepped S.content S.honest z images self.new.lock.machine self.new.lock.berths.items self.new.programs.items self.new.evacuators.items w actor choice ((self.new.lock ≡ self.old.lock) × (self.new.programs.items ≡ self.old.programs.items) × (self.new.evacuators.items ≡ self.old.evacuators.items)) result }
+    {
+        if !self.is_in_range(choice) {
+            return Step::NotEnabled;
+        }
+        match actor {
+            Actor::Program(number) => self.step_program(number as usize, choice),
+            Actor::Evacuator(number) => self.step_evacuator(number as usize, choice),
+            Actor::Fetcher(_) => Step::NotEnabled,
+        }
+    }
+}
