@@ -1,17 +1,14 @@
 -- The loops over operators, indexes and arguments.
-use Rattle.std.proofs.Common.{◌≡◌, ℕ, zero, suc, ◌+◌, ◌-◌, ◌<◌, ◌≤◌, max, Bool, true, false, cond, ltb, List, [], ◌∷◌, ◌++◌, length, Result, Ok, Err, refl, sym, ap, subst, ◌∙◌, arith}
+use Rattle.std.proofs.Common.{◌≡◌, ℕ, zero, suc, ◌+◌, ◌-◌, ◌<◌, ◌≤◌, max, true, false, cond, ltb, List, [], ◌∷◌, ◌++◌, Ok, Err, refl, sym, ap, subst, ◌∙◌, arith}
 use Rattle.std.proofs.lemmas.Bool.{lt-ltb, le-ltb}
-use mathlib.Core.Former.{Count}
 use Rattle.c0_source.specs.declared.kind.Kind.{Kind}
 use Rattle.c0_source.specs.declared.kind.Kind.TheVariants as k
 use Rattle.c0_source.specs.Terminals.{Terminal}
 use Rattle.c0_syntax.specs.declared.expression.Expression.{Expression}
-use Rattle.c0_syntax.specs.declared.expression.ExpressionKind.{Row_of-Expression, end_of-Expression, more_of-Expression}
 use Rattle.c0_syntax.specs.Trees.{Expressions, none, more}
 use Rattle.c0_syntax.specs.Expressions.{precedence}
 use Rattle.c0_syntax.specs.Views.{expression_of, expressions_of}
 use Rattle.c0_parser.specs.declared.read_error.ReadError.{ReadError}
-use Rattle.c0_parser.specs.declared.read_error.ReadError.TheVariants.{Syntax}
 use Rattle.c0_parser.specs.declared.found.FoundExpression.{FoundExpression}
 use Rattle.c0_parser.specs.declared.found.ExpressionStep.{ExpressionStep}
 use Rattle.c0_parser.specs.declared.found.ExpressionStep.TheVariants as e

@@ -14,7 +14,7 @@ use Rattle.c0_parser.specs.declared.read_error.ReadError.{ReadError}
 use Rattle.c0_parser.specs.declared.read_error.ReadError.TheVariants.{OutOfMemory, Syntax, TooDeep, TooLarge}
 use Rattle.c0_parser.specs.Outcome.{Fails}
 use Rattle.c0_parser.specs.ReadPrograms.{read_program}
-use Rattle.c0_parser.specs.Tokens.{AreTokens, IsToken}
+use Rattle.c0_parser.specs.Tokens.{AreTokens}
 use Rattle.c0_parser.specs.Parsing.{IsReadFault, before_last, fault_by, read_from, start_at}
 use Rattle.c0_parser.proofs.SoundPrograms.{fault_excludes}
 

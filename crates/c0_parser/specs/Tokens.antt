@@ -1,5 +1,5 @@
 -- What is asked of tokens, and the names of types.
-use Rattle.std.specs.Prelude.{ℕ, ◌+◌, ◌<◌, ◌≤◌, Bool, true, false, if◌then◌else◌, List, [], ◌∷◌, ◌++◌, length, All, Option, Some, None, option_map}
+use Rattle.std.specs.Prelude.{ℕ, ◌+◌, ◌<◌, ◌≤◌, Bool, true, false, if◌then◌else◌, List, [], ◌∷◌, length, All, Option, Some, None}
 use Rattle.c0_source.specs.Bytes.{escape, is_printable}
 use Rattle.c0_source.specs.Spelling.{Lexeme}
 

@@ -44,7 +44,7 @@ fn expect_fault(
     if fault.kind == FaultKind::OutOfMemory {
         return Err(AllocError.into());
     }
-    assert_eq!(rt; fault, Fault::at(kind, at));
+    assert_eq!(rt; (fault.kind, fault.span.start), (kind, at));
     Ok(())
 }
 

@@ -314,14 +314,11 @@ impl<'a> Cursor<'a> {
     {
         let start = self.start();
         self.advance();
-        let found = self.expression(types, depth - 1, 1)?;
+        let inside = self.expression(types, depth - 1, 1)?;
         self.rparen()?;
-        let inner = Box::new(self.alloc, found.expression)?;
-        Ok(self.expression_node(
-            start,
-            ExpressionKind::Parenthesized(inner),
-            found.height + 1,
-        ))
+        let inner = Box::new(self.alloc, inside.expression)?;
+        let kind = ExpressionKind::Parenthesized(inner);
+        Ok(self.expression_node(start, kind, inside.height + 1))
     }
 
     /// `\length` and its operand.

@@ -1,5 +1,4 @@
-use Rattle.std.proofs.Common.{◌≡◌, ◌-◌, ap, sym, refl, ◌∙◌, length, map, take}
-use Rattle.std.proofs.lemmas.List.{length-map, take-map}
+use Rattle.std.proofs.Common.{◌≡◌, ◌-◌, ap, ◌∙◌, length, map}
 use Rattle.c0_lexer.specs.Lexed.{lexeme}
 use Rattle.c0_source.specs.Terminals.{terminals}
 use Rattle.c0_syntax.specs.Levels.{has_loops}

@@ -1,4 +1,4 @@
-use Rattle.std.proofs.Common.{rules, ◌≡◌, [], sym, ◌∙◌, ◌+◌, ◌-◌, length, map, arith}
+use Rattle.std.proofs.Common.{rules, ◌≡◌, [], ◌+◌, ◌-◌, length, map, arith}
 use Rattle.std.proofs.lemmas.Result.{err_from_is_err_and}
 use Rattle.c0_syntax.specs.Views.{declaration_of}
 use Rattle.c0_parser.specs.FoundPrograms.{found_declaration}
