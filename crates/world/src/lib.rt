@@ -15,6 +15,7 @@ mod machine;
 mod make;
 mod program;
 mod schedule;
+mod schedule_tests;
 #[cfg(test)]
 mod tests;
 mod turn;

@@ -1,4 +1,6 @@
 //! Worked schedules, driven through the world that code keeps.
+ghost use Rattle.std.specs.Prelude.{◌≡◌};
+
 use crate::{Actor, Choice, Step, World};
 use cells::Want;
 use code_form::{Block, Fact, Function, Image, Instruction, Kind};
@@ -54,7 +56,9 @@ fn five(alloc: Global) -> Result<Image, AllocError> {
 }
 
 /// Two frames, one object and one evacuator, over these stores.
-fn two_frames<M: Stores + Drop>(stores: M) -> Config<M> {
+fn two_frames<M: Stores + Drop>(stores: M) -> Config<M>
+    ensures { (result.frames ≡ 2) × (result.objects ≡ 1) × (result.evacuators ≡ 1) × (result.fetchers ≡ 0) }
+{
     Config {
         frames: 2,
         objects: 1,

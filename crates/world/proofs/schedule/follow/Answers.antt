@@ -8,17 +8,15 @@ use Rattle.world.proofs.schedule.follow.Goals as goal
 pub loop-rest-preserved : goal.loop-rest-preserved
 loop-rest-preserved g c =
     let x : Line = record { actor = c.in-Some.actor; choice = c.in-Some.choice } in
-    let line = c.in-Some.ensures in
-    (
+    let line = c.in-Some.ensures in (
       omega (arith, c.loop-rest.invariant.0, shorter x c.in-Some.others.now c.loop-rest.rest.now line),
       λ z images w is.
-        let at = c.loop-rest.invariant.1 z images w is in
-        let took = c.in-Took.ensures z images at.0 at.2 in
-        (
-          took.2.0,
-          come_more g.S.RawStore.honest z images w at.0 took.2.0 c.args.schedule.now c.loop-rest.rest.now c.in-Some.others.now c.loop-rest.line x took.0 at.1 line took.2.1 took.1,
-          took.2.2,
-        ),
+          let at = c.loop-rest.invariant.1 z images w is in
+          let took = c.in-Took.ensures z images at.0 at.2 in (
+            took.2.0,
+            come_more g.S.RawStore.honest z images w at.0 took.2.0 c.args.schedule.now c.loop-rest.rest.now c.in-Some.others.now c.loop-rest.line x took.0 at.1 line took.2.1 took.1,
+            took.2.2,
+          ),
     )
 
 pub returns-in-NotEnabled : goal.returns-in-NotEnabled
