@@ -24,12 +24,13 @@ pub record Line : Type 0 where
   pub actor : Actor
   pub choice : Choice
 
--- the number of an actor, and those of a choice, fit in 32 bits
+-- the number of an actor fits in 32 bits
 abbrev pub IsActor32 : Actor → Type 0
 IsActor32 (actor.Program k) = k < 2 ^ 32
 IsActor32 (actor.Evacuator k) = k < 2 ^ 32
 IsActor32 (actor.Fetcher k) = k < 2 ^ 32
 
+-- the numbers of a choice fit in 32 bits
 abbrev pub IsChoice32 : Choice → Type 0
 IsChoice32 choice.Next = Unit {0}
 IsChoice32 (choice.Look f) = f < 2 ^ 32

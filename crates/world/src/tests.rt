@@ -2,7 +2,7 @@
 ghost use Rattle.std.specs.Prelude.{◌≡◌};
 
 use crate::{Actor, Choice, Step, World};
-use cells::Want;
+use cells::{Run, Stop, Want};
 use code_form::{Block, Fact, Function, Image, Instruction, Kind};
 use remote_store::{Config, FarHeap, FaultPlan, FaultStores, RawStore, Stores};
 use std::alloc::{AllocError, Global};
@@ -203,5 +203,43 @@ fn no_objects(rt: HostRuntime) -> Result<(), Fail> {
         return Ok(());
     };
     assert_eq!(rt; take(&mut world, PROGRAM, 3), 2);
+    Ok(())
+}
+
+/// Lets the program go on until it has no event; it claims frame 1 where it seeks one.
+fn finish<S: RawStore>(world: &mut World<S>) {
+    for _ in 0..400 {
+        if world.step(PROGRAM, Choice::Next) == Step::NotEnabled {
+            world.step(PROGRAM, Choice::Claim(1));
+        }
+    }
+}
+
+/// How the first program runs, if there is one.
+fn first_run<S: RawStore>(alloc: Global, world: &World<S>) -> Result<Option<Run>, AllocError> {
+    if world.programs() == 0 {
+        return Ok(None);
+    }
+    Ok(Some(world.ended(alloc, 0)?.run))
+}
+
+// Wherever the evacuator stops behind its mark, the program goes on to its end.
+#[test]
+fn an_evacuator_that_stops_anywhere(rt: HostRuntime) -> Result<(), Fail> {
+    let images = vec![in rt.alloc(); five(rt.alloc())?]?;
+    for steps in 0u32..68 {
+        let made = World::new(rt.alloc(), &images, &two_frames(FarHeap));
+        assert!(rt; made.is_ok());
+        let Ok(mut world) = made else {
+            return Ok(());
+        };
+        assert_eq!(rt; write(&mut world), 74);
+        assert_eq!(rt; world.step(EVACUATOR, Choice::Mark(0, 0)), Step::Took);
+        assert_eq!(rt; take(&mut world, EVACUATOR, steps), steps);
+        finish(&mut world);
+        let run = first_run(rt.alloc(), &world)?;
+        assert_eq!(rt; run, Some(Run::Stopped(Stop::Ended(5))));
+        assert_eq!(rt; world.step(PROGRAM, Choice::Next), Step::NotEnabled);
+    }
     Ok(())
 }
