@@ -1,9 +1,7 @@
 //! The plain run of typed programs: their bounded meaning, computed over trees and a heap of values that never moves.
 #![tactic(auto)]
 
+mod heap;
 mod machine;
-mod run;
-mod tests;
+mod operators;
 mod value;
-
-pub use run::{Meant, mean};
