@@ -1,13 +1,17 @@
 -- The heap of the plain run as that of the meaning.
-use Rattle.std.proofs.Common.{◌≡◌, ◌≢◌, refl, ap, sym, ◌∙◌, subst, List, [], ◌∷◌, ℕ, zero, suc, ◌-◌, ◌<◌, ◌≤◌, length, get_or, set, map, ℤ, pos, negsuc, Option, Some, None, Bool, true, false, nat_lt, arith}
-use Rattle.std.proofs.lemmas.List.{get_or-map, map-set}
+use Rattle.std.proofs.Common.{◌≡◌, ◌≢◌, refl, ap, sym, ◌∙◌, subst, List, [], ◌∷◌, ◌++◌, ℕ, zero, suc, ◌-◌, ◌+◌, take, ◌<◌, ◌≤◌, length, get_or, set, map, ℤ, pos, negsuc, Option, Some, None, Bool, true, false, nat_lt, arith}
+use Rattle.std.proofs.lemmas.List.{get_or-map, map-set, map-append, append_assoc}
+use Rattle.std.proofs.Math.Seq.{take-suc}
+use Rattle.c0_typed.specs.Trees.{Output, Print, Println, Printint, Printbool, Printchar, Flush}
+use Rattle.c0_typed.specs.declared.tree.ValueType.{ValueType}
+use Rattle.std.specs.Prelude.{slice_get}
 use Rattle.std.specs.declared.vec.Vec.{Vec}
 use Rattle.std.specs.declared.alloc.Global.{Global}
 use Rattle.cells.specs.Outcomes as o
 use Rattle.cells.specs.Stops.{BoundsFault}
 use Rattle.c0_typed.specs.Values as v
 use Rattle.c0_typed.specs.Meaning as m
-use Rattle.c0_typed.specs.Views.{text_at}
+use Rattle.c0_typed.specs.Views.{text_at, type_of}
 use Rattle.c0_meaning.specs.Machine.{Texts, natural, value_of, tree_of, trees_of, parts_in_order}
 use Rattle.c0_meaning.specs.declared.value.Value.{Value}
 use Rattle.c0_meaning.specs.declared.heap.Tree.{Tree}
@@ -73,3 +77,31 @@ text_is f xs (suc n) x p k e =
     let here : n < length xs = subst (λ j. j < length xs) i k in
     let is : x ≡ get_or xs n x = subst (λ j. x ≡ get_or xs j x) i e in
     ap f is ∙ sym (get_or-map f xs n x [] here)
+
+-- what a call of the library prints is told by its first argument
+printed_first : (out : Output) (a : v.Value) (rest : List v.Value) → m.printed out (a ∷ rest) ≡ m.printed out (a ∷ [])
+printed_first Print a rest = refl
+printed_first Println a rest = refl
+printed_first Printint a rest = refl
+printed_first Printbool a rest = refl
+printed_first Printchar a rest = refl
+printed_first Flush a rest = refl
+
+pub printed_is : (texts : Texts) (out : Output) (vs : List Value) (x : Value) → Some x ≡ slice_get vs 0 → m.printed out (map (value_of texts) vs) ≡ m.printed out (value_of texts x ∷ [])
+printed_is texts out [] x e = absurd (cc e)
+printed_is texts out (y ∷ ys) x e =
+    let same : y ≡ x = cc e in
+    printed_first out (value_of texts y) (map (value_of texts) ys) ∙ ap (λ z. m.printed out (value_of texts z ∷ [])) same
+
+-- the next local of a call that begins
+pub next_local : (texts : Texts) (held after : List Value) (w : Value) (b : v.Value) (args : List v.Value) (tys : List ValueType) (i : ℕ) (ty : ValueType)
+    → i < length tys → ty ≡ get_or tys i ty → after ≡ held ++ (w ∷ []) → value_of texts w ≡ m.blank (type_of ty) → map (value_of texts) held ≡ b ∷ args ++ map m.blank (map type_of (take i tys))
+    → map (value_of texts) after ≡ b ∷ args ++ map m.blank (map type_of (take (i + 1) tys))
+next_local texts held after w b args tys i ty h is e made before =
+    let k : suc i ≡ i + 1 = omega arith in
+    let blanks : List ValueType → List v.Value = λ ts. map m.blank (map type_of ts) in
+    let taken : take i tys ++ (ty ∷ []) ≡ take (i + 1) tys = ap (λ x. take i tys ++ (x ∷ [])) is ∙ sym (take-suc tys i ty h) ∙ ap (λ j. take j tys) k in
+    ap (map (value_of texts)) e ∙ map-append (value_of texts) held (w ∷ []) ∙ ap (λ xs. xs ++ (value_of texts w ∷ [])) before ∙ ap (λ x. (b ∷ args ++ blanks (take i tys)) ++ (x ∷ [])) made
+    ∙ append_assoc (b ∷ args) (blanks (take i tys)) (m.blank (type_of ty) ∷ [])
+    ∙ ap (λ xs. (b ∷ args) ++ xs) (sym (ap (map m.blank) (map-append type_of (take i tys) (ty ∷ [])) ∙ map-append m.blank (map type_of (take i tys)) (type_of ty ∷ [])))
+    ∙ ap (λ ts. (b ∷ args) ++ blanks ts) taken

@@ -12,6 +12,8 @@ use Rattle.c0_meaning.specs.declared.heap.Tree.{Tree, Leaf, Node', Row_of-Tree, 
 use Rattle.c0_meaning.specs.declared.heap.Spot.{Spot}
 use Rattle.c0_meaning.specs.declared.machine.Halt.{Halt}
 use Rattle.c0_meaning.specs.declared.machine.Halt.TheVariants.{Stopped, Cut, Memory}
+use Rattle.c0_meaning.specs.declared.machine.Way.{Way}
+use Rattle.c0_meaning.specs.declared.machine.Way.TheVariants.{Next, Returned}
 use Rattle.c0_meaning.specs.declared.machine.Machine.{Machine}
 
 -- a number that is not below 0
@@ -57,6 +59,15 @@ module _ (texts : Texts) where
   -- the state
   abbrev pub state_of : Machine → m.State
   state_of a = record { turns = a.turns; heap = map tree_of a.heap.items; locals = map value_of a.locals.items; output = a.output.items }
+
+-- how a statement is left
+abbrev pub way_of : Way → m.Way
+way_of Next = m.Next
+way_of Returned = m.Returned
+
+-- what is left to the next statement
+abbrev pub next_of : Unit {0} → m.Way
+next_of x = m.Next
 
 -- where the call of `main` begins
 abbrev pub opening : ℕ → m.State

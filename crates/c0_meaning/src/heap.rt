@@ -120,7 +120,11 @@ pub(crate) fn default_tree(alloc: Global, structs: &[Tree], ty: &ValueType) -> O
 }
 
 /// What fresh memory of fields holds. None where a growth is refused.
-pub(crate) fn default_fields(alloc: Global, structs: &[Tree], fields: &[ValueType]) -> Option<Vec<Tree>>
+pub(crate) fn default_fields(
+    alloc: Global,
+    structs: &[Tree],
+    fields: &[ValueType],
+) -> Option<Vec<Tree>>
     ensures { IfSome result (λ all. (texts : Texts) → trees_of texts all.items ≡ fields_of (map (tree_of texts) structs.now) (map type_of fields.now)) }
 {
     let mut all = Vec::new(alloc);

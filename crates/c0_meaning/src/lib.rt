@@ -1,7 +1,12 @@
 //! The plain run of typed programs: their bounded meaning, computed over trees and a heap of values that never moves.
 #![tactic(auto)]
 
+mod calls;
+mod context;
+mod expressions;
 mod heap;
 mod machine;
 mod operators;
+mod places;
+mod statements;
 mod value;

@@ -1,15 +1,15 @@
 //! What the plain run changes.
-ghost use Rattle.std.specs.Prelude.{◌≡◌, ◌++◌, [], ◌∷◌, map, pos, string_bytes, Err, IfSome};
-ghost use Rattle.c0_typed.specs.Values.{Number, Void, array_length, as_ref, as_text, load, store};
-ghost use Rattle.c0_typed.specs.Meaning.{State, allocate as allocate_of, allocate_array, default, element as element_of, local as local_of, pointed as pointed_of, printed as printed_of, set_local as set_local_of, stop};
-ghost use Rattle.c0_typed.specs.Views.{output_of, text_at as text_of, type_of};
+ghost use Rattle.std.specs.Prelude.{◌≡◌, ◌++◌, [], ◌∷◌, map, pos, string_bytes, IfSome};
+ghost use Rattle.c0_typed.specs.Values.{Number, Void, array_length, as_number, as_ref, as_text, load, store};
+ghost use Rattle.c0_typed.specs.Meaning.{State, allocate as allocate_of, allocate_array, default, element as element_of, holds, local as local_of, pointed as pointed_of, printed as printed_of, set_local as set_local_of, stop};
+ghost use Rattle.c0_typed.specs.Views.{output_of, text_at as text_of, texts_of, type_of};
 ghost use Rattle.cells.specs.Outcomes.{Done};
 ghost use Rattle.cells.specs.Stops.{ErrorCalled};
-ghost use Rattle.c0_meaning.specs.Machine.{Agrees, TakesTurn, Texts, nothing_of, opening, prints, spot_of, state_of, tree_of, value_of};
+ghost use Rattle.c0_meaning.specs.Machine.{Agrees, TakesTurn, Texts, next_of, nothing_of, opening, prints, spot_of, state_of, tree_of, value_of, way_of};
 
 use crate::heap::{Spot, Tree, copies, default_tree, part, part_count, stored};
-use crate::value::{Value, size_of};
-use c0_typed::{Output, ValueType};
+use crate::value::Value;
+use c0_typed::{Output, Typed, ValueType};
 use cells::Stop;
 use std::alloc::Global;
 use std::mem;
@@ -24,6 +24,13 @@ pub(crate) enum Halt {
     Memory,
 }
 
+/// How a statement is left.
+#[derive(Clone, Copy, PartialEq, Eq, Debug)]
+pub(crate) enum Way {
+    Next,
+    Returned,
+}
+
 /// The turns that are left, the heap, the locals of the running call, and what was printed.
 #[derive(Debug, Drop)]
 pub(crate) struct Machine {
@@ -31,6 +38,16 @@ pub(crate) struct Machine {
     pub(crate) heap: Vec<Tree>,
     pub(crate) locals: Vec<Value>,
     pub(crate) output: Vec<u8>,
+}
+
+/// Goes on where a condition holds.
+pub(crate) fn asserted(condition: Value) -> Result<(), Halt>
+    ensures { (texts : Texts) (s : State) → Agrees next_of result (holds (value_of texts condition) s) s }
+{
+    if !condition.truth() {
+        return Err(Halt::Stopped(Stop::AssertFailed));
+    }
+    Ok(())
 }
 
 /// The place that a pointer points to.
@@ -91,13 +108,13 @@ fn printed(alloc: Global, texts: &[String], output: Output, value: Value) -> Opt
 }
 
 /// Stops the program with a text.
-pub(crate) fn error_called(alloc: Global, texts: &[String], value: Value) -> Halt
-    ensures { (s : State) → Agrees nothing_of (Err result) (stop (ErrorCalled (as_text (value_of (map string_bytes texts.now) value))) s) s }
+pub(crate) fn error_called(alloc: Global, program: &Typed, value: Value) -> Result<Way, Halt>
+    ensures { (s : State) → Agrees way_of result (stop (ErrorCalled (as_text (value_of (texts_of program.now) value))) s) s }
 {
-    let Ok(text) = String::from_str(alloc, text_at(texts, value.text())) else {
-        return Halt::Memory;
+    let Ok(text) = String::from_str(alloc, text_at(&program.texts, value.text())) else {
+        return Err(Halt::Memory);
     };
-    Halt::Stopped(Stop::ErrorCalled(text))
+    Err(Halt::Stopped(Stop::ErrorCalled(text)))
 }
 
 impl Machine {
@@ -158,7 +175,12 @@ impl Machine {
     }
 
     /// A fresh pointer to what has a type, from what structs hold at first.
-    pub(crate) fn allocate_one(&mut self, alloc: Global, structs: &[Tree], ty: &ValueType) -> Result<Value, Halt>
+    pub(crate) fn allocate_one(
+        &mut self,
+        alloc: Global,
+        structs: &[Tree],
+        ty: &ValueType,
+    ) -> Result<Value, Halt>
         ensures { (texts : Texts) → Agrees (value_of texts) result (allocate_of (default (map (tree_of texts) structs.now) (type_of ty.now)) (state_of texts self.old)) (state_of texts self.new) }
     {
         let Some(tree) = default_tree(alloc, structs, ty) else {
@@ -168,10 +190,16 @@ impl Machine {
     }
 
     /// A fresh array of so many elements of a type, from what structs hold at first.
-    pub(crate) fn allocate_many(&mut self, alloc: Global, structs: &[Tree], ty: &ValueType, count: i32) -> Result<Value, Halt>
-        ensures { (texts : Texts) → Agrees (value_of texts) result (allocate_array (default (map (tree_of texts) structs.now) (type_of ty.now)) count (state_of texts self.old)) (state_of texts self.new) }
+    pub(crate) fn allocate_many(
+        &mut self,
+        alloc: Global,
+        structs: &[Tree],
+        ty: &ValueType,
+        count: Value,
+    ) -> Result<Value, Halt>
+        ensures { (texts : Texts) → Agrees (value_of texts) result (allocate_array (default (map (tree_of texts) structs.now) (type_of ty.now)) (as_number (value_of texts count)) (state_of texts self.old)) (state_of texts self.new) }
     {
-        let Some(count) = size_of(count) else {
+        let Some(count) = count.size() else {
             return Err(Halt::Stopped(Stop::LengthFault));
         };
         let Some(tree) = default_tree(alloc, structs, ty) else {
@@ -207,10 +235,10 @@ impl Machine {
     }
 
     /// The place of an element of an array.
-    pub(crate) fn element(&self, alloc: Global, array: Value, index: i32) -> Result<Spot, Halt>
-        ensures { (texts : Texts) → Agrees spot_of result (element_of (value_of texts array) index (state_of texts self.now)) (state_of texts self.now) }
+    pub(crate) fn element(&self, alloc: Global, array: Value, index: Value) -> Result<Spot, Halt>
+        ensures { (texts : Texts) → Agrees spot_of result (element_of (value_of texts array) (as_number (value_of texts index)) (state_of texts self.now)) (state_of texts self.now) }
     {
-        let Some(index) = size_of(index) else {
+        let Some(index) = index.size() else {
             return Err(Halt::Stopped(Stop::BoundsFault));
         };
         let reference = array.reference();
@@ -238,13 +266,19 @@ impl Machine {
     }
 
     /// What a call of the library does.
-    pub(crate) fn print(&mut self, alloc: Global, texts: &[String], output: Output, values: &[Value]) -> Result<Value, Halt>
-        ensures { Agrees (value_of (map string_bytes texts.now)) result (prints (output_of output) (map (value_of (map string_bytes texts.now)) values.now) (state_of (map string_bytes texts.now) self.old)) (state_of (map string_bytes texts.now) self.new) }
+    pub(crate) fn print(
+        &mut self,
+        alloc: Global,
+        program: &Typed,
+        output: Output,
+        values: Vec<Value>,
+    ) -> Result<Value, Halt>
+        ensures { Agrees (value_of (texts_of program.now)) result (prints (output_of output) (map (value_of (texts_of program.now)) values.items) (state_of (texts_of program.now) self.old)) (state_of (texts_of program.now) self.new) }
     {
         let Some(value) = values.first() else {
             return Ok(Value::Void);
         };
-        let Some(bytes) = printed(alloc, texts, output, *value) else {
+        let Some(bytes) = printed(alloc, &program.texts, output, *value) else {
             return Err(Halt::Memory);
         };
         self.write(&bytes)?;

@@ -19,16 +19,6 @@ pub(crate) enum Value {
     Void,
 }
 
-/// A number as a size, where it is not below 0.
-pub(crate) fn size_of(number: i32) -> Option<usize>
-    ensures { result ≡ natural number }
-{
-    if number < 0 {
-        return None;
-    }
-    Some(number as usize)
-}
-
 /// The value of a constant.
 pub(crate) fn constant_value(constant: Constant) -> Value
     ensures { (texts : Texts) → value_of texts result ≡ constant_of texts constant }
@@ -64,6 +54,17 @@ impl Value {
             Value::Number(number) => number,
             _ => 0,
         }
+    }
+
+    /// The number as a size, where it is not below 0.
+    pub(crate) fn size(self) -> Option<usize>
+        ensures { (texts : Texts) → result ≡ natural (as_number (value_of texts self)) }
+    {
+        let number = self.number();
+        if number < 0 {
+            return None;
+        }
+        Some(number as usize)
     }
 
     /// The truth value, or false of another value.

@@ -6,9 +6,10 @@ use Rattle.c0_meaning.proofs.Parts.{tree_node}
 use Rattle.c0_meaning.proofs.heap.+copied.Goals as goal
 
 pub loop-part-init : goal.loop-part-init
-loop-part-init t c =
-    ((λ texts. ap (tree_of texts) c.in-Node.is ∙ tree_node texts c.in-Node.parts ∙ ap (λ xs. Node (trees_of texts xs)) (sym c.deref-part-items.ensures.value)),
-    (λ texts. ap (map (tree_of texts)) c.new-all.ensures.items))
+loop-part-init t c = (
+  (λ texts. ap (tree_of texts) c.in-Node.is ∙ tree_node texts c.in-Node.parts ∙ ap (λ xs. Node (trees_of texts xs)) (sym c.deref-part-items.ensures.value)),
+  (λ texts. ap (map (tree_of texts)) c.new-all.ensures.items),
+)
 
 pub returns-after-loop-part : goal.returns-after-loop-part
 returns-after-loop-part t c = λ texts.

@@ -1,0 +1,44 @@
+-- The plain run over a context, in the words of the meaning.
+use Rattle.std.specs.Prelude.{ℕ, zero, suc, Bool, List, map, get_or}
+use Rattle.std.specs.declared.vec.Vec.{Vec}
+use Rattle.std.specs.declared.alloc.Global.{Global}
+use Rattle.cells.specs.Outcomes as o
+use Rattle.c0_typed.specs.Values as v
+use Rattle.c0_typed.specs.Trees as t
+use Rattle.c0_typed.specs.Meaning as m
+use Rattle.c0_typed.specs.Views.{program_of, texts_of}
+use Rattle.c0_meaning.specs.declared.value.Value.{Value}
+use Rattle.c0_meaning.specs.declared.context.Context.{Context}
+use Rattle.c0_meaning.specs.Machine.{Texts, tree_of, value_of}
+
+-- what a call of a function comes to
+abbrev pub Calls : Type 0
+Calls = ℕ → List v.Value → m.State → m.Outcome v.Value
+
+-- The calls of a program, of which no more than d are under way at once, over what fresh memory of structs holds
+abbrev pub calls_over : List v.Tree → Bool → t.Program → ℕ → Calls
+calls_over structs checks p zero f args s = o.Cut s.output
+calls_over structs checks p (suc d) f args s =
+    m.turn s (m.in_function checks structs (calls_over structs checks p d) (get_or p.functions f m.no_function) args)
+
+-- the texts of the program
+abbrev pub texts_in : Context → Texts
+texts_in c = texts_of c.program.now
+
+-- what fresh memory of its structs holds
+abbrev pub structs_in : Context → List v.Tree
+structs_in c = map (tree_of (texts_in c)) c.structs.now
+
+-- its calls
+abbrev pub calls_in : Context → Calls
+calls_in c = calls_over (structs_in c) c.checks (program_of c.program.now) c.depth
+
+-- values in order
+abbrev pub values_of : Texts → Vec Value Global → List v.Value
+values_of texts vs = map (value_of texts) vs.items
+
+-- the outcome of a function's conditions and body, with local 0 as its value
+abbrev pub runs : Bool → List v.Tree → Calls → t.Function → m.State → m.Outcome v.Value
+runs checks structs call f s =
+    o.then_do (m.and_then (m.checked checks structs call f.requires s) (m.exec checks structs call f.body)) (λ way t.
+    o.then_do (m.checked checks structs call f.ensures t) (λ way u. o.Done (m.local 0 u) u))
