@@ -1,12 +1,12 @@
 -- The steps of evaluations, loops and calls.
-use Rattle.std.proofs.Common.{◌≡◌, ◌≢◌, ℕ, zero, suc, ◌-◌, List, [], ◌∷◌, get_or, refl, sym, ap, ◌∙◌, subst, arith, Result, Ok, Err, Bool, true, false}
+use Rattle.std.proofs.Common.{◌≡◌, ◌≢◌, ℕ, zero, suc, ◌-◌, List, [], ◌∷◌, get_or, refl, sym, ap, ◌∙◌, subst, arith, Result, Ok, Err, IfOk, Bool, true, false}
 use Rattle.cells.specs.Outcomes as o
 use Rattle.c0_typed.specs.Values as v
 use Rattle.c0_typed.specs.Trees as t
 use Rattle.c0_typed.specs.Meaning as m
 use Rattle.c0_meaning.specs.declared.machine.Halt.{Halt}
 use Rattle.c0_meaning.specs.declared.machine.Halt.TheVariants.{Stopped, Cut, Memory}
-use Rattle.c0_meaning.specs.Machine.{Agrees}
+use Rattle.c0_meaning.specs.Machine.{Agrees, opening}
 use Rattle.c0_meaning.specs.Run.{Calls, calls_over, runs}
 
 -- where the first part of an evaluation is done, the answer is that of the rest
@@ -131,3 +131,18 @@ calls_same checks p zero = refl
 calls_same checks p (suc d) =
     let next : Calls → Calls = λ k f args s. m.turn s (m.in_function checks (m.struct_defaults [] p.structs) k (get_or p.functions f m.no_function) args) in
     ap next (calls_same checks p d)
+
+-- what is told of the call of `main` is the meaning
+pub mean_is : (checks : Bool) (p : t.Program) (n : ℕ) (structs : List v.Tree) (args : List v.Value) (s : m.State) → structs ≡ m.struct_defaults [] p.structs → args ≡ [] → s ≡ opening n
+    → m.told (calls_over structs checks p n p.main args s) ≡ m.mean p checks n
+mean_is checks p n structs args s held none begun =
+    let over : List v.Tree → o.Meant = λ ts. m.told (calls_over ts checks p n p.main args s) in
+    let by : Calls → o.Meant = λ k. m.told (k p.main args s) in
+    ap over held ∙ ap by (calls_same checks p n)
+    ∙ ap (λ xs. m.told (m.call checks p n p.main xs s)) none
+    ∙ ap (λ x. m.told (m.call checks p n p.main [] x)) begun
+
+-- what is told, along an equation
+pub told_along : {T E A : Type 0} (view : T → A) (r : Result T E) (a b : A) → a ≡ b → IfOk r (λ x. view x ≡ a) → IfOk r (λ x. view x ≡ b)
+told_along view (Ok x) a b e h = h ∙ e
+told_along view (Err x) a b e h = tt

@@ -1,7 +1,10 @@
 -- The plain run over a context, in the words of the meaning.
-use Rattle.std.specs.Prelude.{ℕ, zero, suc, Bool, List, map, get_or}
+use Rattle.std.specs.Prelude.{◌≡◌, ℕ, zero, suc, Bool, List, map, get_or, Option, Some, None, Result, IfOk}
 use Rattle.std.specs.declared.vec.Vec.{Vec}
 use Rattle.std.specs.declared.alloc.Global.{Global}
+use Rattle.cells.specs.Stops.{Stop, stop_of}
+use Rattle.cells.specs.declared.ending.Stop.{Stop as RustStop}
+use Rattle.cells.specs.declared.ending.Want.{Want}
 use Rattle.cells.specs.Outcomes as o
 use Rattle.c0_typed.specs.Values as v
 use Rattle.c0_typed.specs.Trees as t
@@ -9,7 +12,9 @@ use Rattle.c0_typed.specs.Meaning as m
 use Rattle.c0_typed.specs.Views.{program_of, texts_of}
 use Rattle.c0_meaning.specs.declared.value.Value.{Value}
 use Rattle.c0_meaning.specs.declared.context.Context.{Context}
-use Rattle.c0_meaning.specs.Machine.{Texts, tree_of, value_of}
+use Rattle.c0_meaning.specs.declared.machine.Halt.{Halt}
+use Rattle.c0_meaning.specs.declared.run.Meant.{Meant}
+use Rattle.c0_meaning.specs.Machine.{Agrees, Texts, tree_of, value_of}
 
 -- what a call of a function comes to
 abbrev pub Calls : Type 0
@@ -42,3 +47,16 @@ abbrev pub runs : Bool → List v.Tree → Calls → t.Function → m.State → 
 runs checks structs call f s =
     o.then_do (m.and_then (m.checked checks structs call f.requires s) (m.exec checks structs call f.body)) (λ way t.
     o.then_do (m.checked checks structs call f.ensures t) (λ way u. o.Done (m.local 0 u) u))
+
+-- how a program ended
+abbrev pub ended_of : Option RustStop → Option Stop
+ended_of None = None
+ended_of (Some x) = Some (stop_of x)
+
+-- what is told of it
+abbrev pub meant_of : Meant → o.Meant
+meant_of r = record { stop = ended_of r.stop; output = r.output.items }
+
+-- what is told is what the meaning tells of the outcome with which the run agrees
+abbrev pub Tells : Result Value Halt → List ℕ → Result Meant Want → Type 0
+Tells came printed r = (texts : Texts) (outcome : m.Outcome v.Value) (u : m.State) → u.output ≡ printed → Agrees (value_of texts) came outcome u → IfOk r (λ x. meant_of x ≡ m.told outcome)

@@ -8,5 +8,8 @@ mod heap;
 mod machine;
 mod operators;
 mod places;
+mod run;
 mod statements;
 mod value;
+
+pub use run::{Meant, mean};

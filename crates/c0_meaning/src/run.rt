@@ -1,0 +1,62 @@
+//! The plain run of a whole program.
+ghost use Rattle.std.specs.Prelude.{◌≡◌, IfErr, IfOk};
+ghost use Rattle.c0_typed.specs.Meaning.{mean as mean_of};
+ghost use Rattle.c0_typed.specs.Views.{program_of};
+ghost use Rattle.c0_meaning.specs.Run.{Tells, meant_of};
+
+use crate::calls::call;
+use crate::context::Context;
+use crate::heap::default_structs;
+use crate::machine::{Halt, Machine};
+use crate::value::Value;
+use c0_typed::Typed;
+use cells::{Stop, Want};
+use std::alloc::Global;
+
+/// How a program ended within some turns, or None where it wanted one more, and what it printed.
+#[derive(Debug, Drop)]
+pub struct Meant {
+    pub stop: Option<Stop>,
+    pub output: Vec<u8>,
+}
+
+/// What is told of how `main` came to its end, with what was printed.
+fn tell(came: Result<Value, Halt>, output: Vec<u8>) -> Result<Meant, Want>
+    ensures told { Tells came output.items result }
+    ensures want { IfErr result (λ w. w ≡ Want.OutOfMemory) }
+{
+    match came {
+        Ok(value) => Ok(Meant {
+            stop: Some(Stop::Ended(value.number())),
+            output,
+        }),
+        Err(Halt::Stopped(stop)) => Ok(Meant {
+            stop: Some(stop),
+            output,
+        }),
+        Err(Halt::Cut) => Ok(Meant { stop: None, output }),
+        Err(Halt::Memory) => Err(Want::OutOfMemory),
+    }
+}
+
+/// The bounded meaning of a program: how it ends within this many turns, and what it prints. The call of `main` is the
+/// first turn. `checks` tells whether contracts are checked. `Err` is `OutOfMemory`, where a growth was refused. Calls of
+/// the program nest as calls of this code.
+pub fn mean(alloc: Global, program: &Typed, checks: bool, turns: u64) -> Result<Meant, Want>
+    ensures meant { IfOk result (λ r. meant_of r ≡ mean_of (program_of program.now) checks turns) }
+    ensures want { IfErr result (λ w. w ≡ Want.OutOfMemory) }
+{
+    let Some(structs) = default_structs(alloc, &program.structs) else {
+        return Err(Want::OutOfMemory);
+    };
+    let context = Context {
+        alloc,
+        program,
+        structs: &structs,
+        checks,
+        depth: turns,
+    };
+    let mut machine = Machine::begin(alloc, turns);
+    let came = call(&context, &mut machine, program.main, Vec::new(alloc));
+    tell(came, machine.output)
+}
