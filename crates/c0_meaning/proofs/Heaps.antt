@@ -1,18 +1,14 @@
 -- The heap of the plain run as that of the meaning.
-use Rattle.std.proofs.Common.{◌≡◌, ◌≢◌, refl, ap, sym, ◌∙◌, subst, List, [], ◌∷◌, ◌++◌, ℕ, zero, suc, ◌-◌, ◌+◌, take, ◌<◌, ◌≤◌, length, get_or, set, map, ℤ, pos, negsuc, Option, Some, None, Bool, true, false, nat_lt, arith}
+use Rattle.std.proofs.Common.{◌≡◌, ◌≢◌, refl, ap, sym, ◌∙◌, subst, List, [], ◌∷◌, ◌++◌, ℕ, zero, suc, ◌-◌, ◌+◌, take, ◌<◌, ◌≤◌, length, get_or, set, map, ℤ, pos, negsuc, Some, arith}
 use Rattle.std.proofs.lemmas.List.{get_or-map, map-set, map-append, append_assoc}
 use Rattle.std.proofs.Math.Seq.{take-suc}
 use Rattle.c0_typed.specs.Trees.{Output, Print, Println, Printint, Printbool, Printchar, Flush}
 use Rattle.c0_typed.specs.declared.tree.ValueType.{ValueType}
 use Rattle.std.specs.Prelude.{slice_get}
-use Rattle.std.specs.declared.vec.Vec.{Vec}
-use Rattle.std.specs.declared.alloc.Global.{Global}
-use Rattle.cells.specs.Outcomes as o
-use Rattle.cells.specs.Stops.{BoundsFault}
 use Rattle.c0_typed.specs.Values as v
 use Rattle.c0_typed.specs.Meaning as m
 use Rattle.c0_typed.specs.Views.{text_at, type_of}
-use Rattle.c0_meaning.specs.Machine.{Texts, natural, value_of, tree_of, trees_of, parts_in_order}
+use Rattle.c0_meaning.specs.Machine.{Texts, natural, value_of, tree_of, trees_of}
 use Rattle.c0_meaning.specs.declared.value.Value.{Value}
 use Rattle.c0_meaning.specs.declared.heap.Tree.{Tree}
 use Rattle.c0_meaning.proofs.Parts.{void_at, set_twice}

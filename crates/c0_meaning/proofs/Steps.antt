@@ -1,5 +1,5 @@
 -- The steps of evaluations, loops and calls.
-use Rattle.std.proofs.Common.{◌≡◌, ◌≢◌, ℕ, zero, suc, ◌-◌, List, [], ◌∷◌, get_or, refl, sym, ap, ◌∙◌, subst, arith, Result, Ok, Err, IfOk, Bool, true, false}
+use Rattle.std.proofs.Common.{◌≡◌, ◌≢◌, ℕ, zero, suc, ◌-◌, List, [], get_or, refl, sym, ap, ◌∙◌, subst, arith, Result, Ok, Err, IfOk, Bool, true, false}
 use Rattle.cells.specs.Outcomes as o
 use Rattle.c0_typed.specs.Values as v
 use Rattle.c0_typed.specs.Trees as t

@@ -10,6 +10,8 @@ mod operators;
 mod places;
 mod run;
 mod statements;
+#[cfg(test)]
+mod tests;
 mod value;
 
 pub use run::{Meant, mean};

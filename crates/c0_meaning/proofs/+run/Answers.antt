@@ -10,7 +10,7 @@ use Rattle.cells.specs.Stops.{ArithFault}
 use Rattle.c0_typed.specs.Views.{exp_of, exps_of, stmt_of, block_of, function_of, output_of, program_of, type_of}
 use Rattle.c0_meaning.specs.declared.value.Value as run
 use Rattle.c0_meaning.specs.Machine.{Agrees, value_of, state_of, way_of}
-use Rattle.c0_meaning.specs.Run.{texts_in, structs_in, calls_in, calls_over, runs}
+use Rattle.c0_meaning.specs.Run.{texts_in, structs_in, calls_in, calls_over}
 use Rattle.c0_meaning.proofs.Sizes.{size_exp, size_stmt, size_function, weight, twice}
 use Rattle.c0_meaning.proofs.Rows.{exp_call, exp_print, stmt_block, size_in, size_in_block, size_body, falls_by}
 use Rattle.c0_meaning.proofs.Steps.{after_done, after_halt, agrees_along, call_enters, from_condition, halts, in_function_is, loop_is, loop_turns, turn_is}

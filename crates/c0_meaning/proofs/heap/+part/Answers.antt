@@ -1,6 +1,5 @@
 use Rattle.std.proofs.Common.{◌≡◌, ap, ◌∙◌, sym, subst, ◌<◌, ◌≤◌, length, get_or}
 use Rattle.c0_typed.specs.Values as v
-use Rattle.c0_meaning.specs.Machine.{tree_of, trees_of}
 use Rattle.c0_meaning.proofs.Parts.{void_at, load_leaf, load_node, part_is, part_past}
 use Rattle.c0_meaning.proofs.heap.+part.Goals as goal
 

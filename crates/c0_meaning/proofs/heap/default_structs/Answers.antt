@@ -1,4 +1,4 @@
-use Rattle.std.proofs.Common.{◌≡◌, ◌++◌, ◌∷◌, [], ap, ◌∙◌, sym, map, rules}
+use Rattle.std.proofs.Common.{◌≡◌, ◌++◌, ◌∷◌, [], ap, ◌∙◌, map, rules}
 use Rattle.c0_typed.specs.Meaning.{fields}
 use Rattle.c0_typed.specs.Views.{struct_of, type_of}
 use Rattle.c0_meaning.specs.Machine.{tree_of, trees_of}

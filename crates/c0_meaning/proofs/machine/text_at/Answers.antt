@@ -1,4 +1,4 @@
-use Rattle.std.proofs.Common.{◌≡◌, ◌-◌, ◌∙◌, get_or, string_bytes}
+use Rattle.std.proofs.Common.{◌∙◌, string_bytes}
 use Rattle.c0_meaning.proofs.Heaps.{text_is}
 use Rattle.c0_meaning.proofs.machine.text_at.Goals as goal
 

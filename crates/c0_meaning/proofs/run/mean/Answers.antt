@@ -12,7 +12,7 @@ returns-clause-meant c =
     let p = program_of c.args.program.now in
     let structs = map (tree_of texts) c.deref-2.result.now in
     let held : structs ≡ struct_defaults [] p.structs =
-        ap (map (tree_of texts)) c.deref-2.ensures.value ∙ c.in-Some.ensures texts ∙ ap (λ ss. struct_defaults [] (map struct_of ss)) c.deref.ensures.value in
+    ap (map (tree_of texts)) c.deref-2.ensures.value ∙ c.in-Some.ensures texts ∙ ap (λ ss. struct_defaults [] (map struct_of ss)) c.deref.ensures.value in
     let args = map (value_of texts) c.new.result.items in
     let none : args ≡ [] = ap (map (value_of texts)) c.new.ensures.items in
     let whole = mean_is c.args.checks p c.args.turns structs args (state_of texts c.begin-machine.result) held none (c.begin-machine.ensures texts) in

@@ -1,4 +1,4 @@
-use Rattle.std.proofs.Common.{◌≡◌, ap, ◌∙◌, sym, subst, map, pos, Some, rules}
+use Rattle.std.proofs.Common.{◌≡◌, ap, ◌∙◌, sym, subst, map, Some, rules}
 use Rattle.c0_typed.specs.Values.{Node, Tree, copies}
 use Rattle.c0_typed.specs.Meaning.{Outcome, allocate, allocate_array, default}
 use Rattle.c0_typed.specs.Values as v

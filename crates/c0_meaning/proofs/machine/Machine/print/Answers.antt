@@ -1,8 +1,7 @@
 use Rattle.std.proofs.Common.{◌≡◌, ◌++◌, ◌∷◌, [], ap, ◌∙◌, sym, map, string_bytes}
 use Rattle.cells.specs.Outcomes.{Done}
 use Rattle.c0_typed.specs.Values.{Void}
-use Rattle.c0_typed.specs.Meaning.{Outcome, printed}
-use Rattle.c0_typed.specs.Values as v
+use Rattle.c0_typed.specs.Meaning.{printed}
 use Rattle.c0_typed.specs.Views.{output_of, texts_of}
 use Rattle.c0_meaning.specs.Machine.{value_of, state_of}
 use Rattle.c0_meaning.proofs.Heaps.{printed_is}
