@@ -1,5 +1,5 @@
 //! The plain run of statements.
-ghost use Rattle.c0_typed.specs.Trees.{Loop, Store, StoreUpdate, Update};
+ghost use Rattle.c0_typed.specs.Trees.{Loop, Set, Store, StoreUpdate, Update};
 ghost use Rattle.c0_typed.specs.Meaning.{checked, exec};
 ghost use Rattle.c0_typed.specs.Views.{block_of, exp_of, exps_of, place_of, stmt_of};
 ghost use Rattle.c0_meaning.specs.Machine.{Agrees, next_of, state_of, way_of};
@@ -20,11 +20,7 @@ fn execute(context: &Context, machine: &mut Machine, statement: &Statement) -> R
 {
     match statement {
         Statement::Block(all) => execute_all(context, machine, all),
-        Statement::Set(x, value) => {
-            let value = evaluate(context, machine, value)?;
-            machine.set_local(*x as usize, value);
-            Ok(Way::Next)
-        }
+        Statement::Set(x, value) => set(context, machine, *x, value),
         Statement::Update(x, operator, value) => update(context, machine, *x, *operator, value),
         Statement::Store(place, value) => store(context, machine, place, value),
         Statement::StoreUpdate(place, operator, value) => {
@@ -62,6 +58,16 @@ fn execute(context: &Context, machine: &mut Machine, statement: &Statement) -> R
     }
 }
 
+/// `local = value`.
+#[cycle(run)]
+fn set(context: &Context, machine: &mut Machine, x: u32, value: &Expression) -> Result<Way, Halt>
+    ensures { Agrees way_of result (exec context.now.checks (structs_in context.now) (calls_in context.now) (Set x (exp_of (texts_in context.now) value.now)) (state_of (texts_in context.now) machine.old)) (state_of (texts_in context.now) machine.new) }
+{
+    let value = evaluate(context, machine, value)?;
+    machine.set_local(x as usize, value);
+    Ok(Way::Next)
+}
+
 /// `local op= value`.
 #[cycle(run)]
 fn update(
@@ -91,8 +97,8 @@ fn store(
     ensures { Agrees way_of result (exec context.now.checks (structs_in context.now) (calls_in context.now) (Store (place_of (texts_in context.now) place.now) (exp_of (texts_in context.now) value.now)) (state_of (texts_in context.now) machine.old)) (state_of (texts_in context.now) machine.new) }
 {
     let spot = locate(context, machine, place)?;
-    let value = evaluate(context, machine, value)?;
-    machine.store(&spot, value);
+    let stored = evaluate(context, machine, value)?;
+    machine.store(&spot, stored);
     Ok(Way::Next)
 }
 
@@ -107,11 +113,11 @@ fn store_update(
 ) -> Result<Way, Halt>
     ensures { Agrees way_of result (exec context.now.checks (structs_in context.now) (calls_in context.now) (StoreUpdate (place_of (texts_in context.now) place.now) operator (exp_of (texts_in context.now) value.now)) (state_of (texts_in context.now) machine.old)) (state_of (texts_in context.now) machine.new) }
 {
-    let spot = locate(context, machine, place)?;
-    let old = machine.load(&spot);
-    let value = evaluate(context, machine, value)?;
-    let new = binary_value(operator, old, value)?;
-    machine.store(&spot, new);
+    let target = locate(context, machine, place)?;
+    let old = machine.load(&target);
+    let operand = evaluate(context, machine, value)?;
+    let new = binary_value(operator, old, operand)?;
+    machine.store(&target, new);
     Ok(Way::Next)
 }
 
@@ -177,7 +183,7 @@ fn run_loop(
         if execute(context, machine, step)? == Way::Returned {
             return Ok(Way::Returned);
         }
-        check(context, machine, invariants)?;
+        check(context, machine, invariants)?; // before the next condition
     }
     Ok(Way::Next)
 }

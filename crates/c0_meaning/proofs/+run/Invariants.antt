@@ -54,6 +54,9 @@ abbrev pub decreases-statements::run_loop : goal.decreases-statements::run_loop
 decreases-statements::run_loop l = calls_weigh l.context.now
     + twice (suc (size_exps (exps_of (texts_in l.context.now) l.invariants.now) + size_exp (exp_of (texts_in l.context.now) l.condition.now) + size_stmt (stmt_of (texts_in l.context.now) l.body.now) + size_stmt (stmt_of (texts_in l.context.now) l.step.now)))
 
+abbrev pub decreases-statements::set : goal.decreases-statements::set
+decreases-statements::set l = calls_weigh l.context.now + suc (twice (size_exp (exp_of (texts_in l.context.now) l.value.now)))
+
 abbrev pub decreases-statements::store : goal.decreases-statements::store
 decreases-statements::store l = calls_weigh l.context.now + suc (twice (size_place (place_of (texts_in l.context.now) l.place.now) + size_exp (exp_of (texts_in l.context.now) l.value.now)))
 
