@@ -1,43 +1,52 @@
--- What the plain run of each form owes, whatever calls are.
-use Rattle.std.specs.Prelude.{◌≡◌, ℕ, Bool, List, [], Option, Some, None, Result, IfOk}
+-- The plain run over a context, in the words of the meaning.
+use Rattle.std.specs.Prelude.{◌≡◌, ℕ, zero, suc, Bool, List, map, get_or, Option, Some, None, Result, IfOk}
+use Rattle.std.specs.declared.vec.Vec.{Vec}
+use Rattle.std.specs.declared.alloc.Global.{Global}
 use Rattle.cells.specs.Stops.{Stop, stop_of}
 use Rattle.cells.specs.declared.ending.Stop.{Stop as RustStop}
-use Rattle.cells.specs.Outcomes as o
-use Rattle.c0_typed.specs.Trees as t
-use Rattle.c0_typed.specs.Values as v
-use Rattle.c0_typed.specs.Meaning as m
 use Rattle.cells.specs.declared.ending.Want.{Want}
+use Rattle.cells.specs.Outcomes as o
+use Rattle.c0_typed.specs.Values as v
+use Rattle.c0_typed.specs.Trees as t
+use Rattle.c0_typed.specs.Meaning as m
+use Rattle.c0_typed.specs.Views.{program_of, texts_of}
 use Rattle.c0_meaning.specs.declared.value.Value.{Value}
+use Rattle.c0_meaning.specs.declared.context.Context.{Context}
 use Rattle.c0_meaning.specs.declared.machine.Halt.{Halt}
-use Rattle.c0_meaning.specs.declared.run.Way.{Way}
-use Rattle.c0_meaning.specs.declared.run.Way.TheVariants.{Next, Returned}
 use Rattle.c0_meaning.specs.declared.run.Meant.{Meant}
-use Rattle.c0_meaning.specs.Machine.{Agrees, spot_of, value_of}
+use Rattle.c0_meaning.specs.Machine.{Agrees, Texts, tree_of, value_of}
 
 -- what a call of a function comes to
 abbrev pub Calls : Type 0
 Calls = ℕ → List v.Value → m.State → m.Outcome v.Value
 
--- how a statement is left
-abbrev pub way_of : Way → m.Way
-way_of Next = m.Next
-way_of Returned = m.Returned
+-- The calls of a program, of which no more than d are under way at once, over what fresh memory of structs holds
+abbrev pub calls_over : List v.Tree → Bool → t.Program → ℕ → Calls
+calls_over structs checks p zero f args s = o.Cut s.output
+calls_over structs checks p (suc d) f args s =
+    m.turn s (m.in_function checks structs (calls_over structs checks p d) (get_or p.functions f m.no_function) args)
 
--- an expression was evaluated
-abbrev pub Evaluates : t.Exp → m.State → Result Value Halt → m.State → Type 0
-Evaluates e s r u = (call : Calls) → Agrees value_of r (m.eval [] call e s) u
+-- the texts of the program
+abbrev pub texts_in : Context → Texts
+texts_in c = texts_of c.program.now
 
--- a place was found
-abbrev pub Locates : t.Place → m.State → Result ℕ Halt → m.State → Type 0
-Locates p s r u = (call : Calls) → Agrees spot_of r (m.locate [] call p s) u
+-- what fresh memory of its structs holds
+abbrev pub structs_in : Context → List v.Tree
+structs_in c = map (tree_of (texts_in c)) c.structs.now
 
--- a statement was executed
-abbrev pub Executes : t.Stmt → m.State → Result Way Halt → m.State → Type 0
-Executes a s r u = (checks : Bool) (call : Calls) → Agrees way_of r (m.exec checks [] call a s) u
+-- its calls
+abbrev pub calls_in : Context → Calls
+calls_in c = calls_over (structs_in c) c.checks (program_of c.program.now) c.depth
 
--- the body of a function was executed, and local 0 is its result
-abbrev pub RunsBody : t.Function → m.State → Result Value Halt → m.State → Type 0
-RunsBody f s r u = (checks : Bool) (call : Calls) → Agrees value_of r (o.then_do (m.exec checks [] call f.body s) (λ way t. o.Done (m.local 0 t) t)) u
+-- values in order
+abbrev pub values_of : Texts → Vec Value Global → List v.Value
+values_of texts vs = map (value_of texts) vs.items
+
+-- the outcome of a function's conditions and body, with local 0 as its value
+abbrev pub runs : Bool → List v.Tree → Calls → t.Function → m.State → m.Outcome v.Value
+runs checks structs call f s =
+    o.then_do (m.and_then (m.checked checks structs call f.requires s) (m.exec checks structs call f.body)) (λ way t.
+    o.then_do (m.checked checks structs call f.ensures t) (λ way u. o.Done (m.local 0 u) u))
 
 -- how a program ended
 abbrev pub ended_of : Option RustStop → Option Stop
@@ -50,4 +59,4 @@ meant_of r = record { stop = ended_of r.stop; output = r.output.items }
 
 -- what is told is what the meaning tells of the outcome with which the run agrees
 abbrev pub Tells : Result Value Halt → List ℕ → Result Meant Want → Type 0
-Tells came printed r = (outcome : m.Outcome v.Value) (u : m.State) → u.output ≡ printed → Agrees value_of came outcome u → IfOk r (λ x. meant_of x ≡ m.told outcome)
+Tells came printed r = (texts : Texts) (outcome : m.Outcome v.Value) (u : m.State) → u.output ≡ printed → Agrees (value_of texts) came outcome u → IfOk r (λ x. meant_of x ≡ m.told outcome)

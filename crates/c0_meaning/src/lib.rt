@@ -1,8 +1,16 @@
 //! The plain run of typed programs: their bounded meaning, computed over trees and a heap of values that never moves.
 #![tactic(auto)]
 
+mod calls;
+mod context;
+mod expressions;
+mod heap;
 mod machine;
+mod operators;
+mod places;
 mod run;
+mod statements;
+#[cfg(test)]
 mod tests;
 mod value;
 

@@ -8,7 +8,10 @@ ghost use Rattle.c0_typed.specs.Laws.{OffsetTold, CellThere};
 ghost use Rattle.c0_typed.specs.More.{MoreTurnsExtend};
 ghost use Rattle.c0_typed.specs.Typing.{EvalSound, LocateSound, ExecSound, CallSound, FreshSound, LoadSound, StoreSound, MainSound};
 
-pub use tree::{Expression, Function, Place, Statement, Typed, ValueType};
+pub use tree::{
+    Constant, Expression, Function, Output, Place, Relation, Statement, Struct, Typed,
+    UnaryOperator, ValueType,
+};
 
 /// A well-typed program does what its types say, in every well-typed state: an expression gives a value of its type,
 /// a place holds what its type says, and each allocation keeps what it was made for.

@@ -4,6 +4,6 @@ use Rattle.c0_meaning.specs.Machine.{value_of, state_of}
 use Rattle.c0_meaning.proofs.machine.Machine.set_local.Goals as goal
 
 pub returns-then-x-len : goal.returns-then-x-len
-returns-then-x-len c =
-    let s = state_of c.args.self.now in
-    ap (λ ls. record s { locals = ls }) (map-set value_of c.args.self.now.locals.items c.args.x c.args.value)
+returns-then-x-len c = λ texts.
+    let s = state_of texts c.args.self.now in
+    ap (λ ls. record s { locals = ls }) (map-set (value_of texts) c.args.self.now.locals.items c.args.x c.args.value)
