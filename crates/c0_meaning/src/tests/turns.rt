@@ -1,47 +1,12 @@
 // Turns, to the one.
 
 use crate::tests::build::{
-    binary, block, call, compare, function, local, note, number, printed, program, program_with,
-    text, told, truth,
+    binary, block, call, compare, function, local, number, printed, program, program_with, text,
+    told, truth,
 };
 use c0_typed::{Output, Relation, Statement};
 use cells::Int32Op;
 use std::test::Fail;
-
-// print("a"); print("a"); return 0;
-#[test]
-fn main_is_the_first_turn(rt: HostRuntime) -> Result<(), Fail> {
-    let alloc = rt.alloc();
-    let body = vec![in alloc;
-        printed(alloc, Output::Print, text(1))?,
-        printed(alloc, Output::Print, text(1))?,
-    ]?;
-    let typed = program(alloc, body)?;
-    assert_eq!(rt; told(alloc, &typed, true, 0)?.as_str(), "|cut");
-    assert_eq!(rt; told(alloc, &typed, true, 1)?.as_str(), "aa|result: 0");
-    assert_eq!(rt; told(alloc, &typed, true, 2)?.as_str(), "aa|result: 0");
-    Ok(())
-}
-
-// note(1); note(2);
-#[test]
-fn each_call_is_a_turn(rt: HostRuntime) -> Result<(), Fail> {
-    let alloc = rt.alloc();
-    let body = vec![in alloc;
-        Statement::Do(note(alloc, 1)?),
-        Statement::Do(note(alloc, 2)?),
-    ]?;
-    let typed = program(alloc, body)?;
-    for (turns, shown) in [
-        (1, "|cut"),
-        (2, "1|cut"),
-        (3, "12|result: 0"),
-        (4, "12|result: 0"),
-    ] {
-        assert_eq!(rt; told(alloc, &typed, false, turns)?.as_str(), shown);
-    }
-    Ok(())
-}
 
 // while (true) { print("a"); }
 #[test]
