@@ -24,7 +24,7 @@ def built(folder, name):
     """The path of the program of this name, built in the folder."""
     crate = f"{folder}/crates/{name}_bench"
     os.makedirs(f"{crate}/src", exist_ok=True)
-    shutil.copy(f"{ROOT}/bench/{name}/main.rt", f"{crate}/src/main.rt")
+    shutil.copy(f"{ROOT}/bench/{name}.rt.in", f"{crate}/src/main.rt")
     with open(f"{folder}/crates.txt", "a") as crates:
         crates.write(f"{name}_bench: {USES[name]}\n")
     ran = subprocess.run(["rt", "run", "--", "nothing"], cwd=crate, capture_output=True, text=True)
