@@ -18,3 +18,8 @@ pub mod ListLoops
 pub mod StatementLoops
 pub mod ProgramLoops
 pub mod ParsedTokens
+pub mod Alike
+pub mod AlikeTypes
+pub mod AlikeExpressions
+pub mod AlikeStatements
+pub mod AlikePrograms

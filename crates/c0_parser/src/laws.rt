@@ -1,6 +1,6 @@
 // What holds of all tokens: each function computes nothing, and its contract is the law.
 
-ghost use Rattle.c0_parser.specs.Laws.{LexedAreTokens, OneProgram, ReadsExactly};
+ghost use Rattle.c0_parser.specs.Laws.{FaultsAreCaused, LexedAreTokens, OneProgram, ReadsExactly};
 
 /// No tokens read as two programs.
 pub fn one_program()
@@ -15,4 +15,10 @@ pub fn reads_exactly()
 /// The tokens that the lexer gives of a text are what the parser takes.
 pub fn lexed_are_tokens()
     ensures { LexedAreTokens }
+{}
+
+/// Where reading meets a fault at a token, no program begins with the tokens up to and with that one. One name too many may be told
+/// of a name that stands before the token which tells so.
+pub fn faults_are_caused()
+    ensures { FaultsAreCaused }
 {}

@@ -240,10 +240,13 @@ module _ (p : t.Program) (env : Environment) (knows : Knows p env) (types : List
                 (
                   fx.0,
                   (
-                    conditions_have Invariant x.scope (specs_in notes) xs (named_right p env m3 (spec_mentions (specs_in notes)) n4) fx.1 r,
-                    expression_has BoolType x.scope c z (named_right p env m1 (mentions c) n2) fx.1 q,
-                    fy.0,
-                    (gw.1 v fx.1).0,
+                    (
+                      conditions_have Invariant x.scope (specs_in notes) xs (named_right p env m3 (spec_mentions (specs_in notes)) n4) fx.1 r,
+                      expression_has BoolType x.scope c z (named_right p env m1 (mentions c) n2) fx.1 q,
+                      fy.0,
+                      (gw.1 v fx.1).0,
+                    ),
+                    tt,
                   ),
                 ),
                 sc,

@@ -21,7 +21,7 @@ same_self (a ∷ n) = at _ (eq-eqb a a refl) (same_self n)
 turned : (a b : Name) → bytes_eq a b ≡ true → bytes_eq b a ≡ true
 turned a b e = let same : a ≡ b = same_name_is a b e in subst (λ z. bytes_eq b z ≡ true) (sym same) (same_self b)
 
-both_ways : (a b : Name) → bytes_eq a b ≡ bytes_eq b a
+pub both_ways : (a b : Name) → bytes_eq a b ≡ bytes_eq b a
 both_ways a b = at (bytes_eq a b) (bytes_eq b a) refl refl
   where
     at : (x y : Bool) → bytes_eq a b ≡ x → bytes_eq b a ≡ y → x ≡ y

@@ -203,7 +203,7 @@ module _ (env : Environment) where
         and_so (typed_part first s) (λ x. and_so (expression_as BoolType x.scope c) (λ z.
         and_so (conditions_of_all Invariant (within x.scope) (specs_in notes)) (λ xs. and_so (typed_statement a x.scope) (λ y.
         provided (not (declares third)) (and_so (typed_part third (leave x.scope y.scope)) (λ w.
-        next (t.Seq x.statement (t.Loop xs z y.statement w.statement)) (leave s w.scope)))))))
+        next (t.Seq x.statement (t.Seq (t.Loop xs z y.statement w.statement) t.Skip)) (leave s w.scope)))))))
     typed_statement (Assert e) s = and_so (expression_as BoolType s e) (λ x. next (t.Assert x) s)
     typed_statement (Error e) s = and_so (expression_as StringType s e) (λ x. next (t.Error x) s)
     typed_statement Break s = None

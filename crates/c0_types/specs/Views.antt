@@ -5,6 +5,7 @@ use Rattle.std.specs.BTreeMap.{get_by_text}
 use Rattle.c0_source.specs.declared.fault.Fault.{Fault}
 use Rattle.c0_source.specs.declared.fault.FaultKind.TheVariants as k
 use Rattle.c0_types.specs.Types as t
+use Rattle.c0_types.specs.declared.environment.Environment.{Environment}
 use Rattle.c0_types.specs.declared.resolved.ResolvedType.{ResolvedType, Void, Int, Bool, Char, Text, Struct, Pointer', Array'}
 use Rattle.c0_types.specs.declared.signatures.Functions.{Functions}
 use Rattle.c0_types.specs.declared.signatures.Signature.{Signature}
@@ -52,6 +53,17 @@ signature_of f = record { name = string_bytes f.name; result = resolved_of f.res
 -- the functions that are declared
 abbrev pub functions_of : Functions → t.Table t.Signature
 functions_of x n = option_map signature_of (get_by_text x.entries n)
+
+-- what is declared before a place
+abbrev pub environment_of : Environment → t.Environment
+environment_of x = record {
+  conio = x.conio;
+  struct_names = x.struct_names;
+  function_names = x.function_names;
+  typedefs = typedefs_of x.typedefs;
+  structs = structs_of x.structs;
+  functions = functions_of x.functions;
+}
 
 -- Ok exactly where the rules give something, want of memory aside
 abbrev pub Answers : {T A : Type 0} → (T → A) → Result T Fault → Option A → Type 0

@@ -1,5 +1,7 @@
 // Each call once; what they compute is in their contracts.
 
+use crate::environment::Environment;
+use crate::names::Names;
 use crate::resolved::ResolvedType;
 use crate::signatures::{Functions, Signature};
 use crate::structs::{FieldEntry, Fields, StructEntry, Structs};
@@ -8,7 +10,8 @@ use crate::{accepted_texts, elaborated, refused_texts};
 use c0_source::fault::{FaultKind, Span};
 use c0_source::kind::Base;
 use c0_syntax::name::Name;
-use c0_syntax::value_type::{TypeKind, ValueType};
+use c0_syntax::value_type::{TypeKind, ValueType as WrittenType};
+use c0_typed::ValueType;
 use std::alloc::{AllocError, Global};
 use std::test::Fail;
 
@@ -23,8 +26,8 @@ fn name(alloc: Global, text: &str) -> Result<Name, AllocError> {
     })
 }
 
-fn written(kind: TypeKind) -> ValueType {
-    ValueType {
+fn written(kind: TypeKind) -> WrittenType {
+    WrittenType {
         kind,
         span: place(3),
     }
@@ -116,5 +119,24 @@ fn functions_are_declared(rt: HostRuntime) -> Result<(), Fail> {
     functions.insert(String::from_str(rt.alloc(), "f")?, first)?;
     assert!(rt; functions.get("f").is_some());
     assert!(rt; functions.get("g").is_none());
+    Ok(())
+}
+
+#[test]
+fn names_are_numbered(rt: HostRuntime) -> Result<(), Fail> {
+    let alloc = rt.alloc();
+    let mut names = Names::new(alloc);
+    names.push(String::from_str(alloc, "s")?)?;
+    names.push(String::from_str(alloc, "t")?)?;
+    names.push(String::from_str(alloc, "s")?)?;
+    assert_eq!(rt; names.get("t"), Some(1));
+    assert_eq!(rt; names.get("u"), None);
+    assert_eq!(rt; names.number("s"), 0);
+    assert_eq!(rt; names.number("u"), 3);
+    let environment = Environment::new(alloc, false, names, Names::new(alloc));
+    let named = ResolvedType::Struct(String::from_str(alloc, "t")?);
+    let pointer = ResolvedType::Pointer(Box::new(alloc, named)?);
+    let numbered = ValueType::Pointer(Box::new(alloc, ValueType::Struct(1))?);
+    assert!(rt; environment.numbered(alloc, &pointer)? == numbered);
     Ok(())
 }

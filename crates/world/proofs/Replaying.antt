@@ -7,7 +7,7 @@ use Rattle.world.specs.declared.event.Actor.{Actor}
 use Rattle.world.specs.declared.event.Actor.TheVariants as actor
 use Rattle.world.specs.Programs.{Program}
 use Rattle.world.specs.Lines.{Line, IsLine, IsLine32, spell, spell_actor, spell_choice}
-use Rattle.world.specs.Reports.{event_of, AreEnds, AreLines, HasCome, HasLed, IsEnded, Leads}
+use Rattle.world.specs.Reports.{event_of, AreEnds, AreLines, HasCome, HasLed, IsEnded, LinesLead}
 use Rattle.world.specs.Turns.{Answer}
 use Rattle.world.specs.Worlds.{IsHonest, Sizes, World, event}
 
@@ -19,9 +19,9 @@ line_more (y ∷ ys) x text are small =
     (are.0, (rest ++ spell x, ap (λ t. t ++ spell x) are.1.1 ∙ append_assoc (spell y) rest (spell x), line_more ys x rest are.1.2 small))
 
 -- one event more
-pub leads_more : (h : Type 0) (z : Sizes) (images : ℕ → Image) (w v u : World) (xs : List Line) (x : Line) (a : Answer) → Leads h z images w xs v
-    → event z images v (event_of x a) ≡ Some u → (h → IsHonest z v x.actor a) → Leads h z images w (xs ++ x ∷ []) u
-leads_more h z images w v u [] x a led is honest = subst (λ (y : World). Leads h z images y (x ∷ []) u) led (a, u, is, honest, refl)
+pub leads_more : (h : Type 0) (z : Sizes) (images : ℕ → Image) (w v u : World) (xs : List Line) (x : Line) (a : Answer) → LinesLead h z images w xs v
+    → event z images v (event_of x a) ≡ Some u → (h → IsHonest z v x.actor a) → LinesLead h z images w (xs ++ x ∷ []) u
+leads_more h z images w v u [] x a led is honest = subst (λ (y : World). LinesLead h z images y (x ∷ []) u) led (a, u, is, honest, refl)
 leads_more h z images w v u (y ∷ ys) x a led is honest = (led.0, led.1, led.2, led.3, leads_more h z images led.1 v u ys x a led.4 is honest)
 
 pub many_more : (xs : List Line) (x : Line) → length (xs ++ x ∷ []) ≡ suc (length xs)

@@ -31,9 +31,9 @@ abbrev pub event_of : Line → Answer → Event
 event_of x a = record { actor = x.actor; choice = x.choice; answer = a }
 
 -- these lines lead from one world to another, with some answers; h says that the store is honest
-abbrev pub Leads : Type 0 → Sizes → (ℕ → Image) → World → List Line → World → Type 0
-Leads h z images w [] v = v ≡ w
-Leads h z images w (x ∷ xs) v = (a : Answer) × (u : World) × (event z images w (event_of x a) ≡ Some u) × (h → IsHonest z w x.actor a) × Leads h z images u xs v
+abbrev pub LinesLead : Type 0 → Sizes → (ℕ → Image) → World → List Line → World → Type 0
+LinesLead h z images w [] v = v ≡ w
+LinesLead h z images w (x ∷ xs) v = (a : Answer) × (u : World) × (event z images w (event_of x a) ≡ Some u) × (h → IsHonest z w x.actor a) × LinesLead h z images u xs v
 
 -- the text of lines, whose numbers fit in 32 bits
 abbrev pub AreLines : List Line → List ℕ → Type 0
@@ -47,7 +47,7 @@ AreEnds programs k (e ∷ es) = IsEnded (programs k) e × AreEnds programs (suc 
 
 -- all lines of the schedule lead from the world w to the world v
 abbrev pub HasLed : Type 0 → Sizes → (ℕ → Image) → World → List ℕ → World → Type 0
-HasLed h z images w schedule v = (lines : List Line) × AreLines lines schedule × Leads h z images w lines v
+HasLed h z images w schedule v = (lines : List Line) × AreLines lines schedule × LinesLead h z images w lines v
 
 -- the lines before this one, counted from 1, lead from the world w to the world v, and the rest of the schedule stands behind them
 pub record HasCome (h : Type 0) (z : Sizes) (images : ℕ → Image) (w : World) (schedule rest : List ℕ) (line : ℕ) (v : World) : Type 0 where
@@ -56,7 +56,7 @@ pub record HasCome (h : Type 0) (z : Sizes) (images : ℕ → Image) (w : World)
   pub cut : schedule ≡ text ++ rest
   pub lines : AreLines before text
   pub count : line ≡ suc (length before)
-  pub leads : Leads h z images w before v
+  pub leads : LinesLead h z images w before v
 
 -- what comes next in the schedule is, in the world w, no line, or a line that is not enabled, whatever is answered
 abbrev pub IsStuckAt : Sizes → (ℕ → Image) → World → List ℕ → Type 0

@@ -9,13 +9,11 @@ mod evict;
 mod instruct;
 mod laws;
 mod line;
-mod line_tests;
 mod lock;
 mod machine;
 mod make;
 mod program;
 mod schedule;
-mod schedule_tests;
 #[cfg(test)]
 mod tests;
 mod turn;

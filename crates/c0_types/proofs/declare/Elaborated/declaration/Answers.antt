@@ -1,0 +1,13 @@
+use Rattle.std.proofs.Common.{◌≡◌, ◌⊎◌, List, IfErr, sym, subst}
+use Rattle.c0_source.specs.declared.fault.FaultKind.TheVariants.{OutOfMemory}
+use Rattle.c0_syntax.specs.declared.program.DeclarationKind.{DeclarationKind}
+use Rattle.c0_syntax.specs.declared.statement.Statement.{Statement}
+use Rattle.c0_types.specs.DeclareViews.{InDefinition, elaboration_of}
+use Rattle.c0_types.specs.FaultPrograms.{InDeclaration}
+use Rattle.c0_types.specs.Views.{environment_of}
+use Rattle.c0_types.proofs.declare.Elaborated.declaration.Goals as goal
+
+pub returns-in-DefineFunction-clause-cause : goal.returns-in-DefineFunction-clause-cause
+returns-in-DefineFunction-clause-cause c =
+    let told = subst (λ (b : List Statement). IfErr c.define_function.result (λ f. (f.kind ≡ OutOfMemory) ⊎ InDefinition (environment_of c.args.self.now.environment) f c.in-DefineFunction.header b)) c.deref-in-DefineFunction.ensures.value c.define_function.ensures.cause in
+    subst (λ (kind : DeclarationKind). IfErr c.define_function.result (λ f. (f.kind ≡ OutOfMemory) ⊎ InDeclaration f (elaboration_of c.args.texts.now c.args.self.now) kind c.args.declaration.now.span)) (sym c.in-DefineFunction.is) told

@@ -1,0 +1,8 @@
+use Rattle.std.proofs.Common.{◌≡◌, ◌++◌, drop, map}
+use Rattle.c0_syntax.specs.Views.{declaration_of}
+use Rattle.c0_types.specs.Programs.{function_names_of}
+use Rattle.c0_types.proofs.declare.function_names.Given as goal
+
+-- the names so far, and those of what is left
+abbrev pub invariant-loop-declaration : goal.invariant-loop-declaration
+invariant-loop-declaration l = l.names ++ function_names_of (map declaration_of (drop l.declaration-index l.declarations)) ≡ function_names_of (map declaration_of l.declarations)

@@ -1,0 +1,174 @@
+// The static rules of a function's header: its types, its names, and what was declared of its name before.
+
+ghost use Rattle.std.specs.Prelude.{◌≡◌, ◌⊎◌, [], IfErr, IfOk, OnOk, Some, is_some, map};
+ghost use Rattle.c0_source.specs.declared.fault.FaultKind.TheVariants.{OutOfMemory};
+ghost use Rattle.c0_syntax.specs.Views.{annotation_of, header_of, typed_name_of};
+ghost use Rattle.c0_types.specs.DeclareViews.{Accepts};
+ghost use Rattle.c0_types.specs.FaultPrograms.{AgainCause, AnySpecs, InHeader, ParameterCause, SecondName};
+ghost use Rattle.c0_types.specs.Mentions.{specs_in};
+ghost use Rattle.c0_types.specs.Programs.{agrees, are_none, names_of, parameter_types as types_of_parameters, parameters_from, signature as header_signature, with_function};
+ghost use Rattle.c0_types.specs.Terms.{local_of};
+ghost use Rattle.c0_types.specs.Types.{Signature as Declared, are_distinct, output_named};
+ghost use Rattle.c0_types.specs.Views.{Answers, environment_of, resolved_of, signature_of};
+
+use crate::environment::Environment;
+use crate::resolved::ResolvedType;
+use crate::signatures::Signature;
+use crate::typing::Local;
+use c0_source::fault::{Fault, FaultKind, Span};
+use c0_syntax::program::{Header, TypedName};
+use c0_syntax::statement::Annotation;
+use std::alloc::{AllocError, Global};
+use std::collections::BTreeSet;
+
+/// No name stands there twice.
+pub(crate) fn check_distinct(alloc: Global, items: &[TypedName]) -> Result<(), Fault>
+    ensures distinct { Accepts result (are_distinct (names_of (map typed_name_of items.now))) }
+    ensures cause { IfErr result (λ f. (f.kind ≡ OutOfMemory) ⊎ SecondName f [] items.now) }
+{
+    let mut seen = BTreeSet::new(alloc);
+    for item in items {
+        if !seen.insert(item.name.text.as_str())? {
+            return Err(Fault {
+                kind: FaultKind::DuplicateName,
+                span: item.name.span,
+            });
+        }
+    }
+    Ok(())
+}
+
+/// The types of parameters.
+pub(crate) fn parameter_types(
+    environment: &Environment,
+    alloc: Global,
+    items: &[TypedName],
+) -> Result<Vec<ResolvedType>, Fault>
+    ensures answers { Answers (λ v. map resolved_of v.items) result (types_of_parameters (environment_of environment.now).typedefs (map typed_name_of items.now)) }
+    ensures cause { IfErr result (λ f. (f.kind ≡ OutOfMemory) ⊎ ParameterCause f (environment_of environment.now) items.now) }
+{
+    let mut types = Vec::new(alloc);
+    for item in items {
+        let resolved = environment.typedefs.resolve_small(alloc, &item.value_type)?;
+        types.push(resolved)?;
+    }
+    Ok(types)
+}
+
+/// Whether a name is that of an output call in use.
+pub(crate) fn is_output(conio: bool, name: &str) -> bool
+    ensures { result ≡ is_some (output_named conio name.now) }
+{
+    conio
+        && (name == "print"
+            || name == "println"
+            || name == "printint"
+            || name == "printbool"
+            || name == "printchar"
+            || name == "flush")
+}
+
+// What was declared of the name of a function before agrees with this.
+fn check_again(environment: &Environment, signature: &Signature, span: Span) -> Result<(), Fault>
+    ensures agrees { Accepts result (agrees (signature_of signature.now) ((environment_of environment.now).functions (signature_of signature.now).name)) }
+    ensures cause { IfErr result (λ f. (old : Declared) × ((environment_of environment.now).functions (signature_of signature.now).name ≡ Some old) × AgainCause f (signature_of signature.now) old span) }
+{
+    let Some(old) = environment.functions.get(&signature.name) else {
+        return Ok(());
+    };
+    if signature.defined && old.defined {
+        return Err(Fault {
+            kind: FaultKind::DuplicateName,
+            span,
+        });
+    }
+    if !signature.same_as(old) {
+        return Err(Fault {
+            kind: FaultKind::DeclMismatch,
+            span,
+        });
+    }
+    Ok(())
+}
+
+/// What a header declares.
+pub(crate) fn signature(
+    environment: &Environment,
+    alloc: Global,
+    defined: bool,
+    header: &Header,
+) -> Result<Signature, Fault>
+    ensures answers { Answers signature_of result (header_signature (environment_of environment.now) defined (header_of header.now)) }
+    ensures cause { IfErr result (λ f. (f.kind ≡ OutOfMemory) ⊎ InHeader f (environment_of environment.now) defined header.now) }
+{
+    let result_type = environment.typedefs.resolve_result(alloc, &header.result)?;
+    let parameters = parameter_types(environment, alloc, &header.parameters)?;
+    check_distinct(alloc, &header.parameters)?;
+    if is_output(environment.conio, &header.name.text) {
+        return Err(Fault {
+            kind: FaultKind::DuplicateName,
+            span: header.name.span,
+        });
+    }
+    let signature = Signature {
+        name: header.name.text.clone()?,
+        result: result_type,
+        parameters,
+        defined,
+    };
+    check_again(environment, &signature, header.name.span)?;
+    Ok(signature)
+}
+
+/// From here on the function is declared; it is defined where it is now or was before. Where memory is refused, nothing is said of the
+/// environment.
+pub(crate) fn add_function(
+    environment: &mut Environment,
+    mut signature: Signature,
+) -> Result<(), AllocError>
+    ensures { OnOk result (environment_of environment.new ≡ with_function (signature_of signature) (environment_of environment.old)) }
+{
+    if let Some(old) = environment.functions.get(&signature.name) {
+        signature.defined = signature.defined || old.defined;
+    }
+    let name = signature.name.clone()?;
+    environment.functions.insert(name, signature)
+}
+
+/// The parameters of a function as locals, from 1.
+pub(crate) fn parameter_locals(
+    alloc: Global,
+    items: &[TypedName],
+    types: &[ResolvedType],
+) -> Result<Vec<Local>, AllocError>
+    ensures { IfOk result (λ v. map local_of v.items ≡ parameters_from 1 (map typed_name_of items.now) (map resolved_of types.now)) }
+{
+    let mut locals = Vec::new(alloc);
+    for i in 0..items.len().min(types.len()) {
+        let Ok(number) = u32::try_from(i + 1) else {
+            return Err(AllocError);
+        };
+        locals.push(Local {
+            name: items[i].name.text.clone()?,
+            number,
+            resolved: types[i].duplicate(alloc)?,
+        })?;
+    }
+    Ok(locals)
+}
+
+/// There is no spec.
+pub(crate) fn refuse_specs(annotations: &[Annotation]) -> Result<(), Fault>
+    ensures none { Accepts result (are_none (specs_in (map annotation_of annotations.now))) }
+    ensures cause { IfErr result (λ f. AnySpecs f annotations.now) }
+{
+    for annotation in annotations {
+        if let Some(spec) = annotation.specs.first() {
+            return Err(Fault {
+                kind: FaultKind::BadContract,
+                span: spec.word,
+            });
+        }
+    }
+    Ok(())
+}
