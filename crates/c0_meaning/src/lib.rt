@@ -10,8 +10,6 @@ mod operators;
 mod places;
 mod run;
 mod statements;
-#[cfg(test)]
-mod tests;
 mod value;
 
 pub use run::{Meant, mean};

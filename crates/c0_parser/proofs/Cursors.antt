@@ -8,8 +8,8 @@ use Rattle.c0_source.specs.Spelling.{text_value, use_of}
 use Rattle.c0_lexer.specs.declared.token.Token.{Token}
 use Rattle.c0_lexer.specs.Lexed.{lexeme}
 use Rattle.c0_syntax.specs.Expressions.{is_type_name}
-use Rattle.c0_parser.specs.Outcome.{bytes_at, plain_at}
-use Rattle.c0_parser.specs.Tokens.{last_first}
+use Rattle.c0_reading.specs.Outcome.{bytes_at, plain_at}
+use Rattle.c0_reading.specs.Tokens.{last_first}
 
 kind_of_use : (o : Option (Bool × List ℕ)) (rest : List Terminal) → plain_at (use_terminal o ∷ rest) ≡ k.Use
 kind_of_use None rest = refl

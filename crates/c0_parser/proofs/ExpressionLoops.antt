@@ -8,12 +8,12 @@ use Rattle.c0_syntax.specs.declared.expression.Expression.{Expression}
 use Rattle.c0_syntax.specs.Trees.{Expressions, none, more}
 use Rattle.c0_syntax.specs.Expressions.{precedence}
 use Rattle.c0_syntax.specs.Views.{expression_of, expressions_of}
-use Rattle.c0_parser.specs.declared.read_error.ReadError.{ReadError}
+use Rattle.c0_reading.specs.declared.read_error.ReadError.{ReadError}
 use Rattle.c0_parser.specs.declared.found.FoundExpression.{FoundExpression}
 use Rattle.c0_parser.specs.declared.found.ExpressionStep.{ExpressionStep}
 use Rattle.c0_parser.specs.declared.found.ExpressionStep.TheVariants as e
-use Rattle.c0_parser.specs.Outcome.{Outcome, ◌>>=◌, Fails, plain_at, next, refuse, too_deep}
-use Rattle.c0_parser.specs.ReadExpressions.{ReadType, ReadExpression, ReadArguments, add_first, after_argument, arguments, climb, join, postfix, postfix_by, read_expression, read_type, unary, whole}
+use Rattle.c0_reading.specs.Outcome.{Outcome, ◌>>=◌, Fails, plain_at, next, refuse, too_deep}
+use Rattle.c0_reading.specs.ReadExpressions.{ReadType, ReadExpression, ReadArguments, add_first, after_argument, arguments, climb, join, postfix, postfix_by, read_expression, read_type, unary, whole}
 use Rattle.c0_parser.specs.Found.{GivesExpression, found_expression, height_of_expression_step}
 use Rattle.c0_parser.proofs.Turned.{fails_along, fails_bind}
 

@@ -1,13 +1,3 @@
-pub mod Basics
-pub mod Types
-pub mod Turns
-pub mod Complete
-pub mod Sound
-pub mod Begins
-pub mod CompleteStatements
-pub mod SoundStatements
-pub mod CompletePrograms
-pub mod SoundPrograms
 pub mod Cursors
 pub mod Turned
 pub mod Stepped
@@ -17,9 +7,3 @@ pub mod Rows
 pub mod ListLoops
 pub mod StatementLoops
 pub mod ProgramLoops
-pub mod ParsedTokens
-pub mod Alike
-pub mod AlikeTypes
-pub mod AlikeExpressions
-pub mod AlikeStatements
-pub mod AlikePrograms

@@ -6,9 +6,9 @@ use Rattle.c0_source.specs.declared.kind.Kind.{Kind}
 use Rattle.c0_source.specs.declared.kind.Kind.TheVariants as k
 use Rattle.c0_source.specs.Terminals.{Terminal}
 use Rattle.c0_syntax.specs.Trees.{Spec}
-use Rattle.c0_parser.specs.declared.read_error.ReadError.{ReadError}
-use Rattle.c0_parser.specs.Outcome.{Outcome, ◌>>=◌, Read, Fails, plain_at, next, refuse, too_deep}
-use Rattle.c0_parser.specs.ReadStatements.{spec_by, specs_by, read_spec, read_specs, annotations_by, read_annotations}
+use Rattle.c0_reading.specs.declared.read_error.ReadError.{ReadError}
+use Rattle.c0_reading.specs.Outcome.{Outcome, ◌>>=◌, Read, Fails, plain_at, next, refuse, too_deep}
+use Rattle.c0_reading.specs.ReadStatements.{spec_by, specs_by, read_spec, read_specs, annotations_by, read_annotations}
 use Rattle.c0_parser.proofs.Turned.{fails_along, fails_bind}
 
 -- one part before the others

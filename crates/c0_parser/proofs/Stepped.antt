@@ -4,8 +4,8 @@ use Rattle.c0_source.specs.Terminals.{Terminal}
 use Rattle.c0_parser.specs.declared.found.FoundType.{FoundType}
 use Rattle.c0_parser.specs.declared.found.TypeStep.{TypeStep}
 use Rattle.c0_parser.specs.declared.found.TypeStep.TheVariants as t
-use Rattle.c0_parser.specs.Outcome.{Outcome}
-use Rattle.c0_parser.specs.ReadExpressions.{ReadType}
+use Rattle.c0_reading.specs.Outcome.{Outcome}
+use Rattle.c0_reading.specs.ReadExpressions.{ReadType}
 use Rattle.c0_parser.specs.Found.{GivesType, found_type, height_of_step}
 
 pub type_done : (go_on : ReadType → Outcome ReadType) (rest : List Terminal) (step : TypeStep) (f : FoundType) (read : Outcome ReadType) → step ≡ t.Done f → GivesType go_on rest (Ok step) read → read ≡ Ok (found_type rest f)

@@ -1,10 +1,10 @@
 -- What functions return, and turns of loops.
 use Rattle.std.proofs.Common.{◌≡◌, ℕ, zero, suc, ◌<◌, List, Result, Ok, refl, sym, subst, ◌∙◌, arith}
 use Rattle.c0_source.specs.Terminals.{Terminal}
-use Rattle.c0_parser.specs.declared.read_error.ReadError.{ReadError}
-use Rattle.c0_parser.specs.declared.read_error.ReadError.TheVariants.{OutOfMemory, Syntax, TooDeep, TooLarge}
-use Rattle.c0_parser.specs.Outcome.{Outcome, ◌>>=◌, Fails, Gives, kind_at, plain_at, too_deep}
-use Rattle.c0_parser.specs.ReadExpressions.{ReadType, base_by, read_type, suffix_by, suffixes}
+use Rattle.c0_reading.specs.declared.read_error.ReadError.{ReadError}
+use Rattle.c0_reading.specs.declared.read_error.ReadError.TheVariants.{OutOfMemory, Syntax, TooDeep, TooLarge}
+use Rattle.c0_reading.specs.Outcome.{Outcome, ◌>>=◌, Fails, Gives, kind_at, plain_at, too_deep}
+use Rattle.c0_reading.specs.ReadExpressions.{ReadType, base_by, read_type, suffix_by, suffixes}
 
 pub fails_bind : {A B : Type 0} (e : ReadError) (m : Outcome A) (f : A → Outcome B) → Fails e m → Fails e (m >>= f)
 fails_bind OutOfMemory m f h = tt

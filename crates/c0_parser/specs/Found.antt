@@ -4,7 +4,7 @@ use Rattle.c0_source.specs.Terminals.{Terminal}
 use Rattle.c0_syntax.specs.Trees.{Field, PointerField, Spec, SimpleStatement, Statement, Simple, For}
 use Rattle.c0_syntax.specs.Views.{annotation_of, expression_of, expressions_of, simple_of, spec_by, statement_of, type_of}
 use Rattle.c0_syntax.specs.declared.statement.SpecKind.{SpecKind}
-use Rattle.c0_parser.specs.declared.read_error.ReadError.{ReadError}
+use Rattle.c0_reading.specs.declared.read_error.ReadError.{ReadError}
 use Rattle.c0_parser.specs.declared.found.FoundType.{FoundType}
 use Rattle.c0_parser.specs.declared.found.TypeStep.{TypeStep}
 use Rattle.c0_parser.specs.declared.found.TypeStep.TheVariants as t
@@ -15,9 +15,9 @@ use Rattle.c0_parser.specs.declared.found.ExpressionStep.TheVariants as e
 use Rattle.c0_parser.specs.declared.found.FoundBody.{FoundBody}
 use Rattle.c0_parser.specs.declared.found.FoundForEnd.{FoundForEnd}
 use Rattle.c0_parser.specs.declared.found.FoundForTest.{FoundForTest}
-use Rattle.c0_parser.specs.Outcome.{Outcome, ◌>>=◌, Read, Fails, any_name, next, semi}
-use Rattle.c0_parser.specs.ReadExpressions.{ReadType, ReadExpression, ReadArguments, read_expression}
-use Rattle.c0_parser.specs.ReadStatements.{Counted, Body, ForEnd, ForTest, read_simple, with_semi}
+use Rattle.c0_reading.specs.Outcome.{Outcome, ◌>>=◌, Read, Fails, any_name, next, semi}
+use Rattle.c0_reading.specs.ReadExpressions.{ReadType, ReadExpression, ReadArguments, read_expression}
+use Rattle.c0_reading.specs.ReadStatements.{Counted, Body, ForEnd, ForTest, read_simple, with_semi}
 
 -- a type, with these tokens behind it
 abbrev pub found_type : List Terminal → FoundType → ReadType

@@ -11,9 +11,9 @@ use Rattle.c0_parser.specs.declared.directives.Used.TheVariants as u
 use Rattle.c0_parser.specs.declared.found.FoundParameter.{FoundParameter}
 use Rattle.c0_parser.specs.declared.found.FoundParameters.{FoundParameters}
 use Rattle.c0_parser.specs.declared.found.FoundHeader.{FoundHeader}
-use Rattle.c0_parser.specs.Outcome.{Outcome, ◌>>=◌, Read, any_name, new_name, semi}
-use Rattle.c0_parser.specs.ReadExpressions.{read_type}
-use Rattle.c0_parser.specs.ReadPrograms.{ReadDeclaration, ReadHeader, ReadParameters}
+use Rattle.c0_reading.specs.Outcome.{Outcome, ◌>>=◌, Read, any_name, new_name, semi}
+use Rattle.c0_reading.specs.ReadExpressions.{read_type}
+use Rattle.c0_reading.specs.ReadPrograms.{ReadDeclaration, ReadHeader, ReadParameters}
 
 -- what a `#use` names, as code holds it
 abbrev pub used_of : Used → Bool × List ℕ

@@ -7,13 +7,13 @@ ghost use Rattle.c0_source.specs.Terminals.{or_empty, terminals};
 ghost use Rattle.c0_source.specs.Spelling.{text_value as spec_text_value};
 ghost use Rattle.c0_lexer.specs.Lexed.{lexeme};
 ghost use Rattle.c0_syntax.specs.Views.{name_of};
-ghost use Rattle.c0_parser.specs.Tokens.{AreTokens};
-ghost use Rattle.c0_parser.specs.Outcome.{Gives, any_name, bytes_at, colon, comma, kind_at, lparen, new_name, next, plain_at, rbracket, rparen, semi};
+ghost use Rattle.c0_reading.specs.Tokens.{AreTokens};
+ghost use Rattle.c0_reading.specs.Outcome.{Gives, any_name, bytes_at, colon, comma, kind_at, lparen, new_name, next, plain_at, rbracket, rparen, semi};
 
 use crate::letters::{letters, tail, text_value};
-use crate::read_error::ReadError;
 use crate::type_names::TypeNames;
 use c0_lexer::token::Token;
+use c0_reading::read_error::ReadError;
 use c0_source::fault::Span;
 use c0_source::kind::Kind;
 use c0_syntax::name::Name;
@@ -39,7 +39,7 @@ impl<'a> Model for Cursor<'a> {
     ghost use Rattle.std.specs.Prelude.{List, map};
     ghost use Rattle.c0_source.specs.Terminals.{Terminal, terminals};
     ghost use Rattle.c0_lexer.specs.Lexed.{lexeme};
-    ghost use Rattle.c0_parser.specs.Tokens.{AreTokens};
+    ghost use Rattle.c0_reading.specs.Tokens.{AreTokens};
 
     ghost Value = { List Terminal };
 

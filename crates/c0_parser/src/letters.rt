@@ -4,7 +4,7 @@ ghost use Rattle.std.specs.Prelude.{◌≡◌, ◌<◌, ◌++◌, ◌∷◌, [],
 ghost use Rattle.std.specs.String.{string_bytes};
 ghost use Rattle.c0_source.specs.Bytes as bytes;
 ghost use Rattle.c0_source.specs.Spelling.{text_value as spec_text_value};
-ghost use Rattle.c0_parser.specs.Tokens.{byte_value as spec_byte_value};
+ghost use Rattle.c0_reading.specs.Tokens.{byte_value as spec_byte_value};
 
 use std::alloc::{AllocError, Global};
 

@@ -4,10 +4,8 @@
 mod cursor;
 mod directives;
 mod found;
-pub mod laws;
 mod letters;
 pub mod parse;
-mod read_error;
-#[cfg(test)]
-mod tests;
 mod type_names;
+
+pub use c0_reading::laws;

@@ -14,7 +14,7 @@ pub(crate) struct TypeNames<'a> {
 
 impl<'a> Model for TypeNames<'a> {
     ghost use Rattle.std.specs.Prelude.{List, ℕ, [], map};
-    ghost use Rattle.c0_parser.specs.Tokens.{last_first};
+    ghost use Rattle.c0_reading.specs.Tokens.{last_first};
 
     ghost Value = { List (List ℕ) };
 

@@ -12,6 +12,4 @@ pub mod program;
 mod render;
 mod spelling;
 pub mod statement;
-#[cfg(test)]
-mod tests;
 pub mod value_type;

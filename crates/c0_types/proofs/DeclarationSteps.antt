@@ -8,11 +8,11 @@ use Rattle.c0_syntax.specs.declared.program.Declaration.{Declaration}
 use Rattle.c0_syntax.specs.Trees.{DefineFunction, Header, Statements}
 use Rattle.c0_syntax.specs.Views.{declaration_of}
 use Rattle.c0_typed.specs.Trees as t
-use Rattle.c0_types.specs.FaultPrograms.{InDeclaration, InDeclarations}
-use Rattle.c0_types.specs.Programs.{Elaboration, is_defined, names_agree, parameter_types, signature, typed_declaration, typed_declarations, typed_function, uses_conio, with_function}
-use Rattle.c0_types.specs.Types.{Environment, ResolvedType, Signature, and_so, provided, result_type, same_types}
-use Rattle.c0_types.specs.Views.{resolved_of}
-use Rattle.c0_types.specs.declared.resolved.ResolvedType as r
+use Rattle.c0_rules.specs.FaultPrograms.{InDeclaration, InDeclarations}
+use Rattle.c0_rules.specs.Programs.{Elaboration, is_defined, names_agree, parameter_types, signature, typed_declaration, typed_declarations, typed_function, uses_conio, with_function}
+use Rattle.c0_rules.specs.Types.{Environment, ResolvedType, Signature, and_so, provided, result_type, same_types}
+use Rattle.c0_tables.specs.Views.{resolved_of}
+use Rattle.c0_tables.specs.declared.resolved.ResolvedType as r
 use Rattle.c0_types.proofs.HeaderLists.{first_left, same_self}
 
 -- ---- functions

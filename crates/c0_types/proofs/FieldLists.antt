@@ -8,14 +8,14 @@ use Rattle.c0_syntax.specs.Views.{name_of, type_of, typed_name_of}
 use Rattle.c0_typed.specs.Trees.{Ty}
 use Rattle.c0_types.specs.declared.definitions.Field.{Field}
 use Rattle.c0_types.specs.DeclareViews.{held_type, typed_field_of}
-use Rattle.c0_types.specs.Expressions.{num}
-use Rattle.c0_types.specs.FaultExpressions.{HeldTypeCause}
-use Rattle.c0_types.specs.FaultPrograms.{InFields}
-use Rattle.c0_types.specs.Programs.{cells_in, field_types, fields_of}
-use Rattle.c0_types.specs.Types.{Environment, FieldEntry, Name, ResolvedType, StructEntry, Table, and_so, cells_of, field_of, no_names, provided, resolved_type, with_name}
-use Rattle.c0_types.specs.Views.{resolved_of}
+use Rattle.c0_rules.specs.Expressions.{num}
+use Rattle.c0_rules.specs.FaultExpressions.{HeldTypeCause}
+use Rattle.c0_rules.specs.FaultPrograms.{InFields}
+use Rattle.c0_rules.specs.Programs.{cells_in, field_types, fields_of}
+use Rattle.c0_rules.specs.Types.{Environment, FieldEntry, Name, ResolvedType, StructEntry, Table, and_so, cells_of, field_of, no_names, provided, resolved_type, with_name}
+use Rattle.c0_tables.specs.Views.{resolved_of}
 use Rattle.c0_types.proofs.HeaderLists.{first_left, one_more, same_so}
-use Rattle.c0_types.proofs.Sizes.{length_more}
+use Rattle.c0_rules.proofs.Sizes.{length_more}
 
 -- ---- types of fields
 

@@ -10,11 +10,11 @@ use Rattle.c0_syntax.specs.declared.program.TypedName as y
 use Rattle.c0_syntax.specs.declared.program.Header.{Header}
 use Rattle.c0_syntax.specs.declared.statement.Statement.{Statement}
 use Rattle.c0_typed.specs.Views.{struct_of, function_of}
-use Rattle.c0_types.specs.FaultExpressions.{Told}
-use Rattle.c0_types.specs.FaultPrograms.{InFields, InFunction, InHeader, LargeCause, SecondName}
-use Rattle.c0_types.specs.Programs.{Elaboration, cell_limit, cells_in, fields_of, names_of, signature, with_function}
-use Rattle.c0_types.specs.Types.{Name, Environment, FieldEntry, ResolvedType, Signature, and_so, are_distinct, cells_of, provided, resolved_type}
-use Rattle.c0_types.specs.Views.{environment_of, resolved_of}
+use Rattle.c0_rules.specs.FaultExpressions.{Told}
+use Rattle.c0_rules.specs.FaultPrograms.{InFields, InFunction, InHeader, LargeCause, SecondName}
+use Rattle.c0_rules.specs.Programs.{Elaboration, cell_limit, cells_in, fields_of, names_of, signature, with_function}
+use Rattle.c0_rules.specs.Types.{Name, Environment, FieldEntry, ResolvedType, Signature, and_so, are_distinct, cells_of, provided, resolved_type}
+use Rattle.c0_tables.specs.Views.{environment_of, resolved_of}
 use Rattle.c0_types.specs.declared.declare.Elaborated.{Elaborated}
 use Rattle.c0_types.specs.declared.definitions.Field.{Field}
 

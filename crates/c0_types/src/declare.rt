@@ -7,27 +7,28 @@ ghost use Rattle.c0_syntax.specs.Trees.{DeclareFunction, DeclareStruct, DefineFu
 ghost use Rattle.c0_syntax.specs.Views.{declaration_of, header_of, name_of, statements_of, type_of, typed_name_of};
 ghost use Rattle.c0_typed.specs.Views.{function_of};
 ghost use Rattle.c0_types.specs.DeclareViews.{InDefinition, InStruct, elaboration_of, typed_field_of};
-ghost use Rattle.c0_types.specs.FaultExpressions.{TypeCause};
-ghost use Rattle.c0_types.specs.FaultPrograms.{AnySpecs, InDeclaration, InDeclarations, InHeader};
-ghost use Rattle.c0_types.specs.Programs.{beginning, cells_in, function_defined as defined_function, function_names_of, is_main, main_name, struct_defined as defined_struct, struct_names_of, typed_declaration, typed_declarations, uses_conio as is_use_of_conio, with_struct};
-ghost use Rattle.c0_types.specs.Types.{Name as Word, same_types};
-ghost use Rattle.c0_types.specs.Views.{Answers, environment_of, signature_of};
+ghost use Rattle.c0_rules.specs.FaultExpressions.{TypeCause};
+ghost use Rattle.c0_rules.specs.FaultPrograms.{AnySpecs, InDeclaration, InDeclarations, InHeader};
+ghost use Rattle.c0_rules.specs.Programs.{beginning, cells_in, function_defined as defined_function, function_names_of, is_main, main_name, struct_defined as defined_struct, struct_names_of, typed_declaration, typed_declarations, uses_conio as is_use_of_conio, with_struct};
+ghost use Rattle.c0_rules.specs.Types.{Name as Word, same_types};
+ghost use Rattle.c0_rules.specs.Answers.{Answers};
+ghost use Rattle.c0_tables.specs.Views.{environment_of, signature_of};
 
 use crate::definitions::{
     NewStruct, check_use, field_table, is_conio, new_struct, numbered_fields,
 };
-use crate::environment::Environment;
 use crate::functions_stub::typed_function;
 use crate::headers::{add_function, refuse_specs, signature};
-use crate::names::Names;
-use crate::resolved::ResolvedType;
-use crate::signatures::Signature;
-use crate::structs::StructEntry;
 use c0_source::fault::Fault;
 use c0_syntax::name::Name;
 use c0_syntax::program::{Declaration, DeclarationKind, Header, TypedName};
 use c0_syntax::statement::Statement;
 use c0_syntax::value_type::ValueType;
+use c0_tables::environment::Environment;
+use c0_tables::names::Names;
+use c0_tables::resolved::ResolvedType;
+use c0_tables::signatures::Signature;
+use c0_tables::structs::StructEntry;
 use c0_typed::{Function, Struct};
 use std::alloc::{AllocError, Global};
 

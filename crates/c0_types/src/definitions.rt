@@ -5,21 +5,22 @@ ghost use Rattle.c0_source.specs.declared.fault.FaultKind.TheVariants.{BadUse, O
 ghost use Rattle.c0_syntax.specs.Views.{name_of, type_of, typed_name_of};
 ghost use Rattle.c0_typed.specs.Views.{struct_of};
 ghost use Rattle.c0_types.specs.DeclareViews.{Accepts, InStruct, held_type, new_fields, typed_field_of};
-ghost use Rattle.c0_types.specs.Expressions.{num};
-ghost use Rattle.c0_types.specs.FaultExpressions.{HeldTypeCause, Told};
-ghost use Rattle.c0_types.specs.FaultPrograms.{InFields};
-ghost use Rattle.c0_types.specs.Programs.{cell_limit, cells_in, field_types as types_of_fields, fields_of, is_conio as names_conio};
-ghost use Rattle.c0_types.specs.Types.{field_of, provided};
-ghost use Rattle.c0_types.specs.Views.{Answers, environment_of, field_table_of, resolved_of, structs_of};
+ghost use Rattle.c0_rules.specs.Expressions.{num};
+ghost use Rattle.c0_rules.specs.FaultExpressions.{HeldTypeCause, Told};
+ghost use Rattle.c0_rules.specs.FaultPrograms.{InFields};
+ghost use Rattle.c0_rules.specs.Programs.{cell_limit, cells_in, field_types as types_of_fields, fields_of, is_conio as names_conio};
+ghost use Rattle.c0_rules.specs.Types.{field_of, provided};
+ghost use Rattle.c0_rules.specs.Answers.{Answers};
+ghost use Rattle.c0_tables.specs.Views.{environment_of, field_table_of, resolved_of, structs_of};
 
-use crate::environment::Environment;
 use crate::headers::check_distinct;
-use crate::resolved::ResolvedType;
-use crate::structs::{FieldEntry, Fields, Structs};
 use c0_source::fault::{Fault, FaultKind, Span};
 use c0_syntax::name::Name;
 use c0_syntax::program::TypedName;
 use c0_syntax::value_type::ValueType;
+use c0_tables::environment::Environment;
+use c0_tables::resolved::ResolvedType;
+use c0_tables::structs::{FieldEntry, Fields, Structs};
 use c0_typed::Struct;
 use std::alloc::{AllocError, Global};
 

@@ -4,16 +4,17 @@ ghost use Rattle.std.specs.Prelude.{◌≡◌, ◌⊎◌, IfErr};
 ghost use Rattle.c0_source.specs.declared.fault.FaultKind.TheVariants.{OutOfMemory};
 ghost use Rattle.c0_syntax.specs.Views.{header_of, statements_of};
 ghost use Rattle.c0_typed.specs.Views.{function_of};
-ghost use Rattle.c0_types.specs.FaultPrograms.{InFunction};
-ghost use Rattle.c0_types.specs.Programs.{typed_function as function_typed};
-ghost use Rattle.c0_types.specs.Views.{Answers, environment_of, signature_of};
+ghost use Rattle.c0_rules.specs.FaultPrograms.{InFunction};
+ghost use Rattle.c0_rules.specs.Programs.{typed_function as function_typed};
+ghost use Rattle.c0_rules.specs.Answers.{Answers};
+ghost use Rattle.c0_tables.specs.Views.{environment_of, signature_of};
 
-use crate::environment::Environment;
-use crate::names::Names;
-use crate::signatures::Signature;
 use c0_source::fault::Fault;
 use c0_syntax::program::Header;
 use c0_syntax::statement::Statement;
+use c0_tables::environment::Environment;
+use c0_tables::names::Names;
+use c0_tables::signatures::Signature;
 use c0_typed::Function;
 use std::alloc::Global;
 

@@ -4,20 +4,21 @@ ghost use Rattle.std.specs.Prelude.{◌≡◌, ◌⊎◌, [], IfErr, IfOk, OnOk,
 ghost use Rattle.c0_source.specs.declared.fault.FaultKind.TheVariants.{OutOfMemory};
 ghost use Rattle.c0_syntax.specs.Views.{annotation_of, header_of, typed_name_of};
 ghost use Rattle.c0_types.specs.DeclareViews.{Accepts};
-ghost use Rattle.c0_types.specs.FaultPrograms.{AgainCause, AnySpecs, InHeader, ParameterCause, SecondName};
-ghost use Rattle.c0_types.specs.Mentions.{specs_in};
-ghost use Rattle.c0_types.specs.Programs.{agrees, are_none, names_of, parameter_types as types_of_parameters, parameters_from, signature as header_signature, with_function};
-ghost use Rattle.c0_types.specs.Terms.{local_of};
-ghost use Rattle.c0_types.specs.Types.{Signature as Declared, are_distinct, output_named};
-ghost use Rattle.c0_types.specs.Views.{Answers, environment_of, resolved_of, signature_of};
+ghost use Rattle.c0_rules.specs.FaultPrograms.{AgainCause, AnySpecs, InHeader, ParameterCause, SecondName};
+ghost use Rattle.c0_rules.specs.Mentions.{specs_in};
+ghost use Rattle.c0_rules.specs.Programs.{agrees, are_none, names_of, parameter_types as types_of_parameters, parameters_from, signature as header_signature, with_function};
+ghost use Rattle.c0_terms.specs.Terms.{local_of};
+ghost use Rattle.c0_rules.specs.Types.{Signature as Declared, are_distinct, output_named};
+ghost use Rattle.c0_rules.specs.Answers.{Answers};
+ghost use Rattle.c0_tables.specs.Views.{environment_of, resolved_of, signature_of};
 
-use crate::environment::Environment;
-use crate::resolved::ResolvedType;
-use crate::signatures::Signature;
-use crate::typing::Local;
 use c0_source::fault::{Fault, FaultKind, Span};
 use c0_syntax::program::{Header, TypedName};
 use c0_syntax::statement::Annotation;
+use c0_tables::environment::Environment;
+use c0_tables::resolved::ResolvedType;
+use c0_tables::signatures::Signature;
+use c0_terms::typing::Local;
 use std::alloc::{AllocError, Global};
 use std::collections::BTreeSet;
 

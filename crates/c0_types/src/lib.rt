@@ -1,24 +1,9 @@
-//! The static rules: which programs are well typed, and the typed trees of those that are.
+//! The static rules of a whole program: its declarations in order, and the typed program of those that are well typed.
 #![tactic(auto)]
 
-mod bodies;
 mod declare;
 mod definitions;
-pub mod environment;
-mod flow;
 mod functions_stub;
 mod headers;
-mod laws;
-mod mentioned;
-pub mod names;
-pub mod resolved;
-mod scope;
-pub mod signatures;
-pub mod structs;
-mod terms;
-#[cfg(test)]
-mod tests;
-pub mod typedefs;
-mod typing;
 
-pub use laws::{accepted_texts, elaborated, refused_texts};
+pub use c0_rules::{accepted_texts, elaborated, refused_texts};

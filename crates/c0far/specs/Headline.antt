@@ -9,9 +9,9 @@ use Rattle.code_form.specs.Form.{Image}
 use Rattle.code_form.specs.Effects.{code_run}
 use Rattle.code_form.specs.declared.allocation.Allocation.{Allocation}
 use Rattle.code_form.specs.Code.{Stopped, code, output_of, stop_of}
-use Rattle.world.specs.Causes.{HasCause}
-use Rattle.world.specs.Programs.{Program, Wanted}
-use Rattle.world.specs.Worlds.{Event, Follows, Sizes, World, start}
+use Rattle.world_events.specs.Causes.{HasCause}
+use Rattle.world_events.specs.Programs.{Program, Wanted}
+use Rattle.world_events.specs.Worlds.{Event, Follows, Sizes, World, start}
 use Rattle.c0far.specs.Compiled.{IsCompiled, Means}
 use Rattle.c0far.specs.Fragment.{Program as Meant, typed_of}
 

@@ -7,7 +7,7 @@ ghost use Rattle.c0far.specs.Headline.{Headline};
 
 use c0_typed::more_turns;
 use code_form::run_laws;
-use world::{programs_follow, wants};
+use world_events::{programs_follow, wants};
 
 /// The image of a program does what the program means, and each state of its run is covered.
 pub fn image_behaves()

@@ -8,8 +8,6 @@ mod machine;
 mod room;
 mod run;
 mod session;
-#[cfg(test)]
-mod tests;
 
 pub use hold::Hold;
 pub use session::Session;

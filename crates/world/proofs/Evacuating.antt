@@ -8,19 +8,19 @@ use Rattle.pointer_word.proofs.Legal.{may_legal}
 use Rattle.remote_store.specs.Kept.{piece_cells}
 use Rattle.remote_store.specs.declared.berth.Berth.{Berth}
 use Rattle.world.specs.declared.evacuator.Evacuator.{Evacuator}
-use Rattle.world.specs.declared.event.Choice.{Choice}
-use Rattle.world.specs.declared.event.Choice.TheVariants as choice
-use Rattle.world.specs.declared.event.Step.{Step}
+use Rattle.world_events.specs.declared.event.Choice.{Choice}
+use Rattle.world_events.specs.declared.event.Choice.TheVariants as choice
+use Rattle.world_events.specs.declared.event.Step.{Step}
 use Rattle.world.specs.declared.program.Eviction.{Eviction as RustEviction}
 use Rattle.world.specs.Acting.{Evacuates, Goes, Leads, Moves, Shows, Unread, eviction_in}
-use Rattle.world.specs.InHand.{FitsEvacuator}
-use Rattle.world.specs.Programs.{Eviction, Copying}
+use Rattle.world_events.specs.InHand.{FitsEvacuator}
+use Rattle.world_events.specs.Programs.{Eviction, Copying}
 use Rattle.world.specs.Seats.{eviction_of}
 use Rattle.world.specs.Tables.{Tables}
-use Rattle.world.specs.Turns.{Answer, evacuator_idle, evacuator_turn, evicts}
-use Rattle.world.specs.Worlds.{Sizes, in_range}
+use Rattle.world_events.specs.Turns.{Answer, evacuator_idle, evacuator_turn, evicts}
+use Rattle.world_events.specs.Worlds.{Sizes, in_range}
 use Rattle.world.proofs.Acting.{leads_call, plain}
-use Rattle.world.proofs.Moving.{below}
+use Rattle.world_events.proofs.Moving.{below}
 use Rattle.world.proofs.MovedOut.{MarkedSo}
 
 both : (a b : Bool) → (a && b) ≡ true → (a ≡ true) × (b ≡ true)

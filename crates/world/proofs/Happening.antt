@@ -14,20 +14,20 @@ use Rattle.pointer_word.proofs.Upd.{same_or, upd-same, upd-other}
 use Rattle.remote_store.specs.Kept.{piece_cells}
 use Rattle.remote_store.specs.declared.berth.Berth.{Berth}
 use Rattle.world.specs.declared.evacuator.Evacuator.{Evacuator}
-use Rattle.world.specs.declared.event.Actor.{Actor}
-use Rattle.world.specs.declared.event.Actor.TheVariants as actor
-use Rattle.world.specs.declared.event.Choice.{Choice}
-use Rattle.world.specs.declared.event.Step.{Step}
-use Rattle.world.specs.declared.event.Step.TheVariants as step
+use Rattle.world_events.specs.declared.event.Actor.{Actor}
+use Rattle.world_events.specs.declared.event.Actor.TheVariants as actor
+use Rattle.world_events.specs.declared.event.Choice.{Choice}
+use Rattle.world_events.specs.declared.event.Step.{Step}
+use Rattle.world_events.specs.declared.event.Step.TheVariants as step
 use Rattle.world.specs.Acting.{Evacuates, Goes, IsProgram, IsWorld, Seated, Shows, Stepped, Unread, eviction_in}
-use Rattle.world.specs.InHand.{FitsEvacuator, FitsMode}
-use Rattle.world.specs.Programs.{Eviction, Setting}
+use Rattle.world_events.specs.InHand.{FitsEvacuator, FitsMode}
+use Rattle.world_events.specs.Programs.{Eviction, Setting}
 use Rattle.world.specs.Seats.{Seat}
-use Rattle.world.specs.Steps.{IsSound}
+use Rattle.world_events.specs.Steps.{IsSound}
 use Rattle.world.specs.Tables.{Tables}
-use Rattle.world.specs.Turns.{Answer, evacuator_turn, program_turn, taken}
-use Rattle.world.specs.Worlds.{Event, Follows, IsHonest, ReadsHonestly, Sizes, World, acted, event, in_range, is_actor, mover_of, setting, start, with_evacuator, with_program}
-use Rattle.world.proofs.Stepping.{reached}
+use Rattle.world_events.specs.Turns.{Answer, evacuator_turn, program_turn, taken}
+use Rattle.world_events.specs.Worlds.{Event, Follows, IsHonest, ReadsHonestly, Sizes, World, acted, event, in_range, is_actor, mover_of, setting, start, with_evacuator, with_program}
+use Rattle.world_events.proofs.Stepping.{reached}
 
 -- one more event
 pub follows_push : (h : Type 0) (z : Sizes) (images : ℕ → Image) (w v u : World) (es : List Event) (e : Event) → Follows h z images w es v → event z images v e ≡ Some u → (h → IsHonest z v e.actor e.answer)

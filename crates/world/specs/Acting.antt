@@ -5,20 +5,20 @@ use Rattle.pointer_word.specs.Machine.{State}
 use Rattle.pointer_word.specs.Sound.{Inv}
 use Rattle.remote_store.specs.Kept.{piece_cells}
 use Rattle.remote_store.specs.declared.berth.Berth.{Berth}
-use Rattle.world.specs.declared.event.Actor.{Actor}
-use Rattle.world.specs.declared.event.Choice.{Choice}
-use Rattle.world.specs.declared.event.Step.{Step}
-use Rattle.world.specs.declared.event.Step.TheVariants as step
+use Rattle.world_events.specs.declared.event.Actor.{Actor}
+use Rattle.world_events.specs.declared.event.Choice.{Choice}
+use Rattle.world_events.specs.declared.event.Step.{Step}
+use Rattle.world_events.specs.declared.event.Step.TheVariants as step
 use Rattle.world.specs.declared.evacuator.Evacuator.{Evacuator}
 use Rattle.world.specs.declared.evict.Evicted.{Evicted}
 use Rattle.world.specs.declared.evict.Evicted.TheVariants as e
-use Rattle.world.specs.InHand.{FitsEvacuator, FitsEviction, FitsMode}
-use Rattle.world.specs.Programs.{Eviction, Program}
+use Rattle.world_events.specs.InHand.{FitsEvacuator, FitsEviction, FitsMode}
+use Rattle.world_events.specs.Programs.{Eviction, Program}
 use Rattle.world.specs.Seats.{Seat, eviction_of, mode_of}
 use Rattle.world.specs.Shown.{AreFar, Shown}
 use Rattle.world.specs.Tables.{Tables}
-use Rattle.world.specs.Turns.{Answer, Turn, taken}
-use Rattle.world.specs.Worlds.{Event, Follows, IsHonest, ReadsHonestly, Sizes, World, event, setting, start}
+use Rattle.world_events.specs.Turns.{Answer, Turn, taken}
+use Rattle.world_events.specs.Worlds.{Event, Follows, IsHonest, ReadsHonestly, Sizes, World, event, setting, start}
 
 -- for an answer of this kind a turn is enabled, and leads to what Q says
 abbrev pub Leads : {A : Type 0} → State → (Answer → Turn A) → (Answer → Type 0) → (State → A → Type 0) → Type 0

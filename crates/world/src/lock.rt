@@ -4,8 +4,8 @@ ghost use Rattle.pointer_word.specs.Hands.{upd};
 ghost use Rattle.pointer_word.specs.Machine.{Far};
 ghost use Rattle.remote_store.specs.Kept.{piece_cells};
 ghost use Rattle.world.specs.Shown.{AreFar, IsNew};
-ghost use Rattle.world.specs.Turns.{put_of};
-ghost use Rattle.world.specs.Worlds.{IsHonestRead};
+ghost use Rattle.world_events.specs.Turns.{put_of};
+ghost use Rattle.world_events.specs.Worlds.{IsHonestRead};
 
 use crate::machine::Machine;
 use remote_store::{Berth, PIECE_CELLS, Port, RawStore};

@@ -9,11 +9,11 @@ ghost use Rattle.pointer_word.specs.Machine.{Far, State};
 ghost use Rattle.remote_store.specs.Kept.{piece_cells};
 ghost use Rattle.std.specs.Prelude.{◌≡◌, ◌+◌, ◌-◌, ◌/◌, ◌<◌, ◌≤◌, ◌^◌, ℕ, IfOk, MatchResult, None, Some, length, option_map, slice_index, slice_set, true};
 ghost use Rattle.world.specs.Acting.{Done, Failed, Leads, Moves, On, Shows, Unread, outcome_of};
-ghost use Rattle.world.specs.Programs.{first_hold, hold_at};
+ghost use Rattle.world_events.specs.Programs.{first_hold, hold_at};
 ghost use Rattle.world.specs.Seats.{IsSteady, Waits, begin, eviction_of, finished, next_touch};
 ghost use Rattle.world.specs.Shown.{AreFar};
-ghost use Rattle.world.specs.Turns.{evicts};
-ghost use Rattle.world.specs.Worlds.{IsHonestRead, Sizes};
+ghost use Rattle.world_events.specs.Turns.{evicts};
+ghost use Rattle.world_events.specs.Worlds.{IsHonestRead, Sizes};
 
 use crate::evict::{Evicted, evict};
 use crate::lock::Lock;
@@ -22,13 +22,7 @@ use code_form::{Cell, Execution, Image, Touch, effect_laws, heap_laws};
 use remote_store::{PIECE_CELLS, Port, RawStore};
 use std::alloc::{AllocError, Global};
 use std::marker::Model;
-
-/// What a scope of a program holds, and whether it has begun to write there.
-#[derive(Clone, Copy, PartialEq, Eq, Debug)]
-pub struct Hold {
-    pub object: usize,
-    pub writes: bool,
-}
+use world_events::hold::Hold;
 
 /// How far a mover is that moves an object out of a frame.
 #[derive(Clone, Copy, PartialEq, Eq, Debug)]

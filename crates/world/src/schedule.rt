@@ -4,16 +4,16 @@ ghost use Rattle.code_form.specs.Form.{Image as ImageOf};
 ghost use Rattle.world.specs.Acting.{IsWorld};
 ghost use Rattle.world.specs.Opened.{images_of, sizes_of};
 ghost use Rattle.world.specs.Reports.{HasLed, IsRefusal, IsRefusedLine, IsReport};
-ghost use Rattle.world.specs.Worlds.{Sizes, World as Defined};
+ghost use Rattle.world_events.specs.Worlds.{Sizes, World as Defined};
 
-use crate::event::Step;
-use crate::line::read_line;
 use crate::world::World;
 use cells::Ended;
 use code_form::Image;
 use remote_store::{Config, RawStore, Stores};
+use schedule_lines::line::read_line;
 use std::alloc::Global;
 use thiserror::Error;
+use world_events::event::Step;
 
 /// What each program printed, how it runs, and how many instructions it completed, after all lines of a schedule.
 #[derive(Debug, Drop)]

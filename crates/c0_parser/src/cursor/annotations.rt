@@ -2,13 +2,13 @@
 
 ghost use Rattle.std.specs.Prelude.{length, map, suc};
 ghost use Rattle.c0_syntax.specs.Views.{annotation_of, spec_of};
-ghost use Rattle.c0_parser.specs.Outcome.{Gives, next, plain_at};
+ghost use Rattle.c0_reading.specs.Outcome.{Gives, next, plain_at};
 ghost use Rattle.c0_parser.specs.Found.{spec_behind};
-ghost use Rattle.c0_parser.specs.ReadStatements.{read_annotations, read_spec, read_specs, spec_by};
+ghost use Rattle.c0_reading.specs.ReadStatements.{read_annotations, read_spec, read_specs, spec_by};
 
 use super::Cursor;
-use crate::read_error::ReadError;
 use crate::type_names::TypeNames;
+use c0_reading::read_error::ReadError;
 use c0_source::kind::Kind;
 use c0_syntax::statement::{Annotation, Spec, SpecKind};
 

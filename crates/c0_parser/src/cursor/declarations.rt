@@ -5,16 +5,16 @@ ghost use Rattle.c0_source.specs.declared.kind.Kind.TheVariants as k;
 ghost use Rattle.c0_source.specs.Spelling.{use_of as spec_use_of};
 ghost use Rattle.c0_syntax.specs.Programs.{type_names_after};
 ghost use Rattle.c0_syntax.specs.Views.{declaration_of, header_of, typed_name_of};
-ghost use Rattle.c0_parser.specs.Outcome.{Gives, next, plain_at};
-ghost use Rattle.c0_parser.specs.ReadPrograms.{declaration_by, end_by, function, less as spec_less, over_by, parameters_by, read_fields, read_header, read_parameters, read_program, struct_by, struct_of, use_of};
+ghost use Rattle.c0_reading.specs.Outcome.{Gives, next, plain_at};
+ghost use Rattle.c0_reading.specs.ReadPrograms.{declaration_by, end_by, function, less as spec_less, over_by, parameters_by, read_fields, read_header, read_parameters, read_program, struct_by, struct_of, use_of};
 ghost use Rattle.c0_parser.specs.FoundPrograms.{first_known, found_declaration, found_header, found_parameter, found_parameters, one_field, one_parameter, used_declaration};
 
 use super::Cursor;
 use crate::directives::{Used, directive};
 use crate::found::{FoundHeader, FoundParameter, FoundParameters};
 use crate::letters::tail;
-use crate::read_error::ReadError;
 use crate::type_names::TypeNames;
+use c0_reading::read_error::ReadError;
 use c0_source::kind::Kind;
 use c0_syntax::program::{Declaration, DeclarationKind, Header, TypedName};
 
@@ -203,7 +203,7 @@ impl<'a> Cursor<'a> {
     }
 
     /// A function up to its body.
-    #[tactic(auto, unfolding(crate::specs::ReadPrograms::read_header))]
+    #[tactic(auto, unfolding(c0_reading::specs::ReadPrograms::read_header))]
     fn header(&mut self, types: &TypeNames<'_>, depth: usize) -> Result<FoundHeader, ReadError>
         ensures { Gives (found_header self.new) result (read_header types.now depth self.old) }
     {
@@ -282,7 +282,7 @@ impl<'a> Cursor<'a> {
     }
 
     /// A function, declared or defined.
-    #[tactic(auto, unfolding(crate::specs::ReadPrograms::function))]
+    #[tactic(auto, unfolding(c0_reading::specs::ReadPrograms::function))]
     fn function(
         &mut self,
         types: &TypeNames<'_>,

@@ -5,14 +5,14 @@ ghost use Rattle.c0_source.specs.declared.kind.Kind.TheVariants as k;
 ghost use Rattle.c0_syntax.specs.Trees as t;
 ghost use Rattle.c0_syntax.specs.Expressions.{precedence as spec_precedence};
 ghost use Rattle.c0_syntax.specs.Views.{expression_of, expression_of_kind, expressions_of, name_of};
-ghost use Rattle.c0_parser.specs.Outcome.{Gives, Outcome, bytes_at, next, plain_at};
-ghost use Rattle.c0_parser.specs.ReadExpressions.{ReadExpression, alloc, alloc_array, arguments, arguments_by, climb, index, join, join_by, leaf, length_of, named_by, operator_of as spec_operator_of, parenthesized, postfix, postfix_by, prefix_of as spec_prefix_of, primary, read_expression, read_type, unary, unary_by};
+ghost use Rattle.c0_reading.specs.Outcome.{Gives, Outcome, bytes_at, next, plain_at};
+ghost use Rattle.c0_reading.specs.ReadExpressions.{ReadExpression, alloc, alloc_array, arguments, arguments_by, climb, index, join, join_by, leaf, length_of, named_by, operator_of as spec_operator_of, parenthesized, postfix, postfix_by, prefix_of as spec_prefix_of, primary, read_expression, read_type, unary, unary_by};
 ghost use Rattle.c0_parser.specs.Found.{GivesExpression, field_behind, found_arguments, found_expression, height_of_expression_step, pointer_field_behind};
 
 use super::Cursor;
 use crate::found::{ExpressionStep, FoundArguments, FoundExpression};
-use crate::read_error::ReadError;
 use crate::type_names::TypeNames;
+use c0_reading::read_error::ReadError;
 use c0_source::kind::{Kind, Operator};
 use c0_syntax::expression::{Expression, ExpressionKind};
 use c0_syntax::name::Name;
@@ -166,7 +166,7 @@ impl<'a> Cursor<'a> {
 
     /// An expression with operators before it or signs behind it.
     #[cycle(expression)]
-    #[tactic(auto, unfolding(crate::specs::ReadExpressions::unary))]
+    #[tactic(auto, unfolding(c0_reading::specs::ReadExpressions::unary))]
     fn operand(&mut self, types: &TypeNames<'_>, depth: usize) -> Result<FoundExpression, ReadError>
         requires { 0 < depth }
         ensures given { Gives (found_expression self.new) result (unary types.now (read_expression types.now (depth - 1)) (read_type types.now (depth - 1)) depth self.old) }
@@ -206,7 +206,7 @@ impl<'a> Cursor<'a> {
 
     /// An expression without operators, up to what stands behind it.
     #[cycle(expression)]
-    #[tactic(auto, unfolding(crate::specs::ReadExpressions::primary))]
+    #[tactic(auto, unfolding(c0_reading::specs::ReadExpressions::primary))]
     fn primary(&mut self, types: &TypeNames<'_>, depth: usize) -> Result<FoundExpression, ReadError>
         requires { 0 < depth }
         ensures given { Gives (found_expression self.new) result (primary types.now (read_expression types.now (depth - 1)) (read_type types.now (depth - 1)) self.old) }
@@ -302,7 +302,7 @@ impl<'a> Cursor<'a> {
 
     /// An expression in parentheses, the first of which stands next.
     #[cycle(expression)]
-    #[tactic(auto, unfolding(crate::specs::ReadExpressions::parenthesized))]
+    #[tactic(auto, unfolding(c0_reading::specs::ReadExpressions::parenthesized))]
     fn parenthesized(
         &mut self,
         types: &TypeNames<'_>,
@@ -323,7 +323,7 @@ impl<'a> Cursor<'a> {
 
     /// `\length` and its operand.
     #[cycle(expression)]
-    #[tactic(auto, unfolding(crate::specs::ReadExpressions::length_of))]
+    #[tactic(auto, unfolding(c0_reading::specs::ReadExpressions::length_of))]
     fn length_of(
         &mut self,
         types: &TypeNames<'_>,
@@ -343,7 +343,7 @@ impl<'a> Cursor<'a> {
     }
 
     /// `alloc` and its type.
-    #[tactic(auto, unfolding(crate::specs::ReadExpressions::alloc))]
+    #[tactic(auto, unfolding(c0_reading::specs::ReadExpressions::alloc))]
     fn alloc_of(
         &mut self,
         types: &TypeNames<'_>,
@@ -364,7 +364,7 @@ impl<'a> Cursor<'a> {
 
     /// `alloc_array`, its type and its number of elements.
     #[cycle(expression)]
-    #[tactic(auto, unfolding(crate::specs::ReadExpressions::alloc_array))]
+    #[tactic(auto, unfolding(c0_reading::specs::ReadExpressions::alloc_array))]
     fn alloc_array_of(
         &mut self,
         types: &TypeNames<'_>,
@@ -500,7 +500,7 @@ impl<'a> Cursor<'a> {
 
     /// The expression with the operator that stands next.
     #[cycle(expression)]
-    #[tactic(auto, unfolding(crate::specs::ReadExpressions::join))]
+    #[tactic(auto, unfolding(c0_reading::specs::ReadExpressions::join))]
     fn joined(
         &mut self,
         types: &TypeNames<'_>,

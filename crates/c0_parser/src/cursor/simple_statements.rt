@@ -4,14 +4,14 @@ ghost use Rattle.std.specs.Prelude.{◌≡◌, ℕ, option_map};
 ghost use Rattle.c0_syntax.specs.Expressions.{begins_star as spec_begins_star};
 ghost use Rattle.c0_syntax.specs.Trees as t;
 ghost use Rattle.c0_syntax.specs.Views.{expression_of, name_of, simple_of, type_of};
-ghost use Rattle.c0_parser.specs.Outcome.{Gives, kind_at, plain_at};
-ghost use Rattle.c0_parser.specs.ReadStatements.{behind_by, first_by, local_declaration, read_simple, simple_by, step_by, third_by, value_by};
+ghost use Rattle.c0_reading.specs.Outcome.{Gives, kind_at, plain_at};
+ghost use Rattle.c0_reading.specs.ReadStatements.{behind_by, first_by, local_declaration, read_simple, simple_by, step_by, third_by, value_by};
 ghost use Rattle.c0_parser.specs.Found.{found_expression};
 
 use super::Cursor;
 use crate::found::FoundExpression;
-use crate::read_error::ReadError;
 use crate::type_names::TypeNames;
+use c0_reading::read_error::ReadError;
 use c0_source::kind::Kind;
 use c0_syntax::expression::{Expression, ExpressionKind};
 use c0_syntax::name::Name;
@@ -68,7 +68,7 @@ impl<'a> Cursor<'a> {
     }
 
     /// The declaration of a local, one of those that there may be.
-    #[tactic(auto, unfolding(crate::specs::ReadStatements::local_declaration))]
+    #[tactic(auto, unfolding(c0_reading::specs::ReadStatements::local_declaration))]
     fn local_declaration(
         &mut self,
         types: &TypeNames<'_>,

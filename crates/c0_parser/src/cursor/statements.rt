@@ -4,14 +4,14 @@ ghost use Rattle.std.specs.Prelude.{◌≡◌, ℕ, MatchResult, option_map};
 ghost use Rattle.c0_source.specs.declared.kind.Kind.TheVariants as k;
 ghost use Rattle.c0_syntax.specs.Trees as t;
 ghost use Rattle.c0_syntax.specs.Views.{expression_of, simple_of, statement_of, statement_of_kind, statements_of};
-ghost use Rattle.c0_parser.specs.Outcome.{Gives, next, plain_at};
-ghost use Rattle.c0_parser.specs.ReadStatements.{call_of, else_by, for_of, for_test, for_end, if_of, leave_by, loop_body, read_statement, read_statements, return_by, statement_by, test, while_of, with_semi};
+ghost use Rattle.c0_reading.specs.Outcome.{Gives, next, plain_at};
+ghost use Rattle.c0_reading.specs.ReadStatements.{call_of, else_by, for_of, for_test, for_end, if_of, leave_by, loop_body, read_statement, read_statements, return_by, statement_by, test, while_of, with_semi};
 ghost use Rattle.c0_parser.specs.Found.{found_body, found_for_end, found_for_test, for_tree, simple_line};
 
 use super::Cursor;
 use crate::found::{FoundBody, FoundForEnd, FoundForTest};
-use crate::read_error::ReadError;
 use crate::type_names::TypeNames;
+use c0_reading::read_error::ReadError;
 use c0_source::kind::Kind;
 use c0_syntax::expression::Expression;
 use c0_syntax::statement::{SimpleStatement, Statement, StatementKind};
@@ -57,7 +57,7 @@ impl<'a> Cursor<'a> {
     }
 
     /// An expression in parentheses.
-    #[tactic(auto, unfolding(crate::specs::ReadStatements::test))]
+    #[tactic(auto, unfolding(c0_reading::specs::ReadStatements::test))]
     fn test(&mut self, types: &TypeNames<'_>, depth: usize) -> Result<Expression, ReadError>
         ensures { Gives (λ e. record { value = expression_of e; rest = self.new }) result (test types.now depth self.old) }
     {
@@ -68,7 +68,7 @@ impl<'a> Cursor<'a> {
     }
 
     /// An expression in parentheses and a semicolon.
-    #[tactic(auto, unfolding(crate::specs::ReadStatements::call_of))]
+    #[tactic(auto, unfolding(c0_reading::specs::ReadStatements::call_of))]
     fn checked(&mut self, types: &TypeNames<'_>, depth: usize) -> Result<Expression, ReadError>
         ensures { Gives (λ e. record { value = expression_of e; rest = self.new }) result (call_of types.now depth self.old) }
     {
@@ -78,7 +78,7 @@ impl<'a> Cursor<'a> {
     }
 
     /// A simple statement and its semicolon.
-    #[tactic(auto, unfolding(crate::specs::ReadStatements::read_simple))]
+    #[tactic(auto, unfolding(c0_reading::specs::ReadStatements::read_simple))]
     fn simple_line(
         &mut self,
         types: &TypeNames<'_>,
@@ -229,7 +229,7 @@ impl<'a> Cursor<'a> {
 
     /// An `if`, which stands next.
     #[cycle(statement)]
-    #[tactic(auto, unfolding(crate::specs::ReadStatements::if_of))]
+    #[tactic(auto, unfolding(c0_reading::specs::ReadStatements::if_of))]
     fn if_statement(
         &mut self,
         types: &TypeNames<'_>,
@@ -276,7 +276,7 @@ impl<'a> Cursor<'a> {
 
     /// The annotations and the body of a loop.
     #[cycle(statement)]
-    #[tactic(auto, unfolding(crate::specs::ReadStatements::loop_body))]
+    #[tactic(auto, unfolding(c0_reading::specs::ReadStatements::loop_body))]
     fn loop_body(
         &mut self,
         types: &TypeNames<'_>,
@@ -293,7 +293,7 @@ impl<'a> Cursor<'a> {
 
     /// A `while`, which stands next.
     #[cycle(statement)]
-    #[tactic(auto, unfolding(crate::specs::ReadStatements::while_of))]
+    #[tactic(auto, unfolding(c0_reading::specs::ReadStatements::while_of))]
     fn while_statement(
         &mut self,
         types: &TypeNames<'_>,
@@ -314,7 +314,7 @@ impl<'a> Cursor<'a> {
 
     /// A `for` behind its second semicolon.
     #[cycle(statement)]
-    #[tactic(auto, unfolding(crate::specs::ReadStatements::for_end))]
+    #[tactic(auto, unfolding(c0_reading::specs::ReadStatements::for_end))]
     fn for_end(
         &mut self,
         types: &TypeNames<'_>,
@@ -332,7 +332,7 @@ impl<'a> Cursor<'a> {
 
     /// A `for` behind its first semicolon.
     #[cycle(statement)]
-    #[tactic(auto, unfolding(crate::specs::ReadStatements::for_test))]
+    #[tactic(auto, unfolding(c0_reading::specs::ReadStatements::for_test))]
     fn for_test(
         &mut self,
         types: &TypeNames<'_>,
@@ -353,7 +353,7 @@ impl<'a> Cursor<'a> {
 
     /// A `for`, which stands next.
     #[cycle(statement)]
-    #[tactic(auto, unfolding(crate::specs::ReadStatements::for_of))]
+    #[tactic(auto, unfolding(c0_reading::specs::ReadStatements::for_of))]
     fn for_statement(
         &mut self,
         types: &TypeNames<'_>,

@@ -2,14 +2,14 @@
 
 ghost use Rattle.std.specs.Prelude.{◌≡◌, ◌<◌, ◌≤◌, Ok, IfOk};
 ghost use Rattle.c0_syntax.specs.Views.{type_of};
-ghost use Rattle.c0_parser.specs.Outcome.{Gives, Outcome, kind_at, plain_at};
-ghost use Rattle.c0_parser.specs.ReadExpressions.{ReadType, array_behind, base_by, leaf_type, pointer_to, read_type, suffix_by, suffixes};
+ghost use Rattle.c0_reading.specs.Outcome.{Gives, Outcome, kind_at, plain_at};
+ghost use Rattle.c0_reading.specs.ReadExpressions.{ReadType, array_behind, base_by, leaf_type, pointer_to, read_type, suffix_by, suffixes};
 ghost use Rattle.c0_parser.specs.Found.{GivesType, found_type, height_of_step};
 
 use super::Cursor;
 use crate::found::{FoundType, TypeStep};
-use crate::read_error::ReadError;
 use crate::type_names::TypeNames;
+use c0_reading::read_error::ReadError;
 use c0_source::kind::{Kind, Operator};
 use c0_syntax::value_type::{TypeKind, ValueType};
 

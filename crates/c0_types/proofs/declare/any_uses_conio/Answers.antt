@@ -2,7 +2,7 @@ use Rattle.std.proofs.Common.{◌+◌, ap, sym, ◌∙◌, drop, map}
 use Rattle.std.specs.Prelude.{◌||◌}
 use Rattle.std.specs.List.{list_any}
 use Rattle.c0_syntax.specs.Views.{declaration_of}
-use Rattle.c0_types.specs.Programs.{uses_conio}
+use Rattle.c0_rules.specs.Programs.{uses_conio}
 use Rattle.c0_types.proofs.DeclarationSteps.{uses_first}
 use Rattle.c0_types.proofs.declare.any_uses_conio.Goals as goal
 

@@ -1,7 +1,7 @@
 use Rattle.std.proofs.Common.{◌≡◌, drop, map}
 use Rattle.std.specs.List.{list_any}
 use Rattle.c0_syntax.specs.Views.{declaration_of}
-use Rattle.c0_types.specs.Programs.{uses_conio}
+use Rattle.c0_rules.specs.Programs.{uses_conio}
 use Rattle.c0_types.proofs.declare.any_uses_conio.Given as goal
 
 -- what is left decides

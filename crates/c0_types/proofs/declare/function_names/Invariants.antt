@@ -1,6 +1,6 @@
 use Rattle.std.proofs.Common.{◌≡◌, ◌++◌, drop, map}
 use Rattle.c0_syntax.specs.Views.{declaration_of}
-use Rattle.c0_types.specs.Programs.{function_names_of}
+use Rattle.c0_rules.specs.Programs.{function_names_of}
 use Rattle.c0_types.proofs.declare.function_names.Given as goal
 
 -- the names so far, and those of what is left

@@ -1,6 +1,6 @@
 use Rattle.std.proofs.Common.{true, false, subst, sym, take}
 use Rattle.world.specs.Acting.{On}
-use Rattle.world.specs.Programs.{Copying, Stored, NotStored}
+use Rattle.world_events.specs.Programs.{Copying, Stored, NotStored}
 use Rattle.world.specs.Tables.{Tables}
 use Rattle.world.proofs.MovedOut.{LeadsTo, put_out}
 use Rattle.world.proofs.evict.put.Goals as goal

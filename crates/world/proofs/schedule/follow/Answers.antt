@@ -1,7 +1,7 @@
 use Rattle.std.proofs.Common.{◌≡◌, inr, ℕ, suc, ◌+◌, ◌≤◌, ◌<◌, length, arith}
 use Rattle.std.proofs.Common.{sym}
 use Rattle.std.proofs.lemmas.Bool.{eqb-true}
-use Rattle.world.specs.Lines.{Line}
+use Rattle.schedule_lines.specs.Lines.{Line}
 use Rattle.world.proofs.Replaying.{come_more, has_led, shorter}
 use Rattle.world.proofs.schedule.follow.Goals as goal
 

@@ -2,7 +2,7 @@ use Rattle.std.proofs.Common.{◌≡◌, ◌∙◌, sym, arith, max, ◌+◌, �
 use Rattle.std.proofs.lemmas.Result.{err_from_is_err_and}
 use Rattle.c0_syntax.specs.Trees.{more, none}
 use Rattle.c0_syntax.specs.Views.{expression_of, expressions_of}
-use Rattle.c0_parser.specs.ReadExpressions.{climb, postfix, read_expression, read_type, unary}
+use Rattle.c0_reading.specs.ReadExpressions.{climb, postfix, read_expression, read_type, unary}
 use Rattle.c0_parser.specs.Found.{found_expression}
 use Rattle.c0_parser.proofs.Turned.{fails_along, fails_bind, gives_along, gives_behind}
 use Rattle.c0_parser.proofs.ExpressionLoops.{arguments_done, arguments_end, arguments_fail, arguments_more, arguments_refuse, climb_deep, climb_end, climb_fails, climb_more, climb_stop, climb_turn, expression_done, expression_low, expression_more, expression_none, expression_some, expressions_push, join_trees, postfix_end, postfix_turn}

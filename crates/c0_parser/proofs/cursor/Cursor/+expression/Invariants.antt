@@ -1,6 +1,6 @@
 use Rattle.std.proofs.Common.{◌≡◌, ◌*◌, ◌+◌, ◌-◌, ◌<◌, ◌≤◌, length}
 use Rattle.c0_syntax.specs.Views.{expressions_of}
-use Rattle.c0_parser.specs.ReadExpressions.{arguments, climb, postfix, read_expression, read_type}
+use Rattle.c0_reading.specs.ReadExpressions.{arguments, climb, postfix, read_expression, read_type}
 use Rattle.c0_parser.specs.Found.{found_expression}
 use Rattle.c0_parser.proofs.ExpressionLoops.{with_front}
 use Rattle.c0_parser.proofs.cursor.Cursor.+expression.Given as goal

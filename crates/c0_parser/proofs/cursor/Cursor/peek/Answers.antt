@@ -1,5 +1,5 @@
 use Rattle.std.proofs.Common.{ap, ◌∙◌}
-use Rattle.c0_parser.specs.Outcome.{plain_at}
+use Rattle.c0_reading.specs.Outcome.{plain_at}
 use Rattle.c0_parser.proofs.Cursors.{peek_first}
 use Rattle.c0_parser.proofs.cursor.Cursor.peek.Goals as goal
 

@@ -1,6 +1,6 @@
 use Rattle.std.proofs.Common.{◌≡◌, ◌-◌, length, map}
 use Rattle.c0_syntax.specs.Views.{typed_name_of}
-use Rattle.c0_parser.specs.ReadPrograms.{read_parameters}
+use Rattle.c0_reading.specs.ReadPrograms.{read_parameters}
 use Rattle.c0_parser.proofs.ProgramLoops.{with_parameters}
 use Rattle.c0_parser.proofs.cursor.Cursor.some_parameters.Given as goal
 

@@ -1,6 +1,6 @@
 use Rattle.std.proofs.Common.{◌+◌, ◌-◌, ◌∙◌, sym, arith}
 use Rattle.std.proofs.lemmas.Result.{err_from_is_err_and}
-use Rattle.c0_parser.specs.ReadExpressions.{suffixes}
+use Rattle.c0_reading.specs.ReadExpressions.{suffixes}
 use Rattle.c0_parser.specs.Found.{found_type}
 use Rattle.c0_parser.proofs.Stepped.{type_done, type_low, type_more}
 use Rattle.c0_parser.proofs.Turned.{fails_along, suffixes_end, suffixes_turn}

@@ -1,5 +1,5 @@
 use Rattle.std.proofs.Common.{◌≡◌, ◌-◌, ◌≤◌}
-use Rattle.c0_parser.specs.ReadExpressions.{suffixes}
+use Rattle.c0_reading.specs.ReadExpressions.{suffixes}
 use Rattle.c0_parser.specs.Found.{found_type}
 use Rattle.c0_parser.proofs.cursor.Cursor.type_suffixes.Given as goal
 

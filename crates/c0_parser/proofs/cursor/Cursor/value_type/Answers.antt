@@ -1,7 +1,7 @@
 use Rattle.std.proofs.Common.{arith}
 use Rattle.std.proofs.lemmas.Result.{err_from_is_err_and}
-use Rattle.c0_parser.specs.Outcome.{kind_at}
-use Rattle.c0_parser.specs.ReadExpressions.{base_by, suffixes}
+use Rattle.c0_reading.specs.Outcome.{kind_at}
+use Rattle.c0_reading.specs.ReadExpressions.{base_by, suffixes}
 use Rattle.c0_parser.specs.Found.{found_type}
 use Rattle.c0_parser.proofs.Turned.{fails_along, fails_bind, gives_along, gives_behind, type_none, type_some}
 use Rattle.c0_parser.proofs.cursor.Cursor.value_type.Goals as goal

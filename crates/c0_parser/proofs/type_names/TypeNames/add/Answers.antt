@@ -1,5 +1,5 @@
 use Rattle.std.proofs.Common.{ap, ◌∙◌, [], ◌∷◌, map}
-use Rattle.c0_parser.specs.Tokens.{last_first}
+use Rattle.c0_reading.specs.Tokens.{last_first}
 use Rattle.c0_parser.proofs.Cursors.{last_push}
 use Rattle.c0_parser.proofs.type_names.TypeNames.add.Goals as goal
 

@@ -1,6 +1,6 @@
 use Rattle.std.proofs.Common.{◌≡◌, [], map, drop}
 use Rattle.c0_syntax.specs.Expressions.{is_type_name}
-use Rattle.c0_parser.specs.Tokens.{last_first}
+use Rattle.c0_reading.specs.Tokens.{last_first}
 use Rattle.c0_parser.proofs.type_names.TypeNames.contains.Given as goal
 
 -- it is among the names that are left, if it is among all of them

@@ -3,8 +3,8 @@ use Rattle.c0_source.specs.declared.fault.FaultKind.TheVariants.{OutOfMemory}
 use Rattle.c0_syntax.specs.declared.program.DeclarationKind.{DeclarationKind}
 use Rattle.c0_syntax.specs.declared.statement.Statement.{Statement}
 use Rattle.c0_types.specs.DeclareViews.{InDefinition, elaboration_of}
-use Rattle.c0_types.specs.FaultPrograms.{InDeclaration}
-use Rattle.c0_types.specs.Views.{environment_of}
+use Rattle.c0_rules.specs.FaultPrograms.{InDeclaration}
+use Rattle.c0_tables.specs.Views.{environment_of}
 use Rattle.c0_types.proofs.declare.Elaborated.declaration.Goals as goal
 
 pub returns-in-DefineFunction-clause-cause : goal.returns-in-DefineFunction-clause-cause

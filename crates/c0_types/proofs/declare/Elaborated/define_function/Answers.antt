@@ -4,10 +4,10 @@ use Rattle.std.proofs.lemmas.Result.{err_from_is_err_and}
 use Rattle.c0_syntax.specs.Views.{header_of, name_of, statements_of}
 use Rattle.c0_typed.specs.Views.{function_of, struct_of}
 use Rattle.c0_types.specs.DeclareViews.{elaboration_of}
-use Rattle.c0_types.specs.FaultPrograms.{InFunction}
-use Rattle.c0_types.specs.Programs.{typed_function}
-use Rattle.c0_types.specs.Types as t
-use Rattle.c0_types.specs.Views.{environment_of, functions_of, signature_of}
+use Rattle.c0_rules.specs.FaultPrograms.{InFunction}
+use Rattle.c0_rules.specs.Programs.{typed_function}
+use Rattle.c0_rules.specs.Types as t
+use Rattle.c0_tables.specs.Views.{environment_of, functions_of, signature_of}
 use Rattle.c0_types.proofs.DeclarationSteps.{define_none, define_some, found_again}
 use Rattle.c0_types.proofs.declare.Elaborated.define_function.Goals as goal
 

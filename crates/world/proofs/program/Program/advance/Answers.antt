@@ -1,9 +1,9 @@
 use Rattle.std.proofs.Common.{ap, refl, ◌∙◌}
-use Rattle.world.specs.declared.event.Choice.TheVariants as choice
-use Rattle.world.specs.declared.event.Step.TheVariants as step
-use Rattle.world.specs.Programs.{Bringing, Evicting, Retreating, in_mode}
+use Rattle.world_events.specs.declared.event.Choice.TheVariants as choice
+use Rattle.world_events.specs.declared.event.Step.TheVariants as step
+use Rattle.world_events.specs.Programs.{Bringing, Evicting, Retreating, in_mode}
 use Rattle.world.specs.Seats.{eviction_of, mode_of}
-use Rattle.world.specs.Turns.{by_mode, evicts}
+use Rattle.world_events.specs.Turns.{by_mode, evicts}
 use Rattle.world.proofs.Acting.{goes_same}
 use Rattle.world.proofs.Instructed.{goes_turn}
 use Rattle.world.proofs.program.Program.advance.Goals as goal

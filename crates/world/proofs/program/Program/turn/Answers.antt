@@ -1,7 +1,7 @@
 use Rattle.std.proofs.Common.{refl, ap, ◌∙◌}
-use Rattle.world.specs.declared.event.Choice.TheVariants as choice
+use Rattle.world_events.specs.declared.event.Choice.TheVariants as choice
 use Rattle.world.specs.declared.program.Mode.TheVariants as m
-use Rattle.world.specs.Turns.{program_turn}
+use Rattle.world_events.specs.Turns.{program_turn}
 use Rattle.world.proofs.Acting.{goes_same}
 use Rattle.world.proofs.Dispatched.{not_enabled, turn_is}
 use Rattle.world.proofs.Instructed.{goes_turn}

@@ -1,0 +1,207 @@
+-- What stands before and behind statements.
+use Rattle.std.proofs.Common.{◌≡◌, ◌⊎◌, List, [], ◌∷◌, map, refl, sym, ap, ◌∙◌, subst, inl, inr, Bool, true, false, cond, Option, Some, None, option_map}
+use Rattle.std.specs.Prelude.{◌&&◌, ◌||◌, not, filter, filter_map, bytes_eq}
+use Rattle.std.specs.List.{list_any}
+use Rattle.std.proofs.lemmas.Bool.{eq-eqb}
+use Rattle.std.proofs.lemmas.List.Folds.{list_any-append}
+use Rattle.c0_source.specs.declared.fault.Fault.{Fault}
+use Rattle.c0_syntax.specs.Trees as t
+use Rattle.c0_syntax.specs.declared.expression.Expression.{Expression}
+use Rattle.c0_syntax.specs.declared.statement.Annotation.{Annotation}
+use Rattle.c0_syntax.specs.declared.statement.SimpleStatement.{SimpleStatement}
+use Rattle.c0_syntax.specs.declared.statement.StatementKind.{StatementKind}
+use Rattle.c0_syntax.specs.Views.{simple_of, statement_of_kind}
+use Rattle.c0_rules.specs.Types.{and_so, provided, Name, is_among, any_among}
+use Rattle.c0_rules.specs.Mentions.{Mention, OfVariable, OfFunction, OfText, variable_of, mentions, spec_mentions, condition_of, specs_in}
+use Rattle.c0_rules.specs.Assignment.{Flow, Ended, Reached, has_ended, joined, left_scope, reads_assigned, specs_read_assigned, flow_of_part, flow_of_statement, flow_of_statements}
+use Rattle.c0_rules.specs.FaultPaths.{is_unassigned, ReadIn, ReadInAnnotations, ReadInPart, ReadInStatement}
+
+-- what passes a test of its view
+pub filter_of_map : {A B : Type 0} (test : B → Bool) (view : A → B) (xs : List A) → map view (filter (λ x. test (view x)) xs) ≡ filter test (map view xs)
+filter_of_map test view [] = refl
+filter_of_map test view (x ∷ xs) = at (test (view x)) (filter_of_map test view xs)
+  where
+    at : (b : Bool) → map view (filter (λ x. test (view x)) xs) ≡ filter test (map view xs)
+        → map view (cond b (x ∷ filter (λ x. test (view x)) xs) (filter (λ x. test (view x)) xs)) ≡ cond b (view x ∷ filter test (map view xs)) (filter test (map view xs))
+    at true e = ap (λ z. view x ∷ z) e
+    at false e = e
+
+or_false : (b : Bool) → b ≡ (b || false)
+or_false true = refl
+or_false false = refl
+
+-- behind a choice of which one way leads on
+pub joined_reached : (names : List Name) (first second : Flow) → (has_ended first && has_ended second) ≡ false
+    → joined (Reached names) first second ≡ Reached (filter (λ n. is_unassigned first (OfVariable n) || is_unassigned second (OfVariable n)) names)
+joined_reached names Ended Ended e = absurd (cc e)
+joined_reached names Ended (Reached second) e = refl
+joined_reached names (Reached first) Ended e = λ i. Reached (filter (λ n. or_false (is_among n first) i) names)
+joined_reached names (Reached first) (Reached second) e = refl
+
+-- ---- reads
+
+any_variable : (names : List Name) (ms : List Mention) → list_any (is_unassigned (Reached names)) ms ≡ any_among (filter_map variable_of ms) names
+any_variable names [] = refl
+any_variable names (OfVariable n ∷ ms) = ap (λ z. is_among n names || z) (any_variable names ms)
+any_variable names (OfFunction n ∷ ms) = any_variable names ms
+any_variable names (OfText n ∷ ms) = any_variable names ms
+
+none_ended : (ms : List Mention) → list_any (is_unassigned Ended) ms ≡ false
+none_ended [] = refl
+none_ended (m ∷ ms) = none_ended ms
+
+-- what reads no unassigned local reads assigned ones
+pub reads_are : (flow : Flow) (e : t.Expression) → not (list_any (is_unassigned flow) (mentions e)) ≡ reads_assigned flow e
+reads_are Ended e = ap not (none_ended (mentions e))
+reads_are (Reached names) e = ap not (any_variable names (mentions e))
+
+neither : (a b : Bool) → not (a || b) ≡ (not a && not b)
+neither true b = refl
+neither false b = refl
+
+pub spec_reads_are : (flow : Flow) (specs : List t.Spec) → not (list_any (is_unassigned flow) (spec_mentions specs)) ≡ specs_read_assigned flow specs
+spec_reads_are flow [] = refl
+spec_reads_are flow (s ∷ specs) =
+    ap not (list_any-append (is_unassigned flow) (mentions (condition_of s)) (spec_mentions specs))
+    ∙ neither (list_any (is_unassigned flow) (mentions (condition_of s))) (list_any (is_unassigned flow) (spec_mentions specs))
+    ∙ ap (λ z. z && not (list_any (is_unassigned flow) (spec_mentions specs))) (reads_are flow (condition_of s))
+    ∙ ap (λ z. reads_assigned flow (condition_of s) && z) (spec_reads_are flow specs)
+
+-- ---- a choice with one way
+
+same_self : (n : Name) → bytes_eq n n ≡ true
+same_self [] = refl
+same_self (a ∷ n) = ap (λ z. z && bytes_eq n n) (eq-eqb a a refl) ∙ same_self n
+
+or_true : (b : Bool) → (b || true) ≡ true
+or_true true = refl
+or_true false = refl
+
+all_pass : (p : Name → Bool) (names : List Name) → ((n : Name) → is_among n names ≡ true → p n ≡ true) → filter p names ≡ names
+all_pass p [] h = refl
+all_pass p (n ∷ names) h =
+    ap (λ z. cond z (n ∷ filter p names) (filter p names)) (h n (ap (λ z. z || is_among n names) (same_self n)))
+    ∙ ap (λ z. n ∷ z) (all_pass p names (λ m e. h m (ap (λ z. bytes_eq m n || z) e ∙ or_true (bytes_eq m n))))
+
+-- behind an `if` without `else` it is as before
+pub joined_before : (f g : Flow) → joined f g f ≡ f
+joined_before Ended g = refl
+joined_before (Reached names) Ended = ap Reached (all_pass (λ n. is_among n names) names (λ n e. e))
+joined_before (Reached names) (Reached first) =
+    ap Reached (all_pass (λ n. is_among n first || is_among n names) names (λ n e. ap (λ z. is_among n first || z) e ∙ or_true (is_among n first)))
+
+-- ---- rules in a row
+
+provided_so : {A : Type 0} (b : Bool) (o : Option A) → true ≡ b → provided b o ≡ o
+provided_so true o e = refl
+provided_so false o e = absurd (cc e)
+
+none_so : {A B : Type 0} (o : Option A) (go : A → Option B) → o ≡ None → and_so o go ≡ None
+none_so o go e = ap (λ z. and_so z go) e
+
+both_so : (a b : Bool) → true ≡ a → true ≡ b → true ≡ (a && b)
+both_so true b e h = h
+both_so false b e h = absurd (cc e)
+
+split_so : {A : Type 0} (o : Option A) (b : A → Bool) (x : A) → and_so o (λ g. provided (b g) (Some g)) ≡ Some x → (o ≡ Some x) × (true ≡ b x)
+split_so None b x e = absurd (cc e)
+split_so (Some g) b x e = at (b g) refl e
+  where
+    at : (r : Bool) → r ≡ b g → provided r (Some g) ≡ Some x → (Some g ≡ Some x) × (true ≡ b x)
+    at true q h = (h, q ∙ ap b (let k : g ≡ x = cc h in k))
+    at false q h = absurd (cc h)
+
+none_either : {A B : Type 0} (o : Option A) (b : A → Bool) (go : A → Option B) → and_so o (λ g. provided (b g) (Some g)) ≡ None → and_so o (λ g. provided (b g) (go g)) ≡ None
+none_either None b go e = refl
+none_either (Some g) b go e = at (b g) e
+  where
+    at : (r : Bool) → provided r (Some g) ≡ None → provided r (go g) ≡ None
+    at true h = absurd (cc h)
+    at false h = refl
+
+-- ---- behind a block
+
+module _ (rest : t.Statements) (f d : Flow) (same : d ≡ f) where
+  pub block_leads : (g out : Flow) → flow_of_statements rest d ≡ Some g → out ≡ left_scope f g → flow_of_statement (t.Block rest) f ≡ Some out
+  block_leads g out e o = ap (λ z. and_so (flow_of_statements rest z) (λ g. Some (left_scope f g))) (sym same) ∙ ap (λ z. and_so z (λ g. Some (left_scope f g))) e ∙ ap Some (sym o)
+
+  pub block_refused : {K : Type 0} → K ⊎ (flow_of_statements rest d ≡ None) → K ⊎ (flow_of_statement (t.Block rest) f ≡ None)
+  block_refused (inl h) = inl h
+  block_refused (inr h) = inr (none_so (flow_of_statements rest f) (λ g. Some (left_scope f g)) (ap (flow_of_statements rest) (sym same) ∙ h))
+
+-- ---- behind an `if`
+
+pub if_leads : (c : t.Expression) (a : t.Statement) (f d g : Flow) → d ≡ f → true ≡ reads_assigned f c → flow_of_statement a d ≡ Some g → flow_of_statement (t.If c a) f ≡ Some f
+if_leads c a f d g same r e =
+    provided_so (reads_assigned f c) (and_so (flow_of_statement a f) (λ g. Some (joined f g f))) r
+    ∙ ap (λ z. and_so z (λ g. Some (joined f g f))) (ap (flow_of_statement a) (sym same) ∙ e)
+    ∙ ap Some (joined_before f g)
+
+-- ---- behind a `for`
+
+module _ (first : Option t.SimpleStatement) (c : t.Expression) (third : Option t.SimpleStatement) (notes : List (List t.Spec)) (a : t.Statement) (f d : Flow) (same : d ≡ f) where
+  abbrev reads : Flow → Bool
+  reads g = reads_assigned g c && specs_read_assigned g (specs_in notes)
+
+  abbrev behind_start : Flow → Option Flow
+  behind_start g = and_so (flow_of_statement a g) (λ h. and_so (flow_of_part third (left_scope g h)) (λ k. Some (left_scope f g)))
+
+  pub start_refused : {K : Type 0} → K ⊎ (and_so (flow_of_part first d) (λ g. provided (reads g) (Some g)) ≡ None) → K ⊎ (flow_of_statement (t.For first c third notes a) f ≡ None)
+  start_refused (inl h) = inl h
+  start_refused (inr h) = inr (none_either (flow_of_part first f) reads behind_start (subst (λ z. and_so (flow_of_part first z) (λ g. provided (reads g) (Some g)) ≡ None) same h))
+
+  module _ (g : Flow) (start : and_so (flow_of_part first d) (λ g. provided (reads g) (Some g)) ≡ Some g) where
+    started : (flow_of_part first f ≡ Some g) × (true ≡ reads g)
+    started = split_so (flow_of_part first f) reads g (subst (λ z. and_so (flow_of_part first z) (λ g. provided (reads g) (Some g)) ≡ Some g) same start)
+
+    from_start : flow_of_statement (t.For first c third notes a) f ≡ behind_start g
+    from_start = ap (λ z. and_so z (λ g. provided (reads g) (behind_start g))) started.0 ∙ provided_so (reads g) (behind_start g) started.1
+
+    pub for_body_refused : {K : Type 0} (b : Flow) → b ≡ g → K ⊎ (flow_of_statement a b ≡ None) → K ⊎ (flow_of_statement (t.For first c third notes a) f ≡ None)
+    for_body_refused b q (inl h) = inl h
+    for_body_refused b q (inr h) = inr (from_start ∙ none_so (flow_of_statement a g) _ (ap (flow_of_statement a) (sym q) ∙ h))
+
+    module _ (b h : Flow) (inside : b ≡ g) (body : flow_of_statement a b ≡ Some h) (e s : Flow) (again : e ≡ g) (left : s ≡ left_scope e h) where
+      from_body : flow_of_statement (t.For first c third notes a) f ≡ and_so (flow_of_part third s) (λ k. Some (left_scope f g))
+      from_body =
+          from_start
+          ∙ ap (λ z. and_so z (λ h. and_so (flow_of_part third (left_scope g h)) (λ k. Some (left_scope f g)))) (ap (flow_of_statement a) (sym inside) ∙ body)
+          ∙ ap (λ z. and_so (flow_of_part third z) (λ k. Some (left_scope f g))) (ap (λ z. left_scope z h) (sym again) ∙ sym left)
+
+      pub for_leads : (k out : Flow) → flow_of_part third s ≡ Some k → out ≡ left_scope f g → flow_of_statement (t.For first c third notes a) f ≡ Some out
+      for_leads k out q o = from_body ∙ ap (λ z. and_so z (λ k. Some (left_scope f g))) q ∙ ap Some (sym o)
+
+-- ---- causes
+
+-- the third of three
+pub third_cause : {K C : Type 0} (A B : Type 0) → K ⊎ C → K ⊎ (A ⊎ B ⊎ C)
+third_cause A B (inl h) = inl h
+third_cause A B (inr h) = inr (inr (inr h))
+
+module _ (fault : Fault) (first : Option SimpleStatement) (c : Expression) (third : Option SimpleStatement) (notes : List Annotation) (a : StatementKind) (f d : Flow) (same : d ≡ f) where
+  -- what is wrong in a `for`, as the rules have it
+  abbrev pub InFor : Type 0
+  InFor =
+      ReadInPart fault f first
+      ⊎ ((g : Flow) × (flow_of_part (option_map simple_of first) f ≡ Some g)
+      × (ReadIn fault g c ⊎ ReadInAnnotations fault g notes ⊎ ReadInStatement fault g a
+      ⊎ ((h : Flow) × (flow_of_statement (statement_of_kind a) g ≡ Some h) × ReadInPart fault (left_scope g h) third)))
+
+  pub start_cause : {K : Type 0} → K ⊎ ReadInPart fault d first ⊎ ((g : Flow) × (flow_of_part (option_map simple_of first) d ≡ Some g) × (ReadIn fault g c ⊎ ReadInAnnotations fault g notes)) → K ⊎ InFor
+  start_cause (inl h) = inl h
+  start_cause (inr (inl h)) = inr (inl (subst (λ z. ReadInPart fault z first) same h))
+  start_cause (inr (inr (g, e, inl h))) = inr (inr (g, ap (flow_of_part (option_map simple_of first)) (sym same) ∙ e, inl h))
+  start_cause (inr (inr (g, e, inr h))) = inr (inr (g, ap (flow_of_part (option_map simple_of first)) (sym same) ∙ e, inr (inl h)))
+
+  module _ (g : Flow) (b : Flow → Bool) (start : and_so (flow_of_part (option_map simple_of first) d) (λ g. provided (b g) (Some g)) ≡ Some g) where
+    led : flow_of_part (option_map simple_of first) f ≡ Some g
+    led = ap (flow_of_part (option_map simple_of first)) (sym same) ∙ (split_so (flow_of_part (option_map simple_of first) d) b g start).0
+
+    pub inside_cause : {K : Type 0} (inner : Flow) → inner ≡ g → K ⊎ ReadInStatement fault inner a → K ⊎ InFor
+    inside_cause inner q (inl h) = inl h
+    inside_cause inner q (inr h) = inr (inr (g, led, inr (inr (inl (subst (λ z. ReadInStatement fault z a) q h)))))
+
+    pub last_cause : {K : Type 0} (inner h e s : Flow) → inner ≡ g → flow_of_statement (statement_of_kind a) inner ≡ Some h → e ≡ g → s ≡ left_scope e h → K ⊎ ReadInPart fault s third → K ⊎ InFor
+    last_cause inner h e s q body again left (inl k) = inl k
+    last_cause inner h e s q body again left (inr k) =
+        inr (inr (g, led, inr (inr (inr (h, ap (flow_of_statement (statement_of_kind a)) (sym q) ∙ body, subst (λ z. ReadInPart fault z third) (left ∙ ap (λ z. left_scope z h) again) k)))))

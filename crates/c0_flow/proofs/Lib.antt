@@ -1,0 +1,6 @@
+pub mod Collected
+pub mod Ensures
+pub mod Flows
+pub mod Lists
+pub mod Rows
+pub mod Steps

@@ -1,0 +1,5 @@
+//! Programs and what they mean: the tests of `c0_meaning`.
+#![tactic(auto)]
+
+#[cfg(test)]
+mod tests;

@@ -1,0 +1,5 @@
+//! Texts read as trees: the tests of `c0_parser`.
+#![tactic(auto)]
+
+#[cfg(test)]
+mod tests;

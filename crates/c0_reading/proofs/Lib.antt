@@ -1,0 +1,16 @@
+pub mod Alike
+pub mod AlikeExpressions
+pub mod AlikePrograms
+pub mod AlikeStatements
+pub mod AlikeTypes
+pub mod Basics
+pub mod Begins
+pub mod Complete
+pub mod CompletePrograms
+pub mod CompleteStatements
+pub mod ParsedTokens
+pub mod Sound
+pub mod SoundPrograms
+pub mod SoundStatements
+pub mod Turns
+pub mod Types

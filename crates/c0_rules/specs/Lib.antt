@@ -1,0 +1,14 @@
+pub mod Answers
+pub mod Assignment
+pub mod Expressions
+pub mod FaultExpressions
+pub mod FaultPaths
+pub mod FaultPrograms
+pub mod FaultStatements
+pub mod Laws
+pub mod Mentions
+pub mod Programs
+pub mod Statements
+pub mod Types
+pub mod WorkedPairs
+pub mod WorkedTrees

@@ -1,0 +1,10 @@
+pub mod BodyRows
+pub mod Branches
+pub mod Causes
+pub mod ConditionLists
+pub mod Locals
+pub mod Operands
+pub mod Scopes
+pub mod StructFields
+pub mod Texts
+pub mod Wrapped

@@ -1,0 +1,144 @@
+// The static rules of expressions.
+
+mod names;
+mod operators;
+mod places;
+mod retyping;
+mod steps;
+
+ghost use Rattle.std.specs.Prelude.{◌≡◌, ◌⊎◌, Some, IfErr};
+ghost use Rattle.c0_source.specs.declared.fault.FaultKind.TheVariants.{OutOfMemory};
+ghost use Rattle.c0_syntax.specs.Views.{expression_of, expression_of_kind};
+ghost use Rattle.c0_typed.specs.Trees as y;
+ghost use Rattle.c0_typed.specs.Views.{exp_of};
+ghost use Rattle.c0_rules.specs.Expressions as x;
+ghost use Rattle.c0_rules.specs.Expressions.{typed_expression, typed_place, wanted};
+ghost use Rattle.c0_rules.specs.FaultExpressions.{AsPlace, AsValue, InExpression, Mistyped, is_value};
+ghost use Rattle.c0_rules.specs.FaultStatements.{InEvaluated};
+ghost use Rattle.c0_rules.specs.Statements.{Scope, evaluated, within};
+ghost use Rattle.c0_terms.specs.Terms.{HasTexts, context_of, env_of, place_of, typing_of, valued};
+ghost use Rattle.c0_rules.specs.Types.{VoidType, and_so, same_type};
+ghost use Rattle.c0_rules.specs.Answers.{Answers};
+ghost use Rattle.c0_tables.specs.Views.{resolved_of};
+
+use crate::typing::{Place, Terms, Typing};
+use c0_source::fault::{Fault, FaultKind, Span};
+use c0_syntax::expression::{Expression, ExpressionKind};
+use c0_tables::resolved::ResolvedType;
+use c0_typed::{Constant, Expression as TypedExpression, ValueType};
+use steps::fault_at;
+
+// Whether this type is `void`.
+fn is_void(resolved: &ResolvedType) -> bool
+    ensures { result ≡ same_type VoidType (resolved_of resolved.now) }
+{
+    match resolved {
+        ResolvedType::Void => true,
+        ResolvedType::Int | ResolvedType::Bool | ResolvedType::Char | ResolvedType::Text => false,
+        ResolvedType::Struct(_) | ResolvedType::Pointer(_) | ResolvedType::Array(_) => false,
+    }
+}
+
+impl<'a> Terms<'a> {
+    /// An expression that has a value, NULL among them.
+    pub(crate) fn value(&self, kind: &ExpressionKind, span: Span) -> Result<Typing, Fault>
+        requires { HasTexts self.now.texts.now (expression_of_kind kind.now) }
+        ensures answers { Answers (typing_of self.now.texts.now) result (valued (typed_expression (env_of self.now) (context_of self.now) (expression_of_kind kind.now))) }
+        ensures cause { IfErr result (λ f. (f.kind ≡ OutOfMemory) ⊎ InExpression (env_of self.now) (context_of self.now) f AsValue kind.now span) }
+    {
+        let typing = self.typing(kind, span)?;
+        if self.has_value(&typing) {
+            Ok(typing)
+        } else {
+            Err(self.void_use(kind, span))
+        }
+    }
+
+    // Whether an expression has a value; a void call has none.
+    fn has_value(&self, typing: &Typing) -> bool
+        ensures { result ≡ is_value (typing_of self.now.texts.now typing.now) }
+    {
+        match typing {
+            Typing::Has(resolved, _) => !is_void(resolved),
+            Typing::Null(_) => true,
+        }
+    }
+
+    // A void call where a value is needed, which may stand in parentheses.
+    fn void_use(&self, kind: &ExpressionKind, span: Span) -> Fault
+        ensures { (e : y.Exp) → typed_expression (env_of self.now) (context_of self.now) (expression_of_kind kind.now) ≡ Some (x.Has VoidType e) → (result.kind ≡ OutOfMemory) ⊎ InExpression (env_of self.now) (context_of self.now) result AsValue kind.now span }
+    {
+        match kind {
+            ExpressionKind::Parenthesized(inner) => self.void_use(&inner.kind, inner.span),
+            ExpressionKind::Call(_, _) => fault_at(FaultKind::VoidUse, span),
+            // Nothing else that is declared has the type `void`.
+            _ => Fault::out_of_memory(),
+        }
+    }
+
+    // An expression, a void call among them.
+    fn typing(&self, kind: &ExpressionKind, span: Span) -> Result<Typing, Fault>
+        requires { HasTexts self.now.texts.now (expression_of_kind kind.now) }
+        ensures answers { Answers (typing_of self.now.texts.now) result (typed_expression (env_of self.now) (context_of self.now) (expression_of_kind kind.now)) }
+        ensures cause { IfErr result (λ f. (f.kind ≡ OutOfMemory) ⊎ InExpression (env_of self.now) (context_of self.now) f AsValue kind.now span) }
+    {
+        match kind {
+            ExpressionKind::Number(value) => Ok(self.number(*value)),
+            ExpressionKind::Character(code) => self.character(*code, span),
+            ExpressionKind::Truth(truth) => Ok(Typing::Has(
+                ResolvedType::Bool,
+                TypedExpression::Constant(Constant::Truth(*truth)),
+            )),
+            ExpressionKind::Null => Ok(Typing::Null(TypedExpression::Null(ValueType::Int))),
+            ExpressionKind::Text(text) => Ok(self.text(text)),
+            ExpressionKind::Variable(name) => self.variable(name),
+            ExpressionKind::Parenthesized(inner) => self.typing(&inner.kind, inner.span),
+            ExpressionKind::Alloc(written) => self.allocated(written),
+            ExpressionKind::Result => self.returned(span),
+            // The other forms are not written yet.
+            _ => Err(Fault::out_of_memory()),
+        }
+    }
+
+    /// A place of the heap, small or a struct. It is not written yet: want of memory is answered.
+    pub(crate) fn place(&self, kind: &ExpressionKind, span: Span) -> Result<Place, Fault>
+        requires { HasTexts self.now.texts.now (expression_of_kind kind.now) }
+        ensures answers { Answers (place_of self.now.texts.now) result (typed_place (env_of self.now) (context_of self.now) (expression_of_kind kind.now)) }
+        ensures cause { IfErr result (λ f. (f.kind ≡ OutOfMemory) ⊎ InExpression (env_of self.now) (context_of self.now) f AsPlace kind.now span) }
+    {
+        let _ = kind;
+        Err(Fault {
+            kind: FaultKind::OutOfMemory,
+            span,
+        })
+    }
+
+    /// An expression of this type. It is not written yet: want of memory is answered.
+    pub(crate) fn wanted(
+        &self,
+        want: &ResolvedType,
+        e: &Expression,
+    ) -> Result<TypedExpression, Fault>
+        requires { HasTexts self.now.texts.now (expression_of e.now) }
+        ensures answers { Answers (exp_of self.now.texts.now) result (wanted (env_of self.now) (resolved_of want.now) (typed_expression (env_of self.now) (context_of self.now) (expression_of e.now))) }
+        ensures cause { IfErr result (λ f. (f.kind ≡ OutOfMemory) ⊎ InExpression (env_of self.now) (context_of self.now) f AsValue e.now.kind e.now.span ⊎ Mistyped (env_of self.now) (context_of self.now) f (resolved_of want.now) e.now.kind e.now.span) }
+    {
+        let _ = want;
+        Err(Fault {
+            kind: FaultKind::OutOfMemory,
+            span: e.span,
+        })
+    }
+
+    /// An expression as a statement: it has a small value or NULL's type, or is a call. It is not written yet: want of memory is answered.
+    pub(crate) fn evaluated(&self, e: &Expression) -> Result<TypedExpression, Fault>
+        requires { HasTexts self.now.texts.now (expression_of e.now) }
+        ensures answers { Answers (exp_of self.now.texts.now) result (and_so (typed_expression (env_of self.now) (context_of self.now) (expression_of e.now)) (evaluated (env_of self.now) (expression_of e.now))) }
+        ensures cause { (s : Scope) → within s ≡ (context_of self.now) → IfErr result (λ f. (f.kind ≡ OutOfMemory) ⊎ InEvaluated (env_of self.now) f s e.now.kind e.now.span) }
+    {
+        Err(Fault {
+            kind: FaultKind::OutOfMemory,
+            span: e.span,
+        })
+    }
+}

@@ -1,0 +1,163 @@
+// Steps to places of the heap, and what stands there.
+
+ghost use Rattle.std.specs.Prelude.{◌≡◌, ◌⊎◌, None, Some, false, true, IfErr, IfOk};
+ghost use Rattle.c0_source.specs.declared.fault.FaultKind.TheVariants.{NotSmall, NullDereference, OutOfMemory, StructNotComplete, TypeMismatch, UnknownField};
+ghost use Rattle.c0_syntax.specs.Views.{name_of};
+ghost use Rattle.c0_typed.specs.Views.{exp_of, place_of as at_of};
+ghost use Rattle.c0_rules.specs.Expressions as x;
+ghost use Rattle.c0_rules.specs.FaultExpressions.{FieldCause, Told, element_of, is_null};
+ghost use Rattle.c0_terms.specs.Terms.{context_of, env_of, field_place, place_of, typing_of};
+ghost use Rattle.c0_rules.specs.Types as t;
+ghost use Rattle.c0_rules.specs.Answers.{Answers};
+ghost use Rattle.c0_tables.specs.Views.{field_entry_of, resolved_of, struct_entry_of};
+
+use super::steps::fault_at;
+use crate::typing::{Place, Terms, Typing};
+use c0_source::fault::{Fault, FaultKind, Span};
+use c0_syntax::name::Name;
+use c0_tables::resolved::ResolvedType;
+use c0_tables::structs::{FieldEntry, StructEntry};
+use c0_typed::{Expression, Place as TypedPlace};
+use std::alloc::AllocError;
+
+impl<'a> Terms<'a> {
+    /// What a pointer points to. NULL itself points to nothing, which is told at the sign.
+    pub(crate) fn pointed(&self, pointer: Typing, span: Span, sign: Span) -> Result<Place, Fault>
+        ensures answers { Answers (place_of self.now.texts.now) result (x.pointed (env_of self.now) (typing_of self.now.texts.now pointer)) }
+        ensures cause { IfErr result (λ f. (f.kind ≡ OutOfMemory) ⊎ ((is_null (typing_of self.now.texts.now pointer) ≡ true) × Told NullDereference sign f) ⊎ ((is_null (typing_of self.now.texts.now pointer) ≡ false) × (x.pointed (env_of self.now) (typing_of self.now.texts.now pointer) ≡ None) × Told TypeMismatch span f)) }
+    {
+        match pointer {
+            Typing::Has(resolved, e) => match resolved {
+                ResolvedType::Pointer(target) => {
+                    let value_type = self.numbered(&target)?;
+                    let pointer = Box::new(self.alloc, e)?;
+                    Ok(Place {
+                        resolved: Box::into_inner(target),
+                        place: TypedPlace::Deref(value_type, pointer),
+                    })
+                }
+                _ => Err(fault_at(FaultKind::TypeMismatch, span)),
+            },
+            Typing::Null(_) => Err(fault_at(FaultKind::NullDereference, sign)),
+        }
+    }
+
+    /// An element of an array; a struct must be complete.
+    pub(crate) fn indexed(
+        &self,
+        array: Typing,
+        index: Expression,
+        here: Span,
+        span: Span,
+    ) -> Result<Place, Fault>
+        ensures answers { Answers (place_of self.now.texts.now) result (x.indexed (env_of self.now) (typing_of self.now.texts.now array) (exp_of self.now.texts.now index)) }
+        ensures cause { IfErr result (λ f. (f.kind ≡ OutOfMemory) ⊎ ((element_of (typing_of self.now.texts.now array) ≡ None) × Told TypeMismatch here f) ⊎ ((r : t.ResolvedType) × (element_of (typing_of self.now.texts.now array) ≡ Some r) × (t.cells_of (env_of self.now).structs r ≡ None) × Told StructNotComplete span f)) }
+    {
+        match array {
+            Typing::Has(resolved, e) => match resolved {
+                ResolvedType::Array(element) => {
+                    if self.environment.structs.cells(&element).is_none() {
+                        return Err(fault_at(FaultKind::StructNotComplete, span));
+                    }
+                    let value_type = self.numbered(&element)?;
+                    let array = Box::new(self.alloc, e)?;
+                    let index = Box::new(self.alloc, index)?;
+                    Ok(Place {
+                        resolved: Box::into_inner(element),
+                        place: TypedPlace::Index(value_type, array, index),
+                    })
+                }
+                _ => Err(fault_at(FaultKind::TypeMismatch, here)),
+            },
+            Typing::Null(_) => Err(fault_at(FaultKind::TypeMismatch, here)),
+        }
+    }
+
+    /// An element of an array, by two operands at these places.
+    pub(crate) fn element(
+        &self,
+        array: Typing,
+        index: Typing,
+        spans: (Span, Span),
+        span: Span,
+    ) -> Result<Place, Fault>
+        ensures answers { Answers (place_of self.now.texts.now) result (t.and_so (x.as_wanted (env_of self.now) t.IntType (typing_of self.now.texts.now index)) (x.indexed (env_of self.now) (typing_of self.now.texts.now array))) }
+        ensures cause { IfErr result (λ f. (f.kind ≡ OutOfMemory) ⊎ ((element_of (typing_of self.now.texts.now array) ≡ None) × Told TypeMismatch spans.0 f) ⊎ ((x.as_wanted (env_of self.now) t.IntType (typing_of self.now.texts.now index) ≡ None) × Told TypeMismatch spans.1 f) ⊎ ((r : t.ResolvedType) × (element_of (typing_of self.now.texts.now array) ≡ Some r) × (t.cells_of (env_of self.now).structs r ≡ None) × Told StructNotComplete span f)) }
+    {
+        let index = self.as_wanted(&ResolvedType::Int, index, spans.1)?;
+        self.indexed(array, index, spans.0, span)
+    }
+
+    // This field of a struct at a place.
+    fn field_at(
+        &self,
+        name: &str,
+        place: TypedPlace,
+        field: &FieldEntry,
+    ) -> Result<Place, AllocError>
+        ensures { IfOk result (λ r. place_of self.now.texts.now r ≡ field_place (env_of self.now) name.now (at_of self.now.texts.now place) (field_entry_of field.now)) }
+    {
+        if field.number > u32::MAX as usize {
+            return Err(AllocError);
+        }
+        let number = self.environment.struct_names.number(name);
+        let resolved = field.resolved.duplicate(self.alloc)?;
+        let place = Box::new(self.alloc, place)?;
+        Ok(Place {
+            resolved,
+            place: TypedPlace::Field(number, place, field.number as u32),
+        })
+    }
+
+    /// A field of what a place holds, a complete struct.
+    pub(crate) fn fielded(
+        &self,
+        of: Place,
+        here: Span,
+        name: &Name,
+        span: Span,
+    ) -> Result<Place, Fault>
+        ensures answers { Answers (place_of self.now.texts.now) result (x.fielded (env_of self.now) (name_of name.now) (place_of self.now.texts.now of)) }
+        ensures cause { IfErr result (λ f. (f.kind ≡ OutOfMemory) ⊎ FieldCause (env_of self.now) (context_of self.now) f (resolved_of of.resolved) here name.now span) }
+    {
+        let Place { resolved, place } = of;
+        let ResolvedType::Struct(struct_name) = &resolved else {
+            return Err(fault_at(FaultKind::TypeMismatch, here));
+        };
+        let Some(entry) = self.environment.structs.get(struct_name) else {
+            return Err(fault_at(FaultKind::StructNotComplete, span));
+        };
+        self.field_of(struct_name, entry, place, name)
+    }
+
+    // A field of a struct with these fields.
+    fn field_of(
+        &self,
+        struct_name: &str,
+        entry: &StructEntry,
+        place: TypedPlace,
+        name: &Name,
+    ) -> Result<Place, Fault>
+        ensures answers { Answers (place_of self.now.texts.now) result (t.and_so ((struct_entry_of entry.now).fields (name_of name.now)) (λ f. Some (field_place (env_of self.now) struct_name.now (at_of self.now.texts.now place) f))) }
+        ensures cause { IfErr result (λ f. (f.kind ≡ OutOfMemory) ⊎ (((struct_entry_of entry.now).fields (name_of name.now) ≡ None) × Told UnknownField name.now.span f)) }
+    {
+        match entry.fields.get(&name.text) {
+            Some(field) => Ok(self.field_at(struct_name, place, field)?),
+            None => Err(fault_at(FaultKind::UnknownField, name.span)),
+        }
+    }
+
+    /// The value at a place, where it is small.
+    pub(crate) fn read_of(&self, place: Place, span: Span) -> Result<Typing, Fault>
+        ensures answers { Answers (typing_of self.now.texts.now) result (x.read_of (env_of self.now) (place_of self.now.texts.now place)) }
+        ensures cause { IfErr result (λ f. (f.kind ≡ OutOfMemory) ⊎ ((t.is_small (resolved_of place.resolved) ≡ false) × Told NotSmall span f)) }
+    {
+        let Place { resolved, place } = place;
+        if !resolved.is_small() {
+            return Err(fault_at(FaultKind::NotSmall, span));
+        }
+        let value_type = self.numbered(&resolved)?;
+        let place = Box::new(self.alloc, place)?;
+        Ok(Typing::Has(resolved, Expression::Read(value_type, place)))
+    }
+}

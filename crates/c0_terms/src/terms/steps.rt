@@ -1,0 +1,333 @@
+// The steps from what operands are to what they are together.
+
+ghost use Rattle.std.specs.Prelude.{◌≡◌, ◌≢◌, ◌⊎◌, None, Some, false, IfErr, IfOk};
+ghost use Rattle.c0_source.specs.declared.fault.FaultKind.TheVariants.{OutOfMemory, TypeMismatch};
+ghost use Rattle.c0_typed.specs.Trees as t;
+ghost use Rattle.c0_typed.specs.Views.{exp_of, relation_of, type_of};
+ghost use Rattle.c0_rules.specs.Expressions as x;
+ghost use Rattle.c0_rules.specs.FaultExpressions.{Told, has_common};
+ghost use Rattle.c0_syntax.specs.declared.operator.PrefixOperator.TheVariants.{Dereference};
+ghost use Rattle.c0_terms.specs.Terms.{OperatedCause, env_of, pair_of, rule_of, typing_of};
+ghost use Rattle.c0_rules.specs.Types.{BoolType, and_so};
+ghost use Rattle.c0_rules.specs.Answers.{Answers};
+ghost use Rattle.c0_tables.specs.Views.{resolved_of};
+
+use super::operators::{OperatorRule, is_compared, is_equality};
+use super::retyping::retype;
+use crate::typing::{Terms, Typing};
+use c0_source::fault::{Fault, FaultKind, Span};
+use c0_syntax::operator::PrefixOperator;
+use c0_tables::resolved::ResolvedType;
+use c0_typed::{Expression, Relation, UnaryOperator, ValueType};
+use std::alloc::AllocError;
+
+/// A fault at a place.
+pub(crate) fn fault_at(kind: FaultKind, span: Span) -> Fault
+    ensures { Told kind span result }
+{
+    Fault { kind, span }
+}
+
+impl<'a> Terms<'a> {
+    /// A type as typed trees have it.
+    pub(crate) fn numbered(&self, resolved: &ResolvedType) -> Result<ValueType, AllocError>
+        ensures { IfOk result (λ r. type_of r ≡ x.num (env_of self.now) (resolved_of resolved.now)) }
+    {
+        self.environment.numbered(self.alloc, resolved)
+    }
+
+    /// NULL where this type is wanted: every pointer type has it.
+    pub(crate) fn null_as(
+        &self,
+        want: &ResolvedType,
+        e: Expression,
+        span: Span,
+    ) -> Result<Expression, Fault>
+        ensures answers { Answers (exp_of self.now.texts.now) result (x.null_as (env_of self.now) (resolved_of want.now) (exp_of self.now.texts.now e)) }
+        ensures cause { IfErr result (λ f. (f.kind ≡ OutOfMemory) ⊎ Told TypeMismatch span f) }
+    {
+        match want {
+            ResolvedType::Pointer(target) => {
+                let target = self.numbered(target)?;
+                Ok(retype(self.alloc, &target, e)?)
+            }
+            _ => Err(fault_at(FaultKind::TypeMismatch, span)),
+        }
+    }
+
+    /// An expression where this type is wanted.
+    pub(crate) fn as_wanted(
+        &self,
+        want: &ResolvedType,
+        typing: Typing,
+        span: Span,
+    ) -> Result<Expression, Fault>
+        ensures answers { Answers (exp_of self.now.texts.now) result (x.as_wanted (env_of self.now) (resolved_of want.now) (typing_of self.now.texts.now typing)) }
+        ensures cause { IfErr result (λ f. (f.kind ≡ OutOfMemory) ⊎ Told TypeMismatch span f) }
+    {
+        match typing {
+            Typing::Has(resolved, e) => {
+                if resolved.same_as(want) {
+                    Ok(e)
+                } else {
+                    Err(fault_at(FaultKind::TypeMismatch, span))
+                }
+            }
+            Typing::Null(e) => self.null_as(want, e, span),
+        }
+    }
+
+    // A comparison of values of this type.
+    fn comparison(
+        &self,
+        resolved: &ResolvedType,
+        relation: Relation,
+        first: Expression,
+        second: Expression,
+    ) -> Result<Typing, AllocError>
+        ensures { IfOk result (λ r. typing_of self.now.texts.now r ≡ x.Has BoolType (t.Compare (x.num (env_of self.now) (resolved_of resolved.now)) (relation_of relation) (exp_of self.now.texts.now first) (exp_of self.now.texts.now second))) }
+    {
+        let value_type = self.numbered(resolved)?;
+        let first = Box::new(self.alloc, first)?;
+        let second = Box::new(self.alloc, second)?;
+        Ok(Typing::Has(
+            ResolvedType::Bool,
+            Expression::Compare(value_type, relation, first, second),
+        ))
+    }
+
+    /// A comparison of two operands of one type.
+    pub(crate) fn compared(
+        &self,
+        relation: Relation,
+        first: Typing,
+        second: Typing,
+        span: Span,
+    ) -> Result<Typing, Fault>
+        ensures answers { Answers (typing_of self.now.texts.now) result (x.compared (env_of self.now) (relation_of relation) (typing_of self.now.texts.now first) (typing_of self.now.texts.now second)) }
+        ensures cause { IfErr result (λ f. (f.kind ≡ OutOfMemory) ⊎ Told TypeMismatch span f) }
+    {
+        match (first, second) {
+            (Typing::Has(a, x), Typing::Has(b, y)) => {
+                if a.same_as(&b) && is_compared(relation, &a) {
+                    Ok(self.comparison(&a, relation, x, y)?)
+                } else {
+                    Err(fault_at(FaultKind::TypeMismatch, span))
+                }
+            }
+            (Typing::Has(a, x), Typing::Null(y)) => {
+                if !is_equality(relation) {
+                    return Err(fault_at(FaultKind::TypeMismatch, span));
+                }
+                let y = self.null_as(&a, y, span)?;
+                Ok(self.comparison(&a, relation, x, y)?)
+            }
+            (Typing::Null(x), Typing::Has(b, y)) => {
+                if !is_equality(relation) {
+                    return Err(fault_at(FaultKind::TypeMismatch, span));
+                }
+                let x = self.null_as(&b, x, span)?;
+                Ok(self.comparison(&b, relation, x, y)?)
+            }
+            (Typing::Null(x), Typing::Null(y)) => {
+                if is_equality(relation) {
+                    Ok(self.comparison_of_nulls(relation, x, y)?)
+                } else {
+                    Err(fault_at(FaultKind::TypeMismatch, span))
+                }
+            }
+        }
+    }
+
+    // A comparison of two that are NULL.
+    fn comparison_of_nulls(
+        &self,
+        relation: Relation,
+        first: Expression,
+        second: Expression,
+    ) -> Result<Typing, AllocError>
+        ensures { IfOk result (λ r. typing_of self.now.texts.now r ≡ x.Has BoolType (t.Compare (t.PointerTy t.IntTy) (relation_of relation) (x.retyped t.IntTy (exp_of self.now.texts.now first)) (x.retyped t.IntTy (exp_of self.now.texts.now second)))) }
+    {
+        let first = retype(self.alloc, &ValueType::Int, first)?;
+        let second = retype(self.alloc, &ValueType::Int, second)?;
+        let first = Box::new(self.alloc, first)?;
+        let second = Box::new(self.alloc, second)?;
+        let pointer = ValueType::Pointer(Box::new(self.alloc, ValueType::Int)?);
+        Ok(Typing::Has(
+            ResolvedType::Bool,
+            Expression::Compare(pointer, relation, first, second),
+        ))
+    }
+
+    // One of two arms of this type.
+    fn choice(
+        &self,
+        resolved: ResolvedType,
+        condition: Expression,
+        first: Expression,
+        second: Expression,
+    ) -> Result<Typing, AllocError>
+        ensures { IfOk result (λ r. typing_of self.now.texts.now r ≡ x.Has (resolved_of resolved) (t.Choose (x.num (env_of self.now) (resolved_of resolved)) (exp_of self.now.texts.now condition) (exp_of self.now.texts.now first) (exp_of self.now.texts.now second))) }
+    {
+        let value_type = self.numbered(&resolved)?;
+        let condition = Box::new(self.alloc, condition)?;
+        let first = Box::new(self.alloc, first)?;
+        let second = Box::new(self.alloc, second)?;
+        Ok(Typing::Has(
+            resolved,
+            Expression::Choose(value_type, condition, first, second),
+        ))
+    }
+
+    // One of two arms that are NULL.
+    fn choice_of_nulls(
+        &self,
+        condition: Expression,
+        first: Expression,
+        second: Expression,
+    ) -> Result<Typing, AllocError>
+        ensures { IfOk result (λ r. typing_of self.now.texts.now r ≡ x.IsNull (t.Choose (t.PointerTy t.IntTy) (exp_of self.now.texts.now condition) (exp_of self.now.texts.now first) (exp_of self.now.texts.now second))) }
+    {
+        let condition = Box::new(self.alloc, condition)?;
+        let first = Box::new(self.alloc, first)?;
+        let second = Box::new(self.alloc, second)?;
+        let pointer = ValueType::Pointer(Box::new(self.alloc, ValueType::Int)?);
+        Ok(Typing::Null(Expression::Choose(pointer, condition, first, second)))
+    }
+
+    /// One of two arms of one small type; of two that are NULL it has NULL's own type.
+    pub(crate) fn chosen(
+        &self,
+        condition: Expression,
+        first: Typing,
+        second: Typing,
+        span: Span,
+    ) -> Result<Typing, Fault>
+        ensures answers { Answers (typing_of self.now.texts.now) result (x.chosen (env_of self.now) (exp_of self.now.texts.now condition) (typing_of self.now.texts.now first) (typing_of self.now.texts.now second)) }
+        ensures cause { IfErr result (λ f. (f.kind ≡ OutOfMemory) ⊎ ((has_common (typing_of self.now.texts.now first) (typing_of self.now.texts.now second) ≡ false) × Told TypeMismatch span f)) }
+    {
+        match (first, second) {
+            (Typing::Has(a, x), Typing::Has(b, y)) => {
+                if a.same_as(&b) && a.is_small() {
+                    Ok(self.choice(a, condition, x, y)?)
+                } else {
+                    Err(fault_at(FaultKind::TypeMismatch, span))
+                }
+            }
+            (Typing::Has(a, x), Typing::Null(y)) => {
+                let y = self.null_as(&a, y, span)?;
+                Ok(self.choice(a, condition, x, y)?)
+            }
+            (Typing::Null(x), Typing::Has(b, y)) => {
+                let x = self.null_as(&b, x, span)?;
+                Ok(self.choice(b, condition, x, y)?)
+            }
+            (Typing::Null(x), Typing::Null(y)) => Ok(self.choice_of_nulls(condition, x, y)?),
+        }
+    }
+
+    /// An operator before its operand, but for `*`.
+    pub(crate) fn prefixed(
+        &self,
+        operator: PrefixOperator,
+        operand: Typing,
+        span: Span,
+    ) -> Result<Typing, Fault>
+        requires { operator ≢ Dereference }
+        ensures answers { Answers (typing_of self.now.texts.now) result (x.prefixed (env_of self.now) operator (typing_of self.now.texts.now operand)) }
+        ensures cause { IfErr result (λ f. (f.kind ≡ OutOfMemory) ⊎ Told TypeMismatch span f) }
+    {
+        match operator {
+            PrefixOperator::Not => {
+                let operand = self.as_wanted(&ResolvedType::Bool, operand, span)?;
+                let operand = Box::new(self.alloc, operand)?;
+                Ok(Typing::Has(
+                    ResolvedType::Bool,
+                    Expression::Unary(UnaryOperator::Not, operand),
+                ))
+            }
+            PrefixOperator::Complement => {
+                let operand = self.as_wanted(&ResolvedType::Int, operand, span)?;
+                let operand = Box::new(self.alloc, operand)?;
+                Ok(Typing::Has(
+                    ResolvedType::Int,
+                    Expression::Unary(UnaryOperator::Complement, operand),
+                ))
+            }
+            PrefixOperator::Negate => {
+                let operand = self.as_wanted(&ResolvedType::Int, operand, span)?;
+                let operand = Box::new(self.alloc, operand)?;
+                Ok(Typing::Has(
+                    ResolvedType::Int,
+                    Expression::Unary(UnaryOperator::Negate, operand),
+                ))
+            }
+            PrefixOperator::Dereference => unreachable!(),
+        }
+    }
+
+    /// The length of an array.
+    pub(crate) fn lengthed(&self, array: Typing, span: Span) -> Result<Typing, Fault>
+        ensures answers { Answers (typing_of self.now.texts.now) result (x.lengthed (env_of self.now) (typing_of self.now.texts.now array)) }
+        ensures cause { IfErr result (λ f. (f.kind ≡ OutOfMemory) ⊎ Told TypeMismatch span f) }
+    {
+        match array {
+            Typing::Has(resolved, e) => match resolved {
+                ResolvedType::Array(element) => {
+                    let value_type = self.numbered(&element)?;
+                    let array = Box::new(self.alloc, e)?;
+                    Ok(Typing::Has(ResolvedType::Int, Expression::Length(value_type, array)))
+                }
+                _ => Err(fault_at(FaultKind::TypeMismatch, span)),
+            },
+            Typing::Null(_) => Err(fault_at(FaultKind::TypeMismatch, span)),
+        }
+    }
+
+    // Two operands of this type.
+    fn operands(
+        &self,
+        want: &ResolvedType,
+        first: Typing,
+        second: Typing,
+        spans: (Span, Span),
+    ) -> Result<(Expression, Expression), Fault>
+        ensures answers { Answers (pair_of self.now.texts.now) result (and_so (x.as_wanted (env_of self.now) (resolved_of want.now) (typing_of self.now.texts.now first)) (λ a. and_so (x.as_wanted (env_of self.now) (resolved_of want.now) (typing_of self.now.texts.now second)) (λ b. Some (a, b)))) }
+        ensures cause { IfErr result (λ f. (f.kind ≡ OutOfMemory) ⊎ ((x.as_wanted (env_of self.now) (resolved_of want.now) (typing_of self.now.texts.now first) ≡ None) × Told TypeMismatch spans.0 f) ⊎ ((x.as_wanted (env_of self.now) (resolved_of want.now) (typing_of self.now.texts.now second) ≡ None) × Told TypeMismatch spans.1 f)) }
+    {
+        let first = self.as_wanted(want, first, spans.0)?;
+        let second = self.as_wanted(want, second, spans.1)?;
+        Ok((first, second))
+    }
+
+    /// An operator between two operands, which stand at these places.
+    pub(crate) fn operated(
+        &self,
+        rule: OperatorRule,
+        first: Typing,
+        second: Typing,
+        spans: (Span, Span),
+    ) -> Result<Typing, Fault>
+        ensures answers { Answers (typing_of self.now.texts.now) result (x.operated (env_of self.now) (rule_of rule) (typing_of self.now.texts.now first) (typing_of self.now.texts.now second)) }
+        ensures cause { IfErr result (λ f. (f.kind ≡ OutOfMemory) ⊎ OperatedCause (env_of self.now) f (rule_of rule) (typing_of self.now.texts.now first) (typing_of self.now.texts.now second) spans.0 spans.1) }
+    {
+        match rule {
+            OperatorRule::OnNumbers(operator) => {
+                let (a, b) = self.operands(&ResolvedType::Int, first, second, spans)?;
+                let (a, b) = (Box::new(self.alloc, a)?, Box::new(self.alloc, b)?);
+                Ok(Typing::Has(ResolvedType::Int, Expression::Binary(operator, a, b)))
+            }
+            OperatorRule::Compares(relation) => self.compared(relation, first, second, spans.1),
+            OperatorRule::Conjunction => {
+                let (a, b) = self.operands(&ResolvedType::Bool, first, second, spans)?;
+                let (a, b) = (Box::new(self.alloc, a)?, Box::new(self.alloc, b)?);
+                Ok(Typing::Has(ResolvedType::Bool, Expression::And(a, b)))
+            }
+            OperatorRule::Disjunction => {
+                let (a, b) = self.operands(&ResolvedType::Bool, first, second, spans)?;
+                let (a, b) = (Box::new(self.alloc, a)?, Box::new(self.alloc, b)?);
+                Ok(Typing::Has(ResolvedType::Bool, Expression::Or(a, b)))
+            }
+        }
+    }
+}

@@ -1,5 +1,0 @@
-use Rattle.std.proofs.Common.{refl}
-use Rattle.c0_types.proofs.laws.accepted_texts.Goals as goal
-
-pub returns : goal.returns
-returns c = refl

@@ -1,8 +1,0 @@
-use Rattle.c0_types.proofs.Programs.{elaborated_fits}
-use Rattle.c0_types.proofs.Rules.{some_has}
-use Rattle.c0_types.specs.Programs.{typed_program}
-use Rattle.c0_typed.specs.Typing.{FitsProgram}
-use Rattle.c0_types.proofs.laws.elaborated.Goals as goal
-
-pub returns : goal.returns
-returns c = λ program p e. some_has FitsProgram (typed_program program) p (elaborated_fits program) e

@@ -1,0 +1,6 @@
+//! The lines of a schedule: an actor and what it chooses.
+#![tactic(auto)]
+
+pub mod line;
+#[cfg(test)]
+mod tests;

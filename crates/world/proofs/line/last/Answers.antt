@@ -1,5 +1,0 @@
-use Rattle.world.proofs.Numbers.{not_last}
-use Rattle.world.proofs.line.last.Goals as goal
-
-pub returns-in-None-skip : goal.returns-in-None-skip
-returns-in-None-skip c = not_last c.args.word.now c.args.text.now c.in-Some.rest.now c.in-Some.number c.in-Some.ensures c.in-None-skip.ensures

@@ -1,0 +1,12 @@
+pub mod Causes
+pub mod Enabled
+pub mod Enough
+pub mod Following
+pub mod Holding
+pub mod InHand
+pub mod Programs
+pub mod Rows
+pub mod Scopes
+pub mod Steps
+pub mod Turns
+pub mod Worlds

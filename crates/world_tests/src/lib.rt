@@ -1,0 +1,5 @@
+//! Worked schedules: the tests of `world`.
+#![tactic(auto)]
+
+#[cfg(test)]
+mod tests;
