@@ -8,7 +8,7 @@ use Rattle.c0_syntax.specs.Trees.{ValueType, Expression, Spec, Contract, Asserts
 use Rattle.c0_syntax.specs.Expressions.{begins_star}
 use Rattle.c0_reading.specs.Outcome.{Outcome, ◌>>=◌, Read, refuse, too_deep, too_large, plain_at, kind_at, next, lparen, rparen, semi, new_name}
 use Rattle.c0_reading.specs.ReadExpressions.{ReadType, ReadExpression, read_type, read_expression}
-use Rattle.c0_reading.specs.ReadStatements.{Counted, spec_by, read_spec, specs_by, read_specs, annotations_by, read_annotations, value_by, room_by, local_declaration, step_by, behind_by, simple_by, read_simple, given, first_by, third_by, test, call_of, with_semi, return_by, leave_by, Body, ForEnd, ForTest, else_by, statements_by, read_statements, if_of, loop_body, while_of, for_end, for_test, for_of, statement_by, read_statement, read_body}
+use Rattle.c0_reading.specs.ReadStatements.{Counted, spec_by, read_spec, specs_by, read_specs, annotations_by, read_annotations, value_by, room_by, local_declaration, step_by, behind_by, simple_by, read_simple, given, first_by, third_by, read_condition, call_of, with_semi, return_by, leave_by, Body, ForEnd, ForTest, else_by, statements_by, read_statements, if_of, loop_body, while_of, for_end, for_test, for_of, statement_by, read_statement, read_body}
 use Rattle.c0_reading.proofs.Alike.{Form, tokens, Twin, Left, Alike, bind, done, refused, deep, large, passed, on_next, by_plain, by_kind, wider, weaker, nothing_left, nothing_left_there, bind_at, each, one_less, Enough, loop, Loops, looped_more, looped_next}
 use Rattle.c0_reading.proofs.AlikeTypes.{simple, read_form, type_form, Reads, Goes, pick, lparen_alike, rparen_alike, semi_alike, new_name_alike, type_alike}
 use Rattle.c0_reading.proofs.AlikeExpressions.{expression_form, expression_alike}
@@ -219,8 +219,8 @@ module _ (b c : List Terminal) where
 
   -- ---- statements
 
-  condition_alike : (types : List (List ℕ)) (d : ℕ) → Reads b c (read_form Expression) (test types d)
-  unfolding test
+  condition_alike : (types : List (List ℕ)) (d : ℕ) → Reads b c (read_form Expression) (read_condition types d)
+  unfolding read_condition
   condition_alike types d w l m ts us h =
       let g : ReadExpression → Outcome (Read Expression) = λ e. rparen e.rest >>= λ rest. Ok (record { value = e.tree; rest = rest }) in
       bind b c tokens (read_form Expression) w l m (lparen ts) (lparen us) (λ z. read_expression types d 1 z >>= g) (λ z. read_expression types d 1 z >>= g) (lparen_alike b c w l m ts us h) (λ v xs ys _ q.
@@ -232,7 +232,7 @@ module _ (b c : List Terminal) where
   unfolding call_of
   call_alike types d w l m ts us h =
       let g : Read Expression → Outcome (Read Expression) = λ e. semi e.rest >>= λ rest. Ok (record { value = e.value; rest = rest }) in
-      bind b c (read_form Expression) (read_form Expression) w l m (test types d ts) (test types d us) g g (condition_alike types d w l m ts us h) (λ v e p _ q.
+      bind b c (read_form Expression) (read_form Expression) w l m (read_condition types d ts) (read_condition types d us) g g (condition_alike types d w l m ts us h) (λ v e p _ q.
       bind b c tokens (read_form Expression) v l m (semi e.rest) (semi p) (λ rest. Ok (record { value = e.value; rest = rest })) (λ rest. Ok (record { value = e.value; rest = rest })) (semi_alike b c v l m e.rest p (wider b c v l m e.rest p q)) (λ u zs bs _ y.
       done b c (read_form Expression) u l m (record { value = e.value; rest = zs }) bs tt y))
 
@@ -295,7 +295,7 @@ module _ (b c : List Terminal) where
     unfolding if_of
     if_alike room w l m ts us h =
         let g : Read Expression → Counted Statement → Outcome (Counted Statement) = λ x a. else_by types loops inner d (plain_at a.rest) x.value a in
-        bind b c (read_form Expression) (counted_form Statement) w l m (test types d ts) (test types d us) (λ x. inner room x.rest >>= g x) (λ x. inner room x.rest >>= g x) (condition_alike types d w l m ts us h) (λ v x p _ q.
+        bind b c (read_form Expression) (counted_form Statement) w l m (read_condition types d ts) (read_condition types d us) (λ x. inner room x.rest >>= g x) (λ x. inner room x.rest >>= g x) (condition_alike types d w l m ts us h) (λ v x p _ q.
         bind b c (counted_form Statement) (counted_form Statement) v l m (inner room x.rest) (inner room p) (g x) (g (record x { rest = p })) (ih room v l m x.rest p (wider b c v l m x.rest p q)) (λ u a s _ z.
         by_plain b c (counted_form Statement) u l m l m a.rest s (λ k. else_by types loops inner d k x.value a) (λ k. else_by types loops inner d k x.value (record a { rest = s })) z (else_alike x.value u l m a s z)))
 
@@ -311,7 +311,7 @@ module _ (b c : List Terminal) where
     unfolding while_of
     while_alike room w l m ts us h =
         let g : Read Expression → Body → Outcome (Counted Statement) = λ x y. Ok (record { value = While x.value y.annotations y.body; room = y.room; rest = y.rest }) in
-        bind b c (read_form Expression) (counted_form Statement) w l m (test types d ts) (test types d us) (λ x. loop_body types loops inner d room x.rest >>= g x) (λ x. loop_body types loops inner d room x.rest >>= g x) (condition_alike types d w l m ts us h) (λ v x p _ q.
+        bind b c (read_form Expression) (counted_form Statement) w l m (read_condition types d ts) (read_condition types d us) (λ x. loop_body types loops inner d room x.rest >>= g x) (λ x. loop_body types loops inner d room x.rest >>= g x) (condition_alike types d w l m ts us h) (λ v x p _ q.
         bind b c body_form (counted_form Statement) v l m (loop_body types loops inner d room x.rest) (loop_body types loops inner d room p) (g x) (g (record x { rest = p })) (body_alike room v l m x.rest p (wider b c v l m x.rest p q)) (λ u y s _ z.
         done b c (counted_form Statement) u l m (record { value = While x.value y.annotations y.body; room = y.room; rest = y.rest }) s tt z))
 

@@ -10,7 +10,7 @@ use Rattle.c0_syntax.specs.Expressions.{emit_type, emit_expression, FormedExpres
 use Rattle.c0_syntax.specs.Statements.{emit_spec, emit_specs, emit_annotations, FormedSpec, FormedSpecs, FormedAnnotations, height_spec, height_specs, height_annotations, change_sign, emit_simple, FormedSimple, height_simple, locals_simple, emit_option, FormedOption, height_option, locals_option, emit_statement, emit_statements, TakesNoElse, IsLoopBody, FormedStatement, FormedStatements, height_statement, height_statements, locals_statement, locals_statements}
 use Rattle.c0_reading.specs.Outcome.{Outcome, ◌>>=◌, Read, kind_at, plain_at}
 use Rattle.c0_reading.specs.ReadExpressions.{ReadExpression, read_expression}
-use Rattle.c0_reading.specs.ReadStatements.{Counted, read_spec, specs_by, read_specs, annotations_by, read_annotations, value_by, local_declaration, behind_by, simple_by, read_simple, given, first_by, third_by, test, call_of, with_semi, return_by, else_by, statements_by, read_statements, if_of, Body, loop_body, while_of, for_end, for_test, for_of, statement_by, read_statement}
+use Rattle.c0_reading.specs.ReadStatements.{Counted, read_spec, specs_by, read_specs, annotations_by, read_annotations, value_by, local_declaration, behind_by, simple_by, read_simple, given, first_by, third_by, read_condition, call_of, with_semi, return_by, else_by, statements_by, read_statements, if_of, Body, loop_body, while_of, for_end, for_test, for_of, statement_by, read_statement}
 use Rattle.c0_reading.proofs.Types.{complete_type}
 use Rattle.c0_reading.proofs.Turns.{Names, pull_by, pull, found, BeginsExpression, begins_expression}
 use Rattle.c0_reading.proofs.Complete.{complete}
@@ -192,8 +192,8 @@ abbrev CompleteAll : Names → Bool → Statements → Type 0
 CompleteAll types loops ss = (d n all room : ℕ) (rest : List Terminal) → FormedStatements types loops ss → height_statements ss ≤ d → all ≡ locals_statements ss + room → count_statements ss < n
     → read_statements types loops (read_statement types loops d) d n all (emit_statements ss rest) ≡ Ok (had ss room rest)
 
-test_is : (types : Names) (c : Expression) (d : ℕ) (ts : List Terminal) → FormedExpression types 1 c → height_expression c ≤ d → test types d (Sign k.LParen ∷ emit_expression c (Sign k.RParen ∷ ts)) ≡ Ok (got c ts)
-unfolding test
+test_is : (types : Names) (c : Expression) (d : ℕ) (ts : List Terminal) → FormedExpression types 1 c → height_expression c ≤ d → read_condition types d (Sign k.LParen ∷ emit_expression c (Sign k.RParen ∷ ts)) ≡ Ok (got c ts)
+unfolding read_condition
 test_is types c d ts l h = rw (complete types c d 1 (Sign k.RParen ∷ ts) l h (omega arith) (omega arith)) refl
 
 call_is : (types : Names) (c : Expression) (d : ℕ) (ts : List Terminal) → FormedExpression types 1 c → height_expression c ≤ d → call_of types d (Sign k.LParen ∷ emit_expression c (Sign k.RParen ∷ Sign k.Semi ∷ ts)) ≡ Ok (got c ts)

@@ -10,7 +10,7 @@ use Rattle.c0_syntax.specs.Expressions.{is_type_name, emit_type, emit_expression
 use Rattle.c0_syntax.specs.Statements.{emit_spec, emit_specs, emit_annotations, FormedSpec, FormedSpecs, FormedAnnotations, height_spec, height_specs, height_annotations, change_sign, emit_simple, FormedSimple, height_simple, locals_simple, emit_option, FormedOption, height_option, locals_option, emit_statement, emit_statements, TakesNoElse, IsLoopBody, FormedStatement, FormedStatements, height_statement, height_statements, locals_statement, locals_statements}
 use Rattle.c0_reading.specs.Outcome.{Outcome, ◌>>=◌, Read, kind_at, plain_at, next, lparen, rparen, semi, new_name}
 use Rattle.c0_reading.specs.ReadExpressions.{ReadType, ReadExpression, read_type, read_expression}
-use Rattle.c0_reading.specs.ReadStatements.{Counted, spec_by, read_spec, specs_by, read_specs, annotations_by, read_annotations, value_by, room_by, local_declaration, step_by, behind_by, simple_by, read_simple, given, first_by, third_by, test, call_of, with_semi, return_by, leave_by, else_by, statements_by, read_statements, if_of, Body, loop_body, while_of, ForEnd, for_end, ForTest, for_test, for_of, statement_by, read_statement}
+use Rattle.c0_reading.specs.ReadStatements.{Counted, spec_by, read_spec, specs_by, read_specs, annotations_by, read_annotations, value_by, room_by, local_declaration, step_by, behind_by, simple_by, read_simple, given, first_by, third_by, read_condition, call_of, with_semi, return_by, leave_by, else_by, statements_by, read_statements, if_of, Body, loop_body, while_of, ForEnd, for_end, ForTest, for_test, for_of, statement_by, read_statement}
 use Rattle.c0_reading.proofs.Basics.{bind_ok, ok_is, sign_at, lparen_ok, rparen_ok, semi_ok, new_name_ok}
 use Rattle.c0_reading.proofs.Types.{read_type_sound}
 use Rattle.c0_reading.proofs.Turns.{Names}
@@ -224,8 +224,8 @@ record SoundTest (types : Names) (d : ℕ) (ts : List Terminal) (r : Read Expres
   layered : FormedExpression types 1 r.value
   shallow : height_expression r.value ≤ d
 
-test_sound : (types : Names) (d : ℕ) (ts : List Terminal) (r : Read Expression) → test types d ts ≡ Ok r → SoundTest types d ts r
-unfolding test
+test_sound : (types : Names) (d : ℕ) (ts : List Terminal) (r : Read Expression) → read_condition types d ts ≡ Ok r → SoundTest types d ts r
+unfolding read_condition
 test_sound types d ts r e =
     let a = bind_ok (lparen ts) (λ us. read_expression types d 1 us >>= λ e. rparen e.rest >>= λ rest. Ok (record { value = e.tree; rest = rest })) r e in
     let b = bind_ok (read_expression types d 1 a.0) (λ e. rparen e.rest >>= λ rest. Ok (record { value = e.tree; rest = rest })) r a.2 in
@@ -242,7 +242,7 @@ record SoundCall (types : Names) (d : ℕ) (ts : List Terminal) (r : Read Expres
 call_sound : (types : Names) (d : ℕ) (ts : List Terminal) (r : Read Expression) → call_of types d ts ≡ Ok r → SoundCall types d ts r
 unfolding call_of
 call_sound types d ts r e =
-    let a = bind_ok (test types d ts) (λ e. semi e.rest >>= λ rest. Ok (record { value = e.value; rest = rest })) r e in
+    let a = bind_ok (read_condition types d ts) (λ e. semi e.rest >>= λ rest. Ok (record { value = e.value; rest = rest })) r e in
     let t = test_sound types d ts a.0 a.1 in
     let q = bind_ok (semi a.0.rest) (λ rest. Ok (record { value = a.0.value; rest = rest })) r a.2 in
     let whole : ts ≡ Sign k.LParen ∷ emit_expression a.0.value (Sign k.RParen ∷ Sign k.Semi ∷ q.0) = t.spelled ∙ ap (λ (us : List Terminal). Sign k.LParen ∷ emit_expression a.0.value (Sign k.RParen ∷ us)) (semi_ok a.0.rest q.0 q.1) in
@@ -261,7 +261,7 @@ else_ok types loops inner d _ c a r e = inr (λ f. cc, ok_is _ _ e)
 if_sound : (types : Names) (loops : Bool) (d all : ℕ) (inner : Inner) → IsSound types loops d inner → (ts : List Terminal) (r : Counted Statement) → plain_at ts ≡ k.If → if_of types loops inner d all (next ts) ≡ Ok r → SoundStatement types loops (suc d) all ts r
 unfolding if_of
 if_sound types loops d all inner sound ts r is e =
-    let bc = bind_ok (test types d (next ts)) (λ c. inner all c.rest >>= λ a. else_by types loops inner d (plain_at a.rest) c.value a) r e in
+    let bc = bind_ok (read_condition types d (next ts)) (λ c. inner all c.rest >>= λ a. else_by types loops inner d (plain_at a.rest) c.value a) r e in
     let t = test_sound types d (next ts) bc.0 bc.1 in
     let ba = bind_ok (inner all bc.0.rest) (λ a. else_by types loops inner d (plain_at a.rest) bc.0.value a) r bc.2 in
     let s = sound all bc.0.rest ba.0 ba.1 in
@@ -309,7 +309,7 @@ body_sound types loops d all inner sound ts r e =
 while_sound : (types : Names) (loops : Bool) (d all : ℕ) (inner : Inner) → IsSound types loops d inner → (ts : List Terminal) (r : Counted Statement) → plain_at ts ≡ k.While → while_of types loops inner d all (next ts) ≡ Ok r → SoundStatement types loops (suc d) all ts r
 unfolding while_of
 while_sound types loops d all inner sound ts r is e =
-    let bc = bind_ok (test types d (next ts)) (λ c. loop_body types loops inner d all c.rest >>= λ b. Ok (record { value = While c.value b.annotations b.body; room = b.room; rest = b.rest })) r e in
+    let bc = bind_ok (read_condition types d (next ts)) (λ c. loop_body types loops inner d all c.rest >>= λ b. Ok (record { value = While c.value b.annotations b.body; room = b.room; rest = b.rest })) r e in
     let t = test_sound types d (next ts) bc.0 bc.1 in
     let bb = bind_ok (loop_body types loops inner d all bc.0.rest) (λ b. Ok (record { value = While bc.0.value b.annotations b.body; room = b.room; rest = b.rest })) r bc.2 in
     let s = body_sound types loops d all inner sound bc.0.rest bb.0 bb.1 in

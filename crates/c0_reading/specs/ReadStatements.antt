@@ -107,12 +107,12 @@ third_by types d room _ ts = read_simple types d room ts >>= λ s. Ok (given s)
 -- ---- statements
 
 -- `(` exp `)`
-unfoldable pub test : List (List ℕ) → ℕ → List Terminal → Outcome (Read Expression)
-test types d ts = lparen ts >>= λ us. read_expression types d 1 us >>= λ e. rparen e.rest >>= λ rest. Ok (record { value = e.tree; rest = rest })
+unfoldable pub read_condition : List (List ℕ) → ℕ → List Terminal → Outcome (Read Expression)
+read_condition types d ts = lparen ts >>= λ us. read_expression types d 1 us >>= λ e. rparen e.rest >>= λ rest. Ok (record { value = e.tree; rest = rest })
 
 -- `(` exp `)` `;`
 unfoldable pub call_of : List (List ℕ) → ℕ → List Terminal → Outcome (Read Expression)
-call_of types d ts = test types d ts >>= λ e. semi e.rest >>= λ rest. Ok (record { value = e.value; rest = rest })
+call_of types d ts = read_condition types d ts >>= λ e. semi e.rest >>= λ rest. Ok (record { value = e.value; rest = rest })
 
 -- a statement whose semicolon stands next
 abbrev pub with_semi : Statement → ℕ → List Terminal → Outcome (Counted Statement)
@@ -164,7 +164,7 @@ module _ (types : List (List ℕ)) (loops : Bool) (inner : ℕ → List Terminal
 
   -- what stands behind `if`
   unfoldable pub if_of : ℕ → List Terminal → Outcome (Counted Statement)
-  if_of room ts = test types d ts >>= λ c. inner room c.rest >>= λ a. else_by (plain_at a.rest) c.value a
+  if_of room ts = read_condition types d ts >>= λ c. inner room c.rest >>= λ a. else_by (plain_at a.rest) c.value a
 
   -- the annotations of a loop, and its body
   unfoldable pub loop_body : ℕ → List Terminal → Outcome Body
@@ -172,7 +172,7 @@ module _ (types : List (List ℕ)) (loops : Bool) (inner : ℕ → List Terminal
 
   -- what stands behind `while`
   unfoldable pub while_of : ℕ → List Terminal → Outcome (Counted Statement)
-  while_of room ts = test types d ts >>= λ c. loop_body room c.rest >>= λ b. Ok (record { value = While c.value b.annotations b.body; room = b.room; rest = b.rest })
+  while_of room ts = read_condition types d ts >>= λ c. loop_body room c.rest >>= λ b. Ok (record { value = While c.value b.annotations b.body; room = b.room; rest = b.rest })
 
   -- `for` behind its second semicolon, and behind its first
   unfoldable pub for_end : ℕ → List Terminal → Outcome ForEnd

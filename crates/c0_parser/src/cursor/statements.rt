@@ -5,7 +5,7 @@ ghost use Rattle.c0_source.specs.declared.kind.Kind.TheVariants as k;
 ghost use Rattle.c0_syntax.specs.Trees as t;
 ghost use Rattle.c0_syntax.specs.Views.{expression_of, simple_of, statement_of, statement_of_kind, statements_of};
 ghost use Rattle.c0_reading.specs.Outcome.{Gives, next, plain_at};
-ghost use Rattle.c0_reading.specs.ReadStatements.{call_of, else_by, for_of, for_test, for_end, if_of, leave_by, loop_body, read_statement, read_statements, return_by, statement_by, test, while_of, with_semi};
+ghost use Rattle.c0_reading.specs.ReadStatements.{call_of, else_by, for_of, for_test, for_end, if_of, leave_by, loop_body, read_statement, read_statements, return_by, statement_by, read_condition, while_of, with_semi};
 ghost use Rattle.c0_parser.specs.Found.{found_body, found_for_end, found_for_test, for_tree, simple_line};
 
 use super::Cursor;
@@ -57,9 +57,9 @@ impl<'a> Cursor<'a> {
     }
 
     /// An expression in parentheses.
-    #[tactic(auto, unfolding(c0_reading::specs::ReadStatements::test))]
+    #[tactic(auto, unfolding(c0_reading::specs::ReadStatements::read_condition))]
     fn test(&mut self, types: &TypeNames<'_>, depth: usize) -> Result<Expression, ReadError>
-        ensures { Gives (λ e. record { value = expression_of e; rest = self.new }) result (test types.now depth self.old) }
+        ensures { Gives (λ e. record { value = expression_of e; rest = self.new }) result (read_condition types.now depth self.old) }
     {
         self.lparen()?;
         let found = self.expression(types, depth, 1)?;
