@@ -1,0 +1,78 @@
+#!/usr/bin/env python3
+"""Runs a program with each of its allocations refused in turn: prints how many there are, and each run that ends by a signal, or with the
+status of the whole run but other output.
+
+usage: bench/refusals.py PROGRAM [WORD..]
+Wants a C compiler, for a library that stands between the program and the allocator.
+"""
+import os
+import subprocess
+import sys
+import tempfile
+
+BETWEEN = r"""
+#define _GNU_SOURCE
+#include <dlfcn.h>
+#include <errno.h>
+#include <stdio.h>
+#include <stdlib.h>
+#include <unistd.h>
+static long calls;
+static int is_refused(void) {
+    const char *word = getenv("REFUSED");
+    calls++;
+    if (word && calls == atol(word)) { errno = ENOMEM; return 1; }
+    return 0;
+}
+void *malloc(size_t size) {
+    static void *(*next)(size_t);
+    if (!next) next = dlsym(RTLD_NEXT, "malloc");
+    return is_refused() ? NULL : next(size);
+}
+void *realloc(void *old, size_t size) {
+    static void *(*next)(void *, size_t);
+    if (!next) next = dlsym(RTLD_NEXT, "realloc");
+    return is_refused() ? NULL : next(old, size);
+}
+void *aligned_alloc(size_t align, size_t size) {
+    static void *(*next)(size_t, size_t);
+    if (!next) next = dlsym(RTLD_NEXT, "aligned_alloc");
+    return is_refused() ? NULL : next(align, size);
+}
+__attribute__((destructor)) static void tell(void) {
+    const char *path = getenv("CALLS");
+    FILE *file = path ? fopen(path, "w") : NULL;
+    if (file) { fprintf(file, "%ld\n", calls); fclose(file); }
+}
+"""
+
+
+def main():
+    words = sys.argv[1:]
+    if not words:
+        sys.exit(__doc__)
+    with tempfile.TemporaryDirectory() as folder:
+        source, library, told = f"{folder}/between.c", f"{folder}/between.so", f"{folder}/calls"
+        with open(source, "w") as file:
+            file.write(BETWEEN)
+        subprocess.run(["cc", "-O1", "-shared", "-fPIC", "-o", library, source, "-ldl"], check=True)
+
+        def run(**more):
+            ran = subprocess.run(words, env={**os.environ, "LD_PRELOAD": library, **more}, capture_output=True)
+            return ran.returncode, ran.stdout
+
+        whole = run(CALLS=told)
+        with open(told) as file:
+            calls = int(file.read())
+        statuses, bad = {}, 0
+        for k in range(1, calls + 1):
+            status, output = run(REFUSED=str(k))
+            statuses[status] = statuses.get(status, 0) + 1
+            if status < 0 or status == whole[0] and output != whole[1]:
+                bad += 1
+                print(f"allocation {k} refused: status {status}, output {output[:80]!r}")
+    print(f"status {whole[0]} with all; {calls} allocations refused in turn, runs by status: {statuses}; {bad} bad")
+    sys.exit(bad > 0)
+
+
+main()
