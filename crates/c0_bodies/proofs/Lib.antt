@@ -1,0 +1,5 @@
+pub mod BodyRows
+pub mod Branches
+pub mod Causes
+pub mod ConditionLists
+pub mod Scopes
