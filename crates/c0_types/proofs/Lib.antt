@@ -1,3 +1,4 @@
+pub mod ContractSteps
 pub mod DeclarationSteps
 pub mod FieldLists
 pub mod HeaderLists

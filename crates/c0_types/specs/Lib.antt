@@ -1,1 +1,2 @@
+pub mod ContractViews
 pub mod DeclareViews

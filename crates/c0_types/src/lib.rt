@@ -1,6 +1,7 @@
 //! The static rules of a whole program: its declarations in order, and the typed program of those that are well typed.
 #![tactic(auto)]
 
+mod contracts;
 mod declare;
 mod definitions;
 mod functions_stub;
