@@ -2,3 +2,4 @@ pub mod ContractSteps
 pub mod DeclarationSteps
 pub mod FieldLists
 pub mod HeaderLists
+pub mod TextSteps

@@ -14,17 +14,11 @@ use Rattle.c0_rules.specs.Mentions.{condition_of}
 use Rattle.c0_rules.specs.Programs.{are_contracts}
 use Rattle.c0_rules.specs.Statements.{Role, Precondition, Postcondition, conditions, role_of, same_role}
 use Rattle.c0_rules.specs.Types.{and_so, provided, Name, Environment, BoolType}
-use Rattle.c0_terms.specs.Terms.{HasTexts}
 use Rattle.c0_types.specs.declared.contracts.Conditions.{Conditions}
 
 -- the conditions of a contract
 abbrev pub conditions_of : List Name → Conditions → t.Exps × t.Exps
 conditions_of texts x = (exps_of texts x.preconditions.items, exps_of texts x.postconditions.items)
-
--- each text in these specs is one of these texts
-abbrev pub SpecsHaveTexts : List Name → List Spec → Type 0
-SpecsHaveTexts texts [] = Unit {0}
-SpecsHaveTexts texts (x ∷ rest) = HasTexts texts (condition_of x) × SpecsHaveTexts texts rest
 
 -- with an expression behind them
 abbrev pub with_last : t.Exps → t.Exp → t.Exps

@@ -1,2 +1,4 @@
+pub mod BodyViews
 pub mod ContractViews
 pub mod DeclareViews
+pub mod FunctionViews
