@@ -56,6 +56,10 @@ module _ (env : Environment) (f : Fault) where
   pub block_cause : (at : Scope) (all : Vec n.Statement Global) (span : Span) → InBody env f at all.items → InStatement env f at (w.Block all) span
   block_cause at all span h = in_statements at (w.Block all) span (subst (InBody env f at) (sym (block_items all)) h)
 
+  pub block_told : {K : Type 0} (at : Scope) (all : Vec n.Statement Global) (span : Span) → K ⊎ InBody env f at all.items → K ⊎ InStatement env f at (w.Block all) span
+  block_told at all span (inl k) = inl k
+  block_told at all span (inr h) = inr (block_cause at all span h)
+
 -- ---- equal places
 
 pub along : {A B C : Type 0} (P : A → B → C → Type 0) {a d : A} {b e : B} {c f : C} → a ≡ d → b ≡ e → c ≡ f → P a b c → P d e f

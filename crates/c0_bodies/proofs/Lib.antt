@@ -2,4 +2,6 @@ pub mod BodyRows
 pub mod Branches
 pub mod Causes
 pub mod ConditionLists
+pub mod Kept
 pub mod Scopes
+pub mod Sizes

@@ -1,4 +1,4 @@
-// The static rules of statements.
+//! The static rules of statements.
 
 ghost use Rattle.std.specs.Prelude.{◌≡◌, ◌⊎◌, List, IfErr, map};
 ghost use Rattle.c0_source.specs.declared.fault.FaultKind.TheVariants.{OutOfMemory};
@@ -33,7 +33,7 @@ mod simple_statements;
 
 /// A body that is looked at: what is declared before its function, the texts of the program, and what is in scope.
 #[derive(Drop)]
-pub(crate) struct Body<'a> {
+pub struct Body<'a> {
     pub alloc: Global,
     pub environment: &'a Environment,
     pub texts: &'a Names,

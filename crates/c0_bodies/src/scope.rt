@@ -1,4 +1,4 @@
-// What is in scope at a place of a body.
+//! What is in scope at a place of a body.
 
 ghost use Rattle.std.specs.Prelude.{◌≡◌, ◌||◌, IfOk, is_some, option_map, take};
 ghost use Rattle.c0_syntax.specs.Views.{name_of};
@@ -17,7 +17,7 @@ use std::alloc::{AllocError, Global};
 
 /// The locals in scope, the number of parameters, the types of all other locals of the function so far, and its result's type.
 #[derive(Debug, Drop)]
-pub(crate) struct Scope {
+pub struct Scope {
     pub locals: Vec<Local>,
     pub parameters: usize,
     pub declared: Vec<ResolvedType>,

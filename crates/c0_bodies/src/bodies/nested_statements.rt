@@ -129,8 +129,9 @@ impl<'a> Body<'a> {
         Ok(TypedStatement::ReturnValue(value))
     }
 
-    /// A statement. What is in scope behind an `Err` is not told. Those with others in them are not written yet: want of memory is
-    /// answered.
+    /// A statement. What is in scope behind an `Err` is not told. Those with others in them, but for blocks, are not written yet: want of
+    /// memory is answered.
+    #[cycle(statement)]
     pub(crate) fn statement(
         &mut self,
         kind: &StatementKind,
@@ -144,13 +145,13 @@ impl<'a> Body<'a> {
     {
         match kind {
             StatementKind::Simple(simple) => self.simple(simple),
+            StatementKind::Block(statements) => self.block(statements),
             StatementKind::Annotated(annotation) => {
                 Ok(TypedStatement::Check(self.assertions(&annotation.specs)?))
             }
             StatementKind::Return => self.returned(span),
             StatementKind::ReturnValue(value) => self.returned_value(value),
-            StatementKind::Block(_)
-            | StatementKind::If(_, _)
+            StatementKind::If(_, _)
             | StatementKind::IfElse(_, _, _)
             | StatementKind::While(_, _, _)
             | StatementKind::For(_, _, _, _, _) => Err(Fault {
@@ -169,5 +170,37 @@ impl<'a> Body<'a> {
                 span,
             }),
         }
+    }
+
+    /// Statements in order. What is in scope behind an `Err` is not told.
+    #[cycle(statement)]
+    pub fn statements(&mut self, statements: &[Statement]) -> Result<Vec<TypedStatement>, Fault>
+        requires { StatementsHaveTexts self.old.texts.now (statements_of statements.now) }
+        ensures environment { self.new.environment ≡ self.old.environment }
+        ensures texts { self.new.texts ≡ self.old.texts }
+        ensures answers { GivesBy (λ v. block_of self.old.texts.now v.items) self.new.scope result (typed_statements (environment_of self.old.environment.now) (statements_of statements.now) (scope_of self.old.scope)) }
+        ensures cause { IfErr result (λ f. (f.kind ≡ OutOfMemory) ⊎ InBody (environment_of self.old.environment.now) f (scope_of self.old.scope) statements.now) }
+    {
+        let mut all = Vec::new(self.alloc);
+        for statement in statements {
+            let found = self.statement(&statement.kind, statement.span)?;
+            all.push(found)?;
+        }
+        Ok(all)
+    }
+
+    // A block, which is a scope.
+    #[cycle(statement)]
+    fn block(&mut self, statements: &[Statement]) -> Result<TypedStatement, Fault>
+        requires { StatementsHaveTexts self.old.texts.now (statements_of statements.now) }
+        ensures environment { self.new.environment ≡ self.old.environment }
+        ensures texts { self.new.texts ≡ self.old.texts }
+        ensures answers { Gives self.old.texts.now self.new.scope result (block_in_scope (environment_of self.old.environment.now) (statements_of statements.now) (scope_of self.old.scope)) }
+        ensures cause { IfErr result (λ f. (f.kind ≡ OutOfMemory) ⊎ InBody (environment_of self.old.environment.now) f (scope_of self.old.scope) statements.now) }
+    {
+        let outer = self.scope.locals.len();
+        let all = self.statements(statements)?;
+        self.scope.leave(outer);
+        Ok(TypedStatement::Block(all))
     }
 }
