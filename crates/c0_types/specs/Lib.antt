@@ -1,4 +1,3 @@
-pub mod BodyViews
 pub mod ContractViews
 pub mod DeclareViews
 pub mod FunctionViews

@@ -4,7 +4,7 @@ ghost use Rattle.std.specs.Prelude.{◌≡◌, ◌⊎◌, IfErr, map, not};
 ghost use Rattle.std.specs.List.{list_all};
 ghost use Rattle.c0_source.specs.declared.fault.FaultKind.TheVariants.{OutOfMemory};
 ghost use Rattle.c0_syntax.specs.Views.{annotation_of, spec_of, typed_name_of};
-ghost use Rattle.c0_types.specs.BodyViews.{SpecsHaveTexts};
+ghost use Rattle.c0_bodies.specs.Bodies.{SpecsHaveTexts};
 ghost use Rattle.c0_types.specs.ContractViews.{InContractSpec, condition_added, conditions_of, contract_of, specs_added};
 ghost use Rattle.c0_types.specs.DeclareViews.{Accepts};
 ghost use Rattle.c0_rules.specs.FaultPrograms.{FunctionParameter, InContract, InContracts};

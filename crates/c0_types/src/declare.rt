@@ -6,7 +6,7 @@ ghost use Rattle.c0_source.specs.declared.fault.FaultKind.TheVariants.{OutOfMemo
 ghost use Rattle.c0_syntax.specs.Trees.{DeclareFunction, DeclareStruct, DefineFunction, DefineStruct, Typedef as TypedefOf};
 ghost use Rattle.c0_syntax.specs.Views.{declaration_of, header_of, name_of, statements_of, type_of, typed_name_of};
 ghost use Rattle.c0_typed.specs.Views.{function_of};
-ghost use Rattle.c0_types.specs.BodyViews.{SpecsHaveTexts, StatementsHaveTexts};
+ghost use Rattle.c0_bodies.specs.Bodies.{SpecsHaveTexts, StatementsHaveTexts};
 ghost use Rattle.c0_types.specs.DeclareViews.{InDefinition, InStruct, elaboration_of, typed_field_of};
 ghost use Rattle.c0_types.specs.FunctionViews.{DeclarationHasTexts, DeclarationsHaveTexts};
 ghost use Rattle.c0_rules.specs.FaultExpressions.{TypeCause};

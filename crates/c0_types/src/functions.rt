@@ -4,7 +4,7 @@ ghost use Rattle.std.specs.Prelude.{◌≡◌, ◌⊎◌, IfErr, IfOk, List, map
 ghost use Rattle.c0_source.specs.declared.fault.FaultKind.TheVariants.{OutOfMemory};
 ghost use Rattle.c0_syntax.specs.Views.{annotation_of, header_of, statements_of};
 ghost use Rattle.c0_typed.specs.Views.{function_of, type_of};
-ghost use Rattle.c0_types.specs.BodyViews.{SpecsHaveTexts, StatementsHaveTexts, scope_of};
+ghost use Rattle.c0_bodies.specs.Bodies.{SpecsHaveTexts, StatementsHaveTexts, scope_of};
 ghost use Rattle.c0_types.specs.ContractViews.{conditions_of, contract_of};
 ghost use Rattle.c0_types.specs.FunctionViews.{at_entry, at_return, checked_of, first_scope as scope_at_first, numbers_in, parts_of};
 ghost use Rattle.c0_rules.specs.FaultPrograms.{InContracts, InFunction, InTypes};
@@ -17,9 +17,11 @@ ghost use Rattle.c0_rules.specs.Answers.{Answers};
 ghost use Rattle.c0_tables.specs.Views.{environment_of, resolved_of, signature_of};
 ghost use Rattle.c0_terms.specs.Terms.{local_of};
 
-use crate::body_stub::{Body, Scope, check_paths};
 use crate::contracts::{Conditions, check_parameter_names, contract};
 use crate::headers::parameter_locals;
+use c0_bodies::bodies::Body;
+use c0_bodies::scope::Scope;
+use c0_flow::flow::paths::check_paths;
 use c0_source::fault::Fault;
 use c0_syntax::program::Header;
 use c0_syntax::statement::{Annotation, Statement};

@@ -1,7 +1,6 @@
 //! The static rules of a whole program: its declarations in order, and the typed program of those that are well typed.
 #![tactic(auto)]
 
-mod body_stub;
 mod contracts;
 mod declare;
 mod definitions;
