@@ -1,10 +1,5 @@
-pub mod BodyRows
-pub mod Branches
-pub mod Causes
-pub mod ConditionLists
 pub mod Locals
 pub mod Operands
-pub mod Scopes
 pub mod StructFields
 pub mod Texts
 pub mod Wrapped

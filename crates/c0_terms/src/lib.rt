@@ -1,7 +1,5 @@
-//! The types of expressions, and typed statements of the body of a function.
+//! The static rules of expressions: what each is once its names are replaced, or why it breaks a rule.
 #![tactic(auto)]
 
-mod bodies;
-mod scope;
-mod terms;
+pub mod terms;
 pub mod typing;

@@ -41,7 +41,7 @@ fn is_void(resolved: &ResolvedType) -> bool
 
 impl<'a> Terms<'a> {
     /// An expression that has a value, NULL among them.
-    pub(crate) fn value(&self, kind: &ExpressionKind, span: Span) -> Result<Typing, Fault>
+    pub fn value(&self, kind: &ExpressionKind, span: Span) -> Result<Typing, Fault>
         requires { HasTexts self.now.texts.now (expression_of_kind kind.now) }
         ensures answers { Answers (typing_of self.now.texts.now) result (valued (typed_expression (env_of self.now) (context_of self.now) (expression_of_kind kind.now))) }
         ensures cause { IfErr result (λ f. (f.kind ≡ OutOfMemory) ⊎ InExpression (env_of self.now) (context_of self.now) f AsValue kind.now span) }
@@ -101,7 +101,7 @@ impl<'a> Terms<'a> {
     }
 
     /// A place of the heap, small or a struct. It is not written yet: want of memory is answered.
-    pub(crate) fn place(&self, kind: &ExpressionKind, span: Span) -> Result<Place, Fault>
+    pub fn place(&self, kind: &ExpressionKind, span: Span) -> Result<Place, Fault>
         requires { HasTexts self.now.texts.now (expression_of_kind kind.now) }
         ensures answers { Answers (place_of self.now.texts.now) result (typed_place (env_of self.now) (context_of self.now) (expression_of_kind kind.now)) }
         ensures cause { IfErr result (λ f. (f.kind ≡ OutOfMemory) ⊎ InExpression (env_of self.now) (context_of self.now) f AsPlace kind.now span) }
@@ -114,11 +114,7 @@ impl<'a> Terms<'a> {
     }
 
     /// An expression of this type. It is not written yet: want of memory is answered.
-    pub(crate) fn wanted(
-        &self,
-        want: &ResolvedType,
-        e: &Expression,
-    ) -> Result<TypedExpression, Fault>
+    pub fn wanted(&self, want: &ResolvedType, e: &Expression) -> Result<TypedExpression, Fault>
         requires { HasTexts self.now.texts.now (expression_of e.now) }
         ensures answers { Answers (exp_of self.now.texts.now) result (wanted (env_of self.now) (resolved_of want.now) (typed_expression (env_of self.now) (context_of self.now) (expression_of e.now))) }
         ensures cause { IfErr result (λ f. (f.kind ≡ OutOfMemory) ⊎ InExpression (env_of self.now) (context_of self.now) f AsValue e.now.kind e.now.span ⊎ Mistyped (env_of self.now) (context_of self.now) f (resolved_of want.now) e.now.kind e.now.span) }
@@ -131,7 +127,7 @@ impl<'a> Terms<'a> {
     }
 
     /// An expression as a statement: it has a small value or NULL's type, or is a call. It is not written yet: want of memory is answered.
-    pub(crate) fn evaluated(&self, e: &Expression) -> Result<TypedExpression, Fault>
+    pub fn evaluated(&self, e: &Expression) -> Result<TypedExpression, Fault>
         requires { HasTexts self.now.texts.now (expression_of e.now) }
         ensures answers { Answers (exp_of self.now.texts.now) result (and_so (typed_expression (env_of self.now) (context_of self.now) (expression_of e.now)) (evaluated (env_of self.now) (expression_of e.now))) }
         ensures cause { (s : Scope) → within s ≡ (context_of self.now) → IfErr result (λ f. (f.kind ≡ OutOfMemory) ⊎ InEvaluated (env_of self.now) f s e.now.kind e.now.span) }

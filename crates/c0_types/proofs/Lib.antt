@@ -1,3 +1,5 @@
+pub mod ContractSteps
 pub mod DeclarationSteps
 pub mod FieldLists
 pub mod HeaderLists
+pub mod TextSteps

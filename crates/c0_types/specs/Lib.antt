@@ -1,1 +1,3 @@
+pub mod ContractViews
 pub mod DeclareViews
+pub mod FunctionViews

@@ -6,9 +6,12 @@ ghost use Rattle.c0_source.specs.declared.fault.FaultKind.TheVariants.{OutOfMemo
 ghost use Rattle.c0_syntax.specs.Trees.{DeclareFunction, DeclareStruct, DefineFunction, DefineStruct, Typedef as TypedefOf};
 ghost use Rattle.c0_syntax.specs.Views.{declaration_of, header_of, name_of, statements_of, type_of, typed_name_of};
 ghost use Rattle.c0_typed.specs.Views.{function_of};
+ghost use Rattle.c0_bodies.specs.Bodies.{SpecsHaveTexts, StatementsHaveTexts};
 ghost use Rattle.c0_types.specs.DeclareViews.{InDefinition, InStruct, elaboration_of, typed_field_of};
+ghost use Rattle.c0_types.specs.FunctionViews.{DeclarationHasTexts, DeclarationsHaveTexts};
 ghost use Rattle.c0_rules.specs.FaultExpressions.{TypeCause};
 ghost use Rattle.c0_rules.specs.FaultPrograms.{AnySpecs, InDeclaration, InDeclarations, InHeader};
+ghost use Rattle.c0_rules.specs.Mentions.{specs_in};
 ghost use Rattle.c0_rules.specs.Programs.{beginning, cells_in, function_defined as defined_function, function_names_of, is_main, main_name, struct_defined as defined_struct, struct_names_of, typed_declaration, typed_declarations, uses_conio as is_use_of_conio, with_struct};
 ghost use Rattle.c0_rules.specs.Types.{Name as Word, same_types};
 ghost use Rattle.c0_rules.specs.Answers.{Answers};
@@ -17,7 +20,7 @@ ghost use Rattle.c0_tables.specs.Views.{environment_of, signature_of};
 use crate::definitions::{
     NewStruct, check_use, field_table, is_conio, new_struct, numbered_fields,
 };
-use crate::functions_stub::typed_function;
+use crate::functions::typed_function;
 use crate::headers::{add_function, refuse_specs, signature};
 use c0_source::fault::Fault;
 use c0_syntax::name::Name;
@@ -65,6 +68,7 @@ impl Elaborated {
         texts: &Names,
         declarations: &[Declaration],
     ) -> Result<(), Fault>
+        requires { DeclarationsHaveTexts texts.now (map declaration_of declarations.now) }
         ensures answers { Answers (λ _. elaboration_of texts.now self.new) result (typed_declarations (map declaration_of declarations.now) (elaboration_of texts.now self.old)) }
         ensures cause { IfErr result (λ f. (f.kind ≡ OutOfMemory) ⊎ InDeclarations f (elaboration_of texts.now self.old) declarations.now) }
     {
@@ -81,6 +85,7 @@ impl Elaborated {
         texts: &Names,
         declaration: &Declaration,
     ) -> Result<(), Fault>
+        requires { DeclarationHasTexts texts.now (declaration_of declaration.now) }
         ensures answers { Answers (λ _. elaboration_of texts.now self.new) result (typed_declaration (declaration_of declaration.now) (elaboration_of texts.now self.old)) }
         ensures cause { IfErr result (λ f. (f.kind ≡ OutOfMemory) ⊎ InDeclaration f (elaboration_of texts.now self.old) declaration.now.kind declaration.now.span) }
     {
@@ -164,6 +169,7 @@ impl Elaborated {
         header: &Header,
         body: &[Statement],
     ) -> Result<(), Fault>
+        requires { SpecsHaveTexts texts.now (specs_in ((header_of header.now).annotations)) × StatementsHaveTexts texts.now (statements_of body.now) }
         ensures answers { Answers (λ _. elaboration_of texts.now self.new) result (typed_declaration (DefineFunction (header_of header.now) (statements_of body.now)) (elaboration_of texts.now self.old)) }
         ensures cause { IfErr result (λ f. (f.kind ≡ OutOfMemory) ⊎ InDefinition (environment_of self.old.environment) f header.now body.now) }
     {

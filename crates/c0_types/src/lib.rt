@@ -1,9 +1,10 @@
 //! The static rules of a whole program: its declarations in order, and the typed program of those that are well typed.
 #![tactic(auto)]
 
+mod contracts;
 mod declare;
 mod definitions;
-mod functions_stub;
+mod functions;
 mod headers;
 
 pub use c0_rules::{accepted_texts, elaborated, refused_texts};

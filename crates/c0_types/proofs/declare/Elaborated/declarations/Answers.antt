@@ -2,7 +2,11 @@ use Rattle.std.proofs.Common.{inl, inr, refl}
 use Rattle.std.proofs.lemmas.Result.{err_from_is_err_and}
 use Rattle.c0_types.specs.DeclareViews.{elaboration_of}
 use Rattle.c0_types.proofs.DeclarationSteps.{left_more, left_none, left_told}
+use Rattle.c0_types.proofs.TextSteps.{declaration_at}
 use Rattle.c0_types.proofs.declare.Elaborated.declarations.Goals as goal
+
+pub declaration-requires : goal.declaration-requires
+declaration-requires c = declaration_at c.args.texts.now c.args.declarations.now c.loop-declaration.declaration-index c.declaration-item.result c.loop-declaration-test.true c.declaration-item.is c.requires
 
 pub returns-in_err-declaration-clause-answers : goal.returns-in_err-declaration-clause-answers
 returns-in_err-declaration-clause-answers c =

@@ -1,0 +1,7 @@
+pub mod BodyRows
+pub mod Branches
+pub mod Causes
+pub mod ConditionLists
+pub mod Kept
+pub mod Scopes
+pub mod Sizes

@@ -1,0 +1,119 @@
+use Rattle.std.proofs.Common.{◌≡◌, ◌+◌, List, length, map, drop, arith, ap, ◌∙◌, sym, subst, Some, None}
+use Rattle.std.specs.Prelude.{◌⊎◌}
+use Rattle.std.proofs.lemmas.List.{length-map}
+use Rattle.std.proofs.lemmas.Result.{IfErr-weaker, err_from_is_err_and}
+use Rattle.c0_source.specs.declared.fault.Fault.{Fault}
+use Rattle.c0_source.specs.declared.fault.FaultKind.TheVariants.{OutOfMemory}
+use Rattle.c0_syntax.specs.declared.statement.Statement.{Statement}
+use Rattle.c0_syntax.specs.declared.statement.StatementKind.{StatementKind}
+use Rattle.c0_syntax.specs.Trees as tree
+use Rattle.c0_syntax.specs.Views.{statement_of, statement_of_kind, statements_of}
+use Rattle.c0_typed.specs.Views.{block_of, stmt_of}
+use Rattle.c0_terms.specs.Terms.{local_of}
+use Rattle.c0_rules.specs.FaultStatements.{InBody, InStatement}
+use Rattle.c0_rules.specs.Statements.{typed_statement, typed_statements}
+use Rattle.c0_tables.specs.Views.{environment_of}
+use Rattle.c0_bodies.specs.Bodies.{StatementHasTexts, StatementsHaveTexts, scope_of}
+use Rattle.c0_bodies.proofs.BodyRows.{block_is, block_told, typed_block_is}
+use Rattle.c0_bodies.proofs.Branches.{after_all, after_none, block_gives, body_cause, body_has, body_step, statement_more, statement_none, statements_done}
+use Rattle.c0_bodies.proofs.Kept.{at_start, block_none, in_texts}
+use Rattle.c0_bodies.proofs.Sizes.{size_in, size_statement}
+use Rattle.c0_bodies.proofs.bodies.Body.+statement.Goals as goal
+
+-- ---- statements in order
+
+pub statements-statement-requires : goal.statements-statement-requires
+statements-statement-requires t c =
+    let l = c.loop-statement in
+    let x : Statement = c.statement-item.result in
+    let has = body_has (environment_of c.args.self.now.environment.now) c.args.self.now.texts.now c.args.statements.now l.statement-index x c.loop-statement-test.true c.statement-item.is c.requires in
+    (omega (arith, size_in c.args.statements.now l.statement-index x c.loop-statement-test.true c.statement-item.is, c.decreases), in_texts (λ w. StatementHasTexts w (statement_of x)) l.invariant.texts has)
+
+pub statements-loop-statement-init : goal.statements-loop-statement-init
+statements-loop-statement-init t c =
+    let env = environment_of c.args.self.now.environment.now in
+    let texts = c.args.self.now.texts.now in
+    let answer = ap (λ l. after_all texts l (typed_statements env (statements_of c.args.statements.now) (scope_of c.args.self.now.scope))) c.new-all.ensures.items ∙ after_none texts (typed_statements env (statements_of c.args.statements.now) (scope_of c.args.self.now.scope)) in
+    record { environment = λ i. c.args.self.now.environment; texts = λ i. c.args.self.now.texts; answer = answer; cause = λ f h. h }
+
+pub statements-returns-in_err-found-clause-answers : goal.statements-returns-in_err-found-clause-answers
+statements-returns-in_err-found-clause-answers t c =
+    let l = c.loop-statement in
+    let env = environment_of c.args.self.now.environment.now in
+    let texts = c.args.self.now.texts.now in
+    let x : Statement = c.statement-item.result in
+    let p = err_from_is_err_and c.from_residual.result c.from_residual.ensures.1 in
+    let none = at_start (λ e w. (c.in_err-found.field-0.0.kind ≡ OutOfMemory) ⊎ (typed_statement e (statement_of x) (scope_of l.self.scope) ≡ None)) l.invariant.environment l.invariant.texts c.in_err-found.ensures.answers in
+    rw (p.1, p.2) (statement_none env texts l.all.items c.args.statements.now l.statement-index x c.loop-statement-test.true c.statement-item.is (scope_of l.self.scope) _ none l.invariant.answer)
+
+pub statements-returns-in_err-found-clause-cause : goal.statements-returns-in_err-found-clause-cause
+statements-returns-in_err-found-clause-cause t c =
+    let l = c.loop-statement in
+    let env = environment_of c.args.self.now.environment.now in
+    let x : Statement = c.statement-item.result in
+    let fault : Fault = c.in_err-found.field-0.0 in
+    let p = err_from_is_err_and c.from_residual.result c.from_residual.ensures.1 in
+    let there = at_start (λ e w. (fault.kind ≡ OutOfMemory) ⊎ InStatement e fault (scope_of l.self.scope) x.kind x.span) l.invariant.environment l.invariant.texts c.in_err-found.ensures.cause in
+    rw (p.1, p.2) (body_cause env fault (scope_of l.self.scope) c.args.statements.now l.statement-index x c.loop-statement-test.true c.statement-item.is (l.invariant.cause fault) there)
+
+pub statements-loop-statement-preserved : goal.statements-loop-statement-preserved
+statements-loop-statement-preserved t c =
+    let l = c.loop-statement in
+    let env = environment_of c.args.self.now.environment.now in
+    let texts = c.args.self.now.texts.now in
+    let x : Statement = c.statement-item.result in
+    let behind = scope_of c.statement.new.self.scope in
+    let given = at_start (λ e w. typed_statement e (statement_of x) (scope_of l.self.scope) ≡ Some (record { statement = stmt_of w c.in_ok-found.found; scope = behind })) l.invariant.environment l.invariant.texts c.in_ok-found.ensures.answers in
+    let rest = typed_statements env (statements_of (drop (l.statement-index + 1) c.args.statements.now)) behind in
+    record {
+      environment = c.statement.ensures.environment ∙ l.invariant.environment;
+      texts = c.statement.ensures.texts ∙ l.invariant.texts;
+      answer = ap (λ v. after_all texts v rest) c.in_ok-push.ensures.items ∙ statement_more env texts l.all.items c.in_ok-found.found c.args.statements.now l.statement-index x c.loop-statement-test.true c.statement-item.is (scope_of l.self.scope) behind _ given l.invariant.answer;
+      cause = λ f there. body_step env f (scope_of l.self.scope) c.args.statements.now l.statement-index x c.loop-statement-test.true c.statement-item.is (record { statement = stmt_of texts c.in_ok-found.found; scope = behind }) given (l.invariant.cause f) there;
+    }
+
+pub statements-returns-clause-answers : goal.statements-returns-clause-answers
+statements-returns-clause-answers t c =
+    let l = c.loop-statement in
+    statements_done (environment_of c.args.self.now.environment.now) c.args.self.now.texts.now l.all.items c.args.statements.now l.statement-index c.loop-statement-test.false (scope_of l.self.scope) _ l.invariant.answer
+
+-- ---- a block
+
+pub block-statements-requires : goal.block-statements-requires
+block-statements-requires t c = (omega (arith, c.decreases), c.requires)
+
+pub block-returns-in_err-all-clause-answers : goal.block-returns-in_err-all-clause-answers
+block-returns-in_err-all-clause-answers t c =
+    let p = err_from_is_err_and c.from_residual.result c.from_residual.ensures.1 in
+    rw (p.1, p.2) (block_none (environment_of c.args.self.now.environment.now) (statements_of c.args.statements.now) (scope_of c.args.self.now.scope) c.in_err-all.ensures.answers)
+
+pub block-returns-clause-answers : goal.block-returns-clause-answers
+block-returns-clause-answers t c =
+    let env = environment_of c.args.self.now.environment.now in
+    let texts = c.args.self.now.texts.now in
+    let locals = c.args.self.now.scope.locals in
+    let size : c.len-outer.result ≡ length (map local_of locals.items) = omega (arith, c.len-outer.ensures, locals.ok.0, length-map locals.items local_of) in
+    let behind = scope_of c.leave.new.self in
+    block_gives env (statements_of c.args.statements.now) (scope_of c.args.self.now.scope) (record { statement = block_of texts c.in_ok-all.all.items; scope = scope_of c.statements.new.self.scope }) c.len-outer.result behind size c.in_ok-all.ensures.answers c.leave.ensures
+    ∙ ap (λ b. Some (record { statement = b; scope = behind })) (sym (typed_block_is texts c.in_ok-all.all))
+
+-- ---- a block as a statement
+
+pub statement-block-requires : goal.statement-block-requires
+statement-block-requires t c =
+    let texts = c.args.self.now.texts.now in
+    let shape = ap statement_of_kind c.in-Block.is ∙ block_is c.in-Block.statements in
+    let has : StatementsHaveTexts texts (statements_of c.in-Block.statements.items) = subst (StatementHasTexts texts) shape c.requires in
+    let whole = shape ∙ ap (λ l. tree.Block (statements_of l)) (sym c.deref.ensures.value) in
+    (omega (arith, ap size_statement whole, c.decreases), subst (λ l. StatementsHaveTexts texts (statements_of l)) (sym c.deref.ensures.value) has)
+
+pub statement-returns-in-Block-clause-answers : goal.statement-returns-in-Block-clause-answers
+statement-returns-in-Block-clause-answers t c =
+    let shape = ap statement_of_kind c.in-Block.is ∙ block_is c.in-Block.statements in
+    rw shape (rw c.deref.ensures.value at c.block.ensures.answers)
+
+pub statement-returns-in-Block-clause-cause : goal.statement-returns-in-Block-clause-cause
+statement-returns-in-Block-clause-cause t c =
+    let env = environment_of c.args.self.now.environment.now in
+    let at = scope_of c.args.self.now.scope in
+    IfErr-weaker c.block.result _ _ (λ f h. subst (λ k. (f.kind ≡ OutOfMemory) ⊎ InStatement env f at k c.args.span) (sym c.in-Block.is) (block_told env f at c.in-Block.statements c.args.span (subst (λ l. (f.kind ≡ OutOfMemory) ⊎ InBody env f at l) c.deref.ensures.value h))) c.block.ensures.cause

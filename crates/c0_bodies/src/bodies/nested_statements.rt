@@ -1,0 +1,206 @@
+// Statements with others in them.
+
+ghost use Rattle.std.specs.Prelude.{◌≡◌, ◌⊎◌, List, IfErr, IfOk, is_err, map, option_map};
+ghost use Rattle.c0_source.specs.declared.fault.FaultKind.TheVariants.{OutOfMemory};
+ghost use Rattle.c0_syntax.specs.Trees as t;
+ghost use Rattle.c0_syntax.specs.Views.{annotation_of, expression_of, simple_of, statement_of, statement_of_kind, statements_of};
+ghost use Rattle.c0_typed.specs.Trees as y;
+ghost use Rattle.c0_typed.specs.Views.{block_of, exp_of, exps_of, stmt_of};
+ghost use Rattle.c0_bodies.specs.Bodies.{Gives, GivesBy, InFor, InIfElse, InLoop, PartHasTexts, SpecsHaveTexts, StatementHasTexts, StatementsHaveTexts, block_in_scope, in_scope, loop_behind, scope_of};
+ghost use Rattle.c0_rules.specs.FaultStatements.{InAnnotations, InBody, InPart, InStatement, InValue, InWanted, ReturnCause, ThirdCause};
+ghost use Rattle.c0_rules.specs.Mentions.{specs_in};
+ghost use Rattle.c0_rules.specs.Statements.{Invariant, declares, typed_part, typed_statement, typed_statements, within};
+ghost use Rattle.c0_terms.specs.Terms.{HasTexts};
+ghost use Rattle.c0_rules.specs.Types.{BoolType, Environment, Name};
+ghost use Rattle.c0_tables.specs.Views.{environment_of};
+
+use super::{Body, skip};
+use c0_source::fault::{Fault, FaultKind, Span};
+use c0_syntax::expression::Expression;
+use c0_syntax::statement::{Annotation, SimpleKind, SimpleStatement, Statement, StatementKind};
+use c0_tables::resolved::ResolvedType;
+use c0_typed::{Expression as TypedExpression, Statement as TypedStatement};
+use std::alloc::{AllocError, Global};
+
+// An `if` with both of its statements.
+fn choice(
+    alloc: Global,
+    condition: TypedExpression,
+    first: TypedStatement,
+    second: TypedStatement,
+) -> Result<TypedStatement, AllocError>
+    ensures { IfOk result (λ b. (texts : List Name) → stmt_of texts b ≡ y.If (exp_of texts condition) (stmt_of texts first) (stmt_of texts second)) }
+{
+    let first = Box::new(alloc, first)?;
+    let second = Box::new(alloc, second)?;
+    Ok(TypedStatement::If(condition, first, second))
+}
+
+// A loop.
+fn repetition(
+    alloc: Global,
+    invariants: Vec<TypedExpression>,
+    condition: TypedExpression,
+    body: TypedStatement,
+    third: TypedStatement,
+) -> Result<TypedStatement, AllocError>
+    ensures { IfOk result (λ b. (texts : List Name) → stmt_of texts b ≡ y.Loop (exps_of texts invariants.items) (exp_of texts condition) (stmt_of texts body) (stmt_of texts third)) }
+{
+    let body = Box::new(alloc, body)?;
+    let third = Box::new(alloc, third)?;
+    Ok(TypedStatement::Loop(invariants, condition, body, third))
+}
+
+// Two statements in order.
+fn in_turn(
+    alloc: Global,
+    first: TypedStatement,
+    second: TypedStatement,
+) -> Result<TypedStatement, AllocError>
+    ensures { IfOk result (λ b. (texts : List Name) → stmt_of texts b ≡ y.Seq (stmt_of texts first) (y.Seq (stmt_of texts second) y.Skip)) }
+{
+    let mut both = Vec::new(alloc);
+    both.push(first)?;
+    both.push(second)?;
+    Ok(TypedStatement::Block(both))
+}
+
+// The third part of a `for` declares no local.
+fn check_third(third: &Option<SimpleStatement>) -> Result<(), Fault>
+    ensures answers { is_err result ≡ declares (option_map simple_of third.now) }
+    ensures cause { IfErr result (λ f. (env : Environment) → ThirdCause env f third.now) }
+{
+    let Some(simple) = third else {
+        return Ok(());
+    };
+    match simple.kind {
+        SimpleKind::Declare(_, _) | SimpleKind::Initialize(_, _, _) => Err(Fault {
+            kind: FaultKind::StepDeclares,
+            span: simple.span,
+        }),
+        SimpleKind::Assign(_, _) | SimpleKind::Update(_, _, _) => Ok(()),
+        SimpleKind::Step(_, _) | SimpleKind::Evaluate(_) => Ok(()),
+    }
+}
+
+impl<'a> Body<'a> {
+    // A part of a `for`.
+    fn part(&mut self, part: &Option<SimpleStatement>) -> Result<TypedStatement, Fault>
+        requires { PartHasTexts self.old.texts.now (option_map simple_of part.now) }
+        ensures environment { self.new.environment ≡ self.old.environment }
+        ensures texts { self.new.texts ≡ self.old.texts }
+        ensures answers { Gives self.old.texts.now self.new.scope result (typed_part (environment_of self.old.environment.now) (option_map simple_of part.now) (scope_of self.old.scope)) }
+        ensures cause { IfErr result (λ f. (f.kind ≡ OutOfMemory) ⊎ InPart (environment_of self.old.environment.now) f (scope_of self.old.scope) part.now) }
+    {
+        match part {
+            Some(simple) => self.simple(simple),
+            None => Ok(skip(self.alloc)),
+        }
+    }
+
+    // A `return` without a value.
+    fn returned(&self, span: Span) -> Result<TypedStatement, Fault>
+        ensures answers { Gives self.now.texts.now self.now.scope result (typed_statement (environment_of self.now.environment.now) t.Return (scope_of self.now.scope)) }
+        ensures cause { IfErr result (λ f. InStatement (environment_of self.now.environment.now) f (scope_of self.now.scope) StatementKind.Return span) }
+    {
+        if !self.scope.result.same_as(&ResolvedType::Void) {
+            return Err(Fault {
+                kind: FaultKind::TypeMismatch,
+                span,
+            });
+        }
+        Ok(TypedStatement::Return)
+    }
+
+    // A `return` with a value.
+    fn returned_value(&self, value: &Expression) -> Result<TypedStatement, Fault>
+        requires { HasTexts self.now.texts.now (expression_of value.now) }
+        ensures answers { Gives self.now.texts.now self.now.scope result (typed_statement (environment_of self.now.environment.now) (t.ReturnValue (expression_of value.now)) (scope_of self.now.scope)) }
+        ensures cause { IfErr result (λ f. (f.kind ≡ OutOfMemory) ⊎ InValue (environment_of self.now.environment.now) f (scope_of self.now.scope) value.now ⊎ ReturnCause (environment_of self.now.environment.now) f (scope_of self.now.scope) value.now) }
+    {
+        if self.scope.result.same_as(&ResolvedType::Void) {
+            self.value(&value.kind, value.span)?;
+            return Err(Fault {
+                kind: FaultKind::TypeMismatch,
+                span: value.span,
+            });
+        }
+        let value = self.wanted(&self.scope.result, value)?;
+        Ok(TypedStatement::ReturnValue(value))
+    }
+
+    /// A statement. What is in scope behind an `Err` is not told. Those with others in them, but for blocks, are not written yet: want of
+    /// memory is answered.
+    #[cycle(statement)]
+    pub(crate) fn statement(
+        &mut self,
+        kind: &StatementKind,
+        span: Span,
+    ) -> Result<TypedStatement, Fault>
+        requires { StatementHasTexts self.old.texts.now (statement_of_kind kind.now) }
+        ensures environment { self.new.environment ≡ self.old.environment }
+        ensures texts { self.new.texts ≡ self.old.texts }
+        ensures answers { Gives self.old.texts.now self.new.scope result (typed_statement (environment_of self.old.environment.now) (statement_of_kind kind.now) (scope_of self.old.scope)) }
+        ensures cause { IfErr result (λ f. (f.kind ≡ OutOfMemory) ⊎ InStatement (environment_of self.old.environment.now) f (scope_of self.old.scope) kind.now span) }
+    {
+        match kind {
+            StatementKind::Simple(simple) => self.simple(simple),
+            StatementKind::Block(statements) => self.block(statements),
+            StatementKind::Annotated(annotation) => {
+                Ok(TypedStatement::Check(self.assertions(&annotation.specs)?))
+            }
+            StatementKind::Return => self.returned(span),
+            StatementKind::ReturnValue(value) => self.returned_value(value),
+            StatementKind::If(_, _)
+            | StatementKind::IfElse(_, _, _)
+            | StatementKind::While(_, _, _)
+            | StatementKind::For(_, _, _, _, _) => Err(Fault {
+                kind: FaultKind::OutOfMemory,
+                span,
+            }),
+            StatementKind::Assert(condition) => {
+                let condition = self.wanted(&ResolvedType::Bool, condition)?;
+                Ok(TypedStatement::Assert(condition))
+            }
+            StatementKind::Error(text) => {
+                Ok(TypedStatement::Error(self.wanted(&ResolvedType::Text, text)?))
+            }
+            StatementKind::Break | StatementKind::Continue => Err(Fault {
+                kind: FaultKind::Syntax,
+                span,
+            }),
+        }
+    }
+
+    /// Statements in order. What is in scope behind an `Err` is not told.
+    #[cycle(statement)]
+    pub fn statements(&mut self, statements: &[Statement]) -> Result<Vec<TypedStatement>, Fault>
+        requires { StatementsHaveTexts self.old.texts.now (statements_of statements.now) }
+        ensures environment { self.new.environment ≡ self.old.environment }
+        ensures texts { self.new.texts ≡ self.old.texts }
+        ensures answers { GivesBy (λ v. block_of self.old.texts.now v.items) self.new.scope result (typed_statements (environment_of self.old.environment.now) (statements_of statements.now) (scope_of self.old.scope)) }
+        ensures cause { IfErr result (λ f. (f.kind ≡ OutOfMemory) ⊎ InBody (environment_of self.old.environment.now) f (scope_of self.old.scope) statements.now) }
+    {
+        let mut all = Vec::new(self.alloc);
+        for statement in statements {
+            let found = self.statement(&statement.kind, statement.span)?;
+            all.push(found)?;
+        }
+        Ok(all)
+    }
+
+    // A block, which is a scope.
+    #[cycle(statement)]
+    fn block(&mut self, statements: &[Statement]) -> Result<TypedStatement, Fault>
+        requires { StatementsHaveTexts self.old.texts.now (statements_of statements.now) }
+        ensures environment { self.new.environment ≡ self.old.environment }
+        ensures texts { self.new.texts ≡ self.old.texts }
+        ensures answers { Gives self.old.texts.now self.new.scope result (block_in_scope (environment_of self.old.environment.now) (statements_of statements.now) (scope_of self.old.scope)) }
+        ensures cause { IfErr result (λ f. (f.kind ≡ OutOfMemory) ⊎ InBody (environment_of self.old.environment.now) f (scope_of self.old.scope) statements.now) }
+    {
+        let outer = self.scope.locals.len();
+        let all = self.statements(statements)?;
+        self.scope.leave(outer);
+        Ok(TypedStatement::Block(all))
+    }
+}

@@ -1,0 +1,132 @@
+// The contract of a function, and the names of its parameters.
+
+ghost use Rattle.std.specs.Prelude.{◌≡◌, ◌⊎◌, IfErr, map, not};
+ghost use Rattle.std.specs.List.{list_all};
+ghost use Rattle.c0_source.specs.declared.fault.FaultKind.TheVariants.{OutOfMemory};
+ghost use Rattle.c0_syntax.specs.Views.{annotation_of, spec_of, typed_name_of};
+ghost use Rattle.c0_bodies.specs.Bodies.{SpecsHaveTexts};
+ghost use Rattle.c0_types.specs.ContractViews.{InContractSpec, condition_added, conditions_of, contract_of, specs_added};
+ghost use Rattle.c0_types.specs.DeclareViews.{Accepts};
+ghost use Rattle.c0_rules.specs.FaultPrograms.{FunctionParameter, InContract, InContracts};
+ghost use Rattle.c0_rules.specs.Mentions.{condition_of, specs_in};
+ghost use Rattle.c0_rules.specs.Programs.{names_of};
+ghost use Rattle.c0_rules.specs.Statements.{is_function as is_called, role_of};
+ghost use Rattle.c0_terms.specs.Terms.{HasTexts, context_of, env_of};
+ghost use Rattle.c0_rules.specs.Answers.{Answers};
+ghost use Rattle.c0_tables.specs.Views.{environment_of};
+
+use crate::headers::is_output;
+use c0_source::fault::{Fault, FaultKind};
+use c0_source::kind::Clause;
+use c0_syntax::program::TypedName;
+use c0_syntax::statement::{Annotation, Spec, SpecKind};
+use c0_tables::environment::Environment;
+use c0_tables::resolved::ResolvedType;
+use c0_terms::typing::Terms;
+use c0_typed::Expression as TypedExpression;
+
+// Whether a name is that of a function in scope, or of an output call in use.
+fn is_function(environment: &Environment, name: &str) -> bool
+    ensures { result ≡ is_called (environment_of environment.now) name.now }
+{
+    environment.functions.get(name).is_some() || is_output(environment.conio, name)
+}
+
+/// The first parameter that has the name of a function in scope or of an output call in use is an error, `DuplicateName` at its name.
+pub(crate) fn check_parameter_names(
+    environment: &Environment,
+    parameters: &[TypedName],
+) -> Result<(), Fault>
+    ensures answers { Accepts result (list_all (λ n. not (is_called (environment_of environment.now) n)) (names_of (map typed_name_of parameters.now))) }
+    ensures cause { IfErr result (λ f. FunctionParameter f (environment_of environment.now) parameters.now) }
+{
+    for parameter in parameters {
+        if is_function(environment, &parameter.name.text) {
+            return Err(Fault {
+                kind: FaultKind::DuplicateName,
+                span: parameter.name.span,
+            });
+        }
+    }
+    Ok(())
+}
+
+/// What a contract wants: on entry, and at each return.
+#[derive(Debug, Drop)]
+pub(crate) struct Conditions {
+    pub(crate) preconditions: Vec<TypedExpression>,
+    pub(crate) postconditions: Vec<TypedExpression>,
+}
+
+// The condition of a spec, behind those so far. What is left of them behind an `Err` is not told; so it is with more specs.
+fn push_spec(
+    before: &Terms<'_>,
+    behind: &Terms<'_>,
+    spec: &Spec,
+    conditions: &mut Conditions,
+) -> Result<(), Fault>
+    requires environment { env_of behind.now ≡ env_of before.now }
+    requires texts { behind.now.texts.now ≡ before.now.texts.now }
+    requires in_texts { HasTexts before.now.texts.now (condition_of (spec_of spec.now)) }
+    ensures answers { Answers (λ _. conditions_of before.now.texts.now conditions.new) result (condition_added (env_of before.now) (context_of before.now) (context_of behind.now) (role_of (spec_of spec.now)) (condition_of (spec_of spec.now)) (conditions_of before.now.texts.now conditions.old)) }
+    ensures cause { IfErr result (λ f. (f.kind ≡ OutOfMemory) ⊎ InContractSpec (env_of before.now) (context_of before.now) (context_of behind.now) f spec.now) }
+{
+    match spec.kind {
+        SpecKind::Contract(Clause::Requires) => {
+            let found = before.wanted(&ResolvedType::Bool, &spec.condition)?;
+            conditions.preconditions.push(found)?;
+            Ok(())
+        }
+        SpecKind::Contract(Clause::Ensures) => {
+            let found = behind.wanted(&ResolvedType::Bool, &spec.condition)?;
+            conditions.postconditions.push(found)?;
+            Ok(())
+        }
+        _ => Err(Fault {
+            kind: FaultKind::BadContract,
+            span: spec.word,
+        }),
+    }
+}
+
+// The conditions of specs, behind those so far.
+fn push_specs(
+    before: &Terms<'_>,
+    behind: &Terms<'_>,
+    specs: &[Spec],
+    conditions: &mut Conditions,
+) -> Result<(), Fault>
+    requires environment { env_of behind.now ≡ env_of before.now }
+    requires texts { behind.now.texts.now ≡ before.now.texts.now }
+    requires in_texts { SpecsHaveTexts before.now.texts.now (map spec_of specs.now) }
+    ensures answers { Answers (λ _. conditions_of before.now.texts.now conditions.new) result (specs_added (env_of before.now) (context_of before.now) (context_of behind.now) (map spec_of specs.now) (conditions_of before.now.texts.now conditions.old)) }
+    ensures cause { IfErr result (λ f. (f.kind ≡ OutOfMemory) ⊎ InContract f (env_of before.now) (context_of before.now) (context_of behind.now) specs.now) }
+{
+    for spec in specs {
+        push_spec(before, behind, spec, conditions)?;
+    }
+    Ok(())
+}
+
+/// The conditions of a contract, each of type bool: `requires` where `before` stands, `ensures` where `behind` stands. A spec that is
+/// neither is an error, `BadContract` at its word.
+pub(crate) fn contract(
+    before: &Terms<'_>,
+    behind: &Terms<'_>,
+    annotations: &[Annotation],
+) -> Result<Conditions, Fault>
+    requires environment { env_of behind.now ≡ env_of before.now }
+    requires texts { behind.now.texts.now ≡ before.now.texts.now }
+    requires in_texts { SpecsHaveTexts before.now.texts.now (specs_in (map annotation_of annotations.now)) }
+    ensures answers { Answers (conditions_of before.now.texts.now) result (contract_of (env_of before.now) (context_of before.now) (context_of behind.now) (specs_in (map annotation_of annotations.now))) }
+    ensures cause { IfErr result (λ f. (f.kind ≡ OutOfMemory) ⊎ InContracts f (env_of before.now) (context_of before.now) (context_of behind.now) annotations.now) }
+{
+    let mut conditions = Conditions {
+        preconditions: Vec::new(before.alloc),
+        postconditions: Vec::new(before.alloc),
+    };
+    for annotation in annotations {
+        push_specs(before, behind, &annotation.specs, &mut conditions)?;
+    }
+    Ok(conditions)
+}
