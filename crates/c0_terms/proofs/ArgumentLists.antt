@@ -1,11 +1,10 @@
 -- The arguments of a call, one behind the other.
-use Rattle.std.proofs.Common.{◌≡◌, ℕ, zero, suc, ◌+◌, ◌<◌, ◌≤◌, List, [], ◌∷◌, ◌++◌, map, length, get_or, drop, refl, sym, ap, subst, ◌∙◌, Bool, true, false, Option, Some, None, arith, inl, inr, rules}
+use Rattle.std.proofs.Common.{◌≡◌, ℕ, zero, suc, ◌+◌, ◌<◌, ◌≤◌, List, [], ◌∷◌, ◌++◌, map, length, get_or, drop, refl, sym, ap, subst, ◌∙◌, Option, Some, None, arith, inl, inr, rules}
 use Rattle.std.specs.Prelude.{◌≢◌, ◌⊎◌}
 use Rattle.std.proofs.lemmas.List.{at_drop_all, drop_more}
 use Rattle.std.specs.declared.vec.Vec.{Vec}
 use Rattle.std.specs.declared.alloc.Global.{Global}
 use Rattle.c0_source.specs.declared.fault.Fault.{Fault}
-use Rattle.c0_source.specs.declared.fault.FaultKind.TheVariants as k
 use Rattle.c0_source.specs.declared.fault.Span.{Span}
 use Rattle.c0_syntax.specs.declared.expression.Expression.{Expression}
 use Rattle.c0_syntax.specs.declared.expression.ExpressionKind.{ExpressionKind, Call', Row_of-Expression, end_of-Expression, more_of-Expression, items-the_row-Expression, the_lemmas as expression_lemmas}
@@ -19,8 +18,8 @@ use Rattle.c0_typed.specs.declared.tree.Expression as e
 use Rattle.c0_tables.specs.declared.resolved.ResolvedType as d
 use Rattle.c0_tables.specs.Views.{resolved_of}
 use Rattle.c0_rules.specs.Types.{Environment, Name, ResolvedType, and_so}
-use Rattle.c0_rules.specs.Expressions.{Callee, Context, callee, takes, typed_arguments, typed_expression, wanted}
-use Rattle.c0_rules.specs.FaultExpressions.{AsValue, CallCause, InArguments, InExpression, Mistyped, MistypedArgument, Told, argument_count}
+use Rattle.c0_rules.specs.Expressions.{Context, takes, typed_arguments, typed_expression, wanted}
+use Rattle.c0_rules.specs.FaultExpressions.{AsValue, CallCause, InArguments, InExpression, Mistyped, MistypedArgument, argument_count}
 use Rattle.c0_rules.specs.FaultStatements.{InEvaluated}
 use Rattle.c0_rules.specs.Statements.{Scope, within}
 use Rattle.c0_terms.specs.Forms.{ArgumentsCause, CalledCause, InAmong, MistypedAmong}

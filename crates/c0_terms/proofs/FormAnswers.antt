@@ -1,6 +1,5 @@
 -- What operands that have been typed lead to, form by form.
-use Rattle.std.proofs.Common.{◌≡◌, refl, ap, ◌∙◌, sym, subst, Bool, true, false, Option, Some, None, inl, inr, Result}
-use Rattle.std.specs.Prelude.{◌⊎◌}
+use Rattle.std.proofs.Common.{◌≡◌, refl, ap, sym, subst, false, Option, Some, None, inl, inr, Result}
 use Rattle.c0_source.specs.declared.fault.Fault.{Fault}
 use Rattle.c0_source.specs.declared.fault.Span.{Span}
 use Rattle.c0_source.specs.declared.kind.Operator.{Operator}

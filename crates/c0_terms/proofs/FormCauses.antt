@@ -1,21 +1,18 @@
 -- What is wrong with operands that have been typed, as the cause of a fault.
-use Rattle.std.proofs.Common.{◌≡◌, refl, ap, ◌∙◌, sym, subst, Bool, true, false, Option, Some, None, inl, inr, Result, Ok, Err}
+use Rattle.std.proofs.Common.{◌≡◌, refl, ap, ◌∙◌, true, false, Option, Some, None, inl, inr, Result, Ok, Err}
 use Rattle.std.specs.Prelude.{◌≢◌, ◌⊎◌, IfErr}
 use Rattle.c0_source.specs.declared.fault.Fault.{Fault}
 use Rattle.c0_source.specs.declared.fault.FaultKind.TheVariants as k
 use Rattle.c0_source.specs.declared.fault.Span.{Span}
-use Rattle.c0_source.specs.declared.kind.Operator.{Operator}
 use Rattle.c0_syntax.specs.declared.expression.ExpressionKind.{ExpressionKind}
 use Rattle.c0_syntax.specs.declared.name.Name as n
 use Rattle.c0_syntax.specs.declared.operator.PrefixOperator.{PrefixOperator}
 use Rattle.c0_syntax.specs.declared.operator.PrefixOperator.TheVariants as p
-use Rattle.c0_syntax.specs.declared.value_type.ValueType as u
 use Rattle.c0_syntax.specs.Trees as s
 use Rattle.c0_syntax.specs.Views.{expression_of_kind}
-use Rattle.c0_typed.specs.Trees as t
-use Rattle.c0_rules.specs.Types.{Environment, ResolvedType, VoidType, IntType, BoolType, and_so, cells_of, is_small, provided}
-use Rattle.c0_rules.specs.Expressions.{Typing, Has, IsNull, Place, Context, OperatorRule, OnNumbers, Compares, Conjunction, Disjunction, as_wanted, chosen, lengthed, operated, operator_rule, pointed, prefixed, typed_expression, typed_place}
-use Rattle.c0_rules.specs.FaultExpressions.{AsPlace, AsValue, ArmsCause, ArrowCause, DotCause, FieldCause, HeldTypeCause, InExpression, IndexCause, Mistyped, OperandCause, ComparedCause, PointerCause, PrefixCause, StructValue, Told, element_of, has_common, is_null, is_value}
+use Rattle.c0_rules.specs.Types.{Environment, ResolvedType, IntType, BoolType, and_so, cells_of}
+use Rattle.c0_rules.specs.Expressions.{Typing, Place, Context, OperatorRule, OnNumbers, Compares, Conjunction, Disjunction, as_wanted, lengthed, operated, pointed, prefixed, typed_expression, typed_place}
+use Rattle.c0_rules.specs.FaultExpressions.{AsValue, ArmsCause, ArrowCause, FieldCause, IndexCause, Mistyped, PointerCause, PrefixCause, Told, element_of, has_common, is_value}
 use Rattle.c0_rules.specs.Answers.{Answers}
 use Rattle.c0_terms.specs.Forms.{BinaryCause, PointedCause, PrefixedCause}
 use Rattle.c0_terms.specs.Terms.{OperatedCause, valued}

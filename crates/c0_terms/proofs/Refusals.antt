@@ -6,7 +6,7 @@ use Rattle.c0_syntax.specs.declared.operator.PrefixOperator.{PrefixOperator}
 use Rattle.c0_syntax.specs.declared.operator.PrefixOperator.TheVariants as p
 use Rattle.c0_syntax.specs.Trees as s
 use Rattle.c0_typed.specs.Trees as t
-use Rattle.c0_rules.specs.Types.{Environment, Name, ResolvedType, VoidType, IntType, BoolType, ArrayOf, and_so, provided, same_type}
+use Rattle.c0_rules.specs.Types.{Environment, Name, VoidType, IntType, BoolType, ArrayOf, and_so, provided, same_type}
 use Rattle.c0_rules.specs.Expressions.{Typing, Has, IsNull, Context, OperatorRule, OnNumbers, Compares, Conjunction, Disjunction, as_wanted, chosen, fielded, held_type, indexed, is_compared, is_equality, lengthed, num, operated, operator_rule, pointed, prefixed, typed_expression, typed_place, wanted}
 use Rattle.c0_terms.specs.Terms.{valued}
 use Rattle.c0_terms.proofs.Operands.{skipped, valued_is}

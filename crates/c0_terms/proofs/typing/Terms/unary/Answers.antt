@@ -1,7 +1,6 @@
 use Rattle.std.proofs.Common.{◌≡◌, false, sym, subst, inr}
 use Rattle.std.specs.Prelude.{◌⊎◌, IfErr}
 use Rattle.std.proofs.lemmas.Result.{err_from_is_err_and}
-use Rattle.c0_source.specs.declared.fault.Fault.{Fault}
 use Rattle.c0_source.specs.declared.fault.FaultKind.TheVariants.{NotSmall, OutOfMemory, TypeMismatch}
 use Rattle.c0_syntax.specs.declared.operator.PrefixOperator.{PrefixOperator}
 use Rattle.c0_syntax.specs.declared.operator.PrefixOperator.TheVariants.{Dereference}
