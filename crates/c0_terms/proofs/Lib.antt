@@ -1,5 +1,9 @@
+pub mod ArgumentLists
+pub mod FormAnswers
+pub mod FormCauses
 pub mod Locals
 pub mod Operands
+pub mod Refusals
 pub mod StructFields
 pub mod Texts
 pub mod Wrapped

@@ -1,5 +1,6 @@
 // The static rules of expressions.
 
+mod forms;
 mod names;
 mod operators;
 mod places;
@@ -55,7 +56,7 @@ impl<'a> Terms<'a> {
     }
 
     // Whether an expression has a value; a void call has none.
-    fn has_value(&self, typing: &Typing) -> bool
+    pub(crate) fn has_value(&self, typing: &Typing) -> bool
         ensures { result ≡ is_value (typing_of self.now.texts.now typing.now) }
     {
         match typing {
@@ -113,17 +114,14 @@ impl<'a> Terms<'a> {
         })
     }
 
-    /// An expression of this type. It is not written yet: want of memory is answered.
+    /// An expression of this type.
     pub fn wanted(&self, want: &ResolvedType, e: &Expression) -> Result<TypedExpression, Fault>
         requires { HasTexts self.now.texts.now (expression_of e.now) }
         ensures answers { Answers (exp_of self.now.texts.now) result (wanted (env_of self.now) (resolved_of want.now) (typed_expression (env_of self.now) (context_of self.now) (expression_of e.now))) }
         ensures cause { IfErr result (λ f. (f.kind ≡ OutOfMemory) ⊎ InExpression (env_of self.now) (context_of self.now) f AsValue e.now.kind e.now.span ⊎ Mistyped (env_of self.now) (context_of self.now) f (resolved_of want.now) e.now.kind e.now.span) }
     {
-        let _ = want;
-        Err(Fault {
-            kind: FaultKind::OutOfMemory,
-            span: e.span,
-        })
+        let typing = self.typing(&e.kind, e.span)?;
+        self.required(want, e, typing)
     }
 
     /// An expression as a statement: it has a small value or NULL's type, or is a call. It is not written yet: want of memory is answered.

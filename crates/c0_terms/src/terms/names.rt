@@ -48,7 +48,7 @@ fn output_named(name: &str) -> Option<Output>
 }
 
 /// What an output call takes.
-fn output_takes(alloc: Global, output: Output) -> Result<Vec<ResolvedType>, AllocError>
+pub(crate) fn output_takes(alloc: Global, output: Output) -> Result<Vec<ResolvedType>, AllocError>
     ensures { IfOk result (λ r. map resolved_of r.items ≡ t.output_takes (output_of output)) }
 {
     match output {
