@@ -22,3 +22,8 @@ scope_none env a s (inr h) = inr (ap (λ o. and_so o (λ x. next x.statement (le
 pub block_none : {K : Type 0} (env : Environment) (rest : Statements) (s : Scope) → K ⊎ (typed_statements env rest s ≡ None) → K ⊎ (block_in_scope env rest s ≡ None)
 block_none env rest s (inl k) = inl k
 block_none env rest s (inr h) = inr (ap (λ o. and_so o (λ x. next x.statement (leave s x.scope))) h)
+
+-- a cause in a part is one in the whole
+pub second_of : {K A B C : Type 0} → K ⊎ B → (B → C) → K ⊎ A ⊎ C
+second_of (inl k) f = inl k
+second_of (inr h) f = inr (inr (f h))

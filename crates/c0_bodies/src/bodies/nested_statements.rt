@@ -129,7 +129,7 @@ impl<'a> Body<'a> {
         Ok(TypedStatement::ReturnValue(value))
     }
 
-    /// A statement. What is in scope behind an `Err` is not told. Those with others in them, but for blocks, are not written yet: want of
+    /// A statement. What is in scope behind an `Err` is not told. An `if` with `else` and loops are not written yet: want of
     /// memory is answered.
     #[cycle(statement)]
     pub(crate) fn statement(
@@ -151,8 +151,8 @@ impl<'a> Body<'a> {
             }
             StatementKind::Return => self.returned(span),
             StatementKind::ReturnValue(value) => self.returned_value(value),
-            StatementKind::If(_, _)
-            | StatementKind::IfElse(_, _, _)
+            StatementKind::If(condition, body) => self.choice_of(condition, body),
+            StatementKind::IfElse(_, _, _)
             | StatementKind::While(_, _, _)
             | StatementKind::For(_, _, _, _, _) => Err(Fault {
                 kind: FaultKind::OutOfMemory,
@@ -202,5 +202,38 @@ impl<'a> Body<'a> {
         let all = self.statements(statements)?;
         self.scope.leave(outer);
         Ok(TypedStatement::Block(all))
+    }
+
+    // A statement in a scope of its own.
+    #[cycle(statement)]
+    fn inner(&mut self, body: &Statement) -> Result<TypedStatement, Fault>
+        requires { StatementHasTexts self.old.texts.now (statement_of body.now) }
+        ensures environment { self.new.environment ≡ self.old.environment }
+        ensures texts { self.new.texts ≡ self.old.texts }
+        ensures answers { Gives self.old.texts.now self.new.scope result (in_scope (environment_of self.old.environment.now) (statement_of body.now) (scope_of self.old.scope)) }
+        ensures cause { IfErr result (λ f. (f.kind ≡ OutOfMemory) ⊎ InStatement (environment_of self.old.environment.now) f (scope_of self.old.scope) body.now.kind body.now.span) }
+    {
+        let count = self.scope.locals.len();
+        let found = self.statement(&body.kind, body.span)?;
+        self.scope.leave(count);
+        Ok(found)
+    }
+
+    // An `if` without `else`.
+    #[cycle(statement)]
+    fn choice_of(
+        &mut self,
+        condition: &Expression,
+        body: &Statement,
+    ) -> Result<TypedStatement, Fault>
+        requires { HasTexts self.old.texts.now (expression_of condition.now) × StatementHasTexts self.old.texts.now (statement_of body.now) }
+        ensures environment { self.new.environment ≡ self.old.environment }
+        ensures texts { self.new.texts ≡ self.old.texts }
+        ensures answers { Gives self.old.texts.now self.new.scope result (typed_statement (environment_of self.old.environment.now) (t.If (expression_of condition.now) (statement_of body.now)) (scope_of self.old.scope)) }
+        ensures cause { IfErr result (λ f. (f.kind ≡ OutOfMemory) ⊎ InWanted (environment_of self.old.environment.now) f (scope_of self.old.scope) BoolType condition.now ⊎ InStatement (environment_of self.old.environment.now) f (scope_of self.old.scope) body.now.kind body.now.span) }
+    {
+        let condition = self.wanted(&ResolvedType::Bool, condition)?;
+        let first = self.inner(body)?;
+        Ok(choice(self.alloc, condition, first, skip(self.alloc))?)
     }
 }

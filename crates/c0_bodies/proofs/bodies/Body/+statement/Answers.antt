@@ -7,16 +7,18 @@ use Rattle.c0_source.specs.declared.fault.FaultKind.TheVariants.{OutOfMemory}
 use Rattle.c0_syntax.specs.declared.statement.Statement.{Statement}
 use Rattle.c0_syntax.specs.declared.statement.StatementKind.{StatementKind}
 use Rattle.c0_syntax.specs.Trees as tree
-use Rattle.c0_syntax.specs.Views.{statement_of, statement_of_kind, statements_of}
-use Rattle.c0_typed.specs.Views.{block_of, stmt_of}
+use Rattle.c0_syntax.specs.Views.{expression_of, statement_of, statement_of_kind, statements_of}
+use Rattle.c0_typed.specs.Trees as y
+use Rattle.c0_typed.specs.Views.{block_of, exp_of, stmt_of}
 use Rattle.c0_terms.specs.Terms.{local_of}
-use Rattle.c0_rules.specs.FaultStatements.{InBody, InStatement}
+use Rattle.c0_rules.specs.FaultStatements.{InBody, InStatement, InWanted}
 use Rattle.c0_rules.specs.Statements.{typed_statement, typed_statements}
+use Rattle.c0_rules.specs.Types.{BoolType}
 use Rattle.c0_tables.specs.Views.{environment_of}
 use Rattle.c0_bodies.specs.Bodies.{StatementHasTexts, StatementsHaveTexts, scope_of}
 use Rattle.c0_bodies.proofs.BodyRows.{block_is, block_told, typed_block_is}
-use Rattle.c0_bodies.proofs.Branches.{after_all, after_none, block_gives, body_cause, body_has, body_step, statement_more, statement_none, statements_done}
-use Rattle.c0_bodies.proofs.Kept.{at_start, block_none, in_texts}
+use Rattle.c0_bodies.proofs.Branches.{after_all, after_none, block_gives, body_cause, body_has, body_step, if_gives, if_none, nested_gives, statement_more, statement_none, statements_done}
+use Rattle.c0_bodies.proofs.Kept.{at_start, block_none, in_texts, scope_none, second_of}
 use Rattle.c0_bodies.proofs.Sizes.{size_in, size_statement}
 use Rattle.c0_bodies.proofs.bodies.Body.+statement.Goals as goal
 
@@ -117,3 +119,57 @@ statement-returns-in-Block-clause-cause t c =
     let env = environment_of c.args.self.now.environment.now in
     let at = scope_of c.args.self.now.scope in
     IfErr-weaker c.block.result _ _ (λ f h. subst (λ k. (f.kind ≡ OutOfMemory) ⊎ InStatement env f at k c.args.span) (sym c.in-Block.is) (block_told env f at c.in-Block.statements c.args.span (subst (λ l. (f.kind ≡ OutOfMemory) ⊎ InBody env f at l) c.deref.ensures.value h))) c.block.ensures.cause
+
+-- ---- a statement in a scope of its own
+
+pub inner-returns-in_err-found-clause-answers : goal.inner-returns-in_err-found-clause-answers
+inner-returns-in_err-found-clause-answers t c =
+    let p = err_from_is_err_and c.from_residual.result c.from_residual.ensures.1 in
+    rw (p.1, p.2) (scope_none (environment_of c.args.self.now.environment.now) (statement_of c.args.body.now) (scope_of c.args.self.now.scope) c.in_err-found.ensures.answers)
+
+pub inner-returns-clause-answers : goal.inner-returns-clause-answers
+inner-returns-clause-answers t c =
+    let locals = c.args.self.now.scope.locals in
+    let size : c.len-count.result ≡ length (map local_of locals.items) = omega (arith, c.len-count.ensures, locals.ok.0, length-map locals.items local_of) in
+    nested_gives (environment_of c.args.self.now.environment.now) (statement_of c.args.body.now) (scope_of c.args.self.now.scope) (record { statement = stmt_of c.args.self.now.texts.now c.in_ok-found.found; scope = scope_of c.statement.new.self.scope }) c.len-count.result (scope_of c.leave.new.self) size c.in_ok-found.ensures.answers c.leave.ensures
+
+-- ---- an `if`
+
+pub choice_of-returns-in_err-first-clause-answers : goal.choice_of-returns-in_err-first-clause-answers
+choice_of-returns-in_err-first-clause-answers t c =
+    let p = err_from_is_err_and c.from_residual-in_err-first.result c.from_residual-in_err-first.ensures.1 in
+    rw (p.1, p.2) (if_none (environment_of c.args.self.now.environment.now) (expression_of c.args.condition.now) (statement_of c.args.body.now) (scope_of c.args.self.now.scope) c.in_err-first.ensures.answers)
+
+pub choice_of-returns-in_err-first-clause-cause : goal.choice_of-returns-in_err-first-clause-cause
+choice_of-returns-in_err-first-clause-cause t c =
+    let p = err_from_is_err_and c.from_residual-in_err-first.result c.from_residual-in_err-first.ensures.1 in
+    rw (p.1, p.2) (second_of c.in_err-first.ensures.cause (λ h. h))
+
+pub choice_of-returns-clause-answers : goal.choice_of-returns-clause-answers
+choice_of-returns-clause-answers t c =
+    let texts = c.args.self.now.texts.now in
+    let z = exp_of texts c.in_ok-condition.condition in
+    let x = stmt_of texts c.in_ok-first.first in
+    if_gives (environment_of c.args.self.now.environment.now) (expression_of c.args.condition.now) (statement_of c.args.body.now) (scope_of c.args.self.now.scope) z (record { statement = x; scope = scope_of c.inner.new.self.scope }) _ c.in_ok-condition.ensures.answers c.in_ok-first.ensures.answers (c.in_ok-choice.ensures texts ∙ ap (y.If z x) (c.skip.ensures texts))
+
+pub inner-statement-requires : goal.inner-statement-requires
+inner-statement-requires t c = (omega (arith, c.decreases), c.requires)
+
+pub choice_of-inner-requires : goal.choice_of-inner-requires
+choice_of-inner-requires t c = (omega (arith, c.decreases), c.requires.1)
+
+pub statement-choice_of-requires : goal.statement-choice_of-requires
+statement-choice_of-requires t c =
+    let whole = ap statement_of_kind c.in-If.is ∙ ap (λ b. tree.If (expression_of c.in-If.condition) (statement_of b)) (sym c.deref-in-If.ensures) in
+    (omega (arith, ap size_statement whole, c.decreases), subst (StatementHasTexts c.args.self.now.texts.now) whole c.requires)
+
+pub statement-returns-in-If-clause-answers : goal.statement-returns-in-If-clause-answers
+statement-returns-in-If-clause-answers t c =
+    let shape = ap statement_of_kind c.in-If.is in
+    rw shape (rw c.deref-in-If.ensures at c.choice_of.ensures.answers)
+
+pub statement-returns-in-If-clause-cause : goal.statement-returns-in-If-clause-cause
+statement-returns-in-If-clause-cause t c =
+    let env = environment_of c.args.self.now.environment.now in
+    let at = scope_of c.args.self.now.scope in
+    IfErr-weaker c.choice_of.result _ _ (λ f h. subst (λ k. (f.kind ≡ OutOfMemory) ⊎ InStatement env f at k c.args.span) (sym c.in-If.is) (subst (λ b. (f.kind ≡ OutOfMemory) ⊎ InWanted env f at BoolType c.in-If.condition ⊎ InStatement env f at b.kind b.span) c.deref-in-If.ensures h)) c.choice_of.ensures.cause

@@ -1,6 +1,6 @@
 use Rattle.std.proofs.Common.{◌≡◌, ◌+◌, ◌*◌, drop}
 use Rattle.c0_source.specs.declared.fault.Fault.{Fault}
-use Rattle.c0_syntax.specs.Views.{statement_of_kind, statements_of}
+use Rattle.c0_syntax.specs.Views.{statement_of, statement_of_kind, statements_of}
 use Rattle.c0_bodies.specs.Bodies.{scope_of}
 use Rattle.c0_rules.specs.FaultStatements.{InBody}
 use Rattle.c0_rules.specs.Statements.{typed_statements}
@@ -17,6 +17,12 @@ decreases-statements l = 4 * size_statements (statements_of l.statements.now)
 
 abbrev pub decreases-block : goal.decreases-block
 decreases-block l = 4 * size_statements (statements_of l.statements.now) + 1
+
+abbrev pub decreases-inner : goal.decreases-inner
+decreases-inner l = 4 * size_statement (statement_of l.body.now) + 1
+
+abbrev pub decreases-choice_of : goal.decreases-choice_of
+decreases-choice_of l = 4 * size_statement (statement_of l.body.now) + 2
 
 -- what is left decides, behind the statements so far
 abbrev pub invariant-statements-loop-statement : goal.invariant-statements-loop-statement
