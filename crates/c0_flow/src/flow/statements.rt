@@ -178,8 +178,7 @@ pub(crate) fn flow_of_statement(
         }
         StatementKind::Assert(condition) => flow_of_read(condition, flow),
         StatementKind::Error(text) => flow_of_end(text, &flow),
-        StatementKind::Break => Ok(Flow::Ended),
-        StatementKind::Continue => Ok(Flow::Ended),
+        StatementKind::Break | StatementKind::Continue => Ok(Flow::Ended),
     }
 }
 
