@@ -111,13 +111,32 @@ impl<'a> Terms<'a> {
                 let only = self.value(&operand.kind, operand.span)?;
                 self.unary(*operator, only, operand.span, span)
             }
+            _ => self.composed(kind, span),
+        }
+    }
+
+    // An expression of two or three operands.
+    #[cycle(expression)]
+    fn composed(&self, kind: &ExpressionKind, span: Span) -> Result<Typing, Fault>
+        requires { HasTexts self.now.texts.now (expression_of_kind kind.now) }
+        ensures answers { Answers (typing_of self.now.texts.now) result (typed_expression (env_of self.now) (context_of self.now) (expression_of_kind kind.now)) }
+        ensures cause { IfErr result (λ f. (f.kind ≡ OutOfMemory) ⊎ InExpression (env_of self.now) (context_of self.now) f AsValue kind.now span) }
+    {
+        match kind {
             ExpressionKind::Binary(operator, left, right) => {
                 let rule = operator_rule(*operator);
                 let first = self.value(&left.kind, left.span)?;
                 let second = self.value(&right.kind, right.span)?;
                 self.operated(rule, first, second, (left.span, right.span))
             }
-            // Calls, indices, fields and conditionals are not written yet.
+            ExpressionKind::Conditional(condition, first, second) => {
+                let test = self.value(&condition.kind, condition.span)?;
+                let truth = self.as_wanted(&ResolvedType::Bool, test, condition.span)?;
+                let one = self.value(&first.kind, first.span)?;
+                let other = self.value(&second.kind, second.span)?;
+                self.chosen(truth, one, other, second.span)
+            }
+            // Calls, indices and fields are not written yet.
             _ => Err(Fault::out_of_memory()),
         }
     }
