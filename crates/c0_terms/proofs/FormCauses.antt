@@ -39,6 +39,16 @@ pub among : {A B C : Type 0} → A ⊎ B → A ⊎ B ⊎ C
 among (inl a) = inl a
 among (inr b) = inr (inl b)
 
+pub beyond : {A B C : Type 0} → A ⊎ C → A ⊎ B ⊎ C
+beyond (inl a) = inl a
+beyond (inr c) = inr (inr c)
+
+-- three causes, of more
+pub first_three : {A B C D : Type 0} → A ⊎ B ⊎ C → A ⊎ B ⊎ C ⊎ D
+first_three (inl a) = inl a
+first_three (inr (inl b)) = inr (inl b)
+first_three (inr (inr c)) = inr (inr (inl c))
+
 not_wanted : {A B : Type 0} (o : Option A) (go : A → B) → and_so o (λ a. Some (go a)) ≡ None → o ≡ None
 not_wanted None go h = refl
 not_wanted (Some a) go h = absurd (cc h)
@@ -61,6 +71,11 @@ module _ (env : Environment) (at : Context) where
   module _ (f : Fault) where
     pub mistyped_at : (want : ResolvedType) (e : ExpressionKind) (span : Span) (x : Typing) → IsValue e x → as_wanted env want x ≡ None → Told k.TypeMismatch span f → Mistyped env at f want e span
     mistyped_at want e span x v none told = let q = is_typed e x v in (x, q.0, q.1, none, told)
+
+    pub wanted_cause : {K : Type 0} (want : ResolvedType) (e : ExpressionKind) (span : Span) (x : Typing) → IsValue e x → K ⊎ (as_wanted env want x ≡ None) → K ⊎ Told k.TypeMismatch span f → K ⊎ Mistyped env at f want e span
+    wanted_cause want e span x v (inl k) h = inl k
+    wanted_cause want e span x v (inr none) (inl k) = inl k
+    wanted_cause want e span x v (inr none) (inr told) = inr (mistyped_at want e span x v none told)
 
     pub pointer_cause : (e : ExpressionKind) (here sign : Span) (x : Typing) → IsValue e x → PointedCause env f x here sign → PointerCause env at f e here sign
     pointer_cause e here sign x v (inl h) = let q = is_typed e x v in (x, q.0, inl h)
@@ -104,3 +119,7 @@ module _ (env : Environment) (at : Context) where
     pub length_cause : (e : ExpressionKind) (here : Span) (x : Typing) → IsValue e x → lengthed env x ≡ None → Told k.TypeMismatch here f
         → (x : Typing) × (typed_expression env at (expression_of_kind e) ≡ Some x) × (is_value x ≡ true) × (lengthed env x ≡ None) × Told k.TypeMismatch here f
     length_cause e here x v none told = let q = is_typed e x v in (x, q.0, q.1, none, told)
+
+    pub array_cause : {H N : Type 0} (e : ExpressionKind) (here : Span) (x : Typing) → IsValue e x → H ⊎ ((as_wanted env IntType x ≡ None) × Told k.TypeMismatch here f) → H ⊎ Mistyped env at f IntType e here ⊎ N
+    array_cause e here x v (inl h) = inl h
+    array_cause e here x v (inr h) = inr (inl (mistyped_at IntType e here x v h.0 h.1))

@@ -27,6 +27,7 @@ use c0_source::fault::{Fault, FaultKind, Span};
 use c0_syntax::expression::{Expression, ExpressionKind};
 use c0_tables::resolved::ResolvedType;
 use c0_typed::{Constant, Expression as TypedExpression, ValueType};
+use operators::operator_rule;
 use steps::fault_at;
 
 // Whether this type is `void`.
@@ -42,6 +43,7 @@ fn is_void(resolved: &ResolvedType) -> bool
 
 impl<'a> Terms<'a> {
     /// An expression that has a value, NULL among them.
+    #[cycle(expression)]
     pub fn value(&self, kind: &ExpressionKind, span: Span) -> Result<Typing, Fault>
         requires { HasTexts self.now.texts.now (expression_of_kind kind.now) }
         ensures answers { Answers (typing_of self.now.texts.now) result (valued (typed_expression (env_of self.now) (context_of self.now) (expression_of_kind kind.now))) }
@@ -78,6 +80,7 @@ impl<'a> Terms<'a> {
     }
 
     // An expression, a void call among them.
+    #[cycle(expression)]
     fn typing(&self, kind: &ExpressionKind, span: Span) -> Result<Typing, Fault>
         requires { HasTexts self.now.texts.now (expression_of_kind kind.now) }
         ensures answers { Answers (typing_of self.now.texts.now) result (typed_expression (env_of self.now) (context_of self.now) (expression_of_kind kind.now)) }
@@ -96,7 +99,44 @@ impl<'a> Terms<'a> {
             ExpressionKind::Parenthesized(inner) => self.typing(&inner.kind, inner.span),
             ExpressionKind::Alloc(written) => self.allocated(written),
             ExpressionKind::Result => self.returned(span),
-            // The other forms are not written yet.
+            ExpressionKind::AllocArray(written, length) => {
+                let number = self.value(&length.kind, length.span)?;
+                self.allocated_array(written, number, length.span)
+            }
+            ExpressionKind::Length(array) => {
+                let sized = self.value(&array.kind, array.span)?;
+                self.lengthed(sized, array.span)
+            }
+            ExpressionKind::Unary(operator, operand) => {
+                let only = self.value(&operand.kind, operand.span)?;
+                self.unary(*operator, only, operand.span, span)
+            }
+            _ => self.composed(kind, span),
+        }
+    }
+
+    // An expression of two or three operands.
+    #[cycle(expression)]
+    fn composed(&self, kind: &ExpressionKind, span: Span) -> Result<Typing, Fault>
+        requires { HasTexts self.now.texts.now (expression_of_kind kind.now) }
+        ensures answers { Answers (typing_of self.now.texts.now) result (typed_expression (env_of self.now) (context_of self.now) (expression_of_kind kind.now)) }
+        ensures cause { IfErr result (λ f. (f.kind ≡ OutOfMemory) ⊎ InExpression (env_of self.now) (context_of self.now) f AsValue kind.now span) }
+    {
+        match kind {
+            ExpressionKind::Binary(operator, left, right) => {
+                let rule = operator_rule(*operator);
+                let first = self.value(&left.kind, left.span)?;
+                let second = self.value(&right.kind, right.span)?;
+                self.operated(rule, first, second, (left.span, right.span))
+            }
+            ExpressionKind::Conditional(condition, first, second) => {
+                let test = self.value(&condition.kind, condition.span)?;
+                let truth = self.as_wanted(&ResolvedType::Bool, test, condition.span)?;
+                let one = self.value(&first.kind, first.span)?;
+                let other = self.value(&second.kind, second.span)?;
+                self.chosen(truth, one, other, second.span)
+            }
+            // Calls, indices and fields are not written yet.
             _ => Err(Fault::out_of_memory()),
         }
     }
