@@ -200,9 +200,9 @@ while_loop-inner-requires t c = (omega (arith, c.decreases), c.requires.2)
 pub statement-while_loop-requires : goal.statement-while_loop-requires
 statement-while_loop-requires t c =
     let whole =
-        ap statement_of_kind c.in-While.is
-        ∙ ap (λ l. tree.While (expression_of c.in-While.condition) (map annotation_of l) (statement_of c.in-While.body.value)) (sym c.deref-in-While.ensures.value)
-        ∙ ap (λ b. tree.While (expression_of c.in-While.condition) (map annotation_of c.deref-in-While.result.now) (statement_of b)) (sym c.deref-in-While-2.ensures) in
+    ap statement_of_kind c.in-While.is
+    ∙ ap (λ l. tree.While (expression_of c.in-While.condition) (map annotation_of l) (statement_of c.in-While.body.value)) (sym c.deref-in-While.ensures.value)
+    ∙ ap (λ b. tree.While (expression_of c.in-While.condition) (map annotation_of c.deref-in-While.result.now) (statement_of b)) (sym c.deref-in-While-2.ensures) in
     (omega (arith, ap size_statement whole, c.decreases), subst (StatementHasTexts c.args.self.now.texts.now) whole c.requires)
 
 pub statement-returns-in-While-clause-answers : goal.statement-returns-in-While-clause-answers
@@ -216,6 +216,6 @@ statement-returns-in-While-clause-cause t c =
     let at = scope_of c.args.self.now.scope in
     let notes = c.deref-in-While.result.now in
     IfErr-weaker c.while_loop.result _ _ (λ f h.
-        subst (λ k. (f.kind ≡ OutOfMemory) ⊎ InStatement env f at k c.args.span) (sym c.in-While.is)
-          (subst (λ l. (f.kind ≡ OutOfMemory) ⊎ InWanted env f at BoolType c.in-While.condition ⊎ InAnnotations env f Invariant (within at) l ⊎ InStatement env f at c.in-While.body.value.kind c.in-While.body.value.span) c.deref-in-While.ensures.value
-            (subst (λ b. (f.kind ≡ OutOfMemory) ⊎ InWanted env f at BoolType c.in-While.condition ⊎ InAnnotations env f Invariant (within at) notes ⊎ InStatement env f at b.kind b.span) c.deref-in-While-2.ensures h))) c.while_loop.ensures.cause
+    subst (λ k. (f.kind ≡ OutOfMemory) ⊎ InStatement env f at k c.args.span) (sym c.in-While.is)
+    (subst (λ l. (f.kind ≡ OutOfMemory) ⊎ InWanted env f at BoolType c.in-While.condition ⊎ InAnnotations env f Invariant (within at) l ⊎ InStatement env f at c.in-While.body.value.kind c.in-While.body.value.span) c.deref-in-While.ensures.value
+    (subst (λ b. (f.kind ≡ OutOfMemory) ⊎ InWanted env f at BoolType c.in-While.condition ⊎ InAnnotations env f Invariant (within at) notes ⊎ InStatement env f at b.kind b.span) c.deref-in-While-2.ensures h))) c.while_loop.ensures.cause
