@@ -27,3 +27,7 @@ block_none env rest s (inr h) = inr (ap (λ o. and_so o (λ x. next x.statement 
 pub second_of : {K A B C : Type 0} → K ⊎ B → (B → C) → K ⊎ A ⊎ C
 second_of (inl k) f = inl k
 second_of (inr h) f = inr (inr (f h))
+
+pub third_alone : {K A B C : Type 0} → K ⊎ C → K ⊎ A ⊎ B ⊎ C
+third_alone (inl k) = inl k
+third_alone (inr h) = inr (inr (inr h))

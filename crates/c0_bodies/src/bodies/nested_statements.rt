@@ -129,7 +129,7 @@ impl<'a> Body<'a> {
         Ok(TypedStatement::ReturnValue(value))
     }
 
-    /// A statement. What is in scope behind an `Err` is not told. An `if` with `else` and loops are not written yet: want of
+    /// A statement. What is in scope behind an `Err` is not told. An `if` with `else` and a `for` are not written yet: want of
     /// memory is answered.
     #[cycle(statement)]
     pub(crate) fn statement(
@@ -152,9 +152,10 @@ impl<'a> Body<'a> {
             StatementKind::Return => self.returned(span),
             StatementKind::ReturnValue(value) => self.returned_value(value),
             StatementKind::If(condition, body) => self.choice_of(condition, body),
-            StatementKind::IfElse(_, _, _)
-            | StatementKind::While(_, _, _)
-            | StatementKind::For(_, _, _, _, _) => Err(Fault {
+            StatementKind::While(condition, annotations, body) => {
+                self.while_loop(condition, annotations, body)
+            }
+            StatementKind::IfElse(_, _, _) | StatementKind::For(_, _, _, _, _) => Err(Fault {
                 kind: FaultKind::OutOfMemory,
                 span,
             }),
@@ -235,5 +236,26 @@ impl<'a> Body<'a> {
         let condition = self.wanted(&ResolvedType::Bool, condition)?;
         let first = self.inner(body)?;
         Ok(choice(self.alloc, condition, first, skip(self.alloc))?)
+    }
+
+    // A `while`.
+    #[cycle(statement)]
+    fn while_loop(
+        &mut self,
+        condition: &Expression,
+        annotations: &[Annotation],
+        body: &Statement,
+    ) -> Result<TypedStatement, Fault>
+        requires { HasTexts self.old.texts.now (expression_of condition.now) × SpecsHaveTexts self.old.texts.now (specs_in (map annotation_of annotations.now)) × StatementHasTexts self.old.texts.now (statement_of body.now) }
+        ensures environment { self.new.environment ≡ self.old.environment }
+        ensures texts { self.new.texts ≡ self.old.texts }
+        ensures answers { Gives self.old.texts.now self.new.scope result (typed_statement (environment_of self.old.environment.now) (t.While (expression_of condition.now) (map annotation_of annotations.now) (statement_of body.now)) (scope_of self.old.scope)) }
+        ensures cause { IfErr result (λ f. (f.kind ≡ OutOfMemory) ⊎ InWanted (environment_of self.old.environment.now) f (scope_of self.old.scope) BoolType condition.now ⊎ InAnnotations (environment_of self.old.environment.now) f Invariant (within (scope_of self.old.scope)) annotations.now ⊎ InStatement (environment_of self.old.environment.now) f (scope_of self.old.scope) body.now.kind body.now.span) }
+    {
+        let condition = self.wanted(&ResolvedType::Bool, condition)?;
+        let invariants = self.invariants(annotations)?;
+        let inside = self.inner(body)?;
+        let third = skip(self.alloc);
+        Ok(repetition(self.alloc, invariants, condition, inside, third)?)
     }
 }

@@ -7,18 +7,18 @@ use Rattle.c0_source.specs.declared.fault.FaultKind.TheVariants.{OutOfMemory}
 use Rattle.c0_syntax.specs.declared.statement.Statement.{Statement}
 use Rattle.c0_syntax.specs.declared.statement.StatementKind.{StatementKind}
 use Rattle.c0_syntax.specs.Trees as tree
-use Rattle.c0_syntax.specs.Views.{expression_of, statement_of, statement_of_kind, statements_of}
+use Rattle.c0_syntax.specs.Views.{annotation_of, expression_of, statement_of, statement_of_kind, statements_of}
 use Rattle.c0_typed.specs.Trees as y
-use Rattle.c0_typed.specs.Views.{block_of, exp_of, stmt_of}
+use Rattle.c0_typed.specs.Views.{block_of, exp_of, exps_of, stmt_of}
 use Rattle.c0_terms.specs.Terms.{local_of}
-use Rattle.c0_rules.specs.FaultStatements.{InBody, InStatement, InWanted}
-use Rattle.c0_rules.specs.Statements.{typed_statement, typed_statements}
+use Rattle.c0_rules.specs.FaultStatements.{InAnnotations, InBody, InStatement, InWanted}
+use Rattle.c0_rules.specs.Statements.{Invariant, typed_statement, typed_statements, within}
 use Rattle.c0_rules.specs.Types.{BoolType}
 use Rattle.c0_tables.specs.Views.{environment_of}
 use Rattle.c0_bodies.specs.Bodies.{StatementHasTexts, StatementsHaveTexts, scope_of}
 use Rattle.c0_bodies.proofs.BodyRows.{block_is, block_told, typed_block_is}
-use Rattle.c0_bodies.proofs.Branches.{after_all, after_none, block_gives, body_cause, body_has, body_step, if_gives, if_none, nested_gives, statement_more, statement_none, statements_done}
-use Rattle.c0_bodies.proofs.Kept.{at_start, block_none, in_texts, scope_none, second_of}
+use Rattle.c0_bodies.proofs.Branches.{after_all, after_none, block_gives, body_cause, body_has, body_step, if_gives, if_none, nested_gives, statement_more, statement_none, statements_done, while_gives, while_none}
+use Rattle.c0_bodies.proofs.Kept.{at_start, block_none, in_texts, scope_none, second_of, third_alone}
 use Rattle.c0_bodies.proofs.Sizes.{size_in, size_statement}
 use Rattle.c0_bodies.proofs.bodies.Body.+statement.Goals as goal
 
@@ -173,3 +173,49 @@ statement-returns-in-If-clause-cause t c =
     let env = environment_of c.args.self.now.environment.now in
     let at = scope_of c.args.self.now.scope in
     IfErr-weaker c.choice_of.result _ _ (λ f h. subst (λ k. (f.kind ≡ OutOfMemory) ⊎ InStatement env f at k c.args.span) (sym c.in-If.is) (subst (λ b. (f.kind ≡ OutOfMemory) ⊎ InWanted env f at BoolType c.in-If.condition ⊎ InStatement env f at b.kind b.span) c.deref-in-If.ensures h)) c.choice_of.ensures.cause
+
+-- ---- a `while`
+
+pub while_loop-returns-in_err-inside-clause-answers : goal.while_loop-returns-in_err-inside-clause-answers
+while_loop-returns-in_err-inside-clause-answers t c =
+    let p = err_from_is_err_and c.from_residual-in_err-inside.result c.from_residual-in_err-inside.ensures.1 in
+    rw (p.1, p.2) (while_none (environment_of c.args.self.now.environment.now) (expression_of c.args.condition.now) (map annotation_of c.args.annotations.now) (statement_of c.args.body.now) (scope_of c.args.self.now.scope) c.in_err-inside.ensures.answers)
+
+pub while_loop-returns-in_err-inside-clause-cause : goal.while_loop-returns-in_err-inside-clause-cause
+while_loop-returns-in_err-inside-clause-cause t c =
+    let p = err_from_is_err_and c.from_residual-in_err-inside.result c.from_residual-in_err-inside.ensures.1 in
+    rw (p.1, p.2) (third_alone c.in_err-inside.ensures.cause)
+
+pub while_loop-returns-clause-answers : goal.while_loop-returns-clause-answers
+while_loop-returns-clause-answers t c =
+    let texts = c.args.self.now.texts.now in
+    let z = exp_of texts c.in_ok-condition.condition in
+    let xs = exps_of texts c.in_ok-invariants.invariants.items in
+    let x = stmt_of texts c.in_ok-inside.inside in
+    while_gives (environment_of c.args.self.now.environment.now) (expression_of c.args.condition.now) (map annotation_of c.args.annotations.now) (statement_of c.args.body.now) (scope_of c.args.self.now.scope) z xs (record { statement = x; scope = scope_of c.inner.new.self.scope }) _ c.in_ok-condition.ensures.answers c.in_ok-invariants.ensures.answers c.in_ok-inside.ensures.answers (c.in_ok-repetition.ensures texts ∙ ap (y.Loop xs z x) (c.skip-third.ensures texts))
+
+pub while_loop-inner-requires : goal.while_loop-inner-requires
+while_loop-inner-requires t c = (omega (arith, c.decreases), c.requires.2)
+
+pub statement-while_loop-requires : goal.statement-while_loop-requires
+statement-while_loop-requires t c =
+    let whole =
+    ap statement_of_kind c.in-While.is
+    ∙ ap (λ l. tree.While (expression_of c.in-While.condition) (map annotation_of l) (statement_of c.in-While.body.value)) (sym c.deref-in-While.ensures.value)
+    ∙ ap (λ b. tree.While (expression_of c.in-While.condition) (map annotation_of c.deref-in-While.result.now) (statement_of b)) (sym c.deref-in-While-2.ensures) in
+    (omega (arith, ap size_statement whole, c.decreases), subst (StatementHasTexts c.args.self.now.texts.now) whole c.requires)
+
+pub statement-returns-in-While-clause-answers : goal.statement-returns-in-While-clause-answers
+statement-returns-in-While-clause-answers t c =
+    let shape = ap statement_of_kind c.in-While.is in
+    rw shape (rw (c.deref-in-While.ensures.value, c.deref-in-While-2.ensures) at c.while_loop.ensures.answers)
+
+pub statement-returns-in-While-clause-cause : goal.statement-returns-in-While-clause-cause
+statement-returns-in-While-clause-cause t c =
+    let env = environment_of c.args.self.now.environment.now in
+    let at = scope_of c.args.self.now.scope in
+    let notes = c.deref-in-While.result.now in
+    IfErr-weaker c.while_loop.result _ _ (λ f h.
+    subst (λ k. (f.kind ≡ OutOfMemory) ⊎ InStatement env f at k c.args.span) (sym c.in-While.is)
+    (subst (λ l. (f.kind ≡ OutOfMemory) ⊎ InWanted env f at BoolType c.in-While.condition ⊎ InAnnotations env f Invariant (within at) l ⊎ InStatement env f at c.in-While.body.value.kind c.in-While.body.value.span) c.deref-in-While.ensures.value
+    (subst (λ b. (f.kind ≡ OutOfMemory) ⊎ InWanted env f at BoolType c.in-While.condition ⊎ InAnnotations env f Invariant (within at) notes ⊎ InStatement env f at b.kind b.span) c.deref-in-While-2.ensures h))) c.while_loop.ensures.cause

@@ -24,6 +24,9 @@ decreases-inner l = 4 * size_statement (statement_of l.body.now) + 1
 abbrev pub decreases-choice_of : goal.decreases-choice_of
 decreases-choice_of l = 4 * size_statement (statement_of l.body.now) + 2
 
+abbrev pub decreases-while_loop : goal.decreases-while_loop
+decreases-while_loop l = 4 * size_statement (statement_of l.body.now) + 2
+
 -- what is left decides, behind the statements so far
 abbrev pub invariant-statements-loop-statement : goal.invariant-statements-loop-statement
 invariant-statements-loop-statement l = record {
