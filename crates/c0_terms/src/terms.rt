@@ -141,17 +141,25 @@ impl<'a> Terms<'a> {
         }
     }
 
-    /// A place of the heap, small or a struct. It is not written yet: want of memory is answered.
+    /// A place of the heap, small or a struct. Of `e[i]`, `*e` and what is no place, want of memory is answered.
     pub fn place(&self, kind: &ExpressionKind, span: Span) -> Result<Place, Fault>
         requires { HasTexts self.now.texts.now (expression_of_kind kind.now) }
         ensures answers { Answers (place_of self.now.texts.now) result (typed_place (env_of self.now) (context_of self.now) (expression_of_kind kind.now)) }
         ensures cause { IfErr result (λ f. (f.kind ≡ OutOfMemory) ⊎ InExpression (env_of self.now) (context_of self.now) f AsPlace kind.now span) }
     {
-        let _ = kind;
-        Err(Fault {
-            kind: FaultKind::OutOfMemory,
-            span,
-        })
+        match kind {
+            ExpressionKind::Parenthesized(inner) => self.place(&inner.kind, inner.span),
+            ExpressionKind::PointerField(of, name) => {
+                let pointer = self.value(&of.kind, of.span)?;
+                self.pointer_field(pointer, of.span, name, span)
+            }
+            ExpressionKind::Field(of, name) => {
+                let outer = self.place(&of.kind, of.span)?;
+                self.fielded(outer, of.span, name, span)
+            }
+            // Elements, what pointers point to, and what is no place are not written yet.
+            _ => Err(Fault::out_of_memory()),
+        }
     }
 
     /// An expression of this type.
