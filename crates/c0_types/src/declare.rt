@@ -341,6 +341,29 @@ mod tests {
         Ok(declared(DeclarationKind::DeclareFunction(header)))
     }
 
+    // One declaration that has no texts in it.
+    fn declare(all: &mut Elaborated, alloc: Global, one: &Declaration) -> Result<(), Fault> {
+        match &one.kind {
+            DeclarationKind::UseName(library) => check_use(all.begun, true, library, one.span),
+            DeclarationKind::Typedef(written, name) => all.define_type(alloc, written, name),
+            DeclarationKind::DefineStruct(name, items) => all.define_struct(alloc, name, items),
+            DeclarationKind::DeclareFunction(header) => all.declare_function(alloc, header),
+            _ => Err(Fault::out_of_memory()),
+        }
+    }
+
+    // Declarations in order.
+    fn declare_all(
+        all: &mut Elaborated,
+        alloc: Global,
+        program: &[Declaration],
+    ) -> Result<(), Fault> {
+        for one in program {
+            declare(all, alloc, one)?;
+        }
+        Ok(())
+    }
+
     #[test]
     fn declarations_are_in_scope(rt: HostRuntime) -> Result<(), Fail> {
         let alloc = rt.alloc();
@@ -349,7 +372,7 @@ mod tests {
         program.push(header(alloc, "f")?)?;
         let mut all = Elaborated::new(alloc, &program)?;
         assert!(rt; all.environment.conio && !all.begun);
-        all.declarations(alloc, &Names::new(alloc), &program)?;
+        declare_all(&mut all, alloc, &program)?;
         assert!(rt; all.begun);
         assert_eq!(rt; all.structs.len(), 1);
         assert!(rt;
@@ -375,7 +398,7 @@ mod tests {
             let mut program = beginning(alloc)?;
             program.push(last)?;
             let mut all = Elaborated::new(alloc, &program)?;
-            let refused = all.declarations(alloc, &Names::new(alloc), &program);
+            let refused = declare_all(&mut all, alloc, &program);
             assert!(rt; refused.is_err_and(|f| f.kind == FaultKind::DuplicateName));
         }
         Ok(())
