@@ -85,13 +85,18 @@ pub fn parse<'a>(alloc: Global, tokens: &'a [Token<'a>], level: Level) -> Result
     requires { AreTokens (map lexeme tokens.now) }
     // What is given is what the tokens read as.
     ensures found { IfOk result (λ p. Reads (has_loops level) (read_from (map lexeme tokens.now)) (program_of p)) }
+    // Its text ends where the last token stands.
+    ensures ending { IfOk result (λ p. p.end ≡ place_of (map lexeme tokens.now) 0) }
     // Where none is given, they read as no program, unless memory ran out.
     ensures refused { IfErr result (λ fault. fault.kind ≢ f.OutOfMemory → (p : t.Program) → Reads (has_loops level) (read_from (map lexeme tokens.now)) p → ⊥) }
     // Which fault it is, and where.
     ensures fault { IfErr result (λ fault. IsReadFault (has_loops level) (map lexeme tokens.now) fault) }
 {
     match declarations_of(alloc, tokens, level) {
-        Ok(declarations) => Ok(Program { declarations }),
+        Ok(declarations) => Ok(Program {
+            declarations,
+            end: place(tokens, 0),
+        }),
         Err(error) => Err(fault_of(tokens, error)),
     }
 }

@@ -200,10 +200,14 @@ module _ (fault : Fault) where
   InWhole ending env declarations =
       MainCause ending declarations (env.functions main_name) ⊎ NamedAmong (is_undefined env) k.NotDefined declarations ⊎ NamedAmong is_beyond k.BadToken declarations
 
+-- the place behind a program's text
+abbrev pub ending : Program → Span
+ending program = record { start = program.end; end = program.end }
+
 -- The fault has its cause in this program, at its place. Each declaration is looked at behind those before it; what is
--- looked at in the whole program comes behind all of them. The place of the program's end is that of its text.
-abbrev pub FaultAt : Span → Program → Fault → Type 0
-FaultAt ending program fault =
+-- looked at in the whole program comes behind all of them.
+abbrev pub FaultAt : Program → Fault → Type 0
+FaultAt program fault =
     InDeclarations fault (beginning (program_of program)) program.declarations.items
     ⊎ ((e : Elaboration) × (typed_declarations (program_of program) (beginning (program_of program)) ≡ Some e)
-    × InWhole fault ending e.environment program.declarations.items)
+    × InWhole fault (ending program) e.environment program.declarations.items)

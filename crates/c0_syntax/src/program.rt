@@ -47,8 +47,9 @@ pub enum DeclarationKind {
     DefineFunction(Header, Vec<Statement>),
 }
 
-/// A program.
+/// A program, with the place in bytes where its text ends.
 #[derive(Debug, PartialEq, Drop)]
 pub struct Program {
     pub declarations: Vec<Declaration>,
+    pub end: usize,
 }

@@ -166,6 +166,7 @@ fn program(alloc: Global, body: Vec<Statement>) -> Made<Program> {
     )?;
     Ok(Program {
         declarations: vec![in alloc; declaration(DeclarationKind::DefineFunction(main, body))]?,
+        end: 0,
     })
 }
 
@@ -299,6 +300,7 @@ fn declarations_have_empty_lines_between(rt: HostRuntime) -> Result<(), Fail> {
             declaration(DeclarationKind::DeclareFunction(declared)),
             declaration(DeclarationKind::DefineFunction(sum, vec![in alloc; returned(number(1))]?)),
         ]?,
+        end: 0,
     };
     expect_printed(
         &rt,
