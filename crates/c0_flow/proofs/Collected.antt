@@ -1,18 +1,16 @@
 -- Texts and calls among what a program names.
 use Rattle.std.proofs.Common.{◌≡◌, ℕ, ◌+◌, ◌<◌, List, [], ◌∷◌, ◌++◌, length, get_or, drop, refl, sym, ap, ◌∙◌, Bool, true, false}
-use Rattle.std.specs.Prelude.{◌&&◌, ◌||◌, not, filter_map, is_some}
-use Rattle.std.specs.BTreeMap.{get_by_text}
+use Rattle.std.specs.Prelude.{◌&&◌, ◌||◌, not, filter_map}
 use Rattle.std.specs.List.{list_all, list_any}
 use mathlib.Core.List.{append_assoc}
 use Rattle.std.proofs.lemmas.List.{drop_more}
 use Rattle.std.proofs.lemmas.List.Elements.{filter_map-append}
 use Rattle.c0_source.specs.declared.fault.Fault.{Fault}
-use Rattle.c0_rules.specs.Types.{Name, Environment, is_among, is_ascii, output_named}
+use Rattle.c0_rules.specs.Types.{Name, Environment, is_ascii}
 use Rattle.c0_rules.specs.Mentions.{Mention, OfVariable, OfFunction, OfText, text_of, function_of}
 use Rattle.c0_rules.specs.Programs.{is_callable}
 use Rattle.c0_rules.specs.FaultPrograms.{is_undefined}
-use Rattle.c0_flow.specs.FlowViews.{is_known_to, is_unknown_to, is_beyond_ascii}
-use Rattle.c0_flow.specs.declared.mentioned.Callable.{Callable}
+use Rattle.c0_flow.specs.FlowViews.{is_unknown_to, is_beyond_ascii}
 
 -- ---- texts in order
 
@@ -49,26 +47,16 @@ texts_are (OfVariable n ∷ ms) = texts_are ms
 texts_are (OfFunction n ∷ ms) = texts_are ms
 
 -- where no call is unknown, all are known
-calls_are : (x : Callable) (ms : List Mention) → not (list_any (is_unknown_to x) ms) ≡ list_all (is_known_to x) (filter_map function_of ms)
-calls_are x [] = refl
-calls_are x (OfFunction n ∷ ms) = neither (is_known_to x n) (list_any (is_unknown_to x) ms) ∙ ap (λ z. is_known_to x n && z) (calls_are x ms)
-calls_are x (OfVariable n ∷ ms) = calls_are x ms
-calls_are x (OfText n ∷ ms) = calls_are x ms
+pub calls_are : (env : Environment) (ms : List Mention) → not (list_any (is_unknown_to env) ms) ≡ list_all (is_callable env) (filter_map function_of ms)
+calls_are env [] = refl
+calls_are env (OfFunction n ∷ ms) = neither (is_callable env n) (list_any (is_unknown_to env) ms) ∙ ap (λ z. is_callable env n && z) (calls_are env ms)
+calls_are env (OfVariable n ∷ ms) = calls_are env ms
+calls_are env (OfText n ∷ ms) = calls_are env ms
 
-module _ (x : Callable) (env : Environment) (conio : x.conio ≡ env.conio) (defined : (n : Name) → is_some (get_by_text x.defined.now n) ≡ is_among n env.function_names) where
-  known : (n : Name) → is_known_to x n ≡ is_callable env n
-  known n = ap (λ z. is_some (output_named z n) || is_some (get_by_text x.defined.now n)) conio ∙ ap (λ z. is_some (output_named env.conio n) || z) (defined n)
-
-  all_known : is_known_to x ≡ is_callable env
-  all_known = λ i n. known n i
-
-  pub calls_known : (ms : List Mention) → not (list_any (is_unknown_to x) ms) ≡ list_all (is_callable env) (filter_map function_of ms)
-  calls_known ms = calls_are x ms ∙ ap (λ p. list_all p (filter_map function_of ms)) all_known
-
-  unknown : (fault : Fault) (m : Mention) → is_unknown_to x m ≡ is_undefined fault env m
-  unknown fault (OfFunction n) = ap not (known n)
-  unknown fault (OfVariable n) = refl
-  unknown fault (OfText n) = refl
-
-  pub all_unknown : (fault : Fault) → is_unknown_to x ≡ is_undefined fault env
-  all_unknown fault = λ i m. unknown fault m i
+pub all_unknown : (env : Environment) (fault : Fault) → is_unknown_to env ≡ is_undefined fault env
+all_unknown env fault = λ i m. unknown m i
+  where
+    unknown : (m : Mention) → is_unknown_to env m ≡ is_undefined fault env m
+    unknown (OfFunction n) = refl
+    unknown (OfVariable n) = refl
+    unknown (OfText n) = refl

@@ -1,18 +1,18 @@
 -- What code holds of the paths of a function, and of what no name may be, read as the definitions have it.
-use Rattle.std.specs.Prelude.{Bool, false, ◌||◌, not, List, map, is_some}
+use Rattle.std.specs.Prelude.{Bool, false, not, List, map}
 use Rattle.std.specs.String.{string_bytes}
-use Rattle.std.specs.BTreeMap.{get_by_text}
 use Rattle.c0_source.specs.declared.fault.FaultKind.{FaultKind}
 use Rattle.c0_source.specs.declared.fault.FaultKind.TheVariants as k
 use Rattle.c0_syntax.specs.declared.statement.Statement.{Statement}
 use Rattle.c0_syntax.specs.Views.{statements_of}
-use Rattle.c0_rules.specs.Types.{Name, is_among, is_ascii, output_named}
+use Rattle.c0_rules.specs.Types.{Environment, is_among, is_ascii}
+use Rattle.c0_rules.specs.Programs.{is_callable}
+use Rattle.c0_tables.specs.Views.{environment_of}
 use Rattle.c0_rules.specs.Mentions.{Mention, OfVariable, OfFunction, OfText, statements_assign}
 use Rattle.c0_rules.specs.Assignment as a
 use Rattle.c0_rules.specs.FaultPaths.{is_unassigned}
 use Rattle.c0_flow.specs.declared.flow.Flow.{Flow}
 use Rattle.c0_flow.specs.declared.flow.Flow.TheVariants.{Ended, Reached}
-use Rattle.c0_flow.specs.declared.mentioned.Callable.{Callable}
 use Rattle.c0_flow.specs.declared.mentioned.Refused.{Refused}
 use Rattle.c0_flow.specs.declared.mentioned.Refused.TheVariants.{Unassigned, AssignedIn, Uncallable, BeyondAscii}
 
@@ -21,14 +21,10 @@ abbrev pub flow_of : Flow → a.Flow
 flow_of Ended = a.Ended
 flow_of (Reached names) = a.Reached (map string_bytes names.items)
 
--- whether a function may be called
-abbrev pub is_known_to : Callable → Name → Bool
-is_known_to x n = is_some (output_named x.conio n) || is_some (get_by_text x.defined.now n)
-
 -- whether a name is called that may not be
-abbrev pub is_unknown_to : Callable → Mention → Bool
-is_unknown_to x (OfFunction n) = not (is_known_to x n)
-is_unknown_to x _ = false
+abbrev pub is_unknown_to : Environment → Mention → Bool
+is_unknown_to env (OfFunction n) = not (is_callable env n)
+is_unknown_to env _ = false
 
 -- whether a name is that of a variable that these statements assign to
 abbrev pub is_assigned_by : List Statement → Mention → Bool
@@ -44,7 +40,7 @@ is_beyond_ascii _ = false
 abbrev pub refused_by : Refused → Mention → Bool
 refused_by (Unassigned flow) = is_unassigned (flow_of flow.now)
 refused_by (AssignedIn body) = is_assigned_by body.now
-refused_by (Uncallable x) = is_unknown_to x
+refused_by (Uncallable x) = is_unknown_to (environment_of x.now)
 refused_by BeyondAscii = is_beyond_ascii
 
 -- what is told of it

@@ -1,17 +1,17 @@
 // What a program names: which variables, functions and texts may not stand where they do.
 
 ghost use Rattle.std.specs.Prelude.{◌≡◌, ◌⊎◌, ◌++◌, IfErr, true, is_ok, is_some, map, not, option_map};
-ghost use Rattle.std.specs.BTreeMap.{get_by_text};
 ghost use Rattle.std.specs.List.{Any, list_all, list_any};
 ghost use Rattle.c0_source.specs.declared.fault.FaultKind.TheVariants.{BadToken, NotDefined};
 ghost use Rattle.c0_syntax.specs.Views.{annotation_of, declaration_of, expression_of, expressions_of, simple_of, spec_of, statement_of, statements_of};
 ghost use Rattle.c0_rules.specs.FaultExpressions.{Told};
 ghost use Rattle.c0_rules.specs.FaultPaths.{NamedIn, NamedInAnnotations, NamedInBody, NamedInPart, NamedInSimple, NamedInSpecs, NamedInStatement};
 ghost use Rattle.c0_rules.specs.FaultPrograms.{NamedAmong, NamedInDefinition, is_beyond, is_undefined};
-ghost use Rattle.c0_flow.specs.FlowViews.{is_known_to, refused_by, told_of};
+ghost use Rattle.c0_flow.specs.FlowViews.{refused_by, told_of};
 ghost use Rattle.c0_rules.specs.Mentions.{OfFunction, OfText, OfVariable, argument_mentions, calls_of, declaration_mentions, mentions, part_mentions, program_mentions, simple_mentions, spec_mentions, specs_in, statement_mentions, statements_mentions, texts_of};
 ghost use Rattle.c0_rules.specs.Programs.{is_callable};
-ghost use Rattle.c0_rules.specs.Types.{Environment, Name, is_among, is_ascii as are_ascii, output_named};
+ghost use Rattle.c0_rules.specs.Types.{is_among, is_ascii as are_ascii};
+ghost use Rattle.c0_tables.specs.Views.{environment_of};
 
 use crate::flow::Flow;
 use crate::flow::assigned::assigns;
@@ -21,35 +21,9 @@ use c0_syntax::program::{Declaration, DeclarationKind};
 use c0_syntax::statement::{
     Annotation, SimpleKind, SimpleStatement, Spec, Statement, StatementKind,
 };
-use std::collections::BTreeMap;
+use c0_tables::environment::Environment;
 
 pub mod texts;
-
-/// The functions that may be called: those that are defined, and the output calls where conio is in use.
-#[derive(Clone, Copy, Debug)]
-pub struct Callable<'a> {
-    pub conio: bool,
-    pub defined: &'a BTreeMap<String, u32>,
-}
-
-// Whether an output call has this name.
-fn is_output(name: &str) -> bool
-    ensures { result ≡ is_some (output_named true name.now) }
-{
-    matches!(
-        name,
-        "print" | "println" | "printint" | "printbool" | "printchar" | "flush"
-    )
-}
-
-impl Callable<'_> {
-    /// Whether a function of this name may be called.
-    pub(crate) fn has(&self, name: &str) -> bool
-        ensures { result ≡ is_known_to self.now name.now }
-    {
-        self.conio && is_output(name) || self.defined.contains_key(name)
-    }
-}
 
 /// What no name or text may be.
 #[derive(Clone, Copy, Debug)]
@@ -58,8 +32,8 @@ pub(crate) enum Refused<'a> {
     Unassigned(&'a Flow),
     /// A variable that these statements assign to.
     AssignedIn(&'a [Statement]),
-    /// A called function that is not among these.
-    Uncallable(Callable<'a>),
+    /// A called function that is neither defined in the program nor an output call in use.
+    Uncallable(&'a Environment),
     /// A text beyond ASCII.
     BeyondAscii,
 }
@@ -100,7 +74,7 @@ impl Refused<'_> {
         ensures { result ≡ refused_by self.now (OfFunction name.now) }
     {
         match self {
-            Refused::Uncallable(callable) => !callable.has(name),
+            Refused::Uncallable(environment) => !environment.has_definition(name),
             _ => false,
         }
     }
@@ -338,9 +312,9 @@ pub fn check_texts(declarations: &[Declaration]) -> Result<(), Fault>
 }
 
 /// The first name that is called and may not be is an error, `NotDefined` at the name.
-pub fn check_calls(callable: Callable<'_>, declarations: &[Declaration]) -> Result<(), Fault>
-    ensures answers { (env : Environment) → callable.entry.conio ≡ env.conio → ((n : Name) → is_some (get_by_text callable.entry.defined.now n) ≡ is_among n env.function_names) → is_ok result ≡ list_all (is_callable env) (calls_of (map declaration_of declarations.now)) }
-    ensures cause { (env : Environment) → callable.entry.conio ≡ env.conio → ((n : Name) → is_some (get_by_text callable.entry.defined.now n) ≡ is_among n env.function_names) → IfErr result (λ f. NamedAmong f (is_undefined f env) NotDefined declarations.now) }
+pub fn check_calls(environment: &Environment, declarations: &[Declaration]) -> Result<(), Fault>
+    ensures answers { is_ok result ≡ list_all (is_callable (environment_of environment.now)) (calls_of (map declaration_of declarations.now)) }
+    ensures cause { IfErr result (λ f. NamedAmong f (is_undefined f (environment_of environment.now)) NotDefined declarations.now) }
 {
-    Refused::Uncallable(callable).check_declarations(declarations)
+    Refused::Uncallable(environment).check_declarations(declarations)
 }

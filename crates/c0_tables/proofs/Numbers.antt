@@ -1,6 +1,6 @@
 -- The numbers of names in a list.
 use Rattle.std.proofs.Common.{◌≡◌, ℕ, suc, ◌+◌, ◌<◌, List, [], ◌∷◌, ◌++◌, length, refl, sym, ap, ◌∙◌, subst, arith, Bool, true, false, Option, Some, None}
-use Rattle.std.specs.Prelude.{String, cond, bytes_eq, is_some}
+use Rattle.std.specs.Prelude.{String, ◌||◌, cond, bytes_eq, is_some}
 use Rattle.std.specs.Borrow.{Bor}
 use Rattle.std.specs.Option.{option_copied}
 use Rattle.std.specs.BTreeMap.{BTreeMap, UpdatesBy, get_by_text}
@@ -9,7 +9,7 @@ use Rattle.std.specs.Ordering.{nat_cmp}
 use Rattle.std.specs.String.{string_cmp, string_bytes}
 use Rattle.std.proofs.lemmas.Map.Text.{btree_map_updates_text}
 use Rattle.c0_tables.specs.Numbered.{place_in}
-use Rattle.c0_rules.specs.Types.{Name, number_in}
+use Rattle.c0_rules.specs.Types.{Name, is_among, number_in}
 use Rattle.c0_rules.proofs.Rules.{same_name_is}
 use Rattle.c0_tables.proofs.Tables.{both_ways}
 
@@ -41,6 +41,15 @@ number_past k (x ∷ names) n e = at (bytes_eq n x) e (number_past (suc k) names
         → (elim b [ true ↦ 0 | false ↦ suc (number_in names n) ]) ≡ suc (length names)
     at true e go = absurd (cc e)
     at false e go = ap suc (go e)
+
+-- a name has a place where it is among the names
+pub placed_is : (k : ℕ) (names : List Name) (n : Name) → is_some (place_in k names n) ≡ is_among n names
+placed_is k [] n = refl
+placed_is k (x ∷ names) n = at (bytes_eq n x) (placed_is (suc k) names n)
+  where
+    at : (b : Bool) → is_some (place_in (suc k) names n) ≡ is_among n names → is_some (elim b [ true ↦ Some k | false ↦ place_in (suc k) names n ]) ≡ (b || is_among n names)
+    at true e = refl
+    at false e = e
 
 -- the first of two that is there
 abbrev first_of : Option ℕ → Option ℕ → Option ℕ

@@ -1,9 +1,11 @@
 // What is declared before a place in a program.
 
-ghost use Rattle.std.specs.Prelude.{◌≡◌, IfOk};
+ghost use Rattle.std.specs.Prelude.{◌≡◌, IfOk, is_some};
 ghost use Rattle.c0_typed.specs.Views.{type_of};
-ghost use Rattle.c0_rules.specs.Types.{no_names, number_in, numbered};
-ghost use Rattle.c0_tables.specs.Views.{functions_of, resolved_of, structs_of, typedefs_of};
+ghost use Rattle.c0_rules.specs.Programs.{is_callable};
+ghost use Rattle.c0_rules.specs.Statements.{is_function as is_called};
+ghost use Rattle.c0_rules.specs.Types.{no_names, number_in, numbered, output_named};
+ghost use Rattle.c0_tables.specs.Views.{environment_of, functions_of, resolved_of, structs_of, typedefs_of};
 
 use crate::names::Names;
 use crate::resolved::ResolvedType;
@@ -46,6 +48,33 @@ impl Environment {
             structs: Structs::new(alloc),
             functions: Functions::new(alloc),
         }
+    }
+
+    /// Whether a name is that of an output call in use.
+    pub fn is_output(&self, name: &str) -> bool
+        ensures { result ≡ is_some (output_named self.now.conio name.now) }
+    {
+        self.conio
+            && (name == "print"
+                || name == "println"
+                || name == "printint"
+                || name == "printbool"
+                || name == "printchar"
+                || name == "flush")
+    }
+
+    /// Whether a name is that of a function in scope, or of an output call in use.
+    pub fn is_function(&self, name: &str) -> bool
+        ensures { result ≡ is_called (environment_of self.now) name.now }
+    {
+        self.functions.get(name).is_some() || self.is_output(name)
+    }
+
+    /// Whether a name may be called in the end: that of a function which the program defines anywhere, or of an output call in use.
+    pub fn has_definition(&self, name: &str) -> bool
+        ensures { result ≡ is_callable (environment_of self.now) name.now }
+    {
+        self.is_output(name) || self.function_names.get(name).is_some()
     }
 
     /// A type as typed trees have it: a struct by its number.

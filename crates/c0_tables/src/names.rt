@@ -1,6 +1,6 @@
 // Names in order, each found by its number.
 
-ghost use Rattle.std.specs.Prelude.{◌≡◌, ◌<◌, [], ◌∷◌, ◌++◌, IfSome, OnOk, string_bytes};
+ghost use Rattle.std.specs.Prelude.{◌≡◌, ◌<◌, [], ◌∷◌, ◌++◌, IfSome, OnOk, map, string_bytes};
 ghost use Rattle.c0_tables.specs.Numbered.{place_in};
 ghost use Rattle.c0_rules.specs.Types.{number_in};
 
@@ -40,6 +40,13 @@ impl Names {
         }
     }
 
+    /// The names in order.
+    pub fn into_names(self) -> Vec<String>
+        ensures { map string_bytes result.items ≡ self }
+    {
+        self.names
+    }
+
     /// The number of a name, where it is there.
     pub fn get(&self, name: &str) -> Option<u32>
         ensures place { result ≡ place_in 0 self.now name.now }
@@ -61,7 +68,7 @@ impl Names {
         }
     }
 
-    /// One name more, behind the others. `Err` where memory is refused: then nothing is changed.
+    /// One name more, behind the others. `Err` where memory is refused or there are 2^32 - 2 names: what is left then is not told.
     pub fn push(&mut self, name: String) -> Result<(), AllocError>
         ensures { OnOk result (self.new ≡ self.old ++ string_bytes name ∷ []) }
     {

@@ -9,22 +9,23 @@ use c0_syntax::program::{Declaration, DeclarationKind};
 use c0_syntax::statement::{
     Annotation, SimpleKind, SimpleStatement, Spec, Statement, StatementKind,
 };
+use c0_tables::names::Names;
 use std::alloc::{AllocError, Global};
 use std::marker::Model;
 
 // Texts so far.
 #[derive(Drop)]
 struct Texts {
-    found: Vec<String>,
+    found: Names,
 }
 
 impl Model for Texts {
-    ghost use Rattle.std.specs.Prelude.{List, map, string_bytes};
+    ghost use Rattle.std.specs.Prelude.{List};
     ghost use Rattle.c0_rules.specs.Types.{Name};
 
     ghost Value = { List Name };
 
-    ghost view = { λ x. map string_bytes x.found.items };
+    ghost view = { λ x. x.found };
 }
 
 impl Texts {
@@ -210,12 +211,12 @@ impl Texts {
     }
 }
 
-/// The texts that the declarations of a program write, in order.
-pub fn collect_texts(alloc: Global, declarations: &[Declaration]) -> Result<Vec<String>, AllocError>
-    ensures { IfOk result (λ v. map string_bytes v.items ≡ texts_of (map declaration_of declarations.now)) }
+/// The texts that the declarations of a program write, in order. `Err` where memory is refused or there are 2^32 - 1 of them.
+pub fn collect_texts(alloc: Global, declarations: &[Declaration]) -> Result<Names, AllocError>
+    ensures { IfOk result (λ texts. texts ≡ texts_of (map declaration_of declarations.now)) }
 {
     let mut texts = Texts {
-        found: Vec::new(alloc),
+        found: Names::new(alloc),
     };
     texts.declarations(declarations)?;
     Ok(texts.found)

@@ -4,12 +4,13 @@ use Rattle.c0_source.specs.declared.fault.FaultKind.TheVariants.{NotDefined}
 use Rattle.c0_syntax.specs.Views.{declaration_of}
 use Rattle.c0_rules.specs.FaultPrograms.{NamedAmong}
 use Rattle.c0_rules.specs.Mentions.{program_mentions}
-use Rattle.c0_flow.proofs.Collected.{calls_known, all_unknown}
+use Rattle.c0_tables.specs.Views.{environment_of}
+use Rattle.c0_flow.proofs.Collected.{calls_are, all_unknown}
 use Rattle.c0_flow.proofs.mentioned.check_calls.Goals as goal
 
 pub returns-clause-answers : goal.returns-clause-answers
-returns-clause-answers c = λ env conio defined. c.check_declarations.ensures.answers ∙ calls_known c.args.callable env conio defined (program_mentions (map declaration_of c.args.declarations.now))
+returns-clause-answers c = c.check_declarations.ensures.answers ∙ calls_are (environment_of c.args.environment.now) (program_mentions (map declaration_of c.args.declarations.now))
 
 pub returns-clause-cause : goal.returns-clause-cause
-returns-clause-cause c = λ env conio defined.
-    IfErr-weaker c.check_declarations.result _ _ (λ f h. subst (λ test. NamedAmong f test NotDefined c.args.declarations.now) (all_unknown c.args.callable env conio defined f) h) c.check_declarations.ensures.cause
+returns-clause-cause c =
+    IfErr-weaker c.check_declarations.result _ _ (λ f h. subst (λ test. NamedAmong f test NotDefined c.args.declarations.now) (all_unknown (environment_of c.args.environment.now) f) h) c.check_declarations.ensures.cause
