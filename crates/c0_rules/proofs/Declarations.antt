@@ -237,7 +237,7 @@ agreed_types f g e =
     let s = both_true (same_type f.result g.result) (same_types f.parameters g.parameters) q.0 in
     (same_type_is f.result g.result s.0, same_types_are f.parameters g.parameters s.1)
 
-is_defined_some : (o : Option Signature) → is_defined o ≡ true → (g : Signature) × (o ≡ Some g) × (g.defined ≡ true)
+pub is_defined_some : (o : Option Signature) → is_defined o ≡ true → (g : Signature) × (o ≡ Some g) × (g.defined ≡ true)
 is_defined_some None e = absurd (cc e)
 is_defined_some (Some g) e = (g, refl, e)
 

@@ -1,18 +1,19 @@
 -- What the static rules give of a program is well typed.
-use Rattle.std.proofs.Common.{◌≡◌, ℕ, zero, suc, ◌<◌, inr, List, [], ◌∷◌, length, refl, sym, ap, ◌∙◌, subst, arith, append-nil, true, Option, Some, None}
-use Rattle.std.specs.Prelude.{◌&&◌, nat_lt, slice_get, map, filter_map, flat_map, slice_index_or}
+use Rattle.std.proofs.Common.{◌≡◌, ℕ, zero, suc, ◌<◌, inr, List, [], ◌∷◌, length, refl, sym, ap, ◌∙◌, subst, arith, append-nil, Bool, true, false, Option, Some, None}
+use Rattle.std.specs.Prelude.{◌&&◌, ◌||◌, bytes_eq, nat_lt, slice_get, map, filter_map, flat_map, slice_index_or}
 use Rattle.std.specs.List.{All, list_all}
 use Rattle.std.proofs.lemmas.Bool.{ltb-true}
+use Rattle.std.proofs.lemmas.Option.{slice_get_within}
 use Rattle.c0_syntax.specs.Trees.{Declaration, Program}
 use Rattle.c0_typed.specs.Trees as t
 use Rattle.c0_typed.specs.Typing as ty
 use Rattle.c0_rules.specs.Types.{Name, is_among, number_in, IntType, same_type, same_types, Signature, Environment, numbered, is_ascii}
 use Rattle.c0_rules.specs.Mentions.{Mention, OfVariable, OfFunction, OfText, function_of as called_of, text_of, declaration_mentions, program_mentions, texts_of, calls_of}
 use Rattle.c0_rules.specs.Expressions.{num}
-use Rattle.c0_rules.specs.Programs.{is_defined, Elaboration, typed_declaration, typed_declarations, beginning, main_name, is_main, is_callable, whole_agrees, program_from, typed_program}
+use Rattle.c0_rules.specs.Programs.{is_defined, function_names_of, Elaboration, typed_declaration, typed_declarations, beginning, main_name, is_main, is_callable, whole_agrees, program_from, typed_program}
 use Rattle.c0_rules.proofs.Rules.{both_true, same_type_is, same_types_are, AllSome, all_so, all_if, all_map}
 use Rattle.c0_rules.proofs.Expressions.{Knows, IsNamed, AreNamed, named_left, named_right}
-use Rattle.c0_rules.proofs.Declarations.{Later, Stands, Fitting, Goes, declaration_ok}
+use Rattle.c0_rules.proofs.Declarations.{Later, Stands, Fitting, Goes, declaration_ok, is_defined_some}
 
 -- ---- what is named
 
@@ -145,3 +146,28 @@ pub elaborated_fits : (program : Program) → AllSome ty.FitsProgram (typed_prog
 elaborated_fits program =
     all_so (Ends program (beginning program)) ty.FitsProgram (typed_declarations program (beginning program)) _ (declarations_ok program (beginning program) (begins program)) (λ e en.
     all_if ty.FitsProgram (whole_agrees program e) _ (whole program e en))
+
+-- ---- a function that has been defined
+
+among_of_number : (names : List Name) (n : Name) → number_in names n < length names → is_among n names ≡ true
+among_of_number [] n l = absurd (omega (arith, l))
+among_of_number (x ∷ names) n l = at (bytes_eq n x) l (among_of_number names n)
+  where
+    at : (b : Bool) → (elim b [ true ↦ 0 | false ↦ suc (number_in names n) ]) < suc (length names) → (number_in names n < length names → is_among n names ≡ true) → (b || is_among n names) ≡ true
+    at true k go = refl
+    at false k go = go (omega (arith, k))
+
+-- what has been defined behind all declarations is among what they define
+abbrev pub DefinedThere : Program → Elaboration → Type 0
+DefinedThere program e = (n : Name) → is_defined (e.environment.functions n) ≡ true → is_among n (function_names_of program) ≡ true
+
+pub defined_there : (program : Program) → AllSome (DefinedThere program) (typed_declarations program (beginning program))
+defined_there program =
+    all_map (Ends program (beginning program)) (DefinedThere program) (typed_declarations program (beginning program)) (declarations_ok program (beginning program) (begins program)) (λ e en n h.
+    let names = e.environment.function_names in
+    let found = is_defined_some (e.environment.functions n) h in
+    let at = en.stands.functions.there n found.0 found.1 found.2 in
+    let within = slice_get_within e.functions (number_in names n) at.0 at.1 in
+    let long = en.stands.functions.long in
+    let all = ap length en.stands.functions.split ∙ ap length (append-nil en.stands.functions.before) in
+    subst (λ z. is_among n z ≡ true) en.later.function_names (among_of_number names n (omega (arith, within, long, all))))

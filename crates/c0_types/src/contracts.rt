@@ -15,7 +15,6 @@ ghost use Rattle.c0_terms.specs.Terms.{HasTexts, context_of, env_of};
 ghost use Rattle.c0_rules.specs.Answers.{Answers};
 ghost use Rattle.c0_tables.specs.Views.{environment_of};
 
-use crate::headers::is_output;
 use c0_source::fault::{Fault, FaultKind};
 use c0_source::kind::Clause;
 use c0_syntax::program::TypedName;
@@ -24,13 +23,6 @@ use c0_tables::environment::Environment;
 use c0_tables::resolved::ResolvedType;
 use c0_terms::typing::Terms;
 use c0_typed::Expression as TypedExpression;
-
-// Whether a name is that of a function in scope, or of an output call in use.
-fn is_function(environment: &Environment, name: &str) -> bool
-    ensures { result ≡ is_called (environment_of environment.now) name.now }
-{
-    environment.functions.get(name).is_some() || is_output(environment.conio, name)
-}
 
 /// The first parameter that has the name of a function in scope or of an output call in use is an error, `DuplicateName` at its name.
 pub(crate) fn check_parameter_names(
@@ -41,7 +33,7 @@ pub(crate) fn check_parameter_names(
     ensures cause { IfErr result (λ f. FunctionParameter f (environment_of environment.now) parameters.now) }
 {
     for parameter in parameters {
-        if is_function(environment, &parameter.name.text) {
+        if environment.is_function(&parameter.name.text) {
             return Err(Fault {
                 kind: FaultKind::DuplicateName,
                 span: parameter.name.span,

@@ -1,6 +1,6 @@
 // The static rules of a function's header: its types, its names, and what was declared of its name before.
 
-ghost use Rattle.std.specs.Prelude.{◌≡◌, ◌⊎◌, [], IfErr, IfOk, OnOk, Some, is_some, map};
+ghost use Rattle.std.specs.Prelude.{◌≡◌, ◌⊎◌, [], IfErr, IfOk, OnOk, Some, map};
 ghost use Rattle.c0_source.specs.declared.fault.FaultKind.TheVariants.{OutOfMemory};
 ghost use Rattle.c0_syntax.specs.Views.{annotation_of, header_of, typed_name_of};
 ghost use Rattle.c0_types.specs.DeclareViews.{Accepts};
@@ -8,7 +8,7 @@ ghost use Rattle.c0_rules.specs.FaultPrograms.{AgainCause, AnySpecs, InHeader, P
 ghost use Rattle.c0_rules.specs.Mentions.{specs_in};
 ghost use Rattle.c0_rules.specs.Programs.{agrees, are_none, names_of, parameter_types as types_of_parameters, parameters_from, signature as header_signature, with_function};
 ghost use Rattle.c0_terms.specs.Terms.{local_of};
-ghost use Rattle.c0_rules.specs.Types.{Signature as Declared, are_distinct, output_named};
+ghost use Rattle.c0_rules.specs.Types.{Signature as Declared, are_distinct};
 ghost use Rattle.c0_rules.specs.Answers.{Answers};
 ghost use Rattle.c0_tables.specs.Views.{environment_of, resolved_of, signature_of};
 
@@ -56,19 +56,6 @@ pub(crate) fn parameter_types(
     Ok(types)
 }
 
-/// Whether a name is that of an output call in use.
-pub(crate) fn is_output(conio: bool, name: &str) -> bool
-    ensures { result ≡ is_some (output_named conio name.now) }
-{
-    conio
-        && (name == "print"
-            || name == "println"
-            || name == "printint"
-            || name == "printbool"
-            || name == "printchar"
-            || name == "flush")
-}
-
 // What was declared of the name of a function before agrees with this.
 fn check_again(environment: &Environment, signature: &Signature, span: Span) -> Result<(), Fault>
     ensures agrees { Accepts result (agrees (signature_of signature.now) ((environment_of environment.now).functions (signature_of signature.now).name)) }
@@ -105,7 +92,7 @@ pub(crate) fn signature(
     let result_type = environment.typedefs.resolve_result(alloc, &header.result)?;
     let parameters = parameter_types(environment, alloc, &header.parameters)?;
     check_distinct(alloc, &header.parameters)?;
-    if is_output(environment.conio, &header.name.text) {
+    if environment.is_output(&header.name.text) {
         return Err(Fault {
             kind: FaultKind::DuplicateName,
             span: header.name.span,

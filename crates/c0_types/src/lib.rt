@@ -6,5 +6,7 @@ mod declare;
 mod definitions;
 mod functions;
 mod headers;
+mod programs;
 
 pub use c0_rules::{accepted_texts, elaborated, refused_texts};
+pub use programs::check;

@@ -1,0 +1,130 @@
+// The static rules of a whole program.
+
+ghost use Rattle.std.specs.Prelude.{◌≡◌, ◌≢◌, ◌⊎◌, ◌&&◌, IfErr, IfOk, IfSome, false, is_none, is_ok, map, true};
+ghost use Rattle.std.specs.List.{list_all};
+ghost use Rattle.c0_source.specs.declared.fault.Fault as g;
+ghost use Rattle.c0_source.specs.declared.fault.FaultKind.TheVariants.{BadMain as MainIsBad, OutOfMemory};
+ghost use Rattle.c0_syntax.specs.Views.{declaration_of, program_of as tree_of};
+ghost use Rattle.c0_typed.specs.Views.{program_of as typed_of};
+ghost use Rattle.c0_types.specs.DeclareViews.{Accepts, elaboration_of};
+ghost use Rattle.c0_rules.specs.Answers.{Answers};
+ghost use Rattle.c0_rules.specs.FaultExpressions.{Told};
+ghost use Rattle.c0_rules.specs.FaultPrograms.{FaultAt, InDeclarations, InWhole, MainAmong, MainCause, ending};
+ghost use Rattle.c0_rules.specs.Mentions.{calls_of, texts_of};
+ghost use Rattle.c0_rules.specs.Programs.{beginning, function_names_of, is_callable, is_defined, is_main, main_name, typed_declarations, typed_program, whole_agrees};
+ghost use Rattle.c0_rules.specs.Types.{is_among, is_ascii};
+ghost use Rattle.c0_tables.specs.Views.{environment_of};
+
+use crate::declare::{Elaborated, has_main};
+use c0_flow::mentioned::texts::collect_texts;
+use c0_flow::mentioned::{check_calls, check_texts};
+use c0_source::fault::{Fault, FaultKind, Span};
+use c0_syntax::program::{Declaration, DeclarationKind, Program};
+use c0_tables::environment::Environment;
+use c0_tables::names::Names;
+use c0_typed::Typed;
+use std::alloc::Global;
+
+/// What the declarations of a program make, and the texts that they write.
+#[derive(Debug, Drop)]
+pub(crate) struct Whole {
+    pub(crate) elaborated: Elaborated,
+    pub(crate) texts: Names,
+}
+
+/// The declarations of a program, one after the other.
+pub(crate) fn declared(alloc: Global, declarations: &[Declaration]) -> Result<Whole, Fault>
+    ensures answers { Answers (λ w. elaboration_of w.texts w.elaborated) result (typed_declarations (map declaration_of declarations.now) (beginning (map declaration_of declarations.now))) }
+    ensures texts { IfOk result (λ w. w.texts ≡ texts_of (map declaration_of declarations.now)) }
+    ensures cause { IfErr result (λ f. (f.kind ≡ OutOfMemory) ⊎ InDeclarations f (beginning (map declaration_of declarations.now)) declarations.now) }
+{
+    let texts = collect_texts(alloc, declarations)?;
+    let mut elaborated = Elaborated::new(alloc, declarations)?;
+    elaborated.declarations(alloc, &texts, declarations)?;
+    Ok(Whole { elaborated, texts })
+}
+
+// The place of the header of `main`, where these declarations define it.
+fn main_header(declarations: &[Declaration]) -> Option<Span>
+    ensures there { IfSome result (λ span. (f : g.Fault) → Told MainIsBad span f → MainAmong f declarations.now) }
+    ensures none { is_none result ≡ true → is_among main_name (function_names_of (map declaration_of declarations.now)) ≡ false }
+{
+    for declaration in declarations {
+        if let DeclarationKind::DefineFunction(header, _) = &declaration.kind {
+            if header.name.text.as_str() == "main" {
+                return Some(header.span);
+            }
+        }
+    }
+    None
+}
+
+// A `main` of another type is an error at its header, and a program without one at its end.
+fn check_main(environment: &Environment, program: &Program) -> Result<(), Fault>
+    requires { is_defined ((environment_of environment.now).functions main_name) ≡ true → is_among main_name (function_names_of (tree_of program.now)) ≡ true }
+    ensures answers { Accepts result (is_main ((environment_of environment.now).functions main_name)) }
+    ensures cause { IfErr result (λ f. MainCause f (ending program.now) program.now.declarations.items ((environment_of environment.now).functions main_name)) }
+{
+    if has_main(environment) {
+        return Ok(());
+    }
+    let end = Span {
+        start: program.end,
+        end: program.end,
+    };
+    let span = match environment.functions.get("main") {
+        Some(main) if main.defined => match main_header(&program.declarations) {
+            Some(header) => header,
+            None => unreachable!(),
+        },
+        _ => end,
+    };
+    Err(Fault {
+        kind: FaultKind::BadMain,
+        span,
+    })
+}
+
+// Both, or the fault that comes first in the text.
+fn earlier(first: Result<(), Fault>, second: Result<(), Fault>) -> Result<(), Fault>
+    ensures both { is_ok result ≡ is_ok first && is_ok second }
+    ensures one { (result ≡ first) ⊎ (result ≡ second) }
+{
+    match (&first, &second) {
+        (Err(one), Err(other)) if other.span.start < one.span.start => second,
+        (Ok(()), _) => second,
+        _ => first,
+    }
+}
+
+// The rules that look at the whole program: `main` and what is called, in the order of the text, and then its texts.
+fn check_whole(environment: &Environment, program: &Program) -> Result<(), Fault>
+    requires { is_defined ((environment_of environment.now).functions main_name) ≡ true → is_among main_name (function_names_of (tree_of program.now)) ≡ true }
+    ensures answers { Accepts result (is_main ((environment_of environment.now).functions main_name) && list_all (is_callable (environment_of environment.now)) (calls_of (tree_of program.now)) && list_all is_ascii (texts_of (tree_of program.now))) }
+    ensures cause { IfErr result (λ f. InWhole f (ending program.now) (environment_of environment.now) program.now.declarations.items) }
+{
+    let main = check_main(environment, program);
+    let calls = check_calls(environment, &program.declarations);
+    earlier(main, calls)?;
+    check_texts(&program.declarations)
+}
+
+/// The typed tree of a program that keeps all static rules. Else the fault is the first in the order of the text, but that names that a
+/// path has not assigned and paths without a `return` are told behind the types of their function, and `main`, calls without a definition
+/// and texts behind all declarations; or memory runs out.
+pub fn check(alloc: Global, program: Program) -> Result<Typed, Fault>
+    // Ok with the typed tree exactly where the program is well typed, want of memory aside.
+    ensures typed { IfOk result (λ typed. typed_program (tree_of program) ≡ Some (typed_of typed)) }
+    ensures refused { IfErr result (λ f. f.kind ≢ OutOfMemory → typed_program (tree_of program) ≡ None) }
+    // What is told has its cause at its place.
+    ensures cause { IfErr result (λ f. (f.kind ≡ OutOfMemory) ⊎ FaultAt program f) }
+{
+    let Whole { elaborated, texts } = declared(alloc, &program.declarations)?;
+    check_whole(&elaborated.environment, &program)?;
+    Ok(Typed {
+        main: elaborated.environment.function_names.number("main") as usize,
+        structs: elaborated.structs,
+        functions: elaborated.functions,
+        texts: texts.into_names(),
+    })
+}
