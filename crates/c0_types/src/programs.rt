@@ -1,6 +1,6 @@
 // The static rules of a whole program.
 
-ghost use Rattle.std.specs.Prelude.{◌≡◌, ◌≢◌, ◌⊎◌, ◌&&◌, IfErr, IfOk, IfSome, false, is_none, is_ok, map, true};
+ghost use Rattle.std.specs.Prelude.{◌≡◌, ◌≢◌, ◌⊎◌, ◌&&◌, [], ◌∷◌, IfErr, IfOk, IfSome, is_ok, is_some, map, true};
 ghost use Rattle.std.specs.List.{list_all};
 ghost use Rattle.c0_source.specs.declared.fault.Fault as g;
 ghost use Rattle.c0_source.specs.declared.fault.FaultKind.TheVariants.{BadMain as MainIsBad, OutOfMemory};
@@ -9,7 +9,7 @@ ghost use Rattle.c0_typed.specs.Views.{program_of as typed_of};
 ghost use Rattle.c0_types.specs.DeclareViews.{Accepts, elaboration_of};
 ghost use Rattle.c0_rules.specs.Answers.{Answers};
 ghost use Rattle.c0_rules.specs.FaultExpressions.{Told};
-ghost use Rattle.c0_rules.specs.FaultPrograms.{FaultAt, InDeclarations, InWhole, MainAmong, MainCause, ending};
+ghost use Rattle.c0_rules.specs.FaultPrograms.{FaultAt, InDeclarations, InWhole, MainAmong, MainCause, MainDefined, ending};
 ghost use Rattle.c0_rules.specs.Mentions.{calls_of, texts_of};
 ghost use Rattle.c0_rules.specs.Programs.{beginning, function_names_of, is_callable, is_defined, is_main, main_name, typed_declarations, typed_program, whole_agrees};
 ghost use Rattle.c0_rules.specs.Types.{is_among, is_ascii};
@@ -44,16 +44,27 @@ pub(crate) fn declared(alloc: Global, declarations: &[Declaration]) -> Result<Wh
     Ok(Whole { elaborated, texts })
 }
 
+// The place of the header, where a declaration defines `main`.
+fn main_defined(declaration: &Declaration) -> Option<Span>
+    ensures there { IfSome result (λ span. (f : g.Fault) → Told MainIsBad span f → MainDefined f declaration.now.kind) }
+    ensures named { is_some result ≡ is_among main_name (function_names_of (declaration_of declaration.now ∷ [])) }
+{
+    match &declaration.kind {
+        DeclarationKind::DefineFunction(header, _) if header.name.text.as_str() == "main" => Some(
+            header.span,
+        ),
+        _ => None,
+    }
+}
+
 // The place of the header of `main`, where these declarations define it.
 fn main_header(declarations: &[Declaration]) -> Option<Span>
     ensures there { IfSome result (λ span. (f : g.Fault) → Told MainIsBad span f → MainAmong f declarations.now) }
-    ensures none { is_none result ≡ true → is_among main_name (function_names_of (map declaration_of declarations.now)) ≡ false }
+    ensures named { is_some result ≡ is_among main_name (function_names_of (map declaration_of declarations.now)) }
 {
     for declaration in declarations {
-        if let DeclarationKind::DefineFunction(header, _) = &declaration.kind {
-            if header.name.text.as_str() == "main" {
-                return Some(header.span);
-            }
+        if let Some(span) = main_defined(declaration) {
+            return Some(span);
         }
     }
     None
