@@ -1,6 +1,6 @@
 // The static rules of a whole program.
 
-ghost use Rattle.std.specs.Prelude.{◌≡◌, ◌≢◌, ◌⊎◌, ◌&&◌, [], ◌∷◌, IfErr, IfOk, IfSome, is_ok, is_some, map, true};
+ghost use Rattle.std.specs.Prelude.{◌≡◌, ◌⊎◌, ◌&&◌, [], ◌∷◌, IfErr, IfOk, IfSome, is_ok, is_some, map, true};
 ghost use Rattle.std.specs.List.{list_all};
 ghost use Rattle.c0_source.specs.declared.fault.Fault as g;
 ghost use Rattle.c0_source.specs.declared.fault.FaultKind.TheVariants.{BadMain as MainIsBad, OutOfMemory};
@@ -11,7 +11,7 @@ ghost use Rattle.c0_rules.specs.Answers.{Answers};
 ghost use Rattle.c0_rules.specs.FaultExpressions.{Told};
 ghost use Rattle.c0_rules.specs.FaultPrograms.{FaultAt, InDeclarations, InWhole, MainAmong, MainCause, MainDefined, ending};
 ghost use Rattle.c0_rules.specs.Mentions.{calls_of, texts_of};
-ghost use Rattle.c0_rules.specs.Programs.{beginning, function_names_of, is_callable, is_defined, is_main, main_name, typed_declarations, typed_program, whole_agrees};
+ghost use Rattle.c0_rules.specs.Programs.{beginning, function_names_of, is_callable, is_defined, is_main, main_name, typed_declarations, typed_program};
 ghost use Rattle.c0_rules.specs.Types.{is_among, is_ascii};
 ghost use Rattle.c0_tables.specs.Views.{environment_of};
 
@@ -125,8 +125,7 @@ fn check_whole(environment: &Environment, program: &Program) -> Result<(), Fault
 /// and texts behind all declarations; or memory runs out.
 pub fn check(alloc: Global, program: Program) -> Result<Typed, Fault>
     // Ok with the typed tree exactly where the program is well typed, want of memory aside.
-    ensures typed { IfOk result (λ typed. typed_program (tree_of program) ≡ Some (typed_of typed)) }
-    ensures refused { IfErr result (λ f. f.kind ≢ OutOfMemory → typed_program (tree_of program) ≡ None) }
+    ensures answers { Answers typed_of result (typed_program (tree_of program)) }
     // What is told has its cause at its place.
     ensures cause { IfErr result (λ f. (f.kind ≡ OutOfMemory) ⊎ FaultAt program f) }
 {
