@@ -1,6 +1,6 @@
 // Statements with others in them.
 
-ghost use Rattle.std.specs.Prelude.{◌≡◌, ◌⊎◌, List, IfErr, IfOk, is_err, map, option_map};
+ghost use Rattle.std.specs.Prelude.{◌≡◌, ◌⊎◌, List, Err, IfErr, IfOk, IsOkAnd, is_err, map, option_map};
 ghost use Rattle.c0_source.specs.declared.fault.FaultKind.TheVariants.{OutOfMemory};
 ghost use Rattle.c0_syntax.specs.Trees as t;
 ghost use Rattle.c0_syntax.specs.Views.{annotation_of, expression_of, simple_of, statement_of, statement_of_kind, statements_of};
@@ -34,6 +34,20 @@ fn choice(
     let first = Box::new(alloc, first)?;
     let second = Box::new(alloc, second)?;
     Ok(TypedStatement::If(condition, first, second))
+}
+
+// An `if` whose other statement has this result.
+fn chosen(
+    alloc: Global,
+    condition: TypedExpression,
+    first: TypedStatement,
+    second: Result<TypedStatement, Fault>,
+) -> Result<TypedStatement, Fault>
+    ensures answers { IfOk result (λ r. IsOkAnd second (λ b. (texts : List Name) → stmt_of texts r ≡ y.If (exp_of texts condition) (stmt_of texts first) (stmt_of texts b))) }
+    ensures cause { IfErr result (λ f. (f.kind ≡ OutOfMemory) ⊎ (second ≡ Err f)) }
+{
+    let second = second?;
+    Ok(choice(alloc, condition, first, second)?)
 }
 
 // A loop.
@@ -129,8 +143,8 @@ impl<'a> Body<'a> {
         Ok(TypedStatement::ReturnValue(value))
     }
 
-    /// A statement. What is in scope behind an `Err` is not told. An `if` with `else` and a `for` are not written yet: want of
-    /// memory is answered.
+    /// A statement. What is in scope behind an `Err` is not told. A `for` is not written yet: want of memory is
+    /// answered.
     #[cycle(statement)]
     pub(crate) fn statement(
         &mut self,
@@ -155,7 +169,10 @@ impl<'a> Body<'a> {
             StatementKind::While(condition, annotations, body) => {
                 self.while_loop(condition, annotations, body)
             }
-            StatementKind::IfElse(_, _, _) | StatementKind::For(_, _, _, _, _) => Err(Fault {
+            StatementKind::IfElse(condition, body, other) => {
+                self.choice_of_two(condition, body, other)
+            }
+            StatementKind::For(_, _, _, _, _) => Err(Fault {
                 kind: FaultKind::OutOfMemory,
                 span,
             }),
@@ -236,6 +253,26 @@ impl<'a> Body<'a> {
         let condition = self.wanted(&ResolvedType::Bool, condition)?;
         let first = self.inner(body)?;
         Ok(choice(self.alloc, condition, first, skip(self.alloc))?)
+    }
+
+    // An `if` with `else`.
+    #[cycle(statement)]
+    fn choice_of_two(
+        &mut self,
+        condition: &Expression,
+        body: &Statement,
+        other: &Statement,
+    ) -> Result<TypedStatement, Fault>
+        requires { HasTexts self.old.texts.now (expression_of condition.now) × StatementHasTexts self.old.texts.now (statement_of body.now) × StatementHasTexts self.old.texts.now (statement_of other.now) }
+        ensures environment { self.new.environment ≡ self.old.environment }
+        ensures texts { self.new.texts ≡ self.old.texts }
+        ensures answers { Gives self.old.texts.now self.new.scope result (typed_statement (environment_of self.old.environment.now) (t.IfElse (expression_of condition.now) (statement_of body.now) (statement_of other.now)) (scope_of self.old.scope)) }
+        ensures cause { IfErr result (λ f. (f.kind ≡ OutOfMemory) ⊎ InIfElse (environment_of self.old.environment.now) f (scope_of self.old.scope) condition.now body.now other.now) }
+    {
+        let condition = self.wanted(&ResolvedType::Bool, condition)?;
+        let first = self.inner(body)?;
+        let second = self.inner(other);
+        chosen(self.alloc, condition, first, second)
     }
 
     // A `while`.

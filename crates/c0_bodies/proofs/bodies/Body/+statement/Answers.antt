@@ -1,4 +1,4 @@
-use Rattle.std.proofs.Common.{◌≡◌, ◌+◌, List, length, map, drop, arith, ap, ◌∙◌, sym, subst, Some, None}
+use Rattle.std.proofs.Common.{◌≡◌, ◌+◌, List, length, map, drop, arith, ap, ◌∙◌, sym, subst, refl, Some, None, inl, IfErr}
 use Rattle.std.specs.Prelude.{◌⊎◌}
 use Rattle.std.proofs.lemmas.List.{length-map}
 use Rattle.std.proofs.lemmas.Result.{IfErr-weaker, err_from_is_err_and}
@@ -12,13 +12,14 @@ use Rattle.c0_typed.specs.Trees as y
 use Rattle.c0_typed.specs.Views.{block_of, exp_of, exps_of, stmt_of}
 use Rattle.c0_terms.specs.Terms.{local_of}
 use Rattle.c0_rules.specs.FaultStatements.{InAnnotations, InBody, InStatement, InWanted}
-use Rattle.c0_rules.specs.Statements.{Invariant, typed_statement, typed_statements, within}
+use Rattle.c0_rules.specs.Statements.{Checked, Invariant, typed_statement, typed_statements, within}
 use Rattle.c0_rules.specs.Types.{BoolType}
 use Rattle.c0_tables.specs.Views.{environment_of}
-use Rattle.c0_bodies.specs.Bodies.{StatementHasTexts, StatementsHaveTexts, scope_of}
+use Rattle.c0_bodies.specs.Bodies.{Gives, StatementHasTexts, StatementsHaveTexts, in_scope, scope_of}
 use Rattle.c0_bodies.proofs.BodyRows.{block_is, block_told, typed_block_is}
-use Rattle.c0_bodies.proofs.Branches.{after_all, after_none, block_gives, body_cause, body_has, body_step, if_gives, if_none, nested_gives, statement_more, statement_none, statements_done, while_gives, while_none}
+use Rattle.c0_bodies.proofs.Branches.{after_all, after_none, block_gives, body_cause, body_has, body_step, else_none, if_else_gives, if_else_none, if_gives, if_none, nested_gives, scope_cause, statement_more, statement_none, statements_done, third_of, while_gives, while_none}
 use Rattle.c0_bodies.proofs.Kept.{at_start, block_none, in_texts, scope_none, second_of, third_alone}
+use Rattle.c0_bodies.proofs.Made.{made_gives, made_told}
 use Rattle.c0_bodies.proofs.Sizes.{size_in, size_statement}
 use Rattle.c0_bodies.proofs.bodies.Body.+statement.Goals as goal
 
@@ -219,3 +220,50 @@ statement-returns-in-While-clause-cause t c =
     subst (λ k. (f.kind ≡ OutOfMemory) ⊎ InStatement env f at k c.args.span) (sym c.in-While.is)
     (subst (λ l. (f.kind ≡ OutOfMemory) ⊎ InWanted env f at BoolType c.in-While.condition ⊎ InAnnotations env f Invariant (within at) l ⊎ InStatement env f at c.in-While.body.value.kind c.in-While.body.value.span) c.deref-in-While.ensures.value
     (subst (λ b. (f.kind ≡ OutOfMemory) ⊎ InWanted env f at BoolType c.in-While.condition ⊎ InAnnotations env f Invariant (within at) notes ⊎ InStatement env f at b.kind b.span) c.deref-in-While-2.ensures h))) c.while_loop.ensures.cause
+
+-- ---- an `if` with `else`
+
+pub choice_of_two-returns-in_err-first-clause-answers : goal.choice_of_two-returns-in_err-first-clause-answers
+choice_of_two-returns-in_err-first-clause-answers t c =
+    let p = err_from_is_err_and c.from_residual-in_err-first.result c.from_residual-in_err-first.ensures.1 in
+    rw (p.1, p.2) (if_else_none (environment_of c.args.self.now.environment.now) (expression_of c.args.condition.now) (statement_of c.args.body.now) (statement_of c.args.other.now) (scope_of c.args.self.now.scope) c.in_err-first.ensures.answers)
+
+pub choice_of_two-returns-in_err-first-clause-cause : goal.choice_of_two-returns-in_err-first-clause-cause
+choice_of_two-returns-in_err-first-clause-cause t c =
+    let p = err_from_is_err_and c.from_residual-in_err-first.result c.from_residual-in_err-first.ensures.1 in
+    rw (p.1, p.2) (second_of c.in_err-first.ensures.cause (λ h. inl h))
+
+pub choice_of_two-returns-clause-answers : goal.choice_of_two-returns-clause-answers
+choice_of_two-returns-clause-answers t c =
+    let env = environment_of c.args.self.now.environment.now in
+    let texts = c.args.self.now.texts.now in
+    let at = scope_of c.args.self.now.scope in
+    let behind = c.inner-second.new.self.scope in
+    let last = c.inner-second.result in
+    let condition = expression_of c.args.condition.now in
+    let a = statement_of c.args.body.now in
+    let b = statement_of c.args.other.now in
+    let first : Checked = record { statement = stmt_of texts c.in_ok-first.first; scope = scope_of c.inner.new.self.scope } in
+    let given = at_start (λ e w. Gives w behind last (in_scope e b first.scope)) c.inner.ensures.environment c.inner.ensures.texts c.inner-second.ensures.answers in
+    made_gives (λ w z. y.If (exp_of w c.in_ok-condition.condition) (stmt_of w c.in_ok-first.first) z) texts behind behind last c.chosen.result (in_scope env b first.scope) (typed_statement env (tree.IfElse condition a b) at) c.chosen.ensures.answers c.chosen.ensures.cause given
+    (λ z h. if_else_gives env condition a b at (exp_of texts c.in_ok-condition.condition) first (record { statement = z; scope = scope_of behind }) _ c.in_ok-condition.ensures.answers c.in_ok-first.ensures.answers h refl)
+    (λ K h. else_none env condition a b at first c.in_ok-first.ensures.answers h)
+
+pub choice_of_two-returns-clause-cause : goal.choice_of_two-returns-clause-cause
+choice_of_two-returns-clause-cause t c =
+    let env = environment_of c.args.self.now.environment.now in
+    let at = scope_of c.args.self.now.scope in
+    let last = c.inner-second.result in
+    let other = c.args.other.now in
+    let first : Checked = record { statement = stmt_of c.args.self.now.texts.now c.in_ok-first.first; scope = scope_of c.inner.new.self.scope } in
+    let there = at_start (λ e w. IfErr last (λ f. (f.kind ≡ OutOfMemory) ⊎ InStatement e f first.scope other.kind other.span)) c.inner.ensures.environment c.inner.ensures.texts c.inner-second.ensures.cause in
+    made_told last c.chosen.result c.chosen.ensures.cause there (λ f h. third_of env h (scope_cause env (λ s. InStatement env f s other.kind other.span) (statement_of c.args.body.now) at first c.in_ok-first.ensures.answers))
+
+pub statement-choice_of_two-requires : goal.statement-choice_of_two-requires
+statement-choice_of_two-requires t c =
+    let condition = expression_of c.in-IfElse.condition in
+    let whole =
+    ap statement_of_kind c.in-IfElse.is
+    ∙ ap (λ a. tree.IfElse condition (statement_of a) (statement_of c.in-IfElse.other.value)) (sym c.deref-in-IfElse.ensures)
+    ∙ ap (λ b. tree.IfElse condition (statement_of c.deref-in-IfElse.result.now) (statement_of b)) (sym c.deref-in-IfElse-2.ensures) in
+    (omega (arith, ap size_statement whole, c.decreases), subst (StatementHasTexts c.args.self.now.texts.now) whole c.requires)

@@ -24,6 +24,9 @@ decreases-inner l = 4 * size_statement (statement_of l.body.now) + 1
 abbrev pub decreases-choice_of : goal.decreases-choice_of
 decreases-choice_of l = 4 * size_statement (statement_of l.body.now) + 2
 
+abbrev pub decreases-choice_of_two : goal.decreases-choice_of_two
+decreases-choice_of_two l = 4 * (size_statement (statement_of l.body.now) + size_statement (statement_of l.other.now)) + 2
+
 abbrev pub decreases-while_loop : goal.decreases-while_loop
 decreases-while_loop l = 4 * size_statement (statement_of l.body.now) + 2
 
