@@ -65,6 +65,21 @@ fn repetition(
     Ok(TypedStatement::Loop(invariants, condition, body, third))
 }
 
+// A loop whose third part has this result.
+fn repeated(
+    alloc: Global,
+    invariants: Vec<TypedExpression>,
+    condition: TypedExpression,
+    body: TypedStatement,
+    third: Result<TypedStatement, Fault>,
+) -> Result<TypedStatement, Fault>
+    ensures answers { IfOk result (λ r. IsOkAnd third (λ b. (texts : List Name) → stmt_of texts r ≡ y.Loop (exps_of texts invariants.items) (exp_of texts condition) (stmt_of texts body) (stmt_of texts b))) }
+    ensures cause { IfErr result (λ f. (f.kind ≡ OutOfMemory) ⊎ (third ≡ Err f)) }
+{
+    let third = third?;
+    Ok(repetition(alloc, invariants, condition, body, third)?)
+}
+
 // Two statements in order.
 fn in_turn(
     alloc: Global,
@@ -77,6 +92,19 @@ fn in_turn(
     both.push(first)?;
     both.push(second)?;
     Ok(TypedStatement::Block(both))
+}
+
+// Two statements in order, the second of which has this result.
+fn followed(
+    alloc: Global,
+    first: TypedStatement,
+    second: Result<TypedStatement, Fault>,
+) -> Result<TypedStatement, Fault>
+    ensures answers { IfOk result (λ r. IsOkAnd second (λ b. (texts : List Name) → stmt_of texts r ≡ y.Seq (stmt_of texts first) (y.Seq (stmt_of texts b) y.Skip))) }
+    ensures cause { IfErr result (λ f. (f.kind ≡ OutOfMemory) ⊎ (second ≡ Err f)) }
+{
+    let second = second?;
+    Ok(in_turn(alloc, first, second)?)
 }
 
 // The third part of a `for` declares no local.
@@ -143,8 +171,7 @@ impl<'a> Body<'a> {
         Ok(TypedStatement::ReturnValue(value))
     }
 
-    /// A statement. What is in scope behind an `Err` is not told. A `for` is not written yet: want of memory is
-    /// answered.
+    /// A statement. What is in scope behind an `Err` is not told.
     #[cycle(statement)]
     pub(crate) fn statement(
         &mut self,
@@ -172,10 +199,9 @@ impl<'a> Body<'a> {
             StatementKind::IfElse(condition, body, other) => {
                 self.choice_of_two(condition, body, other)
             }
-            StatementKind::For(_, _, _, _, _) => Err(Fault {
-                kind: FaultKind::OutOfMemory,
-                span,
-            }),
+            StatementKind::For(first, condition, third, annotations, body) => {
+                self.for_loop(first, condition, third, annotations, body)
+            }
             StatementKind::Assert(condition) => {
                 let condition = self.wanted(&ResolvedType::Bool, condition)?;
                 Ok(TypedStatement::Assert(condition))
@@ -294,5 +320,51 @@ impl<'a> Body<'a> {
         let inside = self.inner(body)?;
         let third = skip(self.alloc);
         Ok(repetition(self.alloc, invariants, condition, inside, third)?)
+    }
+
+    // The loop of a `for`, behind its first part.
+    #[cycle(statement)]
+    fn loop_behind(
+        &mut self,
+        condition: &Expression,
+        third: &Option<SimpleStatement>,
+        annotations: &[Annotation],
+        body: &Statement,
+    ) -> Result<TypedStatement, Fault>
+        requires { HasTexts self.old.texts.now (expression_of condition.now) × PartHasTexts self.old.texts.now (option_map simple_of third.now) × SpecsHaveTexts self.old.texts.now (specs_in (map annotation_of annotations.now)) × StatementHasTexts self.old.texts.now (statement_of body.now) }
+        ensures environment { self.new.environment ≡ self.old.environment }
+        ensures texts { self.new.texts ≡ self.old.texts }
+        ensures answers { Gives self.old.texts.now self.new.scope result (loop_behind (environment_of self.old.environment.now) (expression_of condition.now) (option_map simple_of third.now) (map annotation_of annotations.now) (statement_of body.now) (scope_of self.old.scope)) }
+        ensures cause { IfErr result (λ f. (f.kind ≡ OutOfMemory) ⊎ InLoop (environment_of self.old.environment.now) f (scope_of self.old.scope) condition.now third.now annotations.now body.now) }
+    {
+        let condition = self.wanted(&ResolvedType::Bool, condition)?;
+        let invariants = self.invariants(annotations)?;
+        let inside = self.inner(body)?;
+        let third = self.part(third);
+        repeated(self.alloc, invariants, condition, inside, third)
+    }
+
+    // A `for`, which is a scope.
+    #[cycle(statement)]
+    fn for_loop(
+        &mut self,
+        first: &Option<SimpleStatement>,
+        condition: &Expression,
+        third: &Option<SimpleStatement>,
+        annotations: &[Annotation],
+        body: &Statement,
+    ) -> Result<TypedStatement, Fault>
+        requires { PartHasTexts self.old.texts.now (option_map simple_of first.now) × HasTexts self.old.texts.now (expression_of condition.now) × PartHasTexts self.old.texts.now (option_map simple_of third.now) × SpecsHaveTexts self.old.texts.now (specs_in (map annotation_of annotations.now)) × StatementHasTexts self.old.texts.now (statement_of body.now) }
+        ensures environment { self.new.environment ≡ self.old.environment }
+        ensures texts { self.new.texts ≡ self.old.texts }
+        ensures answers { Gives self.old.texts.now self.new.scope result (typed_statement (environment_of self.old.environment.now) (t.For (option_map simple_of first.now) (expression_of condition.now) (option_map simple_of third.now) (map annotation_of annotations.now) (statement_of body.now)) (scope_of self.old.scope)) }
+        ensures cause { IfErr result (λ f. (f.kind ≡ OutOfMemory) ⊎ InFor (environment_of self.old.environment.now) f (scope_of self.old.scope) first.now condition.now third.now annotations.now body.now) }
+    {
+        check_third(third)?;
+        let count = self.scope.locals.len();
+        let first = self.part(first)?;
+        let repeats = self.loop_behind(condition, third, annotations, body);
+        self.scope.leave(count);
+        followed(self.alloc, first, repeats)
     }
 }
