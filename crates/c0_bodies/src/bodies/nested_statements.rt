@@ -361,10 +361,10 @@ impl<'a> Body<'a> {
         ensures cause { IfErr result (λ f. (f.kind ≡ OutOfMemory) ⊎ InFor (environment_of self.old.environment.now) f (scope_of self.old.scope) first.now condition.now third.now annotations.now body.now) }
     {
         check_third(third)?;
-        let count = self.scope.locals.len();
+        let before = self.scope.locals.len();
         let first = self.part(first)?;
         let repeats = self.loop_behind(condition, third, annotations, body);
-        self.scope.leave(count);
+        self.scope.leave(before);
         followed(self.alloc, first, repeats)
     }
 }

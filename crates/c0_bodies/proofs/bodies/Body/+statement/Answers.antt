@@ -360,11 +360,11 @@ for_loop-returns-clause-answers t c =
     let a = statement_of c.args.body.now in
     let none = sym c.in_ok-check_third.ensures.answers in
     let locals = c.args.self.now.scope.locals in
-    let size : c.len-count.result ≡ length (map local_of locals.items) = omega (arith, c.len-count.ensures, locals.ok.0, length-map locals.items local_of) in
+    let size : c.len-before.result ≡ length (map local_of locals.items) = omega (arith, c.len-before.ensures, locals.ok.0, length-map locals.items local_of) in
     let first : Checked = record { statement = stmt_of texts c.in_ok-first.first; scope = scope_of c.part.new.self.scope } in
     let given = at_start (λ e w. Gives w inner last (loop_behind e condition third notes a first.scope)) c.part.ensures.environment c.part.ensures.texts c.loop_behind-repeats.ensures.answers in
     made_gives (λ w b. y.Seq (stmt_of w c.in_ok-first.first) (y.Seq b y.Skip)) texts inner behind last c.followed.result (loop_behind env condition third notes a first.scope) (typed_statement env (tree.For part condition third notes a) at) c.followed.ensures.answers c.followed.ensures.cause given
-    (λ b h. for_gives env part condition third notes a at none first (record { statement = b; scope = scope_of inner }) c.in_ok-first.ensures.answers h c.len-count.result (scope_of behind) size c.leave.ensures)
+    (λ b h. for_gives env part condition third notes a at none first (record { statement = b; scope = scope_of inner }) c.in_ok-first.ensures.answers h c.len-before.result (scope_of behind) size c.leave.ensures)
     (λ K h. for_none env part condition third notes a at none first c.in_ok-first.ensures.answers h)
 
 pub for_loop-returns-clause-cause : goal.for_loop-returns-clause-cause
