@@ -1,10 +1,10 @@
 -- Statements with others in them: what the rules give of each, by what they give of its parts.
-use Rattle.std.proofs.Common.{◌≡◌, ℕ, zero, suc, ◌+◌, ◌<◌, ◌≤◌, List, [], ◌∷◌, ◌++◌, map, length, get_or, take, drop, refl, sym, ap, subst, ◌∙◌, Bool, true, false, Option, Some, None, arith, inl, inr}
+use Rattle.std.proofs.Common.{◌≡◌, ℕ, zero, suc, ◌+◌, ◌<◌, ◌≤◌, List, [], ◌∷◌, ◌++◌, length, get_or, take, drop, refl, sym, ap, subst, ◌∙◌, true, false, Option, Some, None, arith, inl, inr}
 use Rattle.std.specs.Prelude.{◌⊎◌, not}
 use Rattle.std.proofs.lemmas.List.{at_drop_all, drop_more}
 use Rattle.c0_source.specs.declared.fault.Fault.{Fault}
 use Rattle.c0_syntax.specs.declared.statement.Statement as n
-use Rattle.c0_syntax.specs.Trees.{Expression, Spec, SimpleStatement, Statement, If, IfElse, While, For, Statements, nothing, also}
+use Rattle.c0_syntax.specs.Trees.{Expression, Spec, SimpleStatement, Statement, If, IfElse, While, For, Statements, also}
 use Rattle.c0_syntax.specs.Views.{statement_of, statements_of}
 use Rattle.c0_typed.specs.Trees as t
 use Rattle.c0_typed.specs.Views.{block_of, stmt_of}

@@ -1,5 +1,5 @@
 -- What a statement leaves in scope begins with the locals that stood before it.
-use Rattle.std.proofs.Common.{◌≡◌, ℕ, zero, suc, ◌+◌, List, [], ◌∷◌, ◌++◌, length, map, take, refl, sym, ap, ◌∙◌, subst, append_assoc, append-nil, Bool, true, false, Option, Some, None}
+use Rattle.std.proofs.Common.{◌≡◌, ℕ, zero, suc, List, [], ◌∷◌, ◌++◌, length, map, take, refl, sym, ap, ◌∙◌, append_assoc, append-nil, Bool, true, false, Option, Some, None}
 use Rattle.std.specs.Prelude.{not, cond, find, option_map}
 use Rattle.c0_syntax.specs.Trees.{Expression, Spec, SimpleStatement, Declare, Initialize, Assign, Update, Step, Evaluate, Statement, Simple, Block, Annotation, Return, ReturnValue, If, IfElse, While, For, Assert, Error, Break, Continue, Statements, nothing, also}
 use Rattle.c0_typed.specs.Trees as t
@@ -7,8 +7,8 @@ use Rattle.c0_bodies.specs.Bodies.{in_scope, loop_behind}
 use Rattle.c0_rules.specs.Types.{and_so, Name, ResolvedType, VoidType, IntType, BoolType, StringType, same_type, is_small, small_type, Environment}
 use Rattle.c0_rules.specs.Mentions.{specs_in}
 use Rattle.c0_rules.specs.Expressions.{operator_rule, Local, typed_expression}
-use Rattle.c0_rules.specs.Statements.{Invariant, Assertion, Scope, Checked, leave, within, next_number, Destination, ToLocal, ToPlace, change_of, step_of, declares, one, expression_as, conditions_of_all, is_taken, declared, destination, assigned, updated, evaluated, typed_simple, typed_part, typed_statement, typed_statements}
-use Rattle.c0_rules.proofs.Rules.{AllSome, all_so, all_go, all_if, some_has}
+use Rattle.c0_rules.specs.Statements.{Invariant, Assertion, Scope, Checked, leave, within, Destination, ToLocal, ToPlace, change_of, step_of, declares, one, expression_as, conditions_of_all, is_taken, declared, destination, assigned, updated, evaluated, typed_simple, typed_part, typed_statement, typed_statements}
+use Rattle.c0_rules.proofs.Rules.{AllSome, all_so, all_go, all_if}
 
 pub map_take : {A B : Type 0} (f : A → B) (n : ℕ) (xs : List A) → map f (take n xs) ≡ take n (map f xs)
 map_take f zero xs = refl

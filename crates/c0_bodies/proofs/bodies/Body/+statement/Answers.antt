@@ -1,11 +1,10 @@
-use Rattle.std.proofs.Common.{◌≡◌, ◌+◌, List, length, map, drop, arith, ap, ◌∙◌, sym, subst, refl, Some, None, inl, inr, IfErr}
+use Rattle.std.proofs.Common.{◌≡◌, ◌+◌, length, map, drop, arith, ap, ◌∙◌, sym, subst, refl, Some, None, inl, inr, IfErr}
 use Rattle.std.specs.Prelude.{◌⊎◌, option_map}
 use Rattle.std.proofs.lemmas.List.{length-map}
 use Rattle.std.proofs.lemmas.Result.{IfErr-weaker, err_from_is_err_and}
 use Rattle.c0_source.specs.declared.fault.Fault.{Fault}
 use Rattle.c0_source.specs.declared.fault.FaultKind.TheVariants.{OutOfMemory}
 use Rattle.c0_syntax.specs.declared.statement.Statement.{Statement}
-use Rattle.c0_syntax.specs.declared.statement.StatementKind.{StatementKind}
 use Rattle.c0_syntax.specs.Trees as tree
 use Rattle.c0_syntax.specs.Views.{annotation_of, expression_of, simple_of, statement_of, statement_of_kind, statements_of}
 use Rattle.c0_typed.specs.Trees as y
