@@ -1,5 +1,5 @@
 -- Statements in a vector within a tree, as a list; and facts of one place said of another that is equal.
-use Rattle.std.proofs.Common.{◌≡◌, refl, sym, ap, subst, List, [], ◌∷◌, rules, inl, inr}
+use Rattle.std.proofs.Common.{◌≡◌, refl, sym, ap, subst, List, [], rules, inl, inr}
 use Rattle.std.specs.Prelude.{◌⊎◌}
 use Rattle.std.specs.declared.vec.Vec.{Vec}
 use Rattle.std.specs.declared.alloc.Global.{Global}

@@ -1,10 +1,10 @@
 -- Statements with others in them: what the rules give of each, by what they give of its parts.
-use Rattle.std.proofs.Common.{◌≡◌, ℕ, zero, suc, ◌+◌, ◌<◌, ◌≤◌, List, [], ◌∷◌, ◌++◌, map, length, get_or, take, drop, refl, sym, ap, subst, ◌∙◌, Bool, true, false, Option, Some, None, arith, inl, inr}
+use Rattle.std.proofs.Common.{◌≡◌, ℕ, zero, suc, ◌+◌, ◌<◌, ◌≤◌, List, [], ◌∷◌, ◌++◌, length, get_or, take, drop, refl, sym, ap, subst, ◌∙◌, true, false, Option, Some, None, arith, inl, inr}
 use Rattle.std.specs.Prelude.{◌⊎◌, not}
 use Rattle.std.proofs.lemmas.List.{at_drop_all, drop_more}
 use Rattle.c0_source.specs.declared.fault.Fault.{Fault}
 use Rattle.c0_syntax.specs.declared.statement.Statement as n
-use Rattle.c0_syntax.specs.Trees.{Expression, Spec, SimpleStatement, Statement, If, IfElse, While, For, Statements, nothing, also}
+use Rattle.c0_syntax.specs.Trees.{Expression, Spec, SimpleStatement, Statement, If, IfElse, While, For, Statements, also}
 use Rattle.c0_syntax.specs.Views.{statement_of, statements_of}
 use Rattle.c0_typed.specs.Trees as t
 use Rattle.c0_typed.specs.Views.{block_of, stmt_of}
@@ -15,7 +15,7 @@ use Rattle.c0_rules.specs.Mentions.{specs_in}
 use Rattle.c0_rules.specs.Statements.{Invariant, Scope, Checked, leave, within, declares, expression_as, conditions_of_all, next, typed_part, typed_statement, typed_statements}
 use Rattle.c0_rules.specs.Types.{and_so, provided, Name, BoolType, Environment}
 use Rattle.c0_rules.proofs.Rules.{some_has}
-use Rattle.c0_bodies.proofs.Scopes.{Keeps, left, statement_keeps, statements_keep}
+use Rattle.c0_bodies.proofs.Scopes.{Keeps, keeps_on, left, loop_keeps, part_keeps, statement_keeps, statements_keep}
 
 -- ---- rules in a row
 
@@ -88,6 +88,15 @@ module _ (env : Environment) where
       ∙ ap (λ o. and_so o (λ z. and_so (loop_behind env c third notes a z.scope) (λ v. next (t.Seq z.statement (t.Seq v.statement t.Skip)) (leave s v.scope)))) e
       ∙ ap (λ o. and_so o (λ v. next (t.Seq x.statement (t.Seq v.statement t.Skip)) (leave s v.scope))) k
       ∙ ap (λ z. Some (record { statement = z; scope = leave s w.scope })) (sym same)
+
+  -- ... and at the end of its scope
+  pub for_gives : (first : Option SimpleStatement) (c : Expression) (third : Option SimpleStatement) (notes : List (List Spec)) (a : Statement) (s : Scope) → declares third ≡ false → (x w : Checked)
+      → typed_part env first s ≡ Some x → loop_behind env c third notes a x.scope ≡ Some w → (count : ℕ) (behind : Scope) → count ≡ length s.locals → behind ≡ record w.scope { locals = take count w.scope.locals }
+      → typed_statement env (For first c third notes a) s ≡ Some (record { statement = t.Seq x.statement (t.Seq w.statement t.Skip); scope = behind })
+  for_gives first c third notes a s h x w e k count behind size l =
+      let kept = keeps_on s x w (some_has (Keeps s) (typed_part env first s) x (part_keeps env first s) e) (some_has (Keeps x.scope) (loop_behind env c third notes a x.scope) w (loop_keeps env c third notes a x.scope) k) in
+      for_leaves first c third notes a s h x w e k (t.Seq x.statement (t.Seq w.statement t.Skip)) refl
+      ∙ ap (λ z. Some (record { statement = t.Seq x.statement (t.Seq w.statement t.Skip); scope = z })) (sym (l ∙ ap (λ m. record w.scope { locals = take m w.scope.locals }) size ∙ left s w kept))
 
   -- ---- statements in order
 
@@ -244,6 +253,12 @@ module _ (env : Environment) where
       inr (sym (for_is env first c third notes a s h)
       ∙ ap (λ o. and_so o (λ z. and_so (loop_behind env c third notes a z.scope) (λ v. next (t.Seq z.statement (t.Seq v.statement t.Skip)) (leave s v.scope)))) e
       ∙ ap (λ o. and_so o (λ v. next (t.Seq x.statement (t.Seq v.statement t.Skip)) (leave s v.scope))) k)
+
+  pub first_none : {K : Type 0} (first : Option SimpleStatement) (c : Expression) (third : Option SimpleStatement) (notes : List (List Spec)) (a : Statement) (s : Scope) → declares third ≡ false
+      → K ⊎ (typed_part env first s ≡ None) → K ⊎ (typed_statement env (For first c third notes a) s ≡ None)
+  first_none first c third notes a s h (inl k) = inl k
+  first_none first c third notes a s h (inr k) =
+      inr (sym (for_is env first c third notes a s h) ∙ ap (λ o. and_so o (λ z. and_so (loop_behind env c third notes a z.scope) (λ v. next (t.Seq z.statement (t.Seq v.statement t.Skip)) (leave s v.scope)))) k)
 
   -- what holds behind a statement with a scope of its own
   pub scope_cause : (P : Scope → Type 0) (a : Statement) (s : Scope) (x : Checked) → in_scope env a s ≡ Some x → P x.scope → (z : Checked) × (typed_statement env a s ≡ Some z) × P (leave s z.scope)

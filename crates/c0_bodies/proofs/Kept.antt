@@ -24,6 +24,10 @@ block_none env rest s (inl k) = inl k
 block_none env rest s (inr h) = inr (ap (λ o. and_so o (λ x. next x.statement (leave s x.scope))) h)
 
 -- a cause in a part is one in the whole
+pub first_alone : {K A B : Type 0} → K ⊎ A → K ⊎ A ⊎ B
+first_alone (inl k) = inl k
+first_alone (inr h) = inr (inl h)
+
 pub second_of : {K A B C : Type 0} → K ⊎ B → (B → C) → K ⊎ A ⊎ C
 second_of (inl k) f = inl k
 second_of (inr h) f = inr (inr (f h))

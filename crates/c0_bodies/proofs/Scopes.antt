@@ -1,13 +1,14 @@
 -- What a statement leaves in scope begins with the locals that stood before it.
-use Rattle.std.proofs.Common.{◌≡◌, ℕ, zero, suc, ◌+◌, List, [], ◌∷◌, ◌++◌, length, map, take, refl, sym, ap, ◌∙◌, subst, append_assoc, append-nil, Bool, true, false, Option, Some, None}
+use Rattle.std.proofs.Common.{◌≡◌, ℕ, zero, suc, List, [], ◌∷◌, ◌++◌, length, map, take, refl, sym, ap, ◌∙◌, append_assoc, append-nil, Bool, true, false, Option, Some, None}
 use Rattle.std.specs.Prelude.{not, cond, find, option_map}
-use Rattle.c0_syntax.specs.Trees.{SimpleStatement, Declare, Initialize, Assign, Update, Step, Evaluate, Statement, Simple, Block, Annotation, Return, ReturnValue, If, IfElse, While, For, Assert, Error, Break, Continue, Statements, nothing, also}
+use Rattle.c0_syntax.specs.Trees.{Expression, Spec, SimpleStatement, Declare, Initialize, Assign, Update, Step, Evaluate, Statement, Simple, Block, Annotation, Return, ReturnValue, If, IfElse, While, For, Assert, Error, Break, Continue, Statements, nothing, also}
 use Rattle.c0_typed.specs.Trees as t
+use Rattle.c0_bodies.specs.Bodies.{in_scope, loop_behind}
 use Rattle.c0_rules.specs.Types.{and_so, Name, ResolvedType, VoidType, IntType, BoolType, StringType, same_type, is_small, small_type, Environment}
 use Rattle.c0_rules.specs.Mentions.{specs_in}
 use Rattle.c0_rules.specs.Expressions.{operator_rule, Local, typed_expression}
-use Rattle.c0_rules.specs.Statements.{Invariant, Assertion, Scope, Checked, leave, within, next_number, Destination, ToLocal, ToPlace, change_of, step_of, declares, one, expression_as, conditions_of_all, is_taken, declared, destination, assigned, updated, evaluated, typed_simple, typed_part, typed_statement, typed_statements}
-use Rattle.c0_rules.proofs.Rules.{AllSome, all_so, all_go, all_if, some_has}
+use Rattle.c0_rules.specs.Statements.{Invariant, Assertion, Scope, Checked, leave, within, Destination, ToLocal, ToPlace, change_of, step_of, declares, one, expression_as, conditions_of_all, is_taken, declared, destination, assigned, updated, evaluated, typed_simple, typed_part, typed_statement, typed_statements}
+use Rattle.c0_rules.proofs.Rules.{AllSome, all_so, all_go, all_if}
 
 pub map_take : {A B : Type 0} (f : A → B) (n : ℕ) (xs : List A) → map f (take n xs) ≡ take n (map f xs)
 map_take f zero xs = refl
@@ -38,6 +39,10 @@ Keeps s x = (more : List Local) × (x.scope.locals ≡ s.locals ++ more)
 
 same : (s : Scope) → (more : List Local) × (s.locals ≡ s.locals ++ more)
 same s = ([], sym (append-nil s.locals))
+
+-- what is kept twice
+pub keeps_on : (s : Scope) (x y : Checked) → Keeps s x → Keeps x.scope y → Keeps s y
+keeps_on s x y g i = (g.0 ++ i.0, i.1 ∙ ap (λ l. l ++ i.0) g.1 ∙ append_assoc s.locals g.0 i.0)
 
 module _ (env : Environment) where
   assigned_keeps : (s : Scope) (e : _) (d : Destination) → AllSome (Keeps s) (assigned env s e d)
@@ -90,8 +95,13 @@ module _ (env : Environment) where
   statements_keep nothing s = same s
   statements_keep (also a rest) s =
       all_so (Keeps s) (Keeps s) (typed_statement env a s) _ (statement_keeps a s) (λ x g.
-      all_so (Keeps x.scope) (Keeps s) (typed_statements env rest x.scope) _ (statements_keep rest x.scope) (λ y i.
-      (g.0 ++ i.0, i.1 ∙ ap (λ l. l ++ i.0) g.1 ∙ append_assoc s.locals g.0 i.0)))
+      all_so (Keeps x.scope) (Keeps s) (typed_statements env rest x.scope) _ (statements_keep rest x.scope) (λ y i. keeps_on s x y g i))
+
+  pub loop_keeps : (c : Expression) (third : Option SimpleStatement) (notes : List (List Spec)) (a : Statement) (s : Scope) → AllSome (Keeps s) (loop_behind env c third notes a s)
+  loop_keeps c third notes a s =
+      all_go (Keeps s) (expression_as env BoolType s c) _ (λ z q. all_go (Keeps s) (conditions_of_all env Invariant (within s) (specs_in notes)) _ (λ xs r.
+      all_so (Keeps s) (Keeps s) (in_scope env a s) _ (all_go (Keeps s) (typed_statement env a s) _ (λ x g. same s)) (λ x g.
+      all_so (Keeps x.scope) (Keeps s) (typed_part env third x.scope) _ (part_keeps third x.scope) (λ w i. keeps_on s x w g i))))
 
 -- so the end of a scope is found by the number of the locals
 pub left : (s : Scope) (x : Checked) → Keeps s x → record x.scope { locals = take (length s.locals) x.scope.locals } ≡ leave s x.scope

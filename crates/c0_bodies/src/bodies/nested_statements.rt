@@ -1,6 +1,6 @@
 // Statements with others in them.
 
-ghost use Rattle.std.specs.Prelude.{◌≡◌, ◌⊎◌, List, IfErr, IfOk, is_err, map, option_map};
+ghost use Rattle.std.specs.Prelude.{◌≡◌, ◌⊎◌, List, Err, IfErr, IfOk, IsOkAnd, is_err, map, option_map};
 ghost use Rattle.c0_source.specs.declared.fault.FaultKind.TheVariants.{OutOfMemory};
 ghost use Rattle.c0_syntax.specs.Trees as t;
 ghost use Rattle.c0_syntax.specs.Views.{annotation_of, expression_of, simple_of, statement_of, statement_of_kind, statements_of};
@@ -36,6 +36,20 @@ fn choice(
     Ok(TypedStatement::If(condition, first, second))
 }
 
+// An `if` whose other statement has this result.
+fn chosen(
+    alloc: Global,
+    condition: TypedExpression,
+    first: TypedStatement,
+    second: Result<TypedStatement, Fault>,
+) -> Result<TypedStatement, Fault>
+    ensures answers { IfOk result (λ r. IsOkAnd second (λ b. (texts : List Name) → stmt_of texts r ≡ y.If (exp_of texts condition) (stmt_of texts first) (stmt_of texts b))) }
+    ensures cause { IfErr result (λ f. (f.kind ≡ OutOfMemory) ⊎ (second ≡ Err f)) }
+{
+    let second = second?;
+    Ok(choice(alloc, condition, first, second)?)
+}
+
 // A loop.
 fn repetition(
     alloc: Global,
@@ -51,6 +65,21 @@ fn repetition(
     Ok(TypedStatement::Loop(invariants, condition, body, third))
 }
 
+// A loop whose third part has this result.
+fn repeated(
+    alloc: Global,
+    invariants: Vec<TypedExpression>,
+    condition: TypedExpression,
+    body: TypedStatement,
+    third: Result<TypedStatement, Fault>,
+) -> Result<TypedStatement, Fault>
+    ensures answers { IfOk result (λ r. IsOkAnd third (λ b. (texts : List Name) → stmt_of texts r ≡ y.Loop (exps_of texts invariants.items) (exp_of texts condition) (stmt_of texts body) (stmt_of texts b))) }
+    ensures cause { IfErr result (λ f. (f.kind ≡ OutOfMemory) ⊎ (third ≡ Err f)) }
+{
+    let third = third?;
+    Ok(repetition(alloc, invariants, condition, body, third)?)
+}
+
 // Two statements in order.
 fn in_turn(
     alloc: Global,
@@ -63,6 +92,19 @@ fn in_turn(
     both.push(first)?;
     both.push(second)?;
     Ok(TypedStatement::Block(both))
+}
+
+// Two statements in order, the second of which has this result.
+fn followed(
+    alloc: Global,
+    first: TypedStatement,
+    second: Result<TypedStatement, Fault>,
+) -> Result<TypedStatement, Fault>
+    ensures answers { IfOk result (λ r. IsOkAnd second (λ b. (texts : List Name) → stmt_of texts r ≡ y.Seq (stmt_of texts first) (y.Seq (stmt_of texts b) y.Skip))) }
+    ensures cause { IfErr result (λ f. (f.kind ≡ OutOfMemory) ⊎ (second ≡ Err f)) }
+{
+    let second = second?;
+    Ok(in_turn(alloc, first, second)?)
 }
 
 // The third part of a `for` declares no local.
@@ -129,8 +171,7 @@ impl<'a> Body<'a> {
         Ok(TypedStatement::ReturnValue(value))
     }
 
-    /// A statement. What is in scope behind an `Err` is not told. An `if` with `else` and a `for` are not written yet: want of
-    /// memory is answered.
+    /// A statement. What is in scope behind an `Err` is not told.
     #[cycle(statement)]
     pub(crate) fn statement(
         &mut self,
@@ -155,10 +196,12 @@ impl<'a> Body<'a> {
             StatementKind::While(condition, annotations, body) => {
                 self.while_loop(condition, annotations, body)
             }
-            StatementKind::IfElse(_, _, _) | StatementKind::For(_, _, _, _, _) => Err(Fault {
-                kind: FaultKind::OutOfMemory,
-                span,
-            }),
+            StatementKind::IfElse(condition, body, other) => {
+                self.choice_of_two(condition, body, other)
+            }
+            StatementKind::For(first, condition, third, annotations, body) => {
+                self.for_loop(first, condition, third, annotations, body)
+            }
             StatementKind::Assert(condition) => {
                 let condition = self.wanted(&ResolvedType::Bool, condition)?;
                 Ok(TypedStatement::Assert(condition))
@@ -238,6 +281,26 @@ impl<'a> Body<'a> {
         Ok(choice(self.alloc, condition, first, skip(self.alloc))?)
     }
 
+    // An `if` with `else`.
+    #[cycle(statement)]
+    fn choice_of_two(
+        &mut self,
+        condition: &Expression,
+        body: &Statement,
+        other: &Statement,
+    ) -> Result<TypedStatement, Fault>
+        requires { HasTexts self.old.texts.now (expression_of condition.now) × StatementHasTexts self.old.texts.now (statement_of body.now) × StatementHasTexts self.old.texts.now (statement_of other.now) }
+        ensures environment { self.new.environment ≡ self.old.environment }
+        ensures texts { self.new.texts ≡ self.old.texts }
+        ensures answers { Gives self.old.texts.now self.new.scope result (typed_statement (environment_of self.old.environment.now) (t.IfElse (expression_of condition.now) (statement_of body.now) (statement_of other.now)) (scope_of self.old.scope)) }
+        ensures cause { IfErr result (λ f. (f.kind ≡ OutOfMemory) ⊎ InIfElse (environment_of self.old.environment.now) f (scope_of self.old.scope) condition.now body.now other.now) }
+    {
+        let condition = self.wanted(&ResolvedType::Bool, condition)?;
+        let first = self.inner(body)?;
+        let second = self.inner(other);
+        chosen(self.alloc, condition, first, second)
+    }
+
     // A `while`.
     #[cycle(statement)]
     fn while_loop(
@@ -257,5 +320,51 @@ impl<'a> Body<'a> {
         let inside = self.inner(body)?;
         let third = skip(self.alloc);
         Ok(repetition(self.alloc, invariants, condition, inside, third)?)
+    }
+
+    // The loop of a `for`, behind its first part.
+    #[cycle(statement)]
+    fn loop_behind(
+        &mut self,
+        condition: &Expression,
+        third: &Option<SimpleStatement>,
+        annotations: &[Annotation],
+        body: &Statement,
+    ) -> Result<TypedStatement, Fault>
+        requires { HasTexts self.old.texts.now (expression_of condition.now) × PartHasTexts self.old.texts.now (option_map simple_of third.now) × SpecsHaveTexts self.old.texts.now (specs_in (map annotation_of annotations.now)) × StatementHasTexts self.old.texts.now (statement_of body.now) }
+        ensures environment { self.new.environment ≡ self.old.environment }
+        ensures texts { self.new.texts ≡ self.old.texts }
+        ensures answers { Gives self.old.texts.now self.new.scope result (loop_behind (environment_of self.old.environment.now) (expression_of condition.now) (option_map simple_of third.now) (map annotation_of annotations.now) (statement_of body.now) (scope_of self.old.scope)) }
+        ensures cause { IfErr result (λ f. (f.kind ≡ OutOfMemory) ⊎ InLoop (environment_of self.old.environment.now) f (scope_of self.old.scope) condition.now third.now annotations.now body.now) }
+    {
+        let condition = self.wanted(&ResolvedType::Bool, condition)?;
+        let invariants = self.invariants(annotations)?;
+        let inside = self.inner(body)?;
+        let third = self.part(third);
+        repeated(self.alloc, invariants, condition, inside, third)
+    }
+
+    // A `for`, which is a scope.
+    #[cycle(statement)]
+    fn for_loop(
+        &mut self,
+        first: &Option<SimpleStatement>,
+        condition: &Expression,
+        third: &Option<SimpleStatement>,
+        annotations: &[Annotation],
+        body: &Statement,
+    ) -> Result<TypedStatement, Fault>
+        requires { PartHasTexts self.old.texts.now (option_map simple_of first.now) × HasTexts self.old.texts.now (expression_of condition.now) × PartHasTexts self.old.texts.now (option_map simple_of third.now) × SpecsHaveTexts self.old.texts.now (specs_in (map annotation_of annotations.now)) × StatementHasTexts self.old.texts.now (statement_of body.now) }
+        ensures environment { self.new.environment ≡ self.old.environment }
+        ensures texts { self.new.texts ≡ self.old.texts }
+        ensures answers { Gives self.old.texts.now self.new.scope result (typed_statement (environment_of self.old.environment.now) (t.For (option_map simple_of first.now) (expression_of condition.now) (option_map simple_of third.now) (map annotation_of annotations.now) (statement_of body.now)) (scope_of self.old.scope)) }
+        ensures cause { IfErr result (λ f. (f.kind ≡ OutOfMemory) ⊎ InFor (environment_of self.old.environment.now) f (scope_of self.old.scope) first.now condition.now third.now annotations.now body.now) }
+    {
+        check_third(third)?;
+        let before = self.scope.locals.len();
+        let first = self.part(first)?;
+        let repeats = self.loop_behind(condition, third, annotations, body);
+        self.scope.leave(before);
+        followed(self.alloc, first, repeats)
     }
 }

@@ -24,8 +24,17 @@ decreases-inner l = 4 * size_statement (statement_of l.body.now) + 1
 abbrev pub decreases-choice_of : goal.decreases-choice_of
 decreases-choice_of l = 4 * size_statement (statement_of l.body.now) + 2
 
+abbrev pub decreases-choice_of_two : goal.decreases-choice_of_two
+decreases-choice_of_two l = 4 * (size_statement (statement_of l.body.now) + size_statement (statement_of l.other.now)) + 2
+
 abbrev pub decreases-while_loop : goal.decreases-while_loop
 decreases-while_loop l = 4 * size_statement (statement_of l.body.now) + 2
+
+abbrev pub decreases-loop_behind : goal.decreases-loop_behind
+decreases-loop_behind l = 4 * size_statement (statement_of l.body.now) + 2
+
+abbrev pub decreases-for_loop : goal.decreases-for_loop
+decreases-for_loop l = 4 * size_statement (statement_of l.body.now) + 3
 
 -- what is left decides, behind the statements so far
 abbrev pub invariant-statements-loop-statement : goal.invariant-statements-loop-statement

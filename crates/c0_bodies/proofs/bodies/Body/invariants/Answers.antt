@@ -3,7 +3,6 @@ use Rattle.std.specs.Prelude.{◌≡◌, ◌⊎◌}
 use Rattle.c0_source.specs.declared.fault.FaultKind.TheVariants.{OutOfMemory}
 use Rattle.c0_syntax.specs.Views.{annotation_of}
 use Rattle.c0_typed.specs.Views.{exps_of}
-use Rattle.c0_bodies.specs.Bodies.{SpecsHaveTexts}
 use Rattle.c0_rules.specs.FaultStatements.{InAnnotations}
 use Rattle.c0_rules.specs.Mentions.{specs_in}
 use Rattle.c0_rules.specs.Statements.{Invariant, conditions_of_all}

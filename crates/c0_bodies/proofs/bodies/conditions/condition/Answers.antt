@@ -1,4 +1,4 @@
-use Rattle.std.proofs.Common.{◌≡◌, true, sym, ◌∙◌, subst, rules}
+use Rattle.std.proofs.Common.{◌≡◌, true, sym, subst, rules}
 use Rattle.c0_typed.specs.Views.{exp_of}
 use Rattle.c0_bodies.specs.Bodies.{role_by}
 use Rattle.c0_rules.specs.Statements.{same_role}

@@ -1,5 +1,4 @@
 use Rattle.std.proofs.Common.{ap, ◌∙◌, map}
-use Rattle.c0_rules.specs.Statements as s
 use Rattle.c0_terms.specs.Terms.{local_of}
 use Rattle.c0_bodies.specs.Bodies.{scope_of}
 use Rattle.c0_bodies.proofs.Scopes.{map_take}

@@ -1,5 +1,5 @@
-use Rattle.std.proofs.Common.{◌≡◌, sym, ap, ◌∙◌, map, string_bytes, rules, tests}
-use Rattle.std.specs.Prelude.{bytes_eq, find, option_map}
+use Rattle.std.proofs.Common.{ap, ◌∙◌, string_bytes, rules, tests}
+use Rattle.std.specs.Prelude.{bytes_eq, option_map}
 use Rattle.std.proofs.lemmas.Iterator.{YieldsList-from_slice}
 use Rattle.std.proofs.lemmas.Iterator.Search.{find_from_yields_List}
 use Rattle.c0_terms.specs.Terms.{local_of}
