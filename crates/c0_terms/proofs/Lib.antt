@@ -3,6 +3,7 @@ pub mod FormAnswers
 pub mod FormCauses
 pub mod Locals
 pub mod Operands
+pub mod PlaceForms
 pub mod Refusals
 pub mod StructFields
 pub mod Texts

@@ -7,16 +7,17 @@ mod places;
 mod retyping;
 mod steps;
 
-ghost use Rattle.std.specs.Prelude.{◌≡◌, ◌⊎◌, Some, IfErr};
-ghost use Rattle.c0_source.specs.declared.fault.FaultKind.TheVariants.{OutOfMemory};
+ghost use Rattle.std.specs.Prelude.{◌≡◌, ◌⊎◌, Some, true, IfErr, IfOk};
+ghost use Rattle.c0_source.specs.declared.fault.FaultKind.TheVariants.{OutOfMemory, TypeMismatch};
 ghost use Rattle.c0_syntax.specs.Views.{expression_of, expression_of_kind};
 ghost use Rattle.c0_typed.specs.Trees as y;
 ghost use Rattle.c0_typed.specs.Views.{exp_of};
 ghost use Rattle.c0_rules.specs.Expressions as x;
 ghost use Rattle.c0_rules.specs.Expressions.{typed_expression, typed_place, wanted};
-ghost use Rattle.c0_rules.specs.FaultExpressions.{AsPlace, AsValue, InExpression, Mistyped, is_value};
+ghost use Rattle.c0_rules.specs.FaultExpressions.{AsPlace, AsValue, InExpression, Mistyped, Told, is_value};
 ghost use Rattle.c0_rules.specs.FaultStatements.{InEvaluated};
 ghost use Rattle.c0_rules.specs.Statements.{Scope, evaluated, within};
+ghost use Rattle.c0_terms.specs.Forms.{has_form};
 ghost use Rattle.c0_terms.specs.Terms.{HasTexts, context_of, env_of, place_of, typing_of, valued};
 ghost use Rattle.c0_rules.specs.Types.{VoidType, and_so, same_type};
 ghost use Rattle.c0_rules.specs.Answers.{Answers};
@@ -25,6 +26,7 @@ ghost use Rattle.c0_tables.specs.Views.{resolved_of};
 use crate::typing::{Place, Terms, Typing};
 use c0_source::fault::{Fault, FaultKind, Span};
 use c0_syntax::expression::{Expression, ExpressionKind};
+use c0_syntax::operator::PrefixOperator;
 use c0_tables::resolved::ResolvedType;
 use c0_typed::{Constant, Expression as TypedExpression, ValueType};
 use operators::operator_rule;
@@ -38,6 +40,31 @@ fn is_void(resolved: &ResolvedType) -> bool
         ResolvedType::Void => true,
         ResolvedType::Int | ResolvedType::Bool | ResolvedType::Char | ResolvedType::Text => false,
         ResolvedType::Struct(_) | ResolvedType::Pointer(_) | ResolvedType::Array(_) => false,
+    }
+}
+
+// Whether an expression has the form of a place, or stands in parentheses.
+fn has_form(kind: &ExpressionKind) -> bool
+    ensures { result ≡ has_form kind.now }
+{
+    match kind {
+        ExpressionKind::Parenthesized(_) => true,
+        ExpressionKind::Index(_, _) => true,
+        ExpressionKind::Field(_, _) => true,
+        ExpressionKind::PointerField(_, _) => true,
+        ExpressionKind::Unary(operator, _) => matches!(operator, PrefixOperator::Dereference),
+        _ => false,
+    }
+}
+
+// Why a value is no place: a fault in it, or that it stands where a place is needed.
+fn no_place(value: Result<Typing, Fault>, span: Span) -> Fault
+    ensures fault { IfErr value (λ f. result ≡ f) }
+    ensures value { IfOk value (λ _. Told TypeMismatch span result) }
+{
+    match value {
+        Ok(_) => fault_at(FaultKind::TypeMismatch, span),
+        Err(fault) => fault,
     }
 }
 
@@ -136,29 +163,59 @@ impl<'a> Terms<'a> {
                 let other = self.value(&second.kind, second.span)?;
                 self.chosen(truth, one, other, second.span)
             }
-            // Calls, indices and fields are not written yet.
+            ExpressionKind::Index(_, _)
+            | ExpressionKind::Field(_, _)
+            | ExpressionKind::PointerField(_, _) => {
+                let place = self.place_at(kind, span)?;
+                self.read_of(place, span)
+            }
+            // Calls are not written yet.
             _ => Err(Fault::out_of_memory()),
         }
     }
 
-    /// A place of the heap, small or a struct. Of `e[i]`, `*e` and what is no place, want of memory is answered.
+    /// A place of the heap, small or a struct.
+    #[cycle(expression)]
     pub fn place(&self, kind: &ExpressionKind, span: Span) -> Result<Place, Fault>
         requires { HasTexts self.now.texts.now (expression_of_kind kind.now) }
         ensures answers { Answers (place_of self.now.texts.now) result (typed_place (env_of self.now) (context_of self.now) (expression_of_kind kind.now)) }
         ensures cause { IfErr result (λ f. (f.kind ≡ OutOfMemory) ⊎ InExpression (env_of self.now) (context_of self.now) f AsPlace kind.now span) }
     {
+        if has_form(kind) {
+            self.place_at(kind, span)
+        } else {
+            Err(no_place(self.value(kind, span), span))
+        }
+    }
+
+    // A place by its form.
+    #[cycle(expression)]
+    fn place_at(&self, kind: &ExpressionKind, span: Span) -> Result<Place, Fault>
+        requires texts { HasTexts self.now.texts.now (expression_of_kind kind.now) }
+        requires form { has_form kind.now ≡ true }
+        ensures answers { Answers (place_of self.now.texts.now) result (typed_place (env_of self.now) (context_of self.now) (expression_of_kind kind.now)) }
+        ensures cause { IfErr result (λ f. (f.kind ≡ OutOfMemory) ⊎ InExpression (env_of self.now) (context_of self.now) f AsPlace kind.now span) }
+    {
         match kind {
             ExpressionKind::Parenthesized(inner) => self.place(&inner.kind, inner.span),
-            ExpressionKind::PointerField(of, name) => {
-                let pointer = self.value(&of.kind, of.span)?;
-                self.pointer_field(pointer, of.span, name, span)
+            ExpressionKind::Index(array, index) => {
+                let sized = self.value(&array.kind, array.span)?;
+                let number = self.value(&index.kind, index.span)?;
+                self.element(sized, number, (array.span, index.span), span)
             }
             ExpressionKind::Field(of, name) => {
                 let outer = self.place(&of.kind, of.span)?;
                 self.fielded(outer, of.span, name, span)
             }
-            // Elements, what pointers point to, and what is no place are not written yet.
-            _ => Err(Fault::out_of_memory()),
+            ExpressionKind::PointerField(of, name) => {
+                let pointer = self.value(&of.kind, of.span)?;
+                self.pointer_field(pointer, of.span, name, span)
+            }
+            ExpressionKind::Unary(_, operand) => {
+                let pointer = self.value(&operand.kind, operand.span)?;
+                self.pointed(pointer, operand.span, span)
+            }
+            _ => unreachable!(),
         }
     }
 

@@ -1,15 +1,16 @@
-use Rattle.std.proofs.Common.{ap, sym, subst, refl, ◌∙◌, inl, inr}
+use Rattle.std.proofs.Common.{◌≡◌, ap, sym, subst, refl, ◌∙◌, inl, inr, rules, true}
 use Rattle.std.proofs.lemmas.Result.{err_from_is_err_and}
-use Rattle.c0_syntax.specs.Views.{expression_of, expression_of_kind, type_of}
+use Rattle.c0_syntax.specs.Views.{expression_of, expression_of_kind, name_of, type_of}
 use Rattle.c0_typed.specs.Views.{exp_of}
 use Rattle.c0_rules.specs.Expressions.{lengthed, operated, typed_expression}
 use Rattle.c0_rules.specs.Types.{BoolType}
-use Rattle.c0_terms.specs.Terms.{context_of, env_of, rule_of, typing_of}
-use Rattle.c0_terms.proofs.FormAnswers.{array_answers, binary_answers, conditional_answers, unary_answers}
-use Rattle.c0_terms.proofs.FormCauses.{among, arms_cause, array_cause, binary_cause, causes, first_three, length_cause, none_causes, unary_cause, wanted_cause}
+use Rattle.c0_terms.specs.Terms.{context_of, env_of, place_of, rule_of, typing_of}
+use Rattle.c0_terms.proofs.FormAnswers.{array_answers, binary_answers, conditional_answers, no_place, unary_answers}
+use Rattle.c0_terms.proofs.FormCauses.{among, arms_cause, array_cause, arrow_cause, binary_cause, causes, first_three, index_cause, length_cause, none_causes, pointer_cause, unary_cause, wanted_cause}
 use Rattle.c0_terms.specs.Forms.{BinaryCause}
 use Rattle.c0_terms.proofs.Operands.{void_told}
-use Rattle.c0_terms.proofs.Refusals.{array_refused, condition_refused, first_arm_refused, left_refused, length_refused, right_refused, second_arm_refused, test_is, test_refused, unary_refused}
+use Rattle.c0_terms.proofs.PlaceForms.{is_part, not_there, only_star, part_read}
+use Rattle.c0_terms.proofs.Refusals.{array_of_index_refused, array_refused, arrow_refused, condition_refused, first_arm_refused, index_refused, left_refused, length_refused, pointer_refused, right_refused, second_arm_refused, test_is, test_refused, unary_refused}
 use Rattle.c0_terms.proofs.typing.Terms.+expression.Goals as goal
 
 pub value-returns-else-has_value-clause-cause : goal.value-returns-else-has_value-clause-cause
@@ -209,3 +210,98 @@ composed-returns-in_ok-other-in-Conditional-clause-cause t c =
     let other = typing_of s.texts.now c.in_ok-other-in-Conditional.other in
     let told = rw c.deref-in-Conditional-8.ensures at c.chosen.ensures.cause in
     rw x.is (causes c.chosen.result _ _ (λ f h. inr (inl (arms_cause (env_of s) (context_of s) f x.first.value.kind x.second.value.kind x.second.value.span one other first second h))) told)
+
+pub composed-returns-in_ok-place-in-Index-clause-cause : goal.composed-returns-in_ok-place-in-Index-clause-cause
+composed-returns-in_ok-place-in-Index-clause-cause t c =
+    let s = c.args.self.now in
+    let there = c.in_ok-place-in-Index in
+    let part : is_part c.args.kind.now ≡ true = search rules in
+    part_read (env_of s) (context_of s) c.read_of.result c.args.kind.now c.args.span part (place_of s.texts.now there.place) there.ensures.answers c.read_of.ensures.cause
+
+pub place-returns-else-has_form-clause-answers : goal.place-returns-else-has_form-clause-answers
+place-returns-else-has_form-clause-answers t c =
+    let s = c.args.self.now in
+    inr (no_place (env_of s) (context_of s) c.args.kind.now (sym c.has_form.ensures ∙ c.if-has_form.false))
+
+pub place-returns-else-has_form-clause-cause : goal.place-returns-else-has_form-clause-cause
+place-returns-else-has_form-clause-cause t c =
+    let s = c.args.self.now in
+    let form = sym c.has_form.ensures ∙ c.if-has_form.false in
+    not_there (env_of s) (context_of s) (typing_of s.texts.now) c.value.result c.no_place.result c.args.kind.now c.args.span form c.value.ensures.answers c.value.ensures.cause c.no_place.ensures.fault c.no_place.ensures.value
+
+pub place_at-returns-in_err-sized-in-Index-clause-answers : goal.place_at-returns-in_err-sized-in-Index-clause-answers
+place_at-returns-in_err-sized-in-Index-clause-answers t c =
+    let s = c.args.self.now in
+    let x = c.in-Index in
+    let shape = ap expression_of_kind x.is in
+    let p = err_from_is_err_and c.from_residual.result c.from_residual.ensures.1 in
+    let refused = rw c.deref-in-Index.ensures at c.in_err-sized-in-Index.ensures.answers in
+    rw (p.1, p.2, shape) (array_of_index_refused (env_of s) (context_of s) (expression_of x.array.value) (expression_of x.index.value) refused)
+
+pub place_at-returns-in_err-number-in-Index-clause-answers : goal.place_at-returns-in_err-number-in-Index-clause-answers
+place_at-returns-in_err-number-in-Index-clause-answers t c =
+    let s = c.args.self.now in
+    let x = c.in-Index in
+    let shape = ap expression_of_kind x.is in
+    let p = err_from_is_err_and c.from_residual-in_err-number-in-Index.result c.from_residual-in_err-number-in-Index.ensures.1 in
+    let first = rw c.deref-in-Index.ensures at c.in_ok-sized-in-Index.ensures.answers in
+    let refused = rw c.deref-in-Index-3.ensures at c.in_err-number-in-Index.ensures.answers in
+    rw (p.1, p.2, shape) (index_refused (env_of s) (context_of s) (expression_of x.array.value) (expression_of x.index.value) (typing_of s.texts.now c.in_ok-sized-in-Index.sized) first refused)
+
+pub place_at-returns-in_err-pointer-in-PointerField-clause-answers : goal.place_at-returns-in_err-pointer-in-PointerField-clause-answers
+place_at-returns-in_err-pointer-in-PointerField-clause-answers t c =
+    let s = c.args.self.now in
+    let x = c.in-PointerField in
+    let shape = ap expression_of_kind x.is in
+    let p = err_from_is_err_and c.from_residual-in_err-pointer-in-PointerField.result c.from_residual-in_err-pointer-in-PointerField.ensures.1 in
+    let refused = rw c.deref-in-PointerField.ensures at c.in_err-pointer-in-PointerField.ensures.answers in
+    rw (p.1, p.2, shape) (arrow_refused (env_of s) (context_of s) (expression_of x.of.value) (name_of x.name) refused)
+
+pub place_at-returns-in_err-pointer-in-Unary-clause-answers : goal.place_at-returns-in_err-pointer-in-Unary-clause-answers
+place_at-returns-in_err-pointer-in-Unary-clause-answers t c =
+    let s = c.args.self.now in
+    let x = c.in-Unary in
+    let shape = ap expression_of_kind x.is in
+    let star = only_star x.field-0 x.operand (rw x.is at c.requires.form) in
+    let p = err_from_is_err_and c.from_residual-in_err-pointer-in-Unary.result c.from_residual-in_err-pointer-in-Unary.ensures.1 in
+    let refused = rw c.deref-in-Unary.ensures at c.in_err-pointer-in-Unary.ensures.answers in
+    rw (p.1, p.2, shape, star) (pointer_refused (env_of s) (context_of s) (expression_of x.operand.value) refused)
+
+pub place_at-returns-in_ok-number-in-Index-clause-cause : goal.place_at-returns-in_ok-number-in-Index-clause-cause
+place_at-returns-in_ok-number-in-Index-clause-cause t c =
+    let s = c.args.self.now in
+    let x = c.in-Index in
+    let first = rw c.deref-in-Index.ensures at c.in_ok-sized-in-Index.ensures.answers in
+    let second = rw c.deref-in-Index-3.ensures at c.in_ok-number-in-Index.ensures.answers in
+    let one = typing_of s.texts.now c.in_ok-sized-in-Index.sized in
+    let other = typing_of s.texts.now c.in_ok-number-in-Index.number in
+    let told = rw (c.deref-in-Index-5.ensures, c.deref-in-Index-6.ensures) at c.element.ensures.cause in
+    rw x.is (causes c.element.result _ _ (λ f h. inl (index_cause (env_of s) (context_of s) f x.array.value.kind x.array.value.span x.index.value.kind x.index.value.span c.args.span one other first second h)) told)
+
+pub place_at-returns-in_ok-outer-in-Field-clause-cause : goal.place_at-returns-in_ok-outer-in-Field-clause-cause
+place_at-returns-in_ok-outer-in-Field-clause-cause t c =
+    let s = c.args.self.now in
+    let x = c.in-Field in
+    let value = rw c.deref-in-Field.ensures at c.in_ok-outer-in-Field.ensures.answers in
+    let outer = place_of s.texts.now c.in_ok-outer-in-Field.outer in
+    let told = rw c.deref-in-Field-3.ensures at c.fielded.ensures.cause in
+    rw x.is (causes c.fielded.result _ _ (λ f h. inl (outer, value, h)) told)
+
+pub place_at-returns-in_ok-pointer-in-PointerField-clause-cause : goal.place_at-returns-in_ok-pointer-in-PointerField-clause-cause
+place_at-returns-in_ok-pointer-in-PointerField-clause-cause t c =
+    let s = c.args.self.now in
+    let x = c.in-PointerField in
+    let value = rw c.deref-in-PointerField.ensures at c.in_ok-pointer-in-PointerField.ensures.answers in
+    let pointer = typing_of s.texts.now c.in_ok-pointer-in-PointerField.pointer in
+    let told = rw c.deref-in-PointerField-3.ensures at c.pointer_field.ensures.cause in
+    rw x.is (causes c.pointer_field.result _ _ (λ f h. inl (arrow_cause (env_of s) (context_of s) f x.of.value.kind x.of.value.span x.name c.args.span pointer value h)) told)
+
+pub place_at-returns-in_ok-pointer-in-Unary-clause-cause : goal.place_at-returns-in_ok-pointer-in-Unary-clause-cause
+place_at-returns-in_ok-pointer-in-Unary-clause-cause t c =
+    let s = c.args.self.now in
+    let x = c.in-Unary in
+    let star = only_star x.field-0 x.operand (rw x.is at c.requires.form) in
+    let value = rw c.deref-in-Unary.ensures at c.in_ok-pointer-in-Unary.ensures.answers in
+    let pointer = typing_of s.texts.now c.in_ok-pointer-in-Unary.pointer in
+    let told = rw c.deref-in-Unary-3.ensures at c.pointed.ensures.cause in
+    rw (x.is, star) (causes c.pointed.result _ _ (λ f h. inl (inl (pointer_cause (env_of s) (context_of s) f x.operand.value.kind x.operand.value.span c.args.span pointer value h))) told)
