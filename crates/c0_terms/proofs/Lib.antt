@@ -1,4 +1,5 @@
 pub mod ArgumentLists
+pub mod CallForms
 pub mod FormAnswers
 pub mod FormCauses
 pub mod Locals
@@ -7,4 +8,5 @@ pub mod PlaceForms
 pub mod Refusals
 pub mod StructFields
 pub mod Texts
+pub mod TypedCalls
 pub mod Wrapped

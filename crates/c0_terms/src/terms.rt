@@ -7,18 +7,19 @@ mod places;
 mod retyping;
 mod steps;
 
-ghost use Rattle.std.specs.Prelude.{◌≡◌, ◌⊎◌, Some, true, IfErr, IfOk};
+ghost use Rattle.std.specs.Prelude.{◌≡◌, ◌⊎◌, Some, true, IfErr, IfOk, map};
 ghost use Rattle.c0_source.specs.declared.fault.FaultKind.TheVariants.{OutOfMemory, TypeMismatch};
-ghost use Rattle.c0_syntax.specs.Views.{expression_of, expression_of_kind};
+ghost use Rattle.c0_syntax.specs.Trees as s;
+ghost use Rattle.c0_syntax.specs.Views.{expression_of, expression_of_kind, expressions_of, name_of};
 ghost use Rattle.c0_typed.specs.Trees as y;
-ghost use Rattle.c0_typed.specs.Views.{exp_of};
+ghost use Rattle.c0_typed.specs.Views.{exp_of, exps_of};
 ghost use Rattle.c0_rules.specs.Expressions as x;
 ghost use Rattle.c0_rules.specs.Expressions.{typed_expression, typed_place, wanted};
 ghost use Rattle.c0_rules.specs.FaultExpressions.{AsPlace, AsValue, InExpression, Mistyped, Told, is_value};
 ghost use Rattle.c0_rules.specs.FaultStatements.{InEvaluated};
 ghost use Rattle.c0_rules.specs.Statements.{Scope, evaluated, within};
-ghost use Rattle.c0_terms.specs.Forms.{has_form};
-ghost use Rattle.c0_terms.specs.Terms.{HasTexts, context_of, env_of, place_of, typing_of, valued};
+ghost use Rattle.c0_terms.specs.Forms.{ArgumentsCause, CalledCause, InAmong, callee_of, has_form, is_composed};
+ghost use Rattle.c0_terms.specs.Terms.{HasTexts, HaveTexts, context_of, env_of, place_of, typing_of, valued};
 ghost use Rattle.c0_rules.specs.Types.{VoidType, and_so, same_type};
 ghost use Rattle.c0_rules.specs.Answers.{Answers};
 ghost use Rattle.c0_tables.specs.Views.{resolved_of};
@@ -26,9 +27,11 @@ ghost use Rattle.c0_tables.specs.Views.{resolved_of};
 use crate::typing::{Place, Terms, Typing};
 use c0_source::fault::{Fault, FaultKind, Span};
 use c0_syntax::expression::{Expression, ExpressionKind};
+use c0_syntax::name::Name;
 use c0_syntax::operator::PrefixOperator;
 use c0_tables::resolved::ResolvedType;
 use c0_typed::{Constant, Expression as TypedExpression, ValueType};
+use names::{Callee, output_takes};
 use operators::operator_rule;
 use steps::fault_at;
 
@@ -142,10 +145,11 @@ impl<'a> Terms<'a> {
         }
     }
 
-    // An expression of two or three operands.
+    // An expression of two or three operands, a call, an element or a field.
     #[cycle(expression)]
     fn composed(&self, kind: &ExpressionKind, span: Span) -> Result<Typing, Fault>
-        requires { HasTexts self.now.texts.now (expression_of_kind kind.now) }
+        requires texts { HasTexts self.now.texts.now (expression_of_kind kind.now) }
+        requires form { is_composed kind.now ≡ true }
         ensures answers { Answers (typing_of self.now.texts.now) result (typed_expression (env_of self.now) (context_of self.now) (expression_of_kind kind.now)) }
         ensures cause { IfErr result (λ f. (f.kind ≡ OutOfMemory) ⊎ InExpression (env_of self.now) (context_of self.now) f AsValue kind.now span) }
     {
@@ -163,15 +167,76 @@ impl<'a> Terms<'a> {
                 let other = self.value(&second.kind, second.span)?;
                 self.chosen(truth, one, other, second.span)
             }
+            ExpressionKind::Call(name, arguments) => self.called(name, arguments, span),
             ExpressionKind::Index(_, _)
             | ExpressionKind::Field(_, _)
             | ExpressionKind::PointerField(_, _) => {
                 let place = self.place_at(kind, span)?;
                 self.read_of(place, span)
             }
-            // Calls are not written yet.
-            _ => Err(Fault::out_of_memory()),
+            _ => unreachable!(),
         }
+    }
+
+    // A call.
+    #[cycle(expression)]
+    fn called(&self, name: &Name, arguments: &Vec<Expression>, span: Span) -> Result<Typing, Fault>
+        requires texts { HaveTexts self.now.texts.now (expressions_of arguments.now.items) }
+        ensures answers { Answers (typing_of self.now.texts.now) result (typed_expression (env_of self.now) (context_of self.now) (s.Call (name_of name.now) (expressions_of arguments.now.items))) }
+        ensures cause { IfErr result (λ f. (f.kind ≡ OutOfMemory) ⊎ CalledCause (env_of self.now) (context_of self.now) f name.now arguments.now.items span ⊎ InAmong (env_of self.now) (context_of self.now) f arguments.now.items) }
+    {
+        let callee = self.declared(name)?;
+        let typed = self.arguments_of(callee, arguments, span)?;
+        Ok(self.call_of(callee, typed)?)
+    }
+
+    // The arguments of a call of this.
+    #[cycle(expression)]
+    fn arguments_of(
+        &self,
+        callee: Callee<'a>,
+        arguments: &Vec<Expression>,
+        span: Span,
+    ) -> Result<Vec<TypedExpression>, Fault>
+        requires texts { HaveTexts self.now.texts.now (expressions_of arguments.now.items) }
+        ensures answers { Answers (λ v. exps_of self.now.texts.now v.items) result (x.typed_arguments (env_of self.now) (context_of self.now) (expressions_of arguments.now.items) (x.takes (callee_of callee.entry))) }
+        ensures cause { IfErr result (λ f. (f.kind ≡ OutOfMemory) ⊎ ArgumentsCause (env_of self.now) (context_of self.now) f arguments.now.items (x.takes (callee_of callee.entry)) span ⊎ InAmong (env_of self.now) (context_of self.now) f arguments.now.items) }
+    {
+        match callee {
+            Callee::Output(output) => {
+                let takes = output_takes(self.alloc, output)?;
+                self.arguments(arguments, &takes, span)
+            }
+            Callee::Function(_, signature) => {
+                self.arguments(arguments, &signature.parameters, span)
+            }
+        }
+    }
+
+    // Arguments of these types, as many as there are types.
+    #[cycle(expression)]
+    fn arguments(
+        &self,
+        arguments: &[Expression],
+        wants: &[ResolvedType],
+        span: Span,
+    ) -> Result<Vec<TypedExpression>, Fault>
+        requires texts { HaveTexts self.now.texts.now (expressions_of arguments.now) }
+        ensures answers { Answers (λ v. exps_of self.now.texts.now v.items) result (x.typed_arguments (env_of self.now) (context_of self.now) (expressions_of arguments.now) (map resolved_of wants.now)) }
+        ensures cause { IfErr result (λ f. (f.kind ≡ OutOfMemory) ⊎ ArgumentsCause (env_of self.now) (context_of self.now) f arguments.now (map resolved_of wants.now) span ⊎ InAmong (env_of self.now) (context_of self.now) f arguments.now) }
+    {
+        if arguments.len() != wants.len() {
+            return Err(fault_at(FaultKind::ArgumentCount, span));
+        }
+        let mut typed = Vec::new(self.alloc);
+        for i in 0..arguments.len() {
+            let want = &wants[i];
+            let argument = &arguments[i];
+            let typing = self.typing(&argument.kind, argument.span)?;
+            let found = self.required(want, argument, typing)?;
+            typed.push(found)?;
+        }
+        Ok(typed)
     }
 
     /// A place of the heap, small or a struct.
