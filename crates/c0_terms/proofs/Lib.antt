@@ -1,5 +1,6 @@
 pub mod ArgumentLists
 pub mod CallForms
+pub mod Evaluations
 pub mod FormAnswers
 pub mod FormCauses
 pub mod Locals

@@ -7,7 +7,7 @@ mod places;
 mod retyping;
 mod steps;
 
-ghost use Rattle.std.specs.Prelude.{◌≡◌, ◌⊎◌, Some, true, IfErr, IfOk, map};
+ghost use Rattle.std.specs.Prelude.{◌≡◌, ◌⊎◌, Some, false, true, IfErr, IfOk, map};
 ghost use Rattle.c0_source.specs.declared.fault.FaultKind.TheVariants.{OutOfMemory, TypeMismatch};
 ghost use Rattle.c0_syntax.specs.Trees as s;
 ghost use Rattle.c0_syntax.specs.Views.{expression_of, expression_of_kind, expressions_of, name_of};
@@ -17,7 +17,7 @@ ghost use Rattle.c0_rules.specs.Expressions as x;
 ghost use Rattle.c0_rules.specs.Expressions.{typed_expression, typed_place, wanted};
 ghost use Rattle.c0_rules.specs.FaultExpressions.{AsPlace, AsValue, InExpression, Mistyped, Told, is_value};
 ghost use Rattle.c0_rules.specs.FaultStatements.{InEvaluated};
-ghost use Rattle.c0_rules.specs.Statements.{Scope, evaluated, within};
+ghost use Rattle.c0_rules.specs.Statements.{Scope, evaluated, is_call, within};
 ghost use Rattle.c0_terms.specs.Forms.{ArgumentsCause, CalledCause, InAmong, callee_of, has_form, is_composed};
 ghost use Rattle.c0_terms.specs.Terms.{HasTexts, HaveTexts, context_of, env_of, place_of, typing_of, valued};
 ghost use Rattle.c0_rules.specs.Types.{VoidType, and_so, same_type};
@@ -294,15 +294,29 @@ impl<'a> Terms<'a> {
         self.required(want, e, typing)
     }
 
-    /// An expression as a statement: it has a small value or NULL's type, or is a call. It is not written yet: want of memory is answered.
+    /// An expression as a statement: it has a small value or NULL's type, or is a call.
     pub fn evaluated(&self, e: &Expression) -> Result<TypedExpression, Fault>
         requires { HasTexts self.now.texts.now (expression_of e.now) }
         ensures answers { Answers (exp_of self.now.texts.now) result (and_so (typed_expression (env_of self.now) (context_of self.now) (expression_of e.now)) (evaluated (env_of self.now) (expression_of e.now))) }
         ensures cause { (s : Scope) → within s ≡ (context_of self.now) → IfErr result (λ f. (f.kind ≡ OutOfMemory) ⊎ InEvaluated (env_of self.now) f s e.now.kind e.now.span) }
     {
-        Err(Fault {
-            kind: FaultKind::OutOfMemory,
-            span: e.span,
-        })
+        match &e.kind {
+            ExpressionKind::Call(name, arguments) => {
+                let typing = self.called(name, arguments, e.span)?;
+                self.discarded(typing)
+            }
+            _ => self.evaluated_value(e),
+        }
+    }
+
+    // The same of what is no call.
+    fn evaluated_value(&self, e: &Expression) -> Result<TypedExpression, Fault>
+        requires texts { HasTexts self.now.texts.now (expression_of e.now) }
+        requires value { is_call (expression_of e.now) ≡ false }
+        ensures answers { Answers (exp_of self.now.texts.now) result (and_so (typed_expression (env_of self.now) (context_of self.now) (expression_of e.now)) (evaluated (env_of self.now) (expression_of e.now))) }
+        ensures cause { (s : Scope) → within s ≡ (context_of self.now) → IfErr result (λ f. (f.kind ≡ OutOfMemory) ⊎ InEvaluated (env_of self.now) f s e.now.kind e.now.span) }
+    {
+        let typing = self.value(&e.kind, e.span)?;
+        self.discarded(typing)
     }
 }
