@@ -1,9 +1,13 @@
 pub mod ArgumentLists
+pub mod CallForms
+pub mod Evaluations
 pub mod FormAnswers
 pub mod FormCauses
 pub mod Locals
 pub mod Operands
+pub mod PlaceForms
 pub mod Refusals
 pub mod StructFields
 pub mod Texts
+pub mod TypedCalls
 pub mod Wrapped

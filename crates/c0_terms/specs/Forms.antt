@@ -4,7 +4,7 @@ use Rattle.c0_source.specs.declared.fault.Fault.{Fault}
 use Rattle.c0_source.specs.declared.fault.FaultKind.TheVariants as k
 use Rattle.c0_source.specs.declared.fault.Span.{Span}
 use Rattle.c0_syntax.specs.declared.expression.Expression as e
-use Rattle.c0_syntax.specs.declared.expression.ExpressionKind.{ExpressionKind, Parenthesized', Index', Field', PointerField', Unary'}
+use Rattle.c0_syntax.specs.declared.expression.ExpressionKind.{ExpressionKind, Parenthesized', Call', Index', Field', PointerField', Unary', Binary', Conditional'}
 use Rattle.c0_syntax.specs.declared.name.Name as n
 use Rattle.c0_syntax.specs.declared.operator.PrefixOperator.{PrefixOperator}
 use Rattle.c0_syntax.specs.declared.operator.PrefixOperator.TheVariants as o
@@ -31,6 +31,16 @@ has_form (Field' p a at n) = true
 has_form (PointerField' p a at n) = true
 has_form (Unary' o.Dereference p a at) = true
 has_form _ = false
+
+-- whether an expression has two or three operands, or is a call, an element or a field
+abbrev pub is_composed : ExpressionKind → Bool
+is_composed (Call' x shape es) = true
+is_composed (Index' p a at q i here) = true
+is_composed (Field' p a at n) = true
+is_composed (PointerField' p a at n) = true
+is_composed (Binary' op p a at q b here) = true
+is_composed (Conditional' p c at q a here r b there) = true
+is_composed _ = false
 
 -- what is wrong with the operand of an operator before it, where a value is needed
 abbrev pub UnaryCause : t.Environment → x.Context → Fault → PrefixOperator → ExpressionKind → Span → Span → Type 0

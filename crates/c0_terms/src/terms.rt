@@ -7,17 +7,19 @@ mod places;
 mod retyping;
 mod steps;
 
-ghost use Rattle.std.specs.Prelude.{◌≡◌, ◌⊎◌, Some, IfErr};
-ghost use Rattle.c0_source.specs.declared.fault.FaultKind.TheVariants.{OutOfMemory};
-ghost use Rattle.c0_syntax.specs.Views.{expression_of, expression_of_kind};
+ghost use Rattle.std.specs.Prelude.{◌≡◌, ◌⊎◌, Some, false, true, IfErr, IfOk, map};
+ghost use Rattle.c0_source.specs.declared.fault.FaultKind.TheVariants.{OutOfMemory, TypeMismatch};
+ghost use Rattle.c0_syntax.specs.Trees as s;
+ghost use Rattle.c0_syntax.specs.Views.{expression_of, expression_of_kind, expressions_of, name_of};
 ghost use Rattle.c0_typed.specs.Trees as y;
-ghost use Rattle.c0_typed.specs.Views.{exp_of};
+ghost use Rattle.c0_typed.specs.Views.{exp_of, exps_of};
 ghost use Rattle.c0_rules.specs.Expressions as x;
 ghost use Rattle.c0_rules.specs.Expressions.{typed_expression, typed_place, wanted};
-ghost use Rattle.c0_rules.specs.FaultExpressions.{AsPlace, AsValue, InExpression, Mistyped, is_value};
+ghost use Rattle.c0_rules.specs.FaultExpressions.{AsPlace, AsValue, InExpression, Mistyped, Told, is_value};
 ghost use Rattle.c0_rules.specs.FaultStatements.{InEvaluated};
-ghost use Rattle.c0_rules.specs.Statements.{Scope, evaluated, within};
-ghost use Rattle.c0_terms.specs.Terms.{HasTexts, context_of, env_of, place_of, typing_of, valued};
+ghost use Rattle.c0_rules.specs.Statements.{Scope, evaluated, is_call, within};
+ghost use Rattle.c0_terms.specs.Forms.{ArgumentsCause, CalledCause, InAmong, callee_of, has_form, is_composed};
+ghost use Rattle.c0_terms.specs.Terms.{HasTexts, HaveTexts, context_of, env_of, place_of, typing_of, valued};
 ghost use Rattle.c0_rules.specs.Types.{VoidType, and_so, same_type};
 ghost use Rattle.c0_rules.specs.Answers.{Answers};
 ghost use Rattle.c0_tables.specs.Views.{resolved_of};
@@ -25,8 +27,11 @@ ghost use Rattle.c0_tables.specs.Views.{resolved_of};
 use crate::typing::{Place, Terms, Typing};
 use c0_source::fault::{Fault, FaultKind, Span};
 use c0_syntax::expression::{Expression, ExpressionKind};
+use c0_syntax::name::Name;
+use c0_syntax::operator::PrefixOperator;
 use c0_tables::resolved::ResolvedType;
 use c0_typed::{Constant, Expression as TypedExpression, ValueType};
+use names::{Callee, output_takes};
 use operators::operator_rule;
 use steps::fault_at;
 
@@ -38,6 +43,31 @@ fn is_void(resolved: &ResolvedType) -> bool
         ResolvedType::Void => true,
         ResolvedType::Int | ResolvedType::Bool | ResolvedType::Char | ResolvedType::Text => false,
         ResolvedType::Struct(_) | ResolvedType::Pointer(_) | ResolvedType::Array(_) => false,
+    }
+}
+
+// Whether an expression has the form of a place, or stands in parentheses.
+fn has_form(kind: &ExpressionKind) -> bool
+    ensures { result ≡ has_form kind.now }
+{
+    match kind {
+        ExpressionKind::Parenthesized(_) => true,
+        ExpressionKind::Index(_, _) => true,
+        ExpressionKind::Field(_, _) => true,
+        ExpressionKind::PointerField(_, _) => true,
+        ExpressionKind::Unary(operator, _) => matches!(operator, PrefixOperator::Dereference),
+        _ => false,
+    }
+}
+
+// Why a value is no place: a fault in it, or that it stands where a place is needed.
+fn no_place(value: Result<Typing, Fault>, span: Span) -> Fault
+    ensures fault { IfErr value (λ f. result ≡ f) }
+    ensures value { IfOk value (λ _. Told TypeMismatch span result) }
+{
+    match value {
+        Ok(_) => fault_at(FaultKind::TypeMismatch, span),
+        Err(fault) => fault,
     }
 }
 
@@ -115,10 +145,11 @@ impl<'a> Terms<'a> {
         }
     }
 
-    // An expression of two or three operands.
+    // An expression of two or three operands, a call, an element or a field.
     #[cycle(expression)]
     fn composed(&self, kind: &ExpressionKind, span: Span) -> Result<Typing, Fault>
-        requires { HasTexts self.now.texts.now (expression_of_kind kind.now) }
+        requires texts { HasTexts self.now.texts.now (expression_of_kind kind.now) }
+        requires form { is_composed kind.now ≡ true }
         ensures answers { Answers (typing_of self.now.texts.now) result (typed_expression (env_of self.now) (context_of self.now) (expression_of_kind kind.now)) }
         ensures cause { IfErr result (λ f. (f.kind ≡ OutOfMemory) ⊎ InExpression (env_of self.now) (context_of self.now) f AsValue kind.now span) }
     {
@@ -136,29 +167,120 @@ impl<'a> Terms<'a> {
                 let other = self.value(&second.kind, second.span)?;
                 self.chosen(truth, one, other, second.span)
             }
-            // Calls, indices and fields are not written yet.
-            _ => Err(Fault::out_of_memory()),
+            ExpressionKind::Call(name, arguments) => self.called(name, arguments, span),
+            ExpressionKind::Index(_, _)
+            | ExpressionKind::Field(_, _)
+            | ExpressionKind::PointerField(_, _) => {
+                let place = self.place_at(kind, span)?;
+                self.read_of(place, span)
+            }
+            _ => unreachable!(),
         }
     }
 
-    /// A place of the heap, small or a struct. Of `e[i]`, `*e` and what is no place, want of memory is answered.
+    // A call.
+    #[cycle(expression)]
+    fn called(&self, name: &Name, arguments: &Vec<Expression>, span: Span) -> Result<Typing, Fault>
+        requires texts { HaveTexts self.now.texts.now (expressions_of arguments.now.items) }
+        ensures answers { Answers (typing_of self.now.texts.now) result (typed_expression (env_of self.now) (context_of self.now) (s.Call (name_of name.now) (expressions_of arguments.now.items))) }
+        ensures cause { IfErr result (λ f. (f.kind ≡ OutOfMemory) ⊎ CalledCause (env_of self.now) (context_of self.now) f name.now arguments.now.items span ⊎ InAmong (env_of self.now) (context_of self.now) f arguments.now.items) }
+    {
+        let callee = self.declared(name)?;
+        let typed = self.arguments_of(callee, arguments, span)?;
+        Ok(self.call_of(callee, typed)?)
+    }
+
+    // The arguments of a call of this.
+    #[cycle(expression)]
+    fn arguments_of(
+        &self,
+        callee: Callee<'a>,
+        arguments: &Vec<Expression>,
+        span: Span,
+    ) -> Result<Vec<TypedExpression>, Fault>
+        requires texts { HaveTexts self.now.texts.now (expressions_of arguments.now.items) }
+        ensures answers { Answers (λ v. exps_of self.now.texts.now v.items) result (x.typed_arguments (env_of self.now) (context_of self.now) (expressions_of arguments.now.items) (x.takes (callee_of callee.entry))) }
+        ensures cause { IfErr result (λ f. (f.kind ≡ OutOfMemory) ⊎ ArgumentsCause (env_of self.now) (context_of self.now) f arguments.now.items (x.takes (callee_of callee.entry)) span ⊎ InAmong (env_of self.now) (context_of self.now) f arguments.now.items) }
+    {
+        match callee {
+            Callee::Output(output) => {
+                let takes = output_takes(self.alloc, output)?;
+                self.arguments(arguments, &takes, span)
+            }
+            Callee::Function(_, signature) => {
+                self.arguments(arguments, &signature.parameters, span)
+            }
+        }
+    }
+
+    // Arguments of these types, as many as there are types.
+    #[cycle(expression)]
+    fn arguments(
+        &self,
+        arguments: &[Expression],
+        wants: &[ResolvedType],
+        span: Span,
+    ) -> Result<Vec<TypedExpression>, Fault>
+        requires texts { HaveTexts self.now.texts.now (expressions_of arguments.now) }
+        ensures answers { Answers (λ v. exps_of self.now.texts.now v.items) result (x.typed_arguments (env_of self.now) (context_of self.now) (expressions_of arguments.now) (map resolved_of wants.now)) }
+        ensures cause { IfErr result (λ f. (f.kind ≡ OutOfMemory) ⊎ ArgumentsCause (env_of self.now) (context_of self.now) f arguments.now (map resolved_of wants.now) span ⊎ InAmong (env_of self.now) (context_of self.now) f arguments.now) }
+    {
+        if arguments.len() != wants.len() {
+            return Err(fault_at(FaultKind::ArgumentCount, span));
+        }
+        let mut typed = Vec::new(self.alloc);
+        for i in 0..arguments.len() {
+            let want = &wants[i];
+            let argument = &arguments[i];
+            let typing = self.typing(&argument.kind, argument.span)?;
+            let found = self.required(want, argument, typing)?;
+            typed.push(found)?;
+        }
+        Ok(typed)
+    }
+
+    /// A place of the heap, small or a struct.
+    #[cycle(expression)]
     pub fn place(&self, kind: &ExpressionKind, span: Span) -> Result<Place, Fault>
         requires { HasTexts self.now.texts.now (expression_of_kind kind.now) }
         ensures answers { Answers (place_of self.now.texts.now) result (typed_place (env_of self.now) (context_of self.now) (expression_of_kind kind.now)) }
         ensures cause { IfErr result (λ f. (f.kind ≡ OutOfMemory) ⊎ InExpression (env_of self.now) (context_of self.now) f AsPlace kind.now span) }
     {
+        if has_form(kind) {
+            self.place_at(kind, span)
+        } else {
+            Err(no_place(self.value(kind, span), span))
+        }
+    }
+
+    // A place by its form.
+    #[cycle(expression)]
+    fn place_at(&self, kind: &ExpressionKind, span: Span) -> Result<Place, Fault>
+        requires texts { HasTexts self.now.texts.now (expression_of_kind kind.now) }
+        requires form { has_form kind.now ≡ true }
+        ensures answers { Answers (place_of self.now.texts.now) result (typed_place (env_of self.now) (context_of self.now) (expression_of_kind kind.now)) }
+        ensures cause { IfErr result (λ f. (f.kind ≡ OutOfMemory) ⊎ InExpression (env_of self.now) (context_of self.now) f AsPlace kind.now span) }
+    {
         match kind {
             ExpressionKind::Parenthesized(inner) => self.place(&inner.kind, inner.span),
-            ExpressionKind::PointerField(of, name) => {
-                let pointer = self.value(&of.kind, of.span)?;
-                self.pointer_field(pointer, of.span, name, span)
+            ExpressionKind::Index(array, index) => {
+                let sized = self.value(&array.kind, array.span)?;
+                let number = self.value(&index.kind, index.span)?;
+                self.element(sized, number, (array.span, index.span), span)
             }
             ExpressionKind::Field(of, name) => {
                 let outer = self.place(&of.kind, of.span)?;
                 self.fielded(outer, of.span, name, span)
             }
-            // Elements, what pointers point to, and what is no place are not written yet.
-            _ => Err(Fault::out_of_memory()),
+            ExpressionKind::PointerField(of, name) => {
+                let pointer = self.value(&of.kind, of.span)?;
+                self.pointer_field(pointer, of.span, name, span)
+            }
+            ExpressionKind::Unary(_, operand) => {
+                let pointer = self.value(&operand.kind, operand.span)?;
+                self.pointed(pointer, operand.span, span)
+            }
+            _ => unreachable!(),
         }
     }
 
@@ -172,15 +294,29 @@ impl<'a> Terms<'a> {
         self.required(want, e, typing)
     }
 
-    /// An expression as a statement: it has a small value or NULL's type, or is a call. It is not written yet: want of memory is answered.
+    /// An expression as a statement: it has a small value or NULL's type, or is a call.
     pub fn evaluated(&self, e: &Expression) -> Result<TypedExpression, Fault>
         requires { HasTexts self.now.texts.now (expression_of e.now) }
         ensures answers { Answers (exp_of self.now.texts.now) result (and_so (typed_expression (env_of self.now) (context_of self.now) (expression_of e.now)) (evaluated (env_of self.now) (expression_of e.now))) }
         ensures cause { (s : Scope) → within s ≡ (context_of self.now) → IfErr result (λ f. (f.kind ≡ OutOfMemory) ⊎ InEvaluated (env_of self.now) f s e.now.kind e.now.span) }
     {
-        Err(Fault {
-            kind: FaultKind::OutOfMemory,
-            span: e.span,
-        })
+        match &e.kind {
+            ExpressionKind::Call(name, arguments) => {
+                let typing = self.called(name, arguments, e.span)?;
+                self.discarded(typing)
+            }
+            _ => self.evaluated_value(e),
+        }
+    }
+
+    // The same of what is no call.
+    fn evaluated_value(&self, e: &Expression) -> Result<TypedExpression, Fault>
+        requires texts { HasTexts self.now.texts.now (expression_of e.now) }
+        requires value { is_call (expression_of e.now) ≡ false }
+        ensures answers { Answers (exp_of self.now.texts.now) result (and_so (typed_expression (env_of self.now) (context_of self.now) (expression_of e.now)) (evaluated (env_of self.now) (expression_of e.now))) }
+        ensures cause { (s : Scope) → within s ≡ (context_of self.now) → IfErr result (λ f. (f.kind ≡ OutOfMemory) ⊎ InEvaluated (env_of self.now) f s e.now.kind e.now.span) }
+    {
+        let typing = self.value(&e.kind, e.span)?;
+        self.discarded(typing)
     }
 }

@@ -1,10 +1,10 @@
 // Forms of expressions, of operands that have been typed.
 
-ghost use Rattle.std.specs.Prelude.{◌≡◌, ◌⊎◌, None, Some, IfErr};
+ghost use Rattle.std.specs.Prelude.{◌≡◌, ◌⊎◌, None, Some, IfErr, IfOk};
 ghost use Rattle.c0_source.specs.declared.fault.FaultKind.TheVariants.{OutOfMemory, TypeMismatch, UnknownName};
 ghost use Rattle.c0_syntax.specs.Views.{expression_of, name_of, type_of};
 ghost use Rattle.c0_typed.specs.Trees as y;
-ghost use Rattle.c0_typed.specs.Views.{exp_of};
+ghost use Rattle.c0_typed.specs.Views.{exp_of, exps_of};
 ghost use Rattle.c0_rules.specs.Expressions as x;
 ghost use Rattle.c0_rules.specs.FaultExpressions.{AsValue, FieldCause, HeldTypeCause, InExpression, Mistyped, Told};
 ghost use Rattle.c0_terms.specs.Forms.{PointedCause, PrefixedCause, callee_of, discarded};
@@ -25,6 +25,7 @@ use c0_syntax::operator::PrefixOperator;
 use c0_syntax::value_type::ValueType as WrittenType;
 use c0_tables::resolved::ResolvedType;
 use c0_typed::{Expression as TypedExpression, ValueType};
+use std::alloc::AllocError;
 
 impl<'a> Terms<'a> {
     /// An expression of this type, as it was typed; a void call has no value.
@@ -108,6 +109,26 @@ impl<'a> Terms<'a> {
         match self.callee(&name.text) {
             Some(callee) => Ok(callee),
             None => Err(fault_at(FaultKind::UnknownName, name.span)),
+        }
+    }
+
+    /// A call of this with these arguments.
+    pub(crate) fn call_of(
+        &self,
+        callee: Callee<'a>,
+        arguments: Vec<TypedExpression>,
+    ) -> Result<Typing, AllocError>
+        ensures { IfOk result (λ r. typing_of self.now.texts.now r ≡ x.Has (x.gives (callee_of callee.entry)) (x.call_of (callee_of callee.entry) (exps_of self.now.texts.now arguments.items))) }
+    {
+        match callee {
+            Callee::Output(output) => Ok(Typing::Has(
+                ResolvedType::Void,
+                TypedExpression::Print(output, arguments),
+            )),
+            Callee::Function(number, signature) => {
+                let resolved = signature.result.duplicate(self.alloc)?;
+                Ok(Typing::Has(resolved, TypedExpression::Call(number, arguments)))
+            }
         }
     }
 

@@ -1,15 +1,24 @@
-use Rattle.std.proofs.Common.{ap, sym, subst, refl, ◌∙◌, inl, inr}
+use Rattle.std.proofs.Common.{◌≡◌, ◌<◌, arith, length, map, ap, sym, subst, refl, ◌∙◌, inl, inr, rules, true}
+use denote.Param.Weighed.{at_most}
 use Rattle.std.proofs.lemmas.Result.{err_from_is_err_and}
-use Rattle.c0_syntax.specs.Views.{expression_of, expression_of_kind, type_of}
-use Rattle.c0_typed.specs.Views.{exp_of}
-use Rattle.c0_rules.specs.Expressions.{lengthed, operated, typed_expression}
-use Rattle.c0_rules.specs.Types.{BoolType}
-use Rattle.c0_terms.specs.Terms.{context_of, env_of, rule_of, typing_of}
-use Rattle.c0_terms.proofs.FormAnswers.{array_answers, binary_answers, conditional_answers, unary_answers}
-use Rattle.c0_terms.proofs.FormCauses.{among, arms_cause, array_cause, binary_cause, causes, first_three, length_cause, none_causes, unary_cause, wanted_cause}
-use Rattle.c0_terms.specs.Forms.{BinaryCause}
+use Rattle.c0_syntax.proofs.expression.Expression.TheLaws.{the_size}
+use Rattle.c0_syntax.proofs.expression.ExpressionKind.TheLaws.{the_size as kind_size}
+use Rattle.c0_syntax.specs.declared.expression.Expression.{Expression, the_lemmas as struct_lemmas}
+use Rattle.c0_syntax.specs.declared.expression.ExpressionKind.{the_lemmas as expression_lemmas}
+use Rattle.c0_syntax.specs.Views.{expression_of, expression_of_kind, expressions_of, name_of, type_of}
+use Rattle.c0_typed.specs.Views.{exp_of, exps_of}
+use Rattle.c0_rules.specs.Expressions.{as_wanted, lengthed, operated, typed_arguments, typed_expression}
+use Rattle.c0_rules.specs.Types.{BoolType, and_so}
+use Rattle.c0_tables.specs.Views.{resolved_of}
+use Rattle.c0_terms.specs.Terms.{HasTexts, context_of, env_of, place_of, rule_of, typing_of}
+use Rattle.c0_terms.proofs.ArgumentLists.{argument_cause, argument_has, argument_more, argument_none, arguments_done, call_in, call_is, no_front, other_number}
+use Rattle.c0_terms.proofs.CallForms.{arguments_refused, call_refused, call_told}
+use Rattle.c0_terms.proofs.FormAnswers.{array_answers, binary_answers, conditional_answers, no_place, unary_answers}
+use Rattle.c0_terms.proofs.FormCauses.{among, arms_cause, array_cause, arrow_cause, binary_cause, causes, first_three, index_cause, length_cause, none_causes, pointer_cause, unary_cause, wanted_cause}
+use Rattle.c0_terms.specs.Forms.{BinaryCause, callee_of}
 use Rattle.c0_terms.proofs.Operands.{void_told}
-use Rattle.c0_terms.proofs.Refusals.{array_refused, condition_refused, first_arm_refused, left_refused, length_refused, right_refused, second_arm_refused, test_is, test_refused, unary_refused}
+use Rattle.c0_terms.proofs.PlaceForms.{is_part, not_there, only_star, part_read}
+use Rattle.c0_terms.proofs.Refusals.{array_of_index_refused, array_refused, arrow_refused, condition_refused, first_arm_refused, index_refused, left_refused, length_refused, none_first, none_then, pointer_refused, right_refused, second_arm_refused, test_is, test_refused, unary_refused}
 use Rattle.c0_terms.proofs.typing.Terms.+expression.Goals as goal
 
 pub value-returns-else-has_value-clause-cause : goal.value-returns-else-has_value-clause-cause
@@ -209,3 +218,221 @@ composed-returns-in_ok-other-in-Conditional-clause-cause t c =
     let other = typing_of s.texts.now c.in_ok-other-in-Conditional.other in
     let told = rw c.deref-in-Conditional-8.ensures at c.chosen.ensures.cause in
     rw x.is (causes c.chosen.result _ _ (λ f h. inr (inl (arms_cause (env_of s) (context_of s) f x.first.value.kind x.second.value.kind x.second.value.span one other first second h))) told)
+
+pub composed-returns-in_ok-place-in-Index-clause-cause : goal.composed-returns-in_ok-place-in-Index-clause-cause
+composed-returns-in_ok-place-in-Index-clause-cause t c =
+    let s = c.args.self.now in
+    let there = c.in_ok-place-in-Index in
+    let part : is_part c.args.kind.now ≡ true = search rules in
+    part_read (env_of s) (context_of s) c.read_of.result c.args.kind.now c.args.span part (place_of s.texts.now there.place) there.ensures.answers c.read_of.ensures.cause
+
+pub place-returns-else-has_form-clause-answers : goal.place-returns-else-has_form-clause-answers
+place-returns-else-has_form-clause-answers t c =
+    let s = c.args.self.now in
+    inr (no_place (env_of s) (context_of s) c.args.kind.now (sym c.has_form.ensures ∙ c.if-has_form.false))
+
+pub place-returns-else-has_form-clause-cause : goal.place-returns-else-has_form-clause-cause
+place-returns-else-has_form-clause-cause t c =
+    let s = c.args.self.now in
+    let form = sym c.has_form.ensures ∙ c.if-has_form.false in
+    not_there (env_of s) (context_of s) (typing_of s.texts.now) c.value.result c.no_place.result c.args.kind.now c.args.span form c.value.ensures.answers c.value.ensures.cause c.no_place.ensures.fault c.no_place.ensures.value
+
+pub place_at-returns-in_err-sized-in-Index-clause-answers : goal.place_at-returns-in_err-sized-in-Index-clause-answers
+place_at-returns-in_err-sized-in-Index-clause-answers t c =
+    let s = c.args.self.now in
+    let x = c.in-Index in
+    let shape = ap expression_of_kind x.is in
+    let p = err_from_is_err_and c.from_residual.result c.from_residual.ensures.1 in
+    let refused = rw c.deref-in-Index.ensures at c.in_err-sized-in-Index.ensures.answers in
+    rw (p.1, p.2, shape) (array_of_index_refused (env_of s) (context_of s) (expression_of x.array.value) (expression_of x.index.value) refused)
+
+pub place_at-returns-in_err-number-in-Index-clause-answers : goal.place_at-returns-in_err-number-in-Index-clause-answers
+place_at-returns-in_err-number-in-Index-clause-answers t c =
+    let s = c.args.self.now in
+    let x = c.in-Index in
+    let shape = ap expression_of_kind x.is in
+    let p = err_from_is_err_and c.from_residual-in_err-number-in-Index.result c.from_residual-in_err-number-in-Index.ensures.1 in
+    let first = rw c.deref-in-Index.ensures at c.in_ok-sized-in-Index.ensures.answers in
+    let refused = rw c.deref-in-Index-3.ensures at c.in_err-number-in-Index.ensures.answers in
+    rw (p.1, p.2, shape) (index_refused (env_of s) (context_of s) (expression_of x.array.value) (expression_of x.index.value) (typing_of s.texts.now c.in_ok-sized-in-Index.sized) first refused)
+
+pub place_at-returns-in_err-pointer-in-PointerField-clause-answers : goal.place_at-returns-in_err-pointer-in-PointerField-clause-answers
+place_at-returns-in_err-pointer-in-PointerField-clause-answers t c =
+    let s = c.args.self.now in
+    let x = c.in-PointerField in
+    let shape = ap expression_of_kind x.is in
+    let p = err_from_is_err_and c.from_residual-in_err-pointer-in-PointerField.result c.from_residual-in_err-pointer-in-PointerField.ensures.1 in
+    let refused = rw c.deref-in-PointerField.ensures at c.in_err-pointer-in-PointerField.ensures.answers in
+    rw (p.1, p.2, shape) (arrow_refused (env_of s) (context_of s) (expression_of x.of.value) (name_of x.name) refused)
+
+pub place_at-returns-in_err-pointer-in-Unary-clause-answers : goal.place_at-returns-in_err-pointer-in-Unary-clause-answers
+place_at-returns-in_err-pointer-in-Unary-clause-answers t c =
+    let s = c.args.self.now in
+    let x = c.in-Unary in
+    let shape = ap expression_of_kind x.is in
+    let star = only_star x.field-0 x.operand (rw x.is at c.requires.form) in
+    let p = err_from_is_err_and c.from_residual-in_err-pointer-in-Unary.result c.from_residual-in_err-pointer-in-Unary.ensures.1 in
+    let refused = rw c.deref-in-Unary.ensures at c.in_err-pointer-in-Unary.ensures.answers in
+    rw (p.1, p.2, shape, star) (pointer_refused (env_of s) (context_of s) (expression_of x.operand.value) refused)
+
+pub place_at-returns-in_ok-number-in-Index-clause-cause : goal.place_at-returns-in_ok-number-in-Index-clause-cause
+place_at-returns-in_ok-number-in-Index-clause-cause t c =
+    let s = c.args.self.now in
+    let x = c.in-Index in
+    let first = rw c.deref-in-Index.ensures at c.in_ok-sized-in-Index.ensures.answers in
+    let second = rw c.deref-in-Index-3.ensures at c.in_ok-number-in-Index.ensures.answers in
+    let one = typing_of s.texts.now c.in_ok-sized-in-Index.sized in
+    let other = typing_of s.texts.now c.in_ok-number-in-Index.number in
+    let told = rw (c.deref-in-Index-5.ensures, c.deref-in-Index-6.ensures) at c.element.ensures.cause in
+    rw x.is (causes c.element.result _ _ (λ f h. inl (index_cause (env_of s) (context_of s) f x.array.value.kind x.array.value.span x.index.value.kind x.index.value.span c.args.span one other first second h)) told)
+
+pub place_at-returns-in_ok-outer-in-Field-clause-cause : goal.place_at-returns-in_ok-outer-in-Field-clause-cause
+place_at-returns-in_ok-outer-in-Field-clause-cause t c =
+    let s = c.args.self.now in
+    let x = c.in-Field in
+    let value = rw c.deref-in-Field.ensures at c.in_ok-outer-in-Field.ensures.answers in
+    let outer = place_of s.texts.now c.in_ok-outer-in-Field.outer in
+    let told = rw c.deref-in-Field-3.ensures at c.fielded.ensures.cause in
+    rw x.is (causes c.fielded.result _ _ (λ f h. inl (outer, value, h)) told)
+
+pub place_at-returns-in_ok-pointer-in-PointerField-clause-cause : goal.place_at-returns-in_ok-pointer-in-PointerField-clause-cause
+place_at-returns-in_ok-pointer-in-PointerField-clause-cause t c =
+    let s = c.args.self.now in
+    let x = c.in-PointerField in
+    let value = rw c.deref-in-PointerField.ensures at c.in_ok-pointer-in-PointerField.ensures.answers in
+    let pointer = typing_of s.texts.now c.in_ok-pointer-in-PointerField.pointer in
+    let told = rw c.deref-in-PointerField-3.ensures at c.pointer_field.ensures.cause in
+    rw x.is (causes c.pointer_field.result _ _ (λ f h. inl (arrow_cause (env_of s) (context_of s) f x.of.value.kind x.of.value.span x.name c.args.span pointer value h)) told)
+
+pub place_at-returns-in_ok-pointer-in-Unary-clause-cause : goal.place_at-returns-in_ok-pointer-in-Unary-clause-cause
+place_at-returns-in_ok-pointer-in-Unary-clause-cause t c =
+    let s = c.args.self.now in
+    let x = c.in-Unary in
+    let star = only_star x.field-0 x.operand (rw x.is at c.requires.form) in
+    let value = rw c.deref-in-Unary.ensures at c.in_ok-pointer-in-Unary.ensures.answers in
+    let pointer = typing_of s.texts.now c.in_ok-pointer-in-Unary.pointer in
+    let told = rw c.deref-in-Unary-3.ensures at c.pointed.ensures.cause in
+    rw (x.is, star) (causes c.pointed.result _ _ (λ f h. inl (inl (pointer_cause (env_of s) (context_of s) f x.operand.value.kind x.operand.value.span c.args.span pointer value h))) told)
+
+pub composed-called-requires : goal.composed-called-requires
+composed-called-requires t c =
+    let x = c.in-Call in
+    let shape = ap expression_of_kind x.is ∙ call_is x.name x.arguments in
+    (search (rules, expression_lemmas), subst (HasTexts c.args.self.now.texts.now) shape c.requires.texts)
+
+pub composed-returns-in-Call-clause-answers : goal.composed-returns-in-Call-clause-answers
+composed-returns-in-Call-clause-answers t c =
+    let x = c.in-Call in
+    let shape = ap expression_of_kind x.is ∙ call_is x.name x.arguments in
+    rw shape c.called.ensures.answers
+
+pub composed-returns-in-Call-clause-cause : goal.composed-returns-in-Call-clause-cause
+composed-returns-in-Call-clause-cause t c =
+    let s = c.args.self.now in
+    let x = c.in-Call in
+    let told = c.called.ensures.cause in
+    rw x.is (causes c.called.result _ _ (λ f h. call_in (env_of s) (context_of s) f x.name x.arguments c.args.span h) told)
+
+pub called-returns-in_err-callee-clause-answers : goal.called-returns-in_err-callee-clause-answers
+called-returns-in_err-callee-clause-answers t c =
+    let s = c.args.self.now in
+    let p = err_from_is_err_and c.from_residual.result c.from_residual.ensures.1 in
+    rw (p.1, p.2) (call_refused (env_of s) (context_of s) (name_of c.args.name.now) (expressions_of c.args.arguments.now.items) c.in_err-callee.ensures.answers)
+
+pub called-returns-in_err-callee-clause-cause : goal.called-returns-in_err-callee-clause-cause
+called-returns-in_err-callee-clause-cause t c =
+    let p = err_from_is_err_and c.from_residual.result c.from_residual.ensures.1 in
+    rw (p.1, p.2) (inr (inl (inl c.in_err-callee.ensures.cause)))
+
+pub called-returns-in_err-typed-clause-answers : goal.called-returns-in_err-typed-clause-answers
+called-returns-in_err-typed-clause-answers t c =
+    let s = c.args.self.now in
+    let p = err_from_is_err_and c.from_residual-in_err-typed.result c.from_residual-in_err-typed.ensures.1 in
+    rw (p.1, p.2) (arguments_refused (env_of s) (context_of s) (name_of c.args.name.now) (expressions_of c.args.arguments.now.items) (callee_of c.in_ok-callee.callee) c.in_ok-callee.ensures.answers c.in_err-typed.ensures.answers)
+
+pub called-returns-in_err-typed-clause-cause : goal.called-returns-in_err-typed-clause-cause
+called-returns-in_err-typed-clause-cause t c =
+    let s = c.args.self.now in
+    let p = err_from_is_err_and c.from_residual-in_err-typed.result c.from_residual-in_err-typed.ensures.1 in
+    rw (p.1, p.2) (call_told (env_of s) (context_of s) c.in_err-typed.field-0.0 c.args.name.now c.args.arguments.now.items c.args.span (callee_of c.in_ok-callee.callee) c.in_ok-callee.ensures.answers c.in_err-typed.ensures.cause)
+
+-- an expression is deeper than its kind
+deeper : (e : Expression) → kind_size e.kind < the_size e
+deeper e = search (rules, expression_lemmas, struct_lemmas)
+
+pub arguments-typing-requires : goal.arguments-typing-requires
+arguments-typing-requires t c =
+    let l = c.loop-i in
+    let x = c.index-arguments-i in
+    let deep = at_most the_size c.args.arguments.now l.i x.result c.loop-i-test.true in
+    let same = ap the_size x.is in
+    (omega (arith, deep, same, deeper x.result, c.decreases), argument_has c.args.self.now.texts.now c.args.arguments.now l.i x.result c.loop-i-test.true x.is c.requires.texts)
+
+pub arguments-returns-then-arguments-wants-clause-answers : goal.arguments-returns-then-arguments-wants-clause-answers
+arguments-returns-then-arguments-wants-clause-answers t c =
+    let s = c.args.self.now in
+    inr (other_number (env_of s) (context_of s) c.args.arguments.now c.args.wants.now c.if-arguments-wants.true)
+
+pub arguments-returns-in_err-typing-clause-answers : goal.arguments-returns-in_err-typing-clause-answers
+arguments-returns-in_err-typing-clause-answers t c =
+    let s = c.args.self.now in
+    let l = c.loop-i in
+    let x = c.index-arguments-i in
+    let w = c.index-wants-i in
+    let p = err_from_is_err_and c.from_residual.result c.from_residual.ensures.1 in
+    let within : l.i < length c.args.wants.now = omega arith in
+    let refused = none_first (typed_expression (env_of s) (context_of s) (expression_of x.result)) (as_wanted (env_of s) (resolved_of w.result)) c.in_err-typing.ensures.answers in
+    rw (p.1, p.2) (argument_none (env_of s) (context_of s) (exps_of s.texts.now l.typed.items) c.args.arguments.now c.args.wants.now l.i x.result w.result c.loop-i-test.true within x.is w.is _ refused l.invariant)
+
+pub arguments-returns-in_err-typing-clause-cause : goal.arguments-returns-in_err-typing-clause-cause
+arguments-returns-in_err-typing-clause-cause t c =
+    let s = c.args.self.now in
+    let l = c.loop-i in
+    let x = c.index-arguments-i in
+    let w = c.index-wants-i in
+    let p = err_from_is_err_and c.from_residual.result c.from_residual.ensures.1 in
+    let within : l.i < length c.args.wants.now = omega arith in
+    rw (p.1, p.2) (argument_cause (env_of s) (context_of s) c.in_err-typing.field-0.0 c.args.arguments.now c.args.wants.now c.args.span l.i x.result w.result c.loop-i-test.true within x.is w.is (among c.in_err-typing.ensures.cause))
+
+pub arguments-returns-in_err-found-clause-answers : goal.arguments-returns-in_err-found-clause-answers
+arguments-returns-in_err-found-clause-answers t c =
+    let s = c.args.self.now in
+    let l = c.loop-i in
+    let x = c.index-arguments-i in
+    let w = c.index-wants-i in
+    let p = err_from_is_err_and c.from_residual-in_err-found.result c.from_residual-in_err-found.ensures.1 in
+    let within : l.i < length c.args.wants.now = omega arith in
+    let refused = none_then (typed_expression (env_of s) (context_of s) (expression_of x.result)) (as_wanted (env_of s) (resolved_of w.result)) (typing_of s.texts.now c.in_ok-typing.typing) c.in_ok-typing.ensures.answers c.in_err-found.ensures.answers in
+    rw (p.1, p.2) (argument_none (env_of s) (context_of s) (exps_of s.texts.now l.typed.items) c.args.arguments.now c.args.wants.now l.i x.result w.result c.loop-i-test.true within x.is w.is _ refused l.invariant)
+
+pub arguments-returns-in_err-found-clause-cause : goal.arguments-returns-in_err-found-clause-cause
+arguments-returns-in_err-found-clause-cause t c =
+    let s = c.args.self.now in
+    let l = c.loop-i in
+    let x = c.index-arguments-i in
+    let w = c.index-wants-i in
+    let p = err_from_is_err_and c.from_residual-in_err-found.result c.from_residual-in_err-found.ensures.1 in
+    let within : l.i < length c.args.wants.now = omega arith in
+    rw (p.1, p.2) (argument_cause (env_of s) (context_of s) c.in_err-found.field-0.0 c.args.arguments.now c.args.wants.now c.args.span l.i x.result w.result c.loop-i-test.true within x.is w.is c.in_err-found.ensures.cause)
+
+pub arguments-loop-i-init : goal.arguments-loop-i-init
+arguments-loop-i-init t c =
+    let s = c.args.self.now in
+    rw c.new-typed.ensures.items (no_front (typed_arguments (env_of s) (context_of s) (expressions_of c.args.arguments.now) (map resolved_of c.args.wants.now)))
+
+pub arguments-loop-i-preserved : goal.arguments-loop-i-preserved
+arguments-loop-i-preserved t c =
+    let s = c.args.self.now in
+    let l = c.loop-i in
+    let x = c.index-arguments-i in
+    let w = c.index-wants-i in
+    let within : l.i < length c.args.wants.now = omega arith in
+    let given = ap (λ o. and_so o (as_wanted (env_of s) (resolved_of w.result))) c.in_ok-typing.ensures.answers ∙ c.in_ok-found.ensures.answers in
+    rw c.in_ok-push.ensures.items (argument_more (env_of s) (context_of s) s.texts.now l.typed.items c.in_ok-found.found c.args.arguments.now c.args.wants.now l.i x.result w.result c.loop-i-test.true within x.is w.is _ given l.invariant)
+
+pub arguments-returns-clause-answers : goal.arguments-returns-clause-answers
+arguments-returns-clause-answers t c =
+    let s = c.args.self.now in
+    let l = c.loop-i in
+    let same : length c.args.arguments.now ≡ length c.args.wants.now = search rules in
+    arguments_done (env_of s) (context_of s) (exps_of s.texts.now l.typed.items) c.args.arguments.now c.args.wants.now l.i c.loop-i-test.false same _ l.invariant
