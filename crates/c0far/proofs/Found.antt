@@ -11,7 +11,7 @@ use Rattle.clap.specs.Simple.{App, HasMatchesOf, is_simple, subcommand_of, subco
 use Rattle.clap.specs.declared.parser.matches.ArgMatches.{ArgMatches}
 use Rattle.clap.specs.declared.parser.matches.ArgMatches.TheViews.{out-ArgMatches, out-SubCommand}
 use Rattle.clap.specs.declared.parser.matches.SubCommand.{SubCommand}
-use Rattle.c0far.specs.Shell.{run_file, shell}
+use Rattle.c0far.specs.Shell.{Command, command_in, named_command, shell}
 use Rattle.clap.specs.declared.parser.matches.Found.{Found}
 use Rattle.clap.specs.declared.parser.matches.MatchedArg.{MatchedArg}
 
@@ -50,24 +50,19 @@ name_is : (m : ArgMatches) → subcommand_name_of m ≡ option_map (λ (p : Text
 name_is m = name_in (out-ArgMatches m).subcommand
 
 -- no command was found
-pub none_found : (m : ArgMatches) → None ≡ subcommand_name_of m → run_file (subcommand_rows_of m) ≡ None
+pub none_found : (m : ArgMatches) → None ≡ subcommand_name_of m → command_in (subcommand_rows_of m) ≡ None
 none_found m e = go (subcommand_rows_of m) (e ∙ name_is m)
   where
-    go : (o : Option (Text × List Row)) → None ≡ option_map (λ (p : Text × List Row). p.0) o → run_file o ≡ None
+    go : (o : Option (Text × List Row)) → None ≡ option_map (λ (p : Text × List Row). p.0) o → command_in o ≡ None
     go None f = refl
     go (Some p) f = absurd (let no : ⊥ = cc in no)
 
--- a command was found: its file, if it is `run`
-pub file_found : (m inner : ArgMatches) (name : Text) → Some name ≡ subcommand_name_of m → Some (rows_of (found_of inner)) ≡ option_map (λ (p : Text × List Row). p.1) (subcommand_rows_of m)
-    → run_file (subcommand_rows_of m) ≡ cond (bytes_eq name (codes "run")) (first_value (found_of inner) (codes "file")) None
-file_found m inner name e f =
-    ap run_file (pair_is (subcommand_rows_of m) name (rows_of (found_of inner)) (e ∙ name_is m) f)
-    ∙ ap (λ x. cond (bytes_eq name (codes "run")) x None) (first_is (found_of inner) (codes "file"))
-
--- `run` was found, with or without its file
-pub run_found : (m inner : ArgMatches) (name : Text) → Some name ≡ subcommand_name_of m → Some (rows_of (found_of inner)) ≡ option_map (λ (p : Text × List Row). p.1) (subcommand_rows_of m)
-    → bytes_eq name (codes "run") ≡ true → run_file (subcommand_rows_of m) ≡ first_value (found_of inner) (codes "file")
-run_found m inner name e f same = file_found m inner name e f ∙ ap (λ b. cond b (first_value (found_of inner) (codes "file")) None) same
+-- a command was found, with or without its file
+pub command_found : (m inner : ArgMatches) (name : Text) → Some name ≡ subcommand_name_of m → Some (rows_of (found_of inner)) ≡ option_map (λ (p : Text × List Row). p.1) (subcommand_rows_of m)
+    → command_in (subcommand_rows_of m) ≡ option_and_then (named_command name) (first_value (found_of inner) (codes "file"))
+command_found m inner name e f =
+    ap command_in (pair_is (subcommand_rows_of m) name (rows_of (found_of inner)) (e ∙ name_is m) f)
+    ∙ ap (option_and_then (named_command name)) (first_is (found_of inner) (codes "file"))
 
 -- the shell is simple
 pub shell_simple : is_simple shell ≡ true
@@ -79,5 +74,5 @@ pub rows_are : (a : App) (words : List Text) (m : ArgMatches) → a ≡ shell �
 rows_are a words m same has = (has (ap is_simple same ∙ shell_simple)).1 ∙ ap (λ b. subcommand_of b words) same
 
 -- nothing is not something
-pub none_some : {x : Text} → None ≡ Some x → ⊥
+pub none_some : {x : Command} → None ≡ Some x → ⊥
 none_some e = cc e

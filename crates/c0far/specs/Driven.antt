@@ -7,14 +7,17 @@ use Rattle.c0_source.specs.declared.fault.Fault.{Fault}
 use Rattle.c0_source.specs.declared.fault.FaultKind.TheVariants as f
 use Rattle.c0_source.specs.FaultLines.{fault_line}
 use Rattle.c0_source.specs.Lines.{BeginsLine}
+use Rattle.c0_typed.specs.Trees as y
+use Rattle.c0_front.specs.Texts.{IsTypedAs}
+use Rattle.c0_front.specs.Texts as Unchecked
 use Rattle.code_form.specs.Form.{Image}
 use Rattle.clap.specs.Words.{Text, takes}
 use Rattle.c0far.specs.Compiled.{IsCompiled, IsRefusedText}
 use Rattle.c0far.specs.Executed.{IsExecuted}
 use Rattle.c0far.specs.FileTexts.{HasText, IsMissing, Known}
 use Rattle.c0far.specs.declared.words.Usage.{Usage}
-use Rattle.c0far.specs.declared.words.Usage.TheVariants as usage
-use Rattle.c0far.specs.Shell.{NamesRun, shell}
+use Rattle.c0far.specs.declared.words.Usage.TheVariants as refusal
+use Rattle.c0far.specs.Shell.{Check, Command, Names, Run, shell}
 use Rattle.c0far.specs.Statuses.{run_status}
 
 -- ---- what is shown
@@ -103,17 +106,52 @@ pub record LacksMemory (out err : Writes) (result : ℕ) : Type 0 where
 abbrev pub Runs : Text → Known → Writes → Writes → ℕ → Type 0
 Runs file held out err result = HasRun held out err result ⊎ (HasRefused file held out err result ⊎ (IsUnread file held out err result ⊎ LacksMemory out err result))
 
+-- the program of the file's text keeps the static rules
+pub record HasPassed (held : Known) (out err : Writes) (result : ℕ) : Type 0 where
+  pub text : List ℕ
+  pub read : HasText held text
+  pub typed : y.Program
+  pub accepted : IsTypedAs false text typed
+  pub shown : Says out (codes "ok" ++ newline) 0 result
+  pub quiet : IsQuiet err
+
+-- the file's text is the text of no well-typed program: the fault of the first stage that finds one is shown, and where it stands
+pub record HasFailed (file : Text) (held : Known) (out err : Writes) (result : ℕ) : Type 0 where
+  pub text : List ℕ
+  pub read : HasText held text
+  pub none : (typed : y.Program) → IsTypedAs false text typed → ⊥
+  pub fault : Fault
+  pub cause : Unchecked.IsRefusedText false text fault
+  pub line : ℕ
+  pub column : ℕ
+  pub place : StandsAt text fault.span.start line column
+  pub shown : Says err (shown_fault file line column fault) 2 result
+  pub quiet : IsQuiet out
+
+-- the command `check` of this file, which holds this
+abbrev pub Checks : Text → Known → Writes → Writes → ℕ → Type 0
+Checks file held out err result = HasPassed held out err result ⊎ (HasFailed file held out err result ⊎ (IsUnread file held out err result ⊎ LacksMemory out err result))
+
+-- the command, where files hold this
+abbrev pub Does : (Text → Known) → Command → Writes → Writes → ℕ → Type 0
+Does held (Check file) out err result = Checks file (held file) out err result
+Does held (Run file) out err result = Runs file (held file) out err result
+
+-- how the words are to be
+abbrev pub usage : List ℕ
+usage = codes "usage: c0far check FILE | c0far run FILE"
+
 -- what is said of words that are refused
 abbrev pub usage_line : Usage → List ℕ
-usage_line usage.Refused = codes "usage: c0far run FILE"
-usage_line usage.OutOfMemory = codes "out of memory"
+usage_line refusal.Refused = usage
+usage_line refusal.OutOfMemory = codes "out of memory"
 
 -- the words are no command
 pub record IsUsage (words : List Text) (out err : Writes) (result : ℕ) : Type 0 where
-  pub none : takes shell words ≡ true → (file : Text) → NamesRun words file → ⊥
-  pub shown : Says err (codes "usage: c0far run FILE" ++ newline) 2 result
+  pub none : takes shell words ≡ true → (command : Command) → Names words command → ⊥
+  pub shown : Says err (usage ++ newline) 2 result
   pub quiet : IsQuiet out
 
 -- what the words ask for was done, where files hold this
 abbrev pub IsDriven : (Text → Known) → List Text → Writes → Writes → ℕ → Type 0
-IsDriven held words out err result = ((file : Text) × NamesRun words file × Runs file (held file) out err result) ⊎ (IsUsage words out err result ⊎ LacksMemory out err result)
+IsDriven held words out err result = ((command : Command) × Names words command × Does held command out err result) ⊎ (IsUsage words out err result ⊎ LacksMemory out err result)

@@ -1,7 +1,7 @@
 //! The commands, over files and two writers.
 ghost use Rattle.std.specs.Prelude.{◌≡◌, ◌++◌, ℕ, List, [], IsTrue, MatchResult, codes, cond, map};
 ghost use Rattle.std.specs.Io.KnownBytes.{Appends};
-ghost use Rattle.c0far.specs.Driven.{IsDriven, Runs, Says, StandsAt, is_open, newline, shown_end, shown_fault, writes};
+ghost use Rattle.c0far.specs.Driven.{Checks, IsDriven, Runs, Says, StandsAt, is_open, newline, shown_end, shown_fault, usage, writes};
 ghost use Rattle.c0far.specs.FileTexts.{HasText, Known};
 ghost use Rattle.c0far.specs.Statuses.{run_status};
 
@@ -10,8 +10,10 @@ use crate::execute::execute;
 use crate::files::{FileError, Files};
 use crate::line::line;
 use crate::words::{Line, Usage};
+use c0_front::check_text;
 use c0_source::fault::{Fault, FaultKind};
 use c0_source::position::{Position, line_column};
+use c0_syntax::level::Level;
 use cells::{Ended, Run, Stop};
 use std::alloc::Global;
 use std::io::Write;
@@ -66,9 +68,16 @@ fn say_unread<E: Write>(err: &mut E, file: &str) -> u8
     after(writeln!(err, "{file}: cannot be read"), REFUSED)
 }
 
+/// Says that a text keeps the static rules.
+fn say_ok<O: Write>(out: &mut O) -> u8
+    ensures { Says (writes (O.contents out.old) (O.contents out.new)) (codes "ok" ++ newline) 0 result }
+{
+    after(writeln!(out, "ok"), 0)
+}
+
 /// Says how the words are to be.
 fn say_usage<E: Write>(err: &mut E) -> u8
-    ensures { Says (writes (E.contents err.old) (E.contents err.new)) (codes "usage: c0far run FILE" ++ newline) 2 result }
+    ensures { Says (writes (E.contents err.old) (E.contents err.new)) (usage ++ newline) 2 result }
 {
     let usage = Usage::Refused;
     after(writeln!(err, "{usage}"), REFUSED)
@@ -161,6 +170,41 @@ fn run<W: Wait, F: Files, O: Write, E: Write>(
     }
 }
 
+/// Tells whether a text, which stands in this file, keeps the static rules.
+fn check_named<O: Write, E: Write>(
+    alloc: Global,
+    file: &str,
+    text: &[u8],
+    out: &mut O,
+    err: &mut E,
+) -> u8
+    ensures { (held : Known) → HasText held text.now → Checks file.now held (writes (O.contents out.old) (O.contents out.new)) (writes (E.contents err.old) (E.contents err.new)) result }
+{
+    match check_text(alloc, text, Level::Core) {
+        Ok(_typed) => say_ok(out),
+        Err(fault) if fault.kind == FaultKind::OutOfMemory => say_memory(err),
+        Err(fault) => say_fault(err, file, text, fault),
+    }
+}
+
+/// Tells whether a file's text keeps the static rules.
+fn check<F: Files, O: Write, E: Write>(
+    alloc: Global,
+    file: &str,
+    files: &mut F,
+    out: &mut O,
+    err: &mut E,
+) -> u8
+    ensures files { (name : List ℕ) → F.holds files.new name ≡ F.holds files.old name }
+    ensures done { Checks file.now (F.holds files.old file.now) (writes (O.contents out.old) (O.contents out.new)) (writes (E.contents err.old) (E.contents err.new)) result }
+{
+    match files.read(alloc, file) {
+        Ok(text) => check_named(alloc, file, &text, out, err),
+        Err(FileError::Cannot) => say_unread(err, file),
+        Err(FileError::OutOfMemory) => say_memory(err),
+    }
+}
+
 /// Does the command that the words name, of which the first is the program's name, and gives the exit status: 3 where there
 /// was a want of memory, objects or store; else 2 where a text, a file or the words are refused, or a write failed;
 /// else 1 where the program stopped otherwise than by a result; else 0.
@@ -176,6 +220,7 @@ pub fn drive<W: Wait, F: Files, O: Write, E: Write>(
     ensures done { IsDriven (F.holds files.old) (map (λ w. w.now) words.now) (writes (O.contents out.old) (O.contents out.new)) (writes (E.contents err.old) (E.contents err.new)) result }
 {
     match line(alloc, words) {
+        Ok(Line::Check { file }) => check(alloc, file, files, out, err),
         Ok(Line::Run { file }) => run(alloc, rt, file, files, out, err),
         Err(Usage::Refused) => say_usage(err),
         Err(Usage::OutOfMemory) => say_memory(err),

@@ -182,10 +182,108 @@ mod tests {
         Ok(())
     }
 
+    /// `c0far check NAME` with this text in the file: what it writes to its two streams, one behind the other, and its status.
+    fn checked<W: Wait>(
+        alloc: Global,
+        rt: &W,
+        name: &str,
+        text: &[u8],
+    ) -> Result<(Vec<u8>, u8), FileError> {
+        let mut files = MemFiles::new(alloc);
+        files.write(alloc, name, text)?;
+        let words = ["c0far", "check", name];
+        let told = command(alloc, rt, &words, &mut files);
+        let written = if told.out.is_empty() {
+            told.err
+        } else {
+            told.out
+        };
+        Ok((written, told.status))
+    }
+
+    #[test]
+    fn refused_texts(rt: HostRuntime) -> Result<(), Fail> {
+        let rows: [(&str, &str, &str); 7] = [
+            ("e.c0", "", "e.c0:1:1: fault 41 BadMain\n"),
+            (
+                "k.c0",
+                "int main() { return 2147483649; }",
+                "k.c0:1:21: fault 11 BadToken\n",
+            ),
+            (
+                "a.c0",
+                "int main() { int x; return x; }",
+                "a.c0:1:28: fault 38 NotAssigned\n",
+            ),
+            (
+                "b.c0",
+                "int main() { break; return 0; }",
+                "b.c0:1:14: fault 20 Syntax\n",
+            ),
+            (
+                "c.c0",
+                "/* /* */ int main() { return 0; }",
+                "c.c0:1:1: fault 12 OpenComment\n",
+            ),
+            (
+                "f.c0",
+                "int f(int x); int main() { return f(1); }",
+                "f.c0:1:35: fault 40 NotDefined\n",
+            ),
+            (
+                "w.c0",
+                "int f() { while (true) { return 1; } } int main() { return f(); }",
+                "w.c0:1:5: fault 39 NoReturn\n",
+            ),
+        ];
+        for (name, text, line) in rows {
+            let (written, status) = checked(rt.alloc(), &rt, name, text.as_bytes())?;
+            assert_eq!(rt; written.as_slice(), line.as_bytes());
+            assert_eq!(rt; status, 2);
+        }
+        Ok(())
+    }
+
+    #[test]
+    fn accepted_texts(rt: HostRuntime) -> Result<(), Fail> {
+        let texts = [
+            "int main() { return 2147483648; }",
+            "int f(int x); int main() { return 0; }",
+            "int main() { int* p = alloc(int); (*p)++; return 0; }",
+        ];
+        for text in texts {
+            let (written, status) = checked(rt.alloc(), &rt, "a.c0", text.as_bytes())?;
+            assert_eq!(rt; written.as_slice(), b"ok\n".as_slice());
+            assert_eq!(rt; status, 0);
+        }
+        Ok(())
+    }
+
+    #[test]
+    fn refused_by_the_grammar(rt: HostRuntime) -> Result<(), Fail> {
+        let text = b"int main() { int* p = alloc(int); *p++; return 0; }";
+        let (written, _status) = checked(rt.alloc(), &rt, "p.c0", text)?;
+        assert_eq!(rt;
+            written.as_slice(),
+            b"p.c0:1:37: fault 20 Syntax\n".as_slice()
+        );
+        let mut deep = String::from_str(rt.alloc(), "int main() { return 1")?;
+        for _ in 0..249 {
+            deep.push_str(" + 1")?;
+        }
+        deep.push_str("; }")?;
+        let (written, status) = checked(rt.alloc(), &rt, "d.c0", deep.as_bytes())?;
+        assert!(rt; written.as_slice().ends_with(b": fault 21 TooDeep\n"));
+        assert_eq!(rt; status, 2);
+        Ok(())
+    }
+
     #[test]
     fn command_lines(rt: HostRuntime) -> Result<(), Fail> {
         let words = ["c0far", "run", "a.c0"];
         assert_eq!(rt; line(rt.alloc(), &words), Ok(Line::Run { file: "a.c0" }));
+        let words = ["c0far", "check", "a.c0"];
+        assert_eq!(rt; line(rt.alloc(), &words), Ok(Line::Check { file: "a.c0" }));
         let words = ["c0far", "walk", "a.c0"];
         assert_eq!(rt; line(rt.alloc(), &words), Err(Usage::Refused));
         let words = ["c0far", "run"];

@@ -5,6 +5,8 @@ use thiserror::Error;
 /// A command, with its files and options.
 #[derive(Clone, Copy, Debug, PartialEq, Eq)]
 pub enum Line<'a> {
+    /// Tells whether a text keeps the static rules.
+    Check { file: &'a str },
     /// Runs the program of a text.
     Run { file: &'a str },
 }
@@ -26,7 +28,7 @@ impl fmt::Display for Usage {
 
     fn fmt<W: fmt::Write>(&self, f: &mut fmt::Formatter<W>) -> fmt::Result {
         match self {
-            Usage::Refused => write!(f, "usage: c0far run FILE"),
+            Usage::Refused => write!(f, "usage: c0far check FILE | c0far run FILE"),
             Usage::OutOfMemory => write!(f, "out of memory"),
         }
     }

@@ -1,14 +1,15 @@
-use Rattle.std.proofs.Common.{rules, ◌≡◌, ◌∙◌, codes, sym, true}
-use Rattle.std.specs.Str.{bytes_eq}
-use Rattle.c0far.proofs.Found.{run_found}
-use Rattle.c0far.proofs.line.named.Goals as goal
+use Rattle.std.proofs.Common.{◌∙◌, ap, sym}
+use Rattle.std.specs.Prelude.{option_and_then}
+use Rattle.c0far.specs.Shell.{named_command}
+use Rattle.c0far.proofs.Found.{command_found}
+use Rattle.c0far.proofs.line.found.Goals as goal
 
-pub returns-in-Some-get_str-clause-some : goal.returns-in-Some-get_str-clause-some
-returns-in-Some-get_str-clause-some c =
-    let same : bytes_eq c.in-Some.name.now (codes "run") ≡ true = search rules in
-    run_found c.args.matches.now c.in-Some.inner.now c.in-Some.name.now c.in-Some.ensures.name c.in-Some.ensures.rows same ∙ sym c.in-Some-get_str.ensures
+pub returns-in-Some-get_str : goal.returns-in-Some-get_str
+returns-in-Some-get_str c =
+    let found = command_found c.args.matches.now c.in-Some.inner.now c.in-Some.name.now c.in-Some.ensures.name c.in-Some.ensures.rows in
+    c.named.ensures ∙ ap (option_and_then (named_command c.in-Some.name.now)) c.in-Some-get_str.ensures ∙ sym found
 
-pub returns-in-None-clause-none : goal.returns-in-None-clause-none
-returns-in-None-clause-none c =
-    let same : bytes_eq c.in-Some.name.now (codes "run") ≡ true = search rules in
-    run_found c.args.matches.now c.in-Some.inner.now c.in-Some.name.now c.in-Some.ensures.name c.in-Some.ensures.rows same ∙ sym c.in-None.ensures
+pub returns-in-None : goal.returns-in-None
+returns-in-None c =
+    let found = command_found c.args.matches.now c.in-Some.inner.now c.in-Some.name.now c.in-Some.ensures.name c.in-Some.ensures.rows in
+    ap (option_and_then (named_command c.in-Some.name.now)) c.in-None.ensures ∙ sym found
