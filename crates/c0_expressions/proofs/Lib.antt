@@ -1,0 +1,2 @@
+pub mod ExpressionLoops
+pub mod Rows
