@@ -1,2 +1,1 @@
 pub mod ExpressionLoops
-pub mod Rows

@@ -1,4 +1,3 @@
-pub mod Rows
 pub mod ListLoops
 pub mod StatementLoops
 pub mod ProgramLoops

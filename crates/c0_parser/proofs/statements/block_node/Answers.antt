@@ -1,6 +1,6 @@
 use Rattle.std.proofs.Common.{ap, ◌∙◌}
 use Rattle.c0_syntax.specs.Views.{statement_of_kind}
-use Rattle.c0_parser.proofs.Rows.{block_is}
+use Rattle.c0_syntax.proofs.Rows.{block_is}
 use Rattle.c0_parser.proofs.statements.block_node.Goals as goal
 
 pub returns : goal.returns
