@@ -1,6 +1,6 @@
 // Tokens that are still to be read.
 
-ghost use Rattle.std.specs.Prelude.{◌≡◌, ◌<◌, false, drop, length, map, All, MatchResult};
+ghost use Rattle.std.specs.Prelude.{◌≡◌, ◌<◌, false, drop, length, map, option_map, All, MatchResult};
 ghost use Rattle.c0_source.specs.declared.kind.Kind.TheVariants as k;
 ghost use Rattle.std.specs.String.{string_bytes};
 ghost use Rattle.c0_source.specs.Terminals.{or_empty, terminals};
@@ -10,8 +10,9 @@ ghost use Rattle.c0_syntax.specs.Views.{name_of};
 ghost use Rattle.c0_reading.specs.Tokens.{AreTokens};
 ghost use Rattle.c0_reading.specs.Outcome.{Gives, any_name, bytes_at, colon, comma, kind_at, lparen, new_name, next, plain_at, rbracket, rparen, semi};
 ghost use Rattle.c0_reading.specs.ReadPrograms.{use_of};
-ghost use Rattle.c0_cursor.specs.FoundUses.{used_declaration};
+ghost use Rattle.c0_cursor.specs.FoundUses.{used_declaration, used_of};
 
+use crate::directives::{Used, directive};
 use crate::letters::{letters, tail, text_value};
 use crate::type_names::TypeNames;
 use c0_lexer::token::Token;
@@ -280,7 +281,7 @@ impl<'a> Cursor<'a> {
     }
 
     /// The letters of the next token, if that is a `#use`.
-    pub fn directive_letters(&self) -> &'a [u8]
+    fn directive_letters(&self) -> &'a [u8]
         requires { plain_at self.now ≡ k.Use }
         ensures { use_of self.now ≡ used_declaration (spec_use_of (drop 1 result.now)) }
     {
@@ -288,5 +289,14 @@ impl<'a> Cursor<'a> {
             [] => &[],
             [first, ..] => first.text,
         }
+    }
+
+    /// What the `#use` that stands next names.
+    pub fn used(&self) -> Result<Option<Used>, ReadError>
+        requires { plain_at self.now ≡ k.Use }
+        ensures { MatchResult result (λ used. use_of self.now ≡ used_declaration (option_map used_of used)) (λ e. e ≡ ReadError.OutOfMemory) }
+    {
+        let used = directive(self.alloc, tail(self.directive_letters()))?;
+        Ok(used)
     }
 }

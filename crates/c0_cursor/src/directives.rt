@@ -89,7 +89,7 @@ fn used_value(alloc: Global, bytes: &[u8]) -> Result<Option<Used>, AllocError>
 }
 
 /// What a `#use` names, of which this stands behind `#`; none where it is no `#use`.
-pub fn directive(alloc: Global, bytes: &[u8]) -> Result<Option<Used>, AllocError>
+pub(crate) fn directive(alloc: Global, bytes: &[u8]) -> Result<Option<Used>, AllocError>
     ensures { IfOk result (λ used. option_map used_of used ≡ use_of bytes.now) }
 {
     match bytes {

@@ -89,7 +89,7 @@ pub(crate) fn text_value(alloc: Global, bytes: &[u8]) -> Result<Option<String>, 
 }
 
 /// The bytes behind the first one.
-pub fn tail(bytes: &[u8]) -> &[u8]
+pub(crate) fn tail(bytes: &[u8]) -> &[u8]
     ensures { result.now ≡ drop 1 bytes.now }
 {
     match bytes {

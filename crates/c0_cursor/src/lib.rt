@@ -4,5 +4,5 @@
 pub mod cursor;
 pub mod directives;
 pub mod found;
-pub mod letters;
+mod letters;
 pub mod type_names;

@@ -1,21 +1,18 @@
 // Declarations and programs.
 
-ghost use Rattle.std.specs.Prelude.{◌≡◌, ℕ, Bool, List, [], drop, length, map, suc, None, IfOk};
+ghost use Rattle.std.specs.Prelude.{◌≡◌, ℕ, Bool, List, length, map, suc, None, IfOk};
 ghost use Rattle.c0_source.specs.declared.kind.Kind.TheVariants as k;
-ghost use Rattle.c0_source.specs.Spelling.{use_of as spec_use_of};
 ghost use Rattle.c0_syntax.specs.Programs.{type_names_after};
 ghost use Rattle.c0_syntax.specs.Views.{declaration_of, header_of, typed_name_of};
 ghost use Rattle.c0_reading.specs.Outcome.{Gives, next, plain_at};
-ghost use Rattle.c0_reading.specs.ReadPrograms.{declaration_by, end_by, function as spec_function, less as spec_less, over_by, parameters_by, read_fields, read_header, read_parameters, read_program, struct_by, struct_of, use_of};
-ghost use Rattle.c0_cursor.specs.FoundUses.{used_declaration};
+ghost use Rattle.c0_reading.specs.ReadPrograms.{declaration_by, end_by, function as spec_function, less as spec_less, over_by, parameters_by, read_fields, read_header, read_parameters, read_program, struct_by, struct_of};
 ghost use Rattle.c0_parser.specs.FoundPrograms.{first_known, found_declaration, found_header, found_parameter, found_parameters, one_field, one_parameter};
 
 use crate::annotations::annotations;
 use crate::found::{FoundHeader, FoundParameter, FoundParameters};
 use crate::statements::statements;
 use c0_cursor::cursor::Cursor;
-use c0_cursor::directives::{Used, directive};
-use c0_cursor::letters::tail;
+use c0_cursor::directives::Used;
 use c0_cursor::type_names::TypeNames;
 use c0_reading::read_error::ReadError;
 use c0_source::kind::Kind;
@@ -64,7 +61,7 @@ fn use_declaration(cursor: &mut Cursor<'_>) -> Result<Declaration, ReadError>
     ensures names { IfOk result (λ x. (types : List (List ℕ)) → type_names_after types (declaration_of x) ≡ types) }
 {
     let start = cursor.start();
-    let used = directive(cursor.alloc(), tail(cursor.directive_letters()))?;
+    let used = cursor.used()?;
     cursor.advance();
     let kind = match used {
         Some(Used::Name(text)) => DeclarationKind::UseName(text),
