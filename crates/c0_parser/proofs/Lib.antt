@@ -1,9 +1,3 @@
-pub mod Cursors
-pub mod Turned
-pub mod Stepped
-pub mod TextValues
-pub mod ExpressionLoops
-pub mod Rows
 pub mod ListLoops
 pub mod StatementLoops
 pub mod ProgramLoops

@@ -12,7 +12,7 @@ use Rattle.c0_reading.specs.Outcome.{Outcome, ◌>>=◌, Read, Fails, plain_at, 
 use Rattle.c0_reading.specs.ReadExpressions.{ReadType, read_type}
 use Rattle.c0_reading.specs.ReadPrograms.{ReadParameters, ReadDeclaration, fields_by, read_fields, over_by, add_parameter, less, after_parameter, read_parameters, read_declaration, read_declarations, read_program}
 use Rattle.c0_parser.specs.FoundPrograms.{ReadParameter, one_field, one_parameter, first_known}
-use Rattle.c0_parser.proofs.Turned.{fails_along, fails_bind}
+use Rattle.c0_cursor.proofs.Turned.{fails_along, fails_bind}
 use Rattle.c0_parser.proofs.ListLoops.{before_others, one_more}
 
 abbrev Names : Type 0

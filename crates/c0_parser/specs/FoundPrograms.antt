@@ -1,33 +1,15 @@
 -- What the parser's code has read of declarations, as the reading functions give it.
-use Rattle.std.specs.Prelude.{ℕ, Bool, true, false, List, [], length, map, Option, Some, None, Ok, if◌then◌else◌, ◌==◌}
-use Rattle.std.specs.String.{string_bytes}
-use Rattle.c0_source.specs.Spelling.{angled, quoted, text_value}
+use Rattle.std.specs.Prelude.{ℕ, List, length, map, Option, Some, None, Ok}
 use Rattle.c0_source.specs.Terminals.{Terminal}
 use Rattle.c0_syntax.specs.declared.program.Declaration.{Declaration as Node}
-use Rattle.c0_syntax.specs.Trees.{TypedName, Declaration, UseLibrary}
+use Rattle.c0_syntax.specs.Trees.{TypedName}
 use Rattle.c0_syntax.specs.Views.{declaration_of, header_of, typed_name_of}
-use Rattle.c0_parser.specs.declared.directives.Used.{Used}
-use Rattle.c0_parser.specs.declared.directives.Used.TheVariants as u
 use Rattle.c0_parser.specs.declared.found.FoundParameter.{FoundParameter}
 use Rattle.c0_parser.specs.declared.found.FoundParameters.{FoundParameters}
 use Rattle.c0_parser.specs.declared.found.FoundHeader.{FoundHeader}
 use Rattle.c0_reading.specs.Outcome.{Outcome, ◌>>=◌, Read, any_name, new_name, semi}
 use Rattle.c0_reading.specs.ReadExpressions.{read_type}
 use Rattle.c0_reading.specs.ReadPrograms.{ReadDeclaration, ReadHeader, ReadParameters}
-
--- what a `#use` names, as code holds it
-abbrev pub used_of : Used → Bool × List ℕ
-used_of (u.Name text) = (true, string_bytes text)
-used_of (u.Text text) = (false, string_bytes text)
-
--- what is used where this byte stands first, and these behind it
-abbrev pub used_first : ℕ → List ℕ → Option (Bool × List ℕ)
-used_first b bs = if b == 60 then angled [] bs else (if b == 34 then quoted (text_value false bs) else None)
-
--- a `#use` that names this
-abbrev pub used_declaration : Option (Bool × List ℕ) → Declaration
-used_declaration None = UseLibrary false []
-used_declaration (Some x) = UseLibrary x.0 x.1
 
 -- a field and its semicolon
 abbrev pub one_field : List (List ℕ) → ℕ → List Terminal → Outcome (Read TypedName)

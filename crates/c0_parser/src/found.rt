@@ -3,48 +3,12 @@
 use c0_syntax::expression::Expression;
 use c0_syntax::program::{Header, TypedName};
 use c0_syntax::statement::{Annotation, SimpleStatement, Statement};
-use c0_syntax::value_type::ValueType;
-
-/// A type, and how many nodes are on its longest path.
-#[derive(Debug, Drop)]
-pub struct FoundType {
-    pub value_type: ValueType,
-    pub height: usize,
-}
-
-/// Whether more signs may stand behind the type so far.
-#[derive(Debug, Drop)]
-pub enum TypeStep {
-    More(FoundType),
-    Done(FoundType),
-}
-
-/// An expression, and how many nodes are on its longest path.
-#[derive(Debug, Drop)]
-pub struct FoundExpression {
-    pub expression: Expression,
-    pub height: usize,
-}
-
-/// The arguments of a call, and how many nodes are on their longest path.
-#[derive(Debug, Drop)]
-pub struct FoundArguments {
-    pub arguments: Vec<Expression>,
-    pub height: usize,
-}
-
-/// Whether more signs may stand behind the expression so far.
-#[derive(Debug, Drop)]
-pub enum ExpressionStep {
-    More(FoundExpression),
-    Done(FoundExpression),
-}
 
 /// The annotations and the body of a loop.
 #[derive(Debug, Drop)]
 pub struct FoundBody {
     pub annotations: Vec<Annotation>,
-    pub body: Statement,
+    pub body: Box<Statement>,
 }
 
 /// A `for` from its third part on.

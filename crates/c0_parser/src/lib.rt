@@ -1,11 +1,11 @@
-// From the tokens of a text to its tree.
+//! From the tokens of a text to its tree.
 #![tactic(auto)]
 
-mod cursor;
-mod directives;
+mod annotations;
+mod declarations;
 mod found;
-mod letters;
 pub mod parse;
-mod type_names;
+mod simple_statements;
+mod statements;
 
 pub use c0_reading::laws;

@@ -12,7 +12,8 @@ ghost use Rattle.c0_reading.specs.ReadPrograms.{read_program};
 ghost use Rattle.c0_reading.specs.Parsing.{IsReadFault, fault_by, place_of, read_from};
 ghost use Rattle.c0_reading.specs.Tokens.{AreTokens};
 
-use crate::cursor::Cursor;
+use crate::declarations::program;
+use c0_cursor::cursor::Cursor;
 use c0_lexer::token::Token;
 use c0_reading::read_error::ReadError;
 use c0_source::fault::{Fault, FaultKind};
@@ -75,7 +76,7 @@ fn declarations_of<'a>(
     ensures { Gives (λ v. map declaration_of v.items) result (read_program (has_loops level) (read_from (map lexeme tokens.now))) }
 {
     let mut cursor = Cursor::new(alloc, before_last(tokens));
-    cursor.program(with_loops(level))
+    program(&mut cursor, with_loops(level))
 }
 
 /// The program that the tokens of a text read as, where the last one is the end of the text. Its fault is 20 at the first token with which

@@ -1,0 +1,4 @@
+pub mod Cursors
+pub mod Turned
+pub mod Stepped
+pub mod TextValues

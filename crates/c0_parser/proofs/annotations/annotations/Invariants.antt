@@ -1,0 +1,9 @@
+use Rattle.std.proofs.Common.{◌≡◌, ◌-◌, suc, length, map}
+use Rattle.c0_syntax.specs.Views.{annotation_of}
+use Rattle.c0_reading.specs.ReadStatements.{read_annotations}
+use Rattle.c0_parser.proofs.ListLoops.{with_list}
+use Rattle.c0_parser.proofs.annotations.annotations.Given as goal
+
+-- the annotations so far, with those that are read from here on
+abbrev pub invariant-loop-turn : goal.invariant-loop-turn
+invariant-loop-turn l = with_list (map annotation_of l.annotations.items) (read_annotations l.types l.depth (suc (length l.fn.cursor) - l._turn) l.cursor) ≡ read_annotations l.types l.depth (suc (length l.fn.cursor)) l.fn.cursor

@@ -1,9 +1,0 @@
-use Rattle.std.proofs.Common.{◌≡◌, ◌-◌, suc, length, map}
-use Rattle.c0_syntax.specs.Views.{annotation_of}
-use Rattle.c0_reading.specs.ReadStatements.{read_annotations}
-use Rattle.c0_parser.proofs.ListLoops.{with_list}
-use Rattle.c0_parser.proofs.cursor.Cursor.annotations.Given as goal
-
--- the annotations so far, with those that are read from here on
-abbrev pub invariant-loop-turn : goal.invariant-loop-turn
-invariant-loop-turn l = with_list (map annotation_of l.annotations.items) (read_annotations l.types l.depth (suc (length l.fn.self) - l._turn) l.self) ≡ read_annotations l.types l.depth (suc (length l.fn.self)) l.fn.self

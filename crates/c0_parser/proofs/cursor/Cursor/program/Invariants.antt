@@ -1,9 +1,0 @@
-use Rattle.std.proofs.Common.{◌≡◌, ◌-◌, length, map}
-use Rattle.c0_syntax.specs.Views.{declaration_of}
-use Rattle.c0_reading.specs.ReadPrograms.{read_declarations, read_program}
-use Rattle.c0_parser.proofs.ProgramLoops.{with_declarations}
-use Rattle.c0_parser.proofs.cursor.Cursor.program.Given as goal
-
--- the declarations so far, with those that are read from here on
-abbrev pub invariant-loop-turn : goal.invariant-loop-turn
-invariant-loop-turn l = with_declarations (map declaration_of l.declarations.items) (read_declarations l.types l.loops (length l.fn.self - l._turn) l.room l.self) ≡ read_program l.loops l.fn.self

@@ -1,9 +1,0 @@
-use Rattle.std.proofs.Common.{◌≡◌, ◌-◌, length, map}
-use Rattle.c0_syntax.specs.Views.{typed_name_of}
-use Rattle.c0_reading.specs.ReadPrograms.{read_parameters}
-use Rattle.c0_parser.proofs.ProgramLoops.{with_parameters}
-use Rattle.c0_parser.proofs.cursor.Cursor.some_parameters.Given as goal
-
--- the parameters so far, with those that are read from here on
-abbrev pub invariant-loop-turn : goal.invariant-loop-turn
-invariant-loop-turn l = with_parameters (map typed_name_of l.parameters.items) l.over (read_parameters l.types l.depth l.room (length l.fn.self - l._turn) l.self) ≡ read_parameters l.types l.depth 1024 (length l.fn.self) l.fn.self
