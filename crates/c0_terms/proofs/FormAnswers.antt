@@ -9,8 +9,8 @@ use Rattle.c0_syntax.specs.declared.operator.PrefixOperator.TheVariants as p
 use Rattle.c0_syntax.specs.Trees as s
 use Rattle.c0_syntax.specs.Views.{expression_of_kind}
 use Rattle.c0_typed.specs.Trees as t
-use Rattle.c0_rules.specs.Types.{Environment, Name, IntType, BoolType, ArrayOf, and_so}
-use Rattle.c0_rules.specs.Expressions.{Typing, Has, Place, Context, OperatorRule, as_wanted, chosen, dereferenced, fielded, held_type, indexed, lengthed, num, operated, operator_rule, pointed, prefixed, typed_expression, typed_place, wanted}
+use Rattle.c0_rules.specs.Types.{Environment, IntType, BoolType, ArrayOf, and_so}
+use Rattle.c0_rules.specs.Expressions.{Typing, Has, Context, OperatorRule, as_wanted, chosen, dereferenced, held_type, num, operated, operator_rule, prefixed, typed_expression, typed_place, wanted}
 use Rattle.c0_rules.specs.FaultExpressions.{AsPlace, AsValue, InExpression, NoPlace}
 use Rattle.c0_rules.specs.Answers.{Answers}
 use Rattle.c0_terms.specs.Forms.{has_form}
@@ -32,9 +32,6 @@ module _ (env : Environment) (at : Context) where
   number_is e x v = ap (λ o. and_so o (as_wanted env IntType)) (is_typed e x v)
 
   module _ {T : Type 0} (view : T → Typing) (r : Result T Fault) where
-    pub length_answers : (a : s.Expression) (x : Typing) → valued (typed a) ≡ Some x → Answers view r (lengthed env x) → Answers view r (typed (s.Length a))
-    length_answers a x v h = then_answers view r (typed a) (lengthed env) x (is_typed a x v) h
-
     pub unary_answers : (op : PrefixOperator) (a : s.Expression) (x : Typing) → valued (typed a) ≡ Some x → Answers view r (prefixed env op x) → Answers view r (typed (s.Unary op a))
     unary_answers op a x v h = then_answers view r (typed a) (prefixed env op) x (is_typed a x v) h
 
@@ -54,18 +51,6 @@ module _ (env : Environment) (at : Context) where
         then_answers view r (wanted env BoolType (typed c)) (λ z. and_so (typed a) (λ x. and_so (typed b) (chosen env z x))) z e
         (then_answers view r (typed a) (λ x. and_so (typed b) (chosen env z x)) x (is_typed a x v)
         (then_answers view r (typed b) (chosen env z x) y (is_typed b y w) h))
-
-  module _ {T : Type 0} (view : T → Place) (r : Result T Fault) where
-    pub pointer_answers : (a : s.Expression) (x : Typing) → valued (typed a) ≡ Some x → Answers view r (pointed env x) → Answers view r (typed_place env at (s.Unary p.Dereference a))
-    pointer_answers a x v h = then_answers view r (typed a) (pointed env) x (is_typed a x v) h
-
-    pub index_answers : (a i : s.Expression) (x y : Typing) → valued (typed a) ≡ Some x → valued (typed i) ≡ Some y → Answers view r (and_so (as_wanted env IntType y) (indexed env x)) → Answers view r (typed_place env at (s.Index a i))
-    index_answers a i x y v w h =
-        then_answers view r (typed a) (λ x. and_so (wanted env IntType (typed i)) (indexed env x)) x (is_typed a x v)
-        (subst (λ z. Answers view r (and_so z (indexed env x))) (sym (number_is i y w)) h)
-
-    pub arrow_answers : (a : s.Expression) (n : Name) (x : Typing) → valued (typed a) ≡ Some x → Answers view r (and_so (pointed env x) (fielded env n)) → Answers view r (typed_place env at (s.PointerField a n))
-    arrow_answers a n x v h = subst (λ z. Answers view r (and_so (and_so z (pointed env)) (fielded env n))) (sym (is_typed a x v)) h
 
   -- ---- what has not the form of a place
 

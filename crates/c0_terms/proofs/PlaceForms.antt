@@ -1,5 +1,5 @@
 -- Places by their forms: what stands there as a value, and what is no place.
-use Rattle.std.proofs.Common.{◌≡◌, refl, sym, subst, Bool, true, false, Some, None, inl, inr, Result, Ok, Err}
+use Rattle.std.proofs.Common.{◌≡◌, refl, sym, subst, Bool, true, false, Some, inl, inr, Result, Ok, Err}
 use Rattle.std.specs.Prelude.{◌⊎◌, IfErr, IfOk}
 use Rattle.std.specs.declared.alloc.Global.{Global}
 use Rattle.std.specs.declared.boxed.Box.{Box}
@@ -12,16 +12,15 @@ use Rattle.c0_syntax.specs.declared.expression.Expression.{Expression}
 use Rattle.c0_syntax.specs.declared.operator.PrefixOperator.{PrefixOperator}
 use Rattle.c0_syntax.specs.declared.operator.PrefixOperator.TheVariants as p
 use Rattle.c0_syntax.specs.Views.{expression_of_kind}
-use Rattle.c0_rules.specs.Types.{Environment, and_so, is_small}
-use Rattle.c0_rules.specs.Expressions.{Typing, Place, Context, read_of, typed_expression, typed_place}
+use Rattle.c0_rules.specs.Types.{Environment, is_small}
+use Rattle.c0_rules.specs.Expressions.{Typing, Place, Context, typed_expression, typed_place}
 use Rattle.c0_rules.specs.FaultExpressions.{AsPlace, AsValue, InExpression, Told}
 use Rattle.c0_rules.specs.Answers.{Answers}
 use Rattle.c0_terms.specs.Forms.{has_form}
 use Rattle.c0_terms.specs.Terms.{valued}
-use Rattle.c0_terms.proofs.FormAnswers.{fault_there, then_answers, value_there}
+use Rattle.c0_terms.proofs.FormAnswers.{fault_there, value_there}
 use Rattle.c0_terms.proofs.FormCauses.{causes}
 use Rattle.c0_terms.proofs.Operands.{valued_is}
-use Rattle.c0_terms.proofs.Refusals.{none_first}
 
 -- whether an expression is an element or a field
 abbrev pub is_part : ExpressionKind → Bool
@@ -36,37 +35,7 @@ only_star p.Dereference operand h = refl
 only_star _ operand h = absurd (cc h)
 
 module _ (env : Environment) (at : Context) where
-  -- the value of an element or a field is what stands at its place
-  part_is : (e : ExpressionKind) → is_part e ≡ true → typed_expression env at (expression_of_kind e) ≡ and_so (typed_place env at (expression_of_kind e)) (read_of env)
-  part_is (Index' q a here z i there) h = refl
-  part_is (Field' q e here x) h = refl
-  part_is (PointerField' q e here x) h = refl
-  part_is _ h = absurd (cc h)
-
-  pub part_refused : {K : Type 0} (e : ExpressionKind) → is_part e ≡ true → K ⊎ (typed_place env at (expression_of_kind e) ≡ None) → K ⊎ (typed_expression env at (expression_of_kind e) ≡ None)
-  part_refused e is h = rw (part_is e is) (none_first (typed_place env at (expression_of_kind e)) (read_of env) h)
-
-  pub part_answers : {T : Type 0} (view : T → Typing) (r : Result T Fault) (e : ExpressionKind) → is_part e ≡ true → (q : Place) → typed_place env at (expression_of_kind e) ≡ Some q → Answers view r (read_of env q)
-      → Answers view r (typed_expression env at (expression_of_kind e))
-  part_answers view r e is q there h = subst (Answers view r) (sym (part_is e is)) (then_answers view r (typed_place env at (expression_of_kind e)) (read_of env) q there h)
-
-  -- what is wrong with the place is wrong with the value
-  part_fault : (f : Fault) (e : ExpressionKind) (span : Span) → is_part e ≡ true → InExpression env at f AsPlace e span → InExpression env at f AsValue e span
-  part_fault f (Index' q a here z i there) span h (inl k) = inl k
-  part_fault f (Index' q a here z i there) span h (inr (inl k)) = absurd k
-  part_fault f (Index' q a here z i there) span h (inr (inr k)) = inr (inr k)
-  part_fault f (Field' q e here x) span h (inl k) = inl k
-  part_fault f (Field' q e here x) span h (inr (inl k)) = absurd k
-  part_fault f (Field' q e here x) span h (inr (inr k)) = inr (inr k)
-  part_fault f (PointerField' q e here x) span h (inl k) = inl k
-  part_fault f (PointerField' q e here x) span h (inr (inl k)) = absurd k
-  part_fault f (PointerField' q e here x) span h (inr (inr k)) = inr (inr k)
-  part_fault f _ span h k = absurd (cc h)
-
-  pub part_told : {K : Type 0} (f : Fault) (e : ExpressionKind) (span : Span) → is_part e ≡ true → K ⊎ InExpression env at f AsPlace e span → K ⊎ InExpression env at f AsValue e span
-  part_told f e span is (inl h) = inl h
-  part_told f e span is (inr h) = inr (part_fault f e span is h)
-
+  -- the value of an element or a field must be small
   part_large : (f : Fault) (e : ExpressionKind) (span : Span) → is_part e ≡ true → (q : Place) → typed_place env at (expression_of_kind e) ≡ Some q → (is_small q.resolved ≡ false) × Told k.NotSmall span f
       → InExpression env at f AsValue e span
   part_large f (Index' q a here z i there) span h place is k = inr (inl (place, is, k.0, k.1))
