@@ -31,13 +31,13 @@ def functions(size):
 
 
 def scopes(size):
-    """Functions with scopes in scopes, 150 deep, and a local in each."""
+    """Functions with scopes in scopes, 60 deep, and a local in each."""
     text, length, k = [], 0, 0
     end = "int main() { return 0; }\n"
     while True:
         parts = [f"int g{k}(int x) {{ int y0 = x; "]
-        parts += [f"if (y{i} > {i}) {{ int y{i + 1} = y{i} * {i} + y{i // 2}; " for i in range(150)]
-        parts += ["y0 = y0 + 1; ", "}" * 150, " return y0; }\n"]
+        parts += [f"if (y{i} > {i}) {{ int y{i + 1} = y{i} * {i} + y{i // 2}; " for i in range(60)]
+        parts += ["y0 = y0 + 1; ", "}" * 60, " return y0; }\n"]
         one = "".join(parts)
         if length + len(one) + len(end) > size:
             return "".join(text) + end
