@@ -1,6 +1,9 @@
 // Simple statements.
+// A tree held where reading may fail is boxed before, or dropped there by a call: a drop that `?` makes is proved
+// variant by variant.
 
 ghost use Rattle.std.specs.Prelude.{◌≡◌, ℕ, option_map};
+ghost use Rattle.c0_source.specs.declared.kind.Kind.TheVariants as k;
 ghost use Rattle.c0_syntax.specs.Expressions.{begins_star as spec_begins_star};
 ghost use Rattle.c0_syntax.specs.Trees as t;
 ghost use Rattle.c0_syntax.specs.Views.{expression_of, name_of, simple_of, type_of};
@@ -13,7 +16,7 @@ use c0_cursor::type_names::TypeNames;
 use c0_expressions::expressions::expression;
 use c0_expressions::found::FoundExpression;
 use c0_reading::read_error::ReadError;
-use c0_source::kind::Kind;
+use c0_source::kind::{Kind, Operator};
 use c0_syntax::expression::{Expression, ExpressionKind};
 use c0_syntax::name::Name;
 use c0_syntax::operator::{Change, PrefixOperator};
@@ -117,6 +120,30 @@ fn step(
     ))
 }
 
+/// The update whose operator stands next, behind what it changes.
+fn update(
+    cursor: &mut Cursor<'_>,
+    types: &TypeNames<'_>,
+    depth: usize,
+    destination: FoundExpression,
+    operator: Operator,
+) -> Result<SimpleStatement, ReadError>
+    ensures { (room : ℕ) → Gives (λ s. record { value = simple_of s; room = room; rest = cursor.new }) result (behind_by types.now depth room (k.Update operator) (found_expression cursor.old destination)) }
+{
+    let start = destination.expression.span.start;
+    cursor.advance();
+    match expression(cursor, types, depth, 1) {
+        Ok(value) => {
+            let kind = SimpleKind::Update(destination.expression, operator, value.expression);
+            Ok(simple_node(cursor, start, kind))
+        }
+        Err(error) => {
+            drop(destination);
+            Err(error)
+        }
+    }
+}
+
 /// The simple statement that begins with this expression.
 fn behind_expression(
     cursor: &mut Cursor<'_>,
@@ -141,19 +168,7 @@ fn behind_expression(
                 }
             }
         }
-        Kind::Update(operator) => {
-            cursor.advance();
-            match expression(cursor, types, depth, 1) {
-                Ok(value) => {
-                    let kind = SimpleKind::Update(first.expression, operator, value.expression);
-                    Ok(simple_node(cursor, start, kind))
-                }
-                Err(error) => {
-                    drop(first);
-                    Err(error)
-                }
-            }
-        }
+        Kind::Update(operator) => update(cursor, types, depth, first, operator),
         Kind::PlusPlus => step(cursor, first, Change::Increment),
         Kind::MinusMinus => step(cursor, first, Change::Decrement),
         _ => Ok(simple_node(cursor, start, SimpleKind::Evaluate(first.expression))),
