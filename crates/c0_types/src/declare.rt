@@ -279,6 +279,7 @@ pub(crate) fn has_main(environment: &Environment) -> bool
 #[cfg(test)]
 mod tests {
     use super::*;
+    use crate::programs::declared;
     use c0_source::fault::{FaultKind, Span};
     use c0_source::kind::Base;
     use c0_syntax::value_type::TypeKind;
@@ -303,7 +304,7 @@ mod tests {
         })
     }
 
-    fn declared(kind: DeclarationKind) -> Declaration {
+    fn placed(kind: DeclarationKind) -> Declaration {
         Declaration {
             kind,
             span: NOWHERE,
@@ -317,15 +318,15 @@ mod tests {
             span: NOWHERE,
         };
         Ok(vec![in alloc;
-            declared(DeclarationKind::UseName(String::from_str(alloc, "conio")?)),
-            declared(DeclarationKind::Typedef(int, name(alloc, "number")?)),
+            placed(DeclarationKind::UseName(String::from_str(alloc, "conio")?)),
+            placed(DeclarationKind::Typedef(int, name(alloc, "number")?)),
         ]?)
     }
 
     // `struct s { number a; number b; };`, where b has this name.
     fn pair(alloc: Global, second: &str) -> Result<Declaration, AllocError> {
         let fields = vec![in alloc; number(alloc, "a")?, number(alloc, second)?]?;
-        Ok(declared(DeclarationKind::DefineStruct(name(alloc, "s")?, fields)))
+        Ok(placed(DeclarationKind::DefineStruct(name(alloc, "s")?, fields)))
     }
 
     // `number f(number x);`, by the name of the function.
@@ -338,30 +339,7 @@ mod tests {
             annotations: Vec::new(alloc),
             span: NOWHERE,
         };
-        Ok(declared(DeclarationKind::DeclareFunction(header)))
-    }
-
-    // One declaration that has no texts in it.
-    fn declare(all: &mut Elaborated, alloc: Global, one: &Declaration) -> Result<(), Fault> {
-        match &one.kind {
-            DeclarationKind::UseName(library) => check_use(all.begun, true, library, one.span),
-            DeclarationKind::Typedef(written, name) => all.define_type(alloc, written, name),
-            DeclarationKind::DefineStruct(name, items) => all.define_struct(alloc, name, items),
-            DeclarationKind::DeclareFunction(header) => all.declare_function(alloc, header),
-            _ => Err(Fault::out_of_memory()),
-        }
-    }
-
-    // Declarations in order.
-    fn declare_all(
-        all: &mut Elaborated,
-        alloc: Global,
-        program: &[Declaration],
-    ) -> Result<(), Fault> {
-        for one in program {
-            declare(all, alloc, one)?;
-        }
-        Ok(())
+        Ok(placed(DeclarationKind::DeclareFunction(header)))
     }
 
     #[test]
@@ -370,9 +348,9 @@ mod tests {
         let mut program = beginning(alloc)?;
         program.push(pair(alloc, "b")?)?;
         program.push(header(alloc, "f")?)?;
-        let mut all = Elaborated::new(alloc, &program)?;
-        assert!(rt; all.environment.conio && !all.begun);
-        declare_all(&mut all, alloc, &program)?;
+        let before = Elaborated::new(alloc, &program)?;
+        assert!(rt; before.environment.conio && !before.begun);
+        let all = declared(alloc, &program)?.elaborated;
         assert!(rt; all.begun);
         assert_eq!(rt; all.structs.len(), 1);
         assert!(rt;
@@ -397,8 +375,7 @@ mod tests {
         for last in [pair(alloc, "a")?, header(alloc, "print")?] {
             let mut program = beginning(alloc)?;
             program.push(last)?;
-            let mut all = Elaborated::new(alloc, &program)?;
-            let refused = declare_all(&mut all, alloc, &program);
+            let refused = declared(alloc, &program);
             assert!(rt; refused.is_err_and(|f| f.kind == FaultKind::DuplicateName));
         }
         Ok(())
