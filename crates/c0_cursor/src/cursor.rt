@@ -107,6 +107,7 @@ impl<'a> Cursor<'a> {
         self.tokens.len()
     }
 
+    /// Goes behind the next token; at the end nothing changes.
     pub fn advance(&mut self)
         ensures { self.new ≡ next self.old }
     {
@@ -116,18 +117,21 @@ impl<'a> Cursor<'a> {
         }
     }
 
+    /// The next token is one with which nothing goes on.
     pub fn syntax(&self) -> ReadError
         ensures { result ≡ ReadError.Syntax (length self.now) }
     {
         ReadError::Syntax(self.remaining())
     }
 
+    /// The next token would make a tree too deep.
     pub fn too_deep(&self) -> ReadError
         ensures { result ≡ ReadError.TooDeep (length self.now) }
     {
         ReadError::TooDeep(self.remaining())
     }
 
+    /// The next token is a name too many.
     pub fn too_large(&self) -> ReadError
         ensures { result ≡ ReadError.TooLarge (length self.now) }
     {
@@ -150,6 +154,7 @@ impl<'a> Cursor<'a> {
         }
     }
 
+    /// Goes behind a `(`; any other token is a syntax fault, and nothing changes.
     pub fn lparen(&mut self) -> Result<(), ReadError>
         ensures { Gives (λ _. self.new) result (lparen self.old) }
     {
@@ -162,6 +167,7 @@ impl<'a> Cursor<'a> {
         }
     }
 
+    /// Goes behind a `]`; any other token is a syntax fault, and nothing changes.
     pub fn rbracket(&mut self) -> Result<(), ReadError>
         ensures { Gives (λ _. self.new) result (rbracket self.old) }
     {
@@ -174,6 +180,7 @@ impl<'a> Cursor<'a> {
         }
     }
 
+    /// Goes behind a `)`; any other token is a syntax fault, and nothing changes.
     pub fn rparen(&mut self) -> Result<(), ReadError>
         ensures { Gives (λ _. self.new) result (rparen self.old) }
     {
@@ -186,6 +193,7 @@ impl<'a> Cursor<'a> {
         }
     }
 
+    /// Goes behind a `,`; any other token is a syntax fault, and nothing changes.
     pub fn comma(&mut self) -> Result<(), ReadError>
         ensures { Gives (λ _. self.new) result (comma self.old) }
     {
@@ -198,6 +206,7 @@ impl<'a> Cursor<'a> {
         }
     }
 
+    /// Goes behind a `:`; any other token is a syntax fault, and nothing changes.
     pub fn colon(&mut self) -> Result<(), ReadError>
         ensures { Gives (λ _. self.new) result (colon self.old) }
     {
@@ -210,6 +219,7 @@ impl<'a> Cursor<'a> {
         }
     }
 
+    /// Goes behind a `;`; any other token is a syntax fault, and nothing changes.
     pub fn semi(&mut self) -> Result<(), ReadError>
         ensures { Gives (λ _. self.new) result (semi self.old) }
     {

@@ -22,6 +22,7 @@ impl<'a> Model for TypeNames<'a> {
 }
 
 impl<'a> TypeNames<'a> {
+    /// No names.
     pub fn new(alloc: Global) -> TypeNames<'a>
         ensures { result ≡ [] }
     {
@@ -42,6 +43,7 @@ impl<'a> TypeNames<'a> {
         false
     }
 
+    /// One name more. `Err` where memory is refused; what is left then is not told.
     pub fn add(&mut self, name: &'a [u8]) -> Result<(), AllocError>
         ensures { IfOk result (λ _. self.new ≡ name.now ∷ self.old) }
     {
