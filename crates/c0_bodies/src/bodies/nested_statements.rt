@@ -230,7 +230,7 @@ impl<'a> Body<'a> {
         ensures cause { IfErr result (λ f. (f.kind ≡ OutOfMemory) ⊎ InValue (environment_of self.now.environment.now) f (scope_of self.now.scope) value.now ⊎ ReturnCause (environment_of self.now.environment.now) f (scope_of self.now.scope) value.now) }
     {
         if self.scope.result.same_as(&ResolvedType::Void) {
-            self.value(&value.kind, value.span)?;
+            drop(self.value(&value.kind, value.span)?);
             return Err(Fault {
                 kind: FaultKind::TypeMismatch,
                 span: value.span,
