@@ -1,4 +1,5 @@
 // Simple statements.
+// A tree held where a step fails is dropped there by a call: a drop that `?` makes is proved variant by variant.
 
 ghost use Rattle.std.specs.Prelude.{◌≡◌, ◌⊎◌, IfErr, Some, option_map};
 ghost use Rattle.cells.specs.declared.int32.Int32Op.{Int32Op};
@@ -16,7 +17,7 @@ ghost use Rattle.c0_rules.specs.Answers.{Answers};
 ghost use Rattle.c0_tables.specs.Views.{environment_of, resolved_of};
 
 use super::{Body, skip};
-use crate::scope::{Destination, is_function};
+use crate::scope::Destination;
 use c0_source::fault::{Fault, FaultKind, Span};
 use c0_source::kind::Operator;
 use c0_syntax::expression::{Expression, ExpressionKind};
@@ -69,7 +70,7 @@ impl<'a> Body<'a> {
         ensures cause { IfErr result (λ f. (f.kind ≡ OutOfMemory) ⊎ TakenCause (environment_of self.old.environment.now) f (scope_of self.old.scope) name.now) }
     {
         let taken = self.scope.local(&name.text).is_some();
-        if taken || is_function(self.environment, &name.text) {
+        if taken || self.environment.is_function(&name.text) {
             return Err(Fault {
                 kind: FaultKind::DuplicateName,
                 span: name.span,
@@ -116,9 +117,19 @@ impl<'a> Body<'a> {
             .environment
             .typedefs
             .resolve_small(self.alloc, written)?;
-        let value = self.wanted(&resolved, value)?;
-        let number = self.declare(name, resolved)?;
-        Ok(TypedStatement::Set(number, value))
+        match self.wanted(&resolved, value) {
+            Ok(value) => match self.declare(name, resolved) {
+                Ok(number) => Ok(TypedStatement::Set(number, value)),
+                Err(fault) => {
+                    drop(value);
+                    Err(fault)
+                }
+            },
+            Err(fault) => {
+                drop(resolved);
+                Err(fault)
+            }
+        }
     }
 
     // A variable that is assigned to.
@@ -193,13 +204,22 @@ impl<'a> Body<'a> {
             Destination::Place(found) => {
                 let Place { resolved, place } = found;
                 if !resolved.is_small() {
+                    drop(resolved);
+                    drop(place);
                     return Err(Fault {
                         kind: FaultKind::NotSmall,
                         span,
                     });
                 }
-                let value = self.wanted(&resolved, value)?;
-                Ok(TypedStatement::Store(place, value))
+                let value = self.wanted(&resolved, value);
+                drop(resolved);
+                match value {
+                    Ok(value) => Ok(TypedStatement::Store(place, value)),
+                    Err(fault) => {
+                        drop(place);
+                        Err(fault)
+                    }
+                }
             }
         }
     }
@@ -222,13 +242,18 @@ impl<'a> Body<'a> {
         match destination {
             Destination::Local(local) => {
                 if !local.resolved.same_as(&ResolvedType::Int) {
+                    drop(number);
                     return Err(mismatch);
                 }
                 Ok(TypedStatement::Update(local.number, operator, number))
             }
             Destination::Place(found) => {
                 let Place { resolved, place } = found;
-                if !resolved.same_as(&ResolvedType::Int) {
+                let counts = resolved.same_as(&ResolvedType::Int);
+                drop(resolved);
+                if !counts {
+                    drop(place);
+                    drop(number);
                     return Err(mismatch);
                 }
                 Ok(TypedStatement::StoreUpdate(place, operator, number))
@@ -265,13 +290,19 @@ impl<'a> Body<'a> {
     {
         let found = self.destination(destination)?;
         let Some(change) = change_of_operator(operator) else {
+            drop(found);
             return Err(Fault {
                 kind: FaultKind::Syntax,
                 span,
             });
         };
-        let number = self.wanted(&ResolvedType::Int, value)?;
-        self.updated(found, destination.span, change, number)
+        match self.wanted(&ResolvedType::Int, value) {
+            Ok(number) => self.updated(found, destination.span, change, number),
+            Err(fault) => {
+                drop(found);
+                Err(fault)
+            }
+        }
     }
 
     // `++` or `--`.
