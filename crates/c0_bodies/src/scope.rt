@@ -1,16 +1,14 @@
 //! What is in scope at a place of a body.
 
-ghost use Rattle.std.specs.Prelude.{◌≡◌, ◌||◌, IfOk, is_some, option_map, take};
+ghost use Rattle.std.specs.Prelude.{◌≡◌, IfOk, option_map, take};
 ghost use Rattle.c0_syntax.specs.Views.{name_of};
 ghost use Rattle.c0_bodies.specs.Bodies.{scope_of};
 ghost use Rattle.c0_rules.specs.Expressions.{local_of as local_named};
-ghost use Rattle.c0_rules.specs.Statements.{is_function as is_called, next_number, with_local};
+ghost use Rattle.c0_rules.specs.Statements.{next_number, with_local};
 ghost use Rattle.c0_terms.specs.Terms.{local_of};
-ghost use Rattle.c0_rules.specs.Types.{output_named};
-ghost use Rattle.c0_tables.specs.Views.{environment_of, resolved_of};
+ghost use Rattle.c0_tables.specs.Views.{resolved_of};
 
 use c0_syntax::name::Name;
-use c0_tables::environment::Environment;
 use c0_tables::resolved::ResolvedType;
 use c0_terms::typing::{Local, Place};
 use std::alloc::{AllocError, Global};
@@ -29,26 +27,6 @@ pub struct Scope {
 pub(crate) enum Destination<'a> {
     Local(&'a Local),
     Place(Place),
-}
-
-/// Whether a name is that of an output call in use.
-pub(crate) fn is_output(conio: bool, name: &str) -> bool
-    ensures { result ≡ is_some (output_named conio name.now) }
-{
-    conio
-        && (name == "print"
-            || name == "println"
-            || name == "printint"
-            || name == "printbool"
-            || name == "printchar"
-            || name == "flush")
-}
-
-/// Whether a name is that of a function in scope, or of an output call in use.
-pub(crate) fn is_function(environment: &Environment, name: &str) -> bool
-    ensures { result ≡ is_called (environment_of environment.now) name.now }
-{
-    environment.functions.get(name).is_some() || is_output(environment.conio, name)
 }
 
 impl Scope {

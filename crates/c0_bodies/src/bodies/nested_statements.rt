@@ -1,6 +1,8 @@
 // Statements with others in them.
+// A tree held where a step may fail is boxed before, or dropped there by a call: a drop that `?` makes is proved
+// variant by variant.
 
-ghost use Rattle.std.specs.Prelude.{◌≡◌, ◌⊎◌, List, Err, IfErr, IfOk, IsOkAnd, is_err, map, option_map};
+ghost use Rattle.std.specs.Prelude.{◌≡◌, ◌⊎◌, List, Err, IfErr, IfOk, IsOkAnd, box_value, is_err, map, option_map};
 ghost use Rattle.c0_source.specs.declared.fault.FaultKind.TheVariants.{OutOfMemory};
 ghost use Rattle.c0_syntax.specs.Trees as t;
 ghost use Rattle.c0_syntax.specs.Views.{annotation_of, expression_of, simple_of, statement_of, statement_of_kind, statements_of};
@@ -22,6 +24,24 @@ use c0_tables::resolved::ResolvedType;
 use c0_typed::{Expression as TypedExpression, Statement as TypedStatement};
 use std::alloc::{AllocError, Global};
 
+// An `if` whose first statement is boxed.
+fn choice_of_boxed(
+    alloc: Global,
+    condition: TypedExpression,
+    first: Box<TypedStatement>,
+    second: TypedStatement,
+) -> Result<TypedStatement, AllocError>
+    ensures { IfOk result (λ b. (texts : List Name) → stmt_of texts b ≡ y.If (exp_of texts condition) (stmt_of texts (box_value first)) (stmt_of texts second)) }
+{
+    match Box::new(alloc, second) {
+        Ok(second) => Ok(TypedStatement::If(condition, first, second)),
+        Err(error) => {
+            drop(condition);
+            Err(error.into())
+        }
+    }
+}
+
 // An `if` with both of its statements.
 fn choice(
     alloc: Global,
@@ -31,9 +51,14 @@ fn choice(
 ) -> Result<TypedStatement, AllocError>
     ensures { IfOk result (λ b. (texts : List Name) → stmt_of texts b ≡ y.If (exp_of texts condition) (stmt_of texts first) (stmt_of texts second)) }
 {
-    let first = Box::new(alloc, first)?;
-    let second = Box::new(alloc, second)?;
-    Ok(TypedStatement::If(condition, first, second))
+    match Box::new(alloc, first) {
+        Ok(first) => choice_of_boxed(alloc, condition, first, second),
+        Err(error) => {
+            drop(condition);
+            drop(second);
+            Err(error.into())
+        }
+    }
 }
 
 // An `if` whose other statement has this result.
@@ -46,8 +71,33 @@ fn chosen(
     ensures answers { IfOk result (λ r. IsOkAnd second (λ b. (texts : List Name) → stmt_of texts r ≡ y.If (exp_of texts condition) (stmt_of texts first) (stmt_of texts b))) }
     ensures cause { IfErr result (λ f. (f.kind ≡ OutOfMemory) ⊎ (second ≡ Err f)) }
 {
-    let second = second?;
-    Ok(choice(alloc, condition, first, second)?)
+    match second {
+        Ok(second) => Ok(choice(alloc, condition, first, second)?),
+        Err(fault) => {
+            drop(condition);
+            drop(first);
+            Err(fault)
+        }
+    }
+}
+
+// A loop whose body is boxed.
+fn repetition_of_boxed(
+    alloc: Global,
+    invariants: Vec<TypedExpression>,
+    condition: TypedExpression,
+    body: Box<TypedStatement>,
+    third: TypedStatement,
+) -> Result<TypedStatement, AllocError>
+    ensures { IfOk result (λ b. (texts : List Name) → stmt_of texts b ≡ y.Loop (exps_of texts invariants.items) (exp_of texts condition) (stmt_of texts (box_value body)) (stmt_of texts third)) }
+{
+    match Box::new(alloc, third) {
+        Ok(third) => Ok(TypedStatement::Loop(invariants, condition, body, third)),
+        Err(error) => {
+            drop(condition);
+            Err(error.into())
+        }
+    }
 }
 
 // A loop.
@@ -60,9 +110,14 @@ fn repetition(
 ) -> Result<TypedStatement, AllocError>
     ensures { IfOk result (λ b. (texts : List Name) → stmt_of texts b ≡ y.Loop (exps_of texts invariants.items) (exp_of texts condition) (stmt_of texts body) (stmt_of texts third)) }
 {
-    let body = Box::new(alloc, body)?;
-    let third = Box::new(alloc, third)?;
-    Ok(TypedStatement::Loop(invariants, condition, body, third))
+    match Box::new(alloc, body) {
+        Ok(body) => repetition_of_boxed(alloc, invariants, condition, body, third),
+        Err(error) => {
+            drop(condition);
+            drop(third);
+            Err(error.into())
+        }
+    }
 }
 
 // A loop whose third part has this result.
@@ -76,8 +131,14 @@ fn repeated(
     ensures answers { IfOk result (λ r. IsOkAnd third (λ b. (texts : List Name) → stmt_of texts r ≡ y.Loop (exps_of texts invariants.items) (exp_of texts condition) (stmt_of texts body) (stmt_of texts b))) }
     ensures cause { IfErr result (λ f. (f.kind ≡ OutOfMemory) ⊎ (third ≡ Err f)) }
 {
-    let third = third?;
-    Ok(repetition(alloc, invariants, condition, body, third)?)
+    match third {
+        Ok(third) => Ok(repetition(alloc, invariants, condition, body, third)?),
+        Err(fault) => {
+            drop(condition);
+            drop(body);
+            Err(fault)
+        }
+    }
 }
 
 // Two statements in order.
@@ -89,7 +150,10 @@ fn in_turn(
     ensures { IfOk result (λ b. (texts : List Name) → stmt_of texts b ≡ y.Seq (stmt_of texts first) (y.Seq (stmt_of texts second) y.Skip)) }
 {
     let mut both = Vec::new(alloc);
-    both.push(first)?;
+    if let Err(error) = both.push(first) {
+        drop(second);
+        return Err(error.into());
+    }
     both.push(second)?;
     Ok(TypedStatement::Block(both))
 }
@@ -103,8 +167,13 @@ fn followed(
     ensures answers { IfOk result (λ r. IsOkAnd second (λ b. (texts : List Name) → stmt_of texts r ≡ y.Seq (stmt_of texts first) (y.Seq (stmt_of texts b) y.Skip))) }
     ensures cause { IfErr result (λ f. (f.kind ≡ OutOfMemory) ⊎ (second ≡ Err f)) }
 {
-    let second = second?;
-    Ok(in_turn(alloc, first, second)?)
+    match second {
+        Ok(second) => Ok(in_turn(alloc, first, second)?),
+        Err(fault) => {
+            drop(first);
+            Err(fault)
+        }
+    }
 }
 
 // The third part of a `for` declares no local.

@@ -16,7 +16,7 @@ ghost use Rattle.c0_rules.specs.Answers.{Answers};
 ghost use Rattle.c0_tables.specs.Views.{environment_of, resolved_of};
 
 use super::{Body, skip};
-use crate::scope::{Destination, is_function};
+use crate::scope::Destination;
 use c0_source::fault::{Fault, FaultKind, Span};
 use c0_source::kind::Operator;
 use c0_syntax::expression::{Expression, ExpressionKind};
@@ -69,7 +69,7 @@ impl<'a> Body<'a> {
         ensures cause { IfErr result (λ f. (f.kind ≡ OutOfMemory) ⊎ TakenCause (environment_of self.old.environment.now) f (scope_of self.old.scope) name.now) }
     {
         let taken = self.scope.local(&name.text).is_some();
-        if taken || is_function(self.environment, &name.text) {
+        if taken || self.environment.is_function(&name.text) {
             return Err(Fault {
                 kind: FaultKind::DuplicateName,
                 span: name.span,
