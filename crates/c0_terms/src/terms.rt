@@ -1,4 +1,6 @@
 // The static rules of expressions.
+// A typed operand held where the next may be refused is dropped there by a call: a drop that `?` makes is proved variant by
+// variant.
 
 mod forms;
 mod names;
@@ -83,6 +85,7 @@ impl<'a> Terms<'a> {
         if self.has_value(&typing) {
             Ok(typing)
         } else {
+            drop(typing);
             Err(self.void_use(kind, span))
         }
     }
@@ -157,15 +160,32 @@ impl<'a> Terms<'a> {
             ExpressionKind::Binary(operator, left, right) => {
                 let rule = operator_rule(*operator);
                 let first = self.value(&left.kind, left.span)?;
-                let second = self.value(&right.kind, right.span)?;
-                self.operated(rule, first, second, (left.span, right.span))
+                match self.value(&right.kind, right.span) {
+                    Ok(second) => self.operated(rule, first, second, (left.span, right.span)),
+                    Err(fault) => {
+                        drop(first);
+                        Err(fault)
+                    }
+                }
             }
             ExpressionKind::Conditional(condition, first, second) => {
                 let test = self.value(&condition.kind, condition.span)?;
                 let truth = self.as_wanted(&ResolvedType::Bool, test, condition.span)?;
-                let one = self.value(&first.kind, first.span)?;
-                let other = self.value(&second.kind, second.span)?;
-                self.chosen(truth, one, other, second.span)
+                let one = match self.value(&first.kind, first.span) {
+                    Ok(one) => one,
+                    Err(fault) => {
+                        drop(truth);
+                        return Err(fault);
+                    }
+                };
+                match self.value(&second.kind, second.span) {
+                    Ok(other) => self.chosen(truth, one, other, second.span),
+                    Err(fault) => {
+                        drop(truth);
+                        drop(one);
+                        Err(fault)
+                    }
+                }
             }
             ExpressionKind::Call(name, arguments) => self.called(name, arguments, span),
             ExpressionKind::Index(_, _)
@@ -265,8 +285,13 @@ impl<'a> Terms<'a> {
             ExpressionKind::Parenthesized(inner) => self.place(&inner.kind, inner.span),
             ExpressionKind::Index(array, index) => {
                 let sized = self.value(&array.kind, array.span)?;
-                let number = self.value(&index.kind, index.span)?;
-                self.element(sized, number, (array.span, index.span), span)
+                match self.value(&index.kind, index.span) {
+                    Ok(number) => self.element(sized, number, (array.span, index.span), span),
+                    Err(fault) => {
+                        drop(sized);
+                        Err(fault)
+                    }
+                }
             }
             ExpressionKind::Field(of, name) => {
                 let outer = self.place(&of.kind, of.span)?;

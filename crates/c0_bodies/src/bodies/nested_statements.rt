@@ -230,7 +230,7 @@ impl<'a> Body<'a> {
         ensures cause { IfErr result (λ f. (f.kind ≡ OutOfMemory) ⊎ InValue (environment_of self.now.environment.now) f (scope_of self.now.scope) value.now ⊎ ReturnCause (environment_of self.now.environment.now) f (scope_of self.now.scope) value.now) }
     {
         if self.scope.result.same_as(&ResolvedType::Void) {
-            self.value(&value.kind, value.span)?;
+            drop(self.value(&value.kind, value.span)?);
             return Err(Fault {
                 kind: FaultKind::TypeMismatch,
                 span: value.span,
@@ -346,8 +346,13 @@ impl<'a> Body<'a> {
         ensures cause { IfErr result (λ f. (f.kind ≡ OutOfMemory) ⊎ InWanted (environment_of self.old.environment.now) f (scope_of self.old.scope) BoolType condition.now ⊎ InStatement (environment_of self.old.environment.now) f (scope_of self.old.scope) body.now.kind body.now.span) }
     {
         let condition = self.wanted(&ResolvedType::Bool, condition)?;
-        let first = self.inner(body)?;
-        Ok(choice(self.alloc, condition, first, skip(self.alloc))?)
+        match self.inner(body) {
+            Ok(first) => Ok(choice(self.alloc, condition, first, skip(self.alloc))?),
+            Err(fault) => {
+                drop(condition);
+                Err(fault)
+            }
+        }
     }
 
     // An `if` with `else`.
@@ -365,9 +370,16 @@ impl<'a> Body<'a> {
         ensures cause { IfErr result (λ f. (f.kind ≡ OutOfMemory) ⊎ InIfElse (environment_of self.old.environment.now) f (scope_of self.old.scope) condition.now body.now other.now) }
     {
         let condition = self.wanted(&ResolvedType::Bool, condition)?;
-        let first = self.inner(body)?;
-        let second = self.inner(other);
-        chosen(self.alloc, condition, first, second)
+        match self.inner(body) {
+            Ok(first) => {
+                let second = self.inner(other);
+                chosen(self.alloc, condition, first, second)
+            }
+            Err(fault) => {
+                drop(condition);
+                Err(fault)
+            }
+        }
     }
 
     // A `while`.

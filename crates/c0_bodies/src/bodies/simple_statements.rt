@@ -1,4 +1,5 @@
 // Simple statements.
+// A tree held where a step fails is dropped there by a call: a drop that `?` makes is proved variant by variant.
 
 ghost use Rattle.std.specs.Prelude.{◌≡◌, ◌⊎◌, IfErr, List, Some, is_ok, not, option_map};
 ghost use Rattle.cells.specs.declared.int32.Int32Op.{Int32Op};
@@ -145,9 +146,19 @@ impl<'a> Body<'a> {
             .typedefs
             .resolve_small(self.alloc, written)?;
         self.check_free(name)?;
-        let value = self.wanted(&resolved, value)?;
-        let number = self.declare(name, resolved)?;
-        Ok(TypedStatement::Set(number, value))
+        match self.wanted(&resolved, value) {
+            Ok(value) => match self.declare(name, resolved) {
+                Ok(number) => Ok(TypedStatement::Set(number, value)),
+                Err(fault) => {
+                    drop(value);
+                    Err(fault)
+                }
+            },
+            Err(fault) => {
+                drop(resolved);
+                Err(fault)
+            }
+        }
     }
 
     // A variable that is assigned to.
@@ -222,13 +233,22 @@ impl<'a> Body<'a> {
             Destination::Place(found) => {
                 let Place { resolved, place } = found;
                 if !resolved.is_small() {
+                    drop(resolved);
+                    drop(place);
                     return Err(Fault {
                         kind: FaultKind::NotSmall,
                         span,
                     });
                 }
-                let value = self.wanted(&resolved, value)?;
-                Ok(TypedStatement::Store(place, value))
+                let value = self.wanted(&resolved, value);
+                drop(resolved);
+                match value {
+                    Ok(value) => Ok(TypedStatement::Store(place, value)),
+                    Err(fault) => {
+                        drop(place);
+                        Err(fault)
+                    }
+                }
             }
         }
     }
@@ -251,13 +271,18 @@ impl<'a> Body<'a> {
         match destination {
             Destination::Local(local) => {
                 if !local.resolved.same_as(&ResolvedType::Int) {
+                    drop(number);
                     return Err(mismatch);
                 }
                 Ok(TypedStatement::Update(local.number, operator, number))
             }
             Destination::Place(found) => {
                 let Place { resolved, place } = found;
-                if !resolved.same_as(&ResolvedType::Int) {
+                let counts = resolved.same_as(&ResolvedType::Int);
+                drop(resolved);
+                if !counts {
+                    drop(place);
+                    drop(number);
                     return Err(mismatch);
                 }
                 Ok(TypedStatement::StoreUpdate(place, operator, number))
@@ -295,13 +320,19 @@ impl<'a> Body<'a> {
         let found = self.destination(destination)?;
         check_number(&found, destination.span)?;
         let Some(change) = change_of_operator(operator) else {
+            drop(found);
             return Err(Fault {
                 kind: FaultKind::Syntax,
                 span,
             });
         };
-        let number = self.wanted(&ResolvedType::Int, value)?;
-        self.updated(found, destination.span, change, number)
+        match self.wanted(&ResolvedType::Int, value) {
+            Ok(number) => self.updated(found, destination.span, change, number),
+            Err(fault) => {
+                drop(found);
+                Err(fault)
+            }
+        }
     }
 
     // `++` or `--`.

@@ -136,22 +136,20 @@ inner-returns-clause-answers t c =
 
 -- ---- an `if`
 
-pub choice_of-returns-in_err-first-clause-answers : goal.choice_of-returns-in_err-first-clause-answers
-choice_of-returns-in_err-first-clause-answers t c =
-    let p = err_from_is_err_and c.from_residual-in_err-first.result c.from_residual-in_err-first.ensures.1 in
-    rw (p.1, p.2) (if_none (environment_of c.args.self.now.environment.now) (expression_of c.args.condition.now) (statement_of c.args.body.now) (scope_of c.args.self.now.scope) c.in_err-first.ensures.answers)
+pub choice_of-returns-in-Err-clause-answers : goal.choice_of-returns-in-Err-clause-answers
+choice_of-returns-in-Err-clause-answers t c =
+    if_none (environment_of c.args.self.now.environment.now) (expression_of c.args.condition.now) (statement_of c.args.body.now) (scope_of c.args.self.now.scope) c.in-Err.ensures.answers
 
-pub choice_of-returns-in_err-first-clause-cause : goal.choice_of-returns-in_err-first-clause-cause
-choice_of-returns-in_err-first-clause-cause t c =
-    let p = err_from_is_err_and c.from_residual-in_err-first.result c.from_residual-in_err-first.ensures.1 in
-    rw (p.1, p.2) (second_of c.in_err-first.ensures.cause (λ h. h))
+pub choice_of-returns-in-Err-clause-cause : goal.choice_of-returns-in-Err-clause-cause
+choice_of-returns-in-Err-clause-cause t c =
+    second_of c.in-Err.ensures.cause (λ h. h)
 
-pub choice_of-returns-clause-answers : goal.choice_of-returns-clause-answers
-choice_of-returns-clause-answers t c =
+pub choice_of-returns-in_ok-choice-in-Ok-clause-answers : goal.choice_of-returns-in_ok-choice-in-Ok-clause-answers
+choice_of-returns-in_ok-choice-in-Ok-clause-answers t c =
     let texts = c.args.self.now.texts.now in
     let z = exp_of texts c.in_ok-condition.condition in
-    let x = stmt_of texts c.in_ok-first.first in
-    if_gives (environment_of c.args.self.now.environment.now) (expression_of c.args.condition.now) (statement_of c.args.body.now) (scope_of c.args.self.now.scope) z (record { statement = x; scope = scope_of c.inner.new.self.scope }) _ c.in_ok-condition.ensures.answers c.in_ok-first.ensures.answers (c.in_ok-choice.ensures texts ∙ ap (y.If z x) (c.skip.ensures texts))
+    let x = stmt_of texts c.in-Ok.first in
+    if_gives (environment_of c.args.self.now.environment.now) (expression_of c.args.condition.now) (statement_of c.args.body.now) (scope_of c.args.self.now.scope) z (record { statement = x; scope = scope_of c.inner.new.self.scope }) _ c.in_ok-condition.ensures.answers c.in-Ok.ensures.answers (c.in_ok-choice-in-Ok.ensures texts ∙ ap (y.If z x) (c.skip.ensures texts))
 
 pub inner-statement-requires : goal.inner-statement-requires
 inner-statement-requires t c = (omega (arith, c.decreases), c.requires)
@@ -223,18 +221,16 @@ statement-returns-in-While-clause-cause t c =
 
 -- ---- an `if` with `else`
 
-pub choice_of_two-returns-in_err-first-clause-answers : goal.choice_of_two-returns-in_err-first-clause-answers
-choice_of_two-returns-in_err-first-clause-answers t c =
-    let p = err_from_is_err_and c.from_residual-in_err-first.result c.from_residual-in_err-first.ensures.1 in
-    rw (p.1, p.2) (if_else_none (environment_of c.args.self.now.environment.now) (expression_of c.args.condition.now) (statement_of c.args.body.now) (statement_of c.args.other.now) (scope_of c.args.self.now.scope) c.in_err-first.ensures.answers)
+pub choice_of_two-returns-in-Err-clause-answers : goal.choice_of_two-returns-in-Err-clause-answers
+choice_of_two-returns-in-Err-clause-answers t c =
+    if_else_none (environment_of c.args.self.now.environment.now) (expression_of c.args.condition.now) (statement_of c.args.body.now) (statement_of c.args.other.now) (scope_of c.args.self.now.scope) c.in-Err.ensures.answers
 
-pub choice_of_two-returns-in_err-first-clause-cause : goal.choice_of_two-returns-in_err-first-clause-cause
-choice_of_two-returns-in_err-first-clause-cause t c =
-    let p = err_from_is_err_and c.from_residual-in_err-first.result c.from_residual-in_err-first.ensures.1 in
-    rw (p.1, p.2) (second_of c.in_err-first.ensures.cause (λ h. inl h))
+pub choice_of_two-returns-in-Err-clause-cause : goal.choice_of_two-returns-in-Err-clause-cause
+choice_of_two-returns-in-Err-clause-cause t c =
+    second_of c.in-Err.ensures.cause (λ h. inl h)
 
-pub choice_of_two-returns-clause-answers : goal.choice_of_two-returns-clause-answers
-choice_of_two-returns-clause-answers t c =
+pub choice_of_two-returns-in-Ok-clause-answers : goal.choice_of_two-returns-in-Ok-clause-answers
+choice_of_two-returns-in-Ok-clause-answers t c =
     let env = environment_of c.args.self.now.environment.now in
     let texts = c.args.self.now.texts.now in
     let at = scope_of c.args.self.now.scope in
@@ -243,21 +239,21 @@ choice_of_two-returns-clause-answers t c =
     let condition = expression_of c.args.condition.now in
     let a = statement_of c.args.body.now in
     let b = statement_of c.args.other.now in
-    let first : Checked = record { statement = stmt_of texts c.in_ok-first.first; scope = scope_of c.inner.new.self.scope } in
+    let first : Checked = record { statement = stmt_of texts c.in-Ok.first; scope = scope_of c.inner.new.self.scope } in
     let given = at_start (λ e w. Gives w behind last (in_scope e b first.scope)) c.inner.ensures.environment c.inner.ensures.texts c.inner-second.ensures.answers in
-    made_gives (λ w z. y.If (exp_of w c.in_ok-condition.condition) (stmt_of w c.in_ok-first.first) z) texts behind behind last c.chosen.result (in_scope env b first.scope) (typed_statement env (tree.IfElse condition a b) at) c.chosen.ensures.answers c.chosen.ensures.cause given
-    (λ z h. if_else_gives env condition a b at (exp_of texts c.in_ok-condition.condition) first (record { statement = z; scope = scope_of behind }) _ c.in_ok-condition.ensures.answers c.in_ok-first.ensures.answers h refl)
-    (λ K h. else_none env condition a b at first c.in_ok-first.ensures.answers h)
+    made_gives (λ w z. y.If (exp_of w c.in_ok-condition.condition) (stmt_of w c.in-Ok.first) z) texts behind behind last c.chosen.result (in_scope env b first.scope) (typed_statement env (tree.IfElse condition a b) at) c.chosen.ensures.answers c.chosen.ensures.cause given
+    (λ z h. if_else_gives env condition a b at (exp_of texts c.in_ok-condition.condition) first (record { statement = z; scope = scope_of behind }) _ c.in_ok-condition.ensures.answers c.in-Ok.ensures.answers h refl)
+    (λ K h. else_none env condition a b at first c.in-Ok.ensures.answers h)
 
-pub choice_of_two-returns-clause-cause : goal.choice_of_two-returns-clause-cause
-choice_of_two-returns-clause-cause t c =
+pub choice_of_two-returns-in-Ok-clause-cause : goal.choice_of_two-returns-in-Ok-clause-cause
+choice_of_two-returns-in-Ok-clause-cause t c =
     let env = environment_of c.args.self.now.environment.now in
     let at = scope_of c.args.self.now.scope in
     let last = c.inner-second.result in
     let other = c.args.other.now in
-    let first : Checked = record { statement = stmt_of c.args.self.now.texts.now c.in_ok-first.first; scope = scope_of c.inner.new.self.scope } in
+    let first : Checked = record { statement = stmt_of c.args.self.now.texts.now c.in-Ok.first; scope = scope_of c.inner.new.self.scope } in
     let there = at_start (λ e w. IfErr last (λ f. (f.kind ≡ OutOfMemory) ⊎ InStatement e f first.scope other.kind other.span)) c.inner.ensures.environment c.inner.ensures.texts c.inner-second.ensures.cause in
-    made_told last c.chosen.result c.chosen.ensures.cause there (λ f h. third_of env h (scope_cause env (λ s. InStatement env f s other.kind other.span) (statement_of c.args.body.now) at first c.in_ok-first.ensures.answers))
+    made_told last c.chosen.result c.chosen.ensures.cause there (λ f h. third_of env h (scope_cause env (λ s. InStatement env f s other.kind other.span) (statement_of c.args.body.now) at first c.in-Ok.ensures.answers))
 
 pub statement-choice_of_two-requires : goal.statement-choice_of_two-requires
 statement-choice_of_two-requires t c =

@@ -10,10 +10,8 @@ use Rattle.c0_bodies.specs.Bodies.{scope_of}
 use Rattle.c0_bodies.proofs.Causes.{among_four}
 use Rattle.c0_bodies.proofs.bodies.Body.initialization.Goals as goal
 
-pub returns-in_err-value-clause-cause : goal.returns-in_err-value-clause-cause
-returns-in_err-value-clause-cause c =
-    let p = err_from_is_err_and c.from_residual-in_err-value.result c.from_residual-in_err-value.ensures.1 in
-    rw (p.1, p.2) (among_four c.in_err-value.ensures.cause (λ m. (_, c.in_ok-resolved.ensures.answers, m)))
+pub returns-in-Err-clause-cause : goal.returns-in-Err-clause-cause
+returns-in-Err-clause-cause c = among_four c.in-Err.ensures.cause (λ m. (_, c.in_ok-resolved.ensures.answers, m))
 
 pub returns-in_err-check_free-clause-answers : goal.returns-in_err-check_free-clause-answers
 returns-in_err-check_free-clause-answers c =

@@ -26,37 +26,36 @@ value-returns-else-has_value-clause-cause t c =
     let s = c.args.self.now in
     void_told (typed_expression (env_of s) (context_of s) (expression_of_kind c.args.kind.now)) (typing_of s.texts.now c.in_ok-typing.typing) c.in_ok-typing.ensures.answers (sym c.has_value.ensures ∙ c.if-has_value.false) (λ e h. c.void_use.ensures e h)
 
-pub composed-returns-in_err-second-in-Binary-clause-answers : goal.composed-returns-in_err-second-in-Binary-clause-answers
-composed-returns-in_err-second-in-Binary-clause-answers t c =
-    let s = c.args.self.now in
-    let x = c.in-Binary in
-    let shape = ap expression_of_kind x.is in
-    let p = err_from_is_err_and c.from_residual-in_err-second-in-Binary.result c.from_residual-in_err-second-in-Binary.ensures.1 in
-    let first = rw c.deref.ensures at c.in_ok-first-in-Binary.ensures.answers in
-    let refused = rw c.deref-in-Binary-2.ensures at c.in_err-second-in-Binary.ensures.answers in
-    rw (p.1, p.2, shape) (right_refused (env_of s) (context_of s) x.operator (expression_of x.left.value) (expression_of x.right.value) (typing_of s.texts.now c.in_ok-first-in-Binary.first) first refused)
-
-pub composed-returns-in_ok-second-in-Binary-clause-answers : goal.composed-returns-in_ok-second-in-Binary-clause-answers
-composed-returns-in_ok-second-in-Binary-clause-answers t c =
+pub composed-returns-in-Err-clause-answers : goal.composed-returns-in-Err-clause-answers
+composed-returns-in-Err-clause-answers t c =
     let s = c.args.self.now in
     let x = c.in-Binary in
     let shape = ap expression_of_kind x.is in
     let first = rw c.deref.ensures at c.in_ok-first-in-Binary.ensures.answers in
-    let second = rw c.deref-in-Binary-2.ensures at c.in_ok-second-in-Binary.ensures.answers in
-    rw shape (binary_answers (env_of s) (context_of s) (typing_of s.texts.now) c.operated.result x.operator (rule_of c.operator_rule-rule.result) c.operator_rule-rule.ensures (expression_of x.left.value) (expression_of x.right.value) (typing_of s.texts.now c.in_ok-first-in-Binary.first) (typing_of s.texts.now c.in_ok-second-in-Binary.second) first second c.operated.ensures.answers)
+    let refused = rw c.deref-in-Binary-2.ensures at c.in-Err.ensures.answers in
+    rw shape (right_refused (env_of s) (context_of s) x.operator (expression_of x.left.value) (expression_of x.right.value) (typing_of s.texts.now c.in_ok-first-in-Binary.first) first refused)
 
-pub composed-returns-in_ok-second-in-Binary-clause-cause : goal.composed-returns-in_ok-second-in-Binary-clause-cause
-composed-returns-in_ok-second-in-Binary-clause-cause t c =
+pub composed-returns-in-Ok-clause-answers : goal.composed-returns-in-Ok-clause-answers
+composed-returns-in-Ok-clause-answers t c =
+    let s = c.args.self.now in
+    let x = c.in-Binary in
+    let shape = ap expression_of_kind x.is in
+    let first = rw c.deref.ensures at c.in_ok-first-in-Binary.ensures.answers in
+    let second = rw c.deref-in-Binary-2.ensures at c.in-Ok.ensures.answers in
+    rw shape (binary_answers (env_of s) (context_of s) (typing_of s.texts.now) c.operated.result x.operator (rule_of c.operator_rule-rule.result) c.operator_rule-rule.ensures (expression_of x.left.value) (expression_of x.right.value) (typing_of s.texts.now c.in_ok-first-in-Binary.first) (typing_of s.texts.now c.in-Ok.second) first second c.operated.ensures.answers)
+
+pub composed-returns-in-Ok-clause-cause : goal.composed-returns-in-Ok-clause-cause
+composed-returns-in-Ok-clause-cause t c =
     let s = c.args.self.now in
     let x = c.in-Binary in
     let a = x.left.value in
     let b = x.right.value in
     let rule = rule_of c.operator_rule-rule.result in
     let one = typing_of s.texts.now c.in_ok-first-in-Binary.first in
-    let other = typing_of s.texts.now c.in_ok-second-in-Binary.second in
+    let other = typing_of s.texts.now c.in-Ok.second in
     let first = rw c.deref.ensures at c.in_ok-first-in-Binary.ensures.answers in
-    let second = rw c.deref-in-Binary-2.ensures at c.in_ok-second-in-Binary.ensures.answers in
-    let told = rw (c.deref-in-Binary-4.ensures, c.deref-in-Binary-5.ensures) at c.operated.ensures.cause in
+    let second = rw c.deref-in-Binary-2.ensures at c.in-Ok.ensures.answers in
+    let told = rw (c.deref-in-Ok.ensures, c.deref-in-Ok-2.ensures) at c.operated.ensures.cause in
     rw x.is (none_causes (typing_of s.texts.now) c.operated.result (operated (env_of s) rule one other) _ _ (λ f none h. first_three (subst (λ z. BinaryCause (env_of s) (context_of s) f z a.kind a.span b.kind b.span) c.operator_rule-rule.ensures (binary_cause (env_of s) (context_of s) f rule a.kind a.span b.kind b.span one other first second none h))) c.operated.ensures.answers told)
 
 pub typing-returns-in_err-number-in-AllocArray-clause-answers : goal.typing-returns-in_err-number-in-AllocArray-clause-answers
@@ -165,36 +164,34 @@ composed-returns-in_err-truth-in-Conditional-clause-cause t c =
     let told = rw c.deref-in-Conditional-3.ensures at c.in_err-truth-in-Conditional.ensures.cause in
     rw (p.1, p.2, x.is) (among (wanted_cause (env_of s) (context_of s) c.in_err-truth-in-Conditional.field-0.0 BoolType x.condition.value.kind x.condition.value.span w tested c.in_err-truth-in-Conditional.ensures.answers told))
 
-pub composed-returns-in_err-one-in-Conditional-clause-answers : goal.composed-returns-in_err-one-in-Conditional-clause-answers
-composed-returns-in_err-one-in-Conditional-clause-answers t c =
+pub composed-returns-in-Err-value-clause-answers : goal.composed-returns-in-Err-value-clause-answers
+composed-returns-in-Err-value-clause-answers t c =
     let s = c.args.self.now in
     let x = c.in-Conditional in
     let shape = ap expression_of_kind x.is in
-    let p = err_from_is_err_and c.from_residual-in_err-one-in-Conditional.result c.from_residual-in_err-one-in-Conditional.ensures.1 in
     let tested = rw c.deref-in-Conditional.ensures at c.in_ok-test-in-Conditional.ensures.answers in
     let w = typing_of s.texts.now c.in_ok-test-in-Conditional.test in
     let z = exp_of s.texts.now c.in_ok-truth-in-Conditional.truth in
     let is = test_is (env_of s) (context_of s) (expression_of x.condition.value) w z tested c.in_ok-truth-in-Conditional.ensures.answers in
-    let refused = rw c.deref-in-Conditional-4.ensures at c.in_err-one-in-Conditional.ensures.answers in
-    rw (p.1, p.2, shape) (first_arm_refused (env_of s) (context_of s) (expression_of x.condition.value) (expression_of x.first.value) (expression_of x.second.value) z is refused)
+    let refused = rw c.deref-in-Conditional-4.ensures at c.in-Err-value.ensures.answers in
+    rw shape (first_arm_refused (env_of s) (context_of s) (expression_of x.condition.value) (expression_of x.first.value) (expression_of x.second.value) z is refused)
 
-pub composed-returns-in_err-other-in-Conditional-clause-answers : goal.composed-returns-in_err-other-in-Conditional-clause-answers
-composed-returns-in_err-other-in-Conditional-clause-answers t c =
+pub composed-returns-in-Err-value-2-clause-answers : goal.composed-returns-in-Err-value-2-clause-answers
+composed-returns-in-Err-value-2-clause-answers t c =
     let s = c.args.self.now in
     let x = c.in-Conditional in
     let shape = ap expression_of_kind x.is in
-    let p = err_from_is_err_and c.from_residual-in_err-other-in-Conditional.result c.from_residual-in_err-other-in-Conditional.ensures.1 in
     let tested = rw c.deref-in-Conditional.ensures at c.in_ok-test-in-Conditional.ensures.answers in
     let w = typing_of s.texts.now c.in_ok-test-in-Conditional.test in
     let z = exp_of s.texts.now c.in_ok-truth-in-Conditional.truth in
     let is = test_is (env_of s) (context_of s) (expression_of x.condition.value) w z tested c.in_ok-truth-in-Conditional.ensures.answers in
-    let first = rw c.deref-in-Conditional-4.ensures at c.in_ok-one-in-Conditional.ensures.answers in
-    let one = typing_of s.texts.now c.in_ok-one-in-Conditional.one in
-    let refused = rw c.deref-in-Conditional-6.ensures at c.in_err-other-in-Conditional.ensures.answers in
-    rw (p.1, p.2, shape) (second_arm_refused (env_of s) (context_of s) (expression_of x.condition.value) (expression_of x.first.value) (expression_of x.second.value) z one is first refused)
+    let first = rw c.deref-in-Conditional-4.ensures at c.in-Ok-value.ensures.answers in
+    let one = typing_of s.texts.now c.in-Ok-value.one in
+    let refused = rw c.deref-in-Conditional-6.ensures at c.in-Err-value-2.ensures.answers in
+    rw shape (second_arm_refused (env_of s) (context_of s) (expression_of x.condition.value) (expression_of x.first.value) (expression_of x.second.value) z one is first refused)
 
-pub composed-returns-in_ok-other-in-Conditional-clause-answers : goal.composed-returns-in_ok-other-in-Conditional-clause-answers
-composed-returns-in_ok-other-in-Conditional-clause-answers t c =
+pub composed-returns-in-Ok-value-2-clause-answers : goal.composed-returns-in-Ok-value-2-clause-answers
+composed-returns-in-Ok-value-2-clause-answers t c =
     let s = c.args.self.now in
     let x = c.in-Conditional in
     let shape = ap expression_of_kind x.is in
@@ -202,21 +199,21 @@ composed-returns-in_ok-other-in-Conditional-clause-answers t c =
     let w = typing_of s.texts.now c.in_ok-test-in-Conditional.test in
     let z = exp_of s.texts.now c.in_ok-truth-in-Conditional.truth in
     let is = test_is (env_of s) (context_of s) (expression_of x.condition.value) w z tested c.in_ok-truth-in-Conditional.ensures.answers in
-    let first = rw c.deref-in-Conditional-4.ensures at c.in_ok-one-in-Conditional.ensures.answers in
-    let one = typing_of s.texts.now c.in_ok-one-in-Conditional.one in
-    let second = rw c.deref-in-Conditional-6.ensures at c.in_ok-other-in-Conditional.ensures.answers in
-    let other = typing_of s.texts.now c.in_ok-other-in-Conditional.other in
+    let first = rw c.deref-in-Conditional-4.ensures at c.in-Ok-value.ensures.answers in
+    let one = typing_of s.texts.now c.in-Ok-value.one in
+    let second = rw c.deref-in-Conditional-6.ensures at c.in-Ok-value-2.ensures.answers in
+    let other = typing_of s.texts.now c.in-Ok-value-2.other in
     rw shape (conditional_answers (env_of s) (context_of s) (typing_of s.texts.now) c.chosen.result (expression_of x.condition.value) (expression_of x.first.value) (expression_of x.second.value) z one other is first second c.chosen.ensures.answers)
 
-pub composed-returns-in_ok-other-in-Conditional-clause-cause : goal.composed-returns-in_ok-other-in-Conditional-clause-cause
-composed-returns-in_ok-other-in-Conditional-clause-cause t c =
+pub composed-returns-in-Ok-value-2-clause-cause : goal.composed-returns-in-Ok-value-2-clause-cause
+composed-returns-in-Ok-value-2-clause-cause t c =
     let s = c.args.self.now in
     let x = c.in-Conditional in
-    let first = rw c.deref-in-Conditional-4.ensures at c.in_ok-one-in-Conditional.ensures.answers in
-    let one = typing_of s.texts.now c.in_ok-one-in-Conditional.one in
-    let second = rw c.deref-in-Conditional-6.ensures at c.in_ok-other-in-Conditional.ensures.answers in
-    let other = typing_of s.texts.now c.in_ok-other-in-Conditional.other in
-    let told = rw c.deref-in-Conditional-8.ensures at c.chosen.ensures.cause in
+    let first = rw c.deref-in-Conditional-4.ensures at c.in-Ok-value.ensures.answers in
+    let one = typing_of s.texts.now c.in-Ok-value.one in
+    let second = rw c.deref-in-Conditional-6.ensures at c.in-Ok-value-2.ensures.answers in
+    let other = typing_of s.texts.now c.in-Ok-value-2.other in
+    let told = rw c.deref-in-Ok-value-2.ensures at c.chosen.ensures.cause in
     rw x.is (causes c.chosen.result _ _ (λ f h. inr (inl (arms_cause (env_of s) (context_of s) f x.first.value.kind x.second.value.kind x.second.value.span one other first second h))) told)
 
 pub composed-returns-in_ok-place-in-Index-clause-cause : goal.composed-returns-in_ok-place-in-Index-clause-cause
@@ -246,15 +243,14 @@ place_at-returns-in_err-sized-in-Index-clause-answers t c =
     let refused = rw c.deref-in-Index.ensures at c.in_err-sized-in-Index.ensures.answers in
     rw (p.1, p.2, shape) (array_of_index_refused (env_of s) (context_of s) (expression_of x.array.value) (expression_of x.index.value) refused)
 
-pub place_at-returns-in_err-number-in-Index-clause-answers : goal.place_at-returns-in_err-number-in-Index-clause-answers
-place_at-returns-in_err-number-in-Index-clause-answers t c =
+pub place_at-returns-in-Err-clause-answers : goal.place_at-returns-in-Err-clause-answers
+place_at-returns-in-Err-clause-answers t c =
     let s = c.args.self.now in
     let x = c.in-Index in
     let shape = ap expression_of_kind x.is in
-    let p = err_from_is_err_and c.from_residual-in_err-number-in-Index.result c.from_residual-in_err-number-in-Index.ensures.1 in
     let first = rw c.deref-in-Index.ensures at c.in_ok-sized-in-Index.ensures.answers in
-    let refused = rw c.deref-in-Index-3.ensures at c.in_err-number-in-Index.ensures.answers in
-    rw (p.1, p.2, shape) (index_refused (env_of s) (context_of s) (expression_of x.array.value) (expression_of x.index.value) (typing_of s.texts.now c.in_ok-sized-in-Index.sized) first refused)
+    let refused = rw c.deref-in-Index-3.ensures at c.in-Err.ensures.answers in
+    rw shape (index_refused (env_of s) (context_of s) (expression_of x.array.value) (expression_of x.index.value) (typing_of s.texts.now c.in_ok-sized-in-Index.sized) first refused)
 
 pub place_at-returns-in_err-pointer-in-PointerField-clause-answers : goal.place_at-returns-in_err-pointer-in-PointerField-clause-answers
 place_at-returns-in_err-pointer-in-PointerField-clause-answers t c =
@@ -275,15 +271,15 @@ place_at-returns-in_err-pointer-in-Unary-clause-answers t c =
     let refused = rw c.deref-in-Unary.ensures at c.in_err-pointer-in-Unary.ensures.answers in
     rw (p.1, p.2, shape, star) (pointer_refused (env_of s) (context_of s) (expression_of x.operand.value) refused)
 
-pub place_at-returns-in_ok-number-in-Index-clause-cause : goal.place_at-returns-in_ok-number-in-Index-clause-cause
-place_at-returns-in_ok-number-in-Index-clause-cause t c =
+pub place_at-returns-in-Ok-clause-cause : goal.place_at-returns-in-Ok-clause-cause
+place_at-returns-in-Ok-clause-cause t c =
     let s = c.args.self.now in
     let x = c.in-Index in
     let first = rw c.deref-in-Index.ensures at c.in_ok-sized-in-Index.ensures.answers in
-    let second = rw c.deref-in-Index-3.ensures at c.in_ok-number-in-Index.ensures.answers in
+    let second = rw c.deref-in-Index-3.ensures at c.in-Ok.ensures.answers in
     let one = typing_of s.texts.now c.in_ok-sized-in-Index.sized in
-    let other = typing_of s.texts.now c.in_ok-number-in-Index.number in
-    let told = rw (c.deref-in-Index-5.ensures, c.deref-in-Index-6.ensures) at c.element.ensures.cause in
+    let other = typing_of s.texts.now c.in-Ok.number in
+    let told = rw (c.deref-in-Ok.ensures, c.deref-in-Ok-2.ensures) at c.element.ensures.cause in
     rw x.is (causes c.element.result _ _ (λ f h. inl (index_cause (env_of s) (context_of s) f x.array.value.kind x.array.value.span x.index.value.kind x.index.value.span c.args.span one other first second h)) told)
 
 pub place_at-returns-in_ok-outer-in-Field-clause-cause : goal.place_at-returns-in_ok-outer-in-Field-clause-cause
