@@ -1,6 +1,7 @@
 pub mod BodyRows
 pub mod Branches
 pub mod Causes
+pub mod Changes
 pub mod ConditionLists
 pub mod Kept
 pub mod Made

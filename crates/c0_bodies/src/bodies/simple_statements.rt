@@ -1,7 +1,7 @@
 // Simple statements.
 // A tree held where a step fails is dropped there by a call: a drop that `?` makes is proved variant by variant.
 
-ghost use Rattle.std.specs.Prelude.{◌≡◌, ◌⊎◌, IfErr, Some, option_map};
+ghost use Rattle.std.specs.Prelude.{◌≡◌, ◌⊎◌, IfErr, List, Some, is_ok, not, option_map};
 ghost use Rattle.cells.specs.declared.int32.Int32Op.{Int32Op};
 ghost use Rattle.c0_source.specs.declared.fault.FaultKind.TheVariants.{OutOfMemory};
 ghost use Rattle.c0_syntax.specs.Trees as t;
@@ -9,11 +9,12 @@ ghost use Rattle.c0_syntax.specs.Views.{expression_of, expression_of_kind, name_
 ghost use Rattle.c0_typed.specs.Views.{exp_of};
 ghost use Rattle.c0_bodies.specs.Bodies.{Declares, Gives, InAssigned, InDestinationOf, InUpdated, SimpleHasTexts, destination_of, scope_of};
 ghost use Rattle.c0_rules.specs.Expressions.{operator_rule};
-ghost use Rattle.c0_rules.specs.FaultStatements.{InDestination, InSimple, TakenCause};
+ghost use Rattle.c0_rules.specs.FaultStatements.{InDestination, InSimple, TakenCause, destination_type};
 ghost use Rattle.c0_rules.specs.Mentions.{as_variable};
-ghost use Rattle.c0_rules.specs.Statements.{assigned, change_of, declared, destination as destination_by_rules, destination_by, step_of, typed_simple, updated};
+ghost use Rattle.c0_rules.specs.Statements.{assigned, change_of, declared, destination as destination_by_rules, destination_by, is_taken, step_of, typed_simple, updated};
 ghost use Rattle.c0_terms.specs.Terms.{HasTexts};
 ghost use Rattle.c0_rules.specs.Answers.{Answers};
+ghost use Rattle.c0_rules.specs.Types.{IntType, Name as Word, same_type};
 ghost use Rattle.c0_tables.specs.Views.{environment_of, resolved_of};
 
 use super::{Body, skip};
@@ -61,13 +62,29 @@ fn operator_of_step(change: Change) -> Int32Op
     }
 }
 
+// A destination at this place holds a number.
+fn check_number(destination: &Destination<'_>, span: Span) -> Result<(), Fault>
+    ensures number { (texts : List Word) → is_ok result ≡ same_type (destination_type (destination_of texts destination.now)) IntType }
+    ensures cause { (texts : List Word) → IfErr result (λ f. InUpdated f (destination_of texts destination.now) span) }
+{
+    let resolved = match destination {
+        Destination::Local(local) => &local.resolved,
+        Destination::Place(found) => &found.resolved,
+    };
+    if resolved.same_as(&ResolvedType::Int) {
+        return Ok(());
+    }
+    Err(Fault {
+        kind: FaultKind::TypeMismatch,
+        span,
+    })
+}
+
 impl<'a> Body<'a> {
-    // A new local, and its number.
-    fn declare(&mut self, name: &Name, resolved: ResolvedType) -> Result<u32, Fault>
-        ensures environment { self.new.environment ≡ self.old.environment }
-        ensures texts { self.new.texts ≡ self.old.texts }
-        ensures answers { Declares (scope_of self.old.scope) self.new.scope result (declared (environment_of self.old.environment.now) (name_of name.now) (resolved_of resolved) (scope_of self.old.scope)) }
-        ensures cause { IfErr result (λ f. (f.kind ≡ OutOfMemory) ⊎ TakenCause (environment_of self.old.environment.now) f (scope_of self.old.scope) name.now) }
+    // No local and no function in scope, and no output call in use, has this name.
+    fn check_free(&self, name: &Name) -> Result<(), Fault>
+        ensures free { is_ok result ≡ not (is_taken (environment_of self.now.environment.now) (scope_of self.now.scope) (name_of name.now)) }
+        ensures cause { IfErr result (λ f. TakenCause (environment_of self.now.environment.now) f (scope_of self.now.scope) name.now) }
     {
         let taken = self.scope.local(&name.text).is_some();
         if taken || self.environment.is_function(&name.text) {
@@ -76,6 +93,17 @@ impl<'a> Body<'a> {
                 span: name.span,
             });
         }
+        Ok(())
+    }
+
+    // A new local, and its number.
+    fn declare(&mut self, name: &Name, resolved: ResolvedType) -> Result<u32, Fault>
+        ensures environment { self.new.environment ≡ self.old.environment }
+        ensures texts { self.new.texts ≡ self.old.texts }
+        ensures answers { Declares (scope_of self.old.scope) self.new.scope result (declared (environment_of self.old.environment.now) (name_of name.now) (resolved_of resolved) (scope_of self.old.scope)) }
+        ensures cause { IfErr result (λ f. (f.kind ≡ OutOfMemory) ⊎ TakenCause (environment_of self.old.environment.now) f (scope_of self.old.scope) name.now) }
+    {
+        self.check_free(name)?;
         Ok(self.scope.push(self.alloc, name, resolved)?)
     }
 
@@ -99,7 +127,7 @@ impl<'a> Body<'a> {
         Ok(skip(self.alloc))
     }
 
-    // A declaration of a local with a value, which is looked at before the local is in scope.
+    // A declaration of a local with a value, which is looked at behind the name but before the local is in scope.
     fn initialization(
         &mut self,
         written: &ValueType,
@@ -117,6 +145,7 @@ impl<'a> Body<'a> {
             .environment
             .typedefs
             .resolve_small(self.alloc, written)?;
+        self.check_free(name)?;
         match self.wanted(&resolved, value) {
             Ok(value) => match self.declare(name, resolved) {
                 Ok(number) => Ok(TypedStatement::Set(number, value)),
@@ -289,6 +318,7 @@ impl<'a> Body<'a> {
         ensures cause { IfErr result (λ f. (f.kind ≡ OutOfMemory) ⊎ InSimple (environment_of self.now.environment.now) f (scope_of self.now.scope) (SimpleKind.Update destination.now operator value.now) span) }
     {
         let found = self.destination(destination)?;
+        check_number(&found, destination.span)?;
         let Some(change) = change_of_operator(operator) else {
             drop(found);
             return Err(Fault {
