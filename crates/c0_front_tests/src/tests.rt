@@ -1093,5 +1093,17 @@ fn one_fault_of_several(rt: HostRuntime) -> Result<(), Fail> {
         "int main() { int x = true; return y; }",
         "1:22: fault 33 TypeMismatch",
     )?;
+    expect(
+        &rt,
+        alloc,
+        "int main() { int x = 1; { int x = y; } return 0; }",
+        "1:31: fault 32 DuplicateName",
+    )?;
+    expect(
+        &rt,
+        alloc,
+        "int main() { bool b = true; b += x; return 0; }",
+        "1:29: fault 33 TypeMismatch",
+    )?;
     Ok(())
 }
