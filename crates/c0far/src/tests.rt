@@ -188,16 +188,14 @@ mod tests {
         rt: &W,
         name: &str,
         text: &[u8],
-    ) -> Result<(Vec<u8>, u8), FileError> {
+    ) -> Result<(Vec<u8>, u8), Fail> {
         let mut files = MemFiles::new(alloc);
         files.write(alloc, name, text)?;
         let words = ["c0far", "check", name];
         let told = command(alloc, rt, &words, &mut files);
-        let written = if told.out.is_empty() {
-            told.err
-        } else {
-            told.out
-        };
+        let mut written = Vec::new(alloc);
+        written.extend_from_slice(&told.out)?;
+        written.extend_from_slice(&told.err)?;
         Ok((written, told.status))
     }
 
