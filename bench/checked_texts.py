@@ -4,6 +4,7 @@
 usage: bench/checked_texts.py PROGRAM
 PROGRAM is the c0far that was built. The least of five runs counts.
 """
+import itertools
 import os
 import resource
 import subprocess
@@ -30,36 +31,46 @@ def functions(size):
     return "".join(text) + "/" + "*" + " " * max(0, size - length - len(end) - 5) + "*" + "/\n" + end
 
 
-def scopes(size):
-    """Functions with scopes in scopes, 60 deep, and a local in each."""
-    text, length, k = [], 0, 0
+def repeated(size, one_of):
+    """As many functions of one sort as the size holds, each made from its number, and a `main`."""
     end = "int main() { return 0; }\n"
-    while True:
-        parts = [f"int g{k}(int x) {{ int y0 = x; "]
-        parts += [f"if (y{i} > {i}) {{ int y{i + 1} = y{i} * {i} + y{i // 2}; " for i in range(60)]
-        parts += ["y0 = y0 + 1; ", "}" * 60, " return y0; }\n"]
-        one = "".join(parts)
+    text, length = [], 0
+    for k in itertools.count():
+        one = one_of(k)
         if length + len(one) + len(end) > size:
             return "".join(text) + end
         text.append(one)
         length += len(one)
-        k += 1
+
+
+def scopes(size):
+    """Functions with scopes in scopes, 60 deep, and a local in each."""
+    deep = "".join(f"if (y{i} > {i}) {{ int y{i + 1} = y{i} * {i} + y{i // 2}; " for i in range(60))
+    return repeated(size, lambda k: f"int g{k}(int x) {{ int y0 = x; {deep}y0 = y0 + 1; {'}' * 60} return y0; }}\n")
 
 
 def locals_of(size):
     """Functions of 1,000 locals, each assigned in one branch or the other."""
-    text, length, k = [], 0, 0
-    end = "int main() { return 0; }\n"
-    while True:
-        parts = [f"int h{k}(int x) {{ "]
-        parts += [f"int z{i}; if (x > {i}) {{ z{i} = {i}; }} else {{ z{i} = x; }} " for i in range(1000)]
-        parts += ["int s = 0; "] + [f"s += z{i}; " for i in range(1000)] + [" return s; }\n"]
-        one = "".join(parts)
-        if length + len(one) + len(end) > size:
-            return "".join(text) + end
-        text.append(one)
-        length += len(one)
-        k += 1
+    branches = "".join(f"int z{i}; if (x > {i}) {{ z{i} = {i}; }} else {{ z{i} = x; }} " for i in range(1000))
+    sums = "".join(f"s += z{i}; " for i in range(1000))
+    return repeated(size, lambda k: f"int h{k}(int x) {{ {branches}int s = 0; {sums} return s; }}\n")
+
+
+def unassigned(size, statement):
+    """A function of 1,000 locals that are declared without values, and behind them one statement as often as the size holds it."""
+    head = "int main() { bool c = true; " + "".join(f"int x{i}; " for i in range(1000))
+    end = "return 0; }\n"
+    return head + statement * ((size - len(head) - len(end)) // len(statement)) + end
+
+
+def empty_blocks(size):
+    """Empty blocks, where 1,000 locals are not assigned."""
+    return unassigned(size, "{}")
+
+
+def joins(size):
+    """Choices of two ways that assign one local, where 999 others are not assigned."""
+    return unassigned(size, "if (c) x1 = 1; else x1 = 1; ")
 
 
 def expressions(size):
@@ -94,7 +105,7 @@ def least(program, text):
 
 def main():
     program = os.path.abspath(sys.argv[1])
-    for name, made in [("functions", functions), ("scopes", scopes), ("locals", locals_of), ("expressions", expressions)]:
+    for name, made in [("functions", functions), ("scopes", scopes), ("locals", locals_of), ("expressions", expressions), ("empty blocks", empty_blocks), ("joins", joins)]:
         for size in (MOST // 4, MOST // 2, MOST):
             text = made(size)
             seconds = least(program, text)

@@ -14,14 +14,25 @@ BETWEEN = r"""
 #define _GNU_SOURCE
 #include <dlfcn.h>
 #include <errno.h>
+#include <fcntl.h>
 #include <stdio.h>
 #include <stdlib.h>
 #include <unistd.h>
 static long calls;
+/* The count is told at each call, since a program with threads may end without its library's destructors. */
+static void tell(long number) {
+    static int file = -1;
+    char text[32];
+    const char *path = getenv("CALLS");
+    if (!path) return;
+    if (file < 0) file = open(path, O_CREAT | O_WRONLY, 0600);
+    pwrite(file, text, snprintf(text, sizeof text, "%ld\n", number), 0);
+}
 static int is_refused(void) {
     const char *word = getenv("REFUSED");
-    calls++;
-    if (word && calls == atol(word)) { errno = ENOMEM; return 1; }
+    long number = __atomic_add_fetch(&calls, 1, __ATOMIC_SEQ_CST);
+    tell(number);
+    if (word && number == atol(word)) { errno = ENOMEM; return 1; }
     return 0;
 }
 void *malloc(size_t size) {
@@ -39,11 +50,6 @@ void *aligned_alloc(size_t align, size_t size) {
     if (!next) next = dlsym(RTLD_NEXT, "aligned_alloc");
     return is_refused() ? NULL : next(align, size);
 }
-__attribute__((destructor)) static void tell(void) {
-    const char *path = getenv("CALLS");
-    FILE *file = path ? fopen(path, "w") : NULL;
-    if (file) { fprintf(file, "%ld\n", calls); fclose(file); }
-}
 """
 
 
@@ -55,7 +61,7 @@ def main():
         source, library, told = f"{folder}/between.c", f"{folder}/between.so", f"{folder}/calls"
         with open(source, "w") as file:
             file.write(BETWEEN)
-        subprocess.run(["cc", "-O1", "-shared", "-fPIC", "-o", library, source, "-ldl"], check=True)
+        subprocess.run(["cc", "-O1", "-w", "-shared", "-fPIC", "-o", library, source, "-ldl"], check=True)
 
         def run(**more):
             ran = subprocess.run(words, env={**os.environ, "LD_PRELOAD": library, **more}, capture_output=True)

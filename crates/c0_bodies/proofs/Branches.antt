@@ -19,15 +19,15 @@ use Rattle.c0_bodies.proofs.Scopes.{Keeps, keeps_on, left, loop_keeps, part_keep
 
 -- ---- rules in a row
 
-so_same : {A B : Type 0} (o : Option A) (f g : A → Option B) → ((x : A) → f x ≡ g x) → and_so o f ≡ and_so o g
+pub so_same : {A B : Type 0} (o : Option A) (f g : A → Option B) → ((x : A) → f x ≡ g x) → and_so o f ≡ and_so o g
 so_same None f g h = refl
 so_same (Some x) f g h = h x
 
-so_assoc : {A B C : Type 0} (o : Option A) (f : A → Option B) (g : B → Option C) → and_so (and_so o f) g ≡ and_so o (λ x. and_so (f x) g)
+pub so_assoc : {A B C : Type 0} (o : Option A) (f : A → Option B) (g : B → Option C) → and_so (and_so o f) g ≡ and_so o (λ x. and_so (f x) g)
 so_assoc None f g = refl
 so_assoc (Some x) f g = refl
 
-so_none : {A B : Type 0} (o : Option A) (f : A → Option B) → ((x : A) → f x ≡ None) → and_so o f ≡ None
+pub so_none : {A B : Type 0} (o : Option A) (f : A → Option B) → ((x : A) → f x ≡ None) → and_so o f ≡ None
 so_none None f h = refl
 so_none (Some x) f h = h x
 
@@ -48,23 +48,6 @@ module _ (env : Environment) where
   while_is c notes a s =
       so_same (expression_as env BoolType s c) _ _ (λ z. so_same (conditions_of_all env Invariant (within s) (specs_in notes)) _ _ (λ xs. so_assoc (typed_statement env a s) _ _))
 
-  pub for_is : (first : Option SimpleStatement) (c : Expression) (third : Option SimpleStatement) (notes : List (List Spec)) (a : Statement) (s : Scope) → declares third ≡ false
-      → and_so (typed_part env first s) (λ x. and_so (loop_behind env c third notes a x.scope) (λ w. next (t.Seq x.statement (t.Seq w.statement t.Skip)) (leave s w.scope))) ≡ typed_statement env (For first c third notes a) s
-  for_is first c third notes a s h =
-      so_same (typed_part env first s) _ _ (λ x.
-      so_assoc (expression_as env BoolType x.scope c) _ _ ∙ so_same (expression_as env BoolType x.scope c) _ _ (λ z.
-      so_assoc (conditions_of_all env Invariant (within x.scope) (specs_in notes)) _ _ ∙ so_same (conditions_of_all env Invariant (within x.scope) (specs_in notes)) _ _ (λ xs.
-      so_assoc (in_scope env a x.scope) _ _ ∙ so_assoc (typed_statement env a x.scope) _ _ ∙ so_same (typed_statement env a x.scope) _ _ (λ y.
-      so_assoc (typed_part env third (leave x.scope y.scope)) _ _
-      ∙ ap (λ b. provided (not b) (and_so (typed_part env third (leave x.scope y.scope)) (λ w. next (t.Seq x.statement (t.Seq (t.Loop xs z y.statement w.statement) t.Skip)) (leave s w.scope)))) (sym h)))))
-
-  pub for_declares : (first : Option SimpleStatement) (c : Expression) (third : Option SimpleStatement) (notes : List (List Spec)) (a : Statement) (s : Scope) → declares third ≡ true
-      → typed_statement env (For first c third notes a) s ≡ None
-  for_declares first c third notes a s h =
-      so_none (typed_part env first s) _ (λ x. so_none (expression_as env BoolType x.scope c) _ (λ z. so_none (conditions_of_all env Invariant (within x.scope) (specs_in notes)) _ (λ xs.
-      so_none (typed_statement env a x.scope) _ (λ y.
-      ap (λ b. provided (not b) (and_so (typed_part env third (leave x.scope y.scope)) (λ w. next (t.Seq x.statement (t.Seq (t.Loop xs z y.statement w.statement) t.Skip)) (leave s w.scope)))) h))))
-
   -- ---- the end of a scope
 
   pub nested_gives : (b : Statement) (s : Scope) (x : Checked) (count : ℕ) (behind : Scope) → count ≡ length s.locals → typed_statement env b s ≡ Some x → behind ≡ record x.scope { locals = take count x.scope.locals }
@@ -78,25 +61,6 @@ module _ (env : Environment) where
   block_gives ss s x count behind e h k =
       ap (λ o. and_so o (λ z. next z.statement (leave s z.scope))) h
       ∙ ap (λ z. Some (record { statement = x.statement; scope = z })) (sym (k ∙ ap (λ m. record x.scope { locals = take m x.scope.locals }) e ∙ left s x (some_has (Keeps s) (typed_statements env ss s) x (statements_keep env ss s) h)))
-
-  -- the scope in which the other part of a `for` begins, behind its first part and its loop
-  pub for_leaves : (first : Option SimpleStatement) (c : Expression) (third : Option SimpleStatement) (notes : List (List Spec)) (a : Statement) (s : Scope) → declares third ≡ false → (x w : Checked)
-      → typed_part env first s ≡ Some x → loop_behind env c third notes a x.scope ≡ Some w → (b : t.Stmt) → b ≡ t.Seq x.statement (t.Seq w.statement t.Skip)
-      → typed_statement env (For first c third notes a) s ≡ Some (record { statement = b; scope = leave s w.scope })
-  for_leaves first c third notes a s h x w e k b same =
-      sym (for_is first c third notes a s h)
-      ∙ ap (λ o. and_so o (λ z. and_so (loop_behind env c third notes a z.scope) (λ v. next (t.Seq z.statement (t.Seq v.statement t.Skip)) (leave s v.scope)))) e
-      ∙ ap (λ o. and_so o (λ v. next (t.Seq x.statement (t.Seq v.statement t.Skip)) (leave s v.scope))) k
-      ∙ ap (λ z. Some (record { statement = z; scope = leave s w.scope })) (sym same)
-
-  -- ... and at the end of its scope
-  pub for_gives : (first : Option SimpleStatement) (c : Expression) (third : Option SimpleStatement) (notes : List (List Spec)) (a : Statement) (s : Scope) → declares third ≡ false → (x w : Checked)
-      → typed_part env first s ≡ Some x → loop_behind env c third notes a x.scope ≡ Some w → (count : ℕ) (behind : Scope) → count ≡ length s.locals → behind ≡ record w.scope { locals = take count w.scope.locals }
-      → typed_statement env (For first c third notes a) s ≡ Some (record { statement = t.Seq x.statement (t.Seq w.statement t.Skip); scope = behind })
-  for_gives first c third notes a s h x w e k count behind size l =
-      let kept = keeps_on s x w (some_has (Keeps s) (typed_part env first s) x (part_keeps env first s) e) (some_has (Keeps x.scope) (loop_behind env c third notes a x.scope) w (loop_keeps env c third notes a x.scope) k) in
-      for_leaves first c third notes a s h x w e k (t.Seq x.statement (t.Seq w.statement t.Skip)) refl
-      ∙ ap (λ z. Some (record { statement = t.Seq x.statement (t.Seq w.statement t.Skip); scope = z })) (sym (l ∙ ap (λ m. record w.scope { locals = take m w.scope.locals }) size ∙ left s w kept))
 
   -- ---- statements in order
 
@@ -224,42 +188,6 @@ module _ (env : Environment) where
   while_none c notes a s (inr h) =
       inr (sym (while_is env c notes a s) ∙ so_none (expression_as env BoolType s c) _ (λ z. so_none (conditions_of_all env Invariant (within s) (specs_in notes)) _ (λ xs. ap (λ o. and_so o (λ v. next (t.Loop xs z v.statement t.Skip) v.scope)) h)))
 
-  pub loop_gives : (c : Expression) (third : Option SimpleStatement) (notes : List (List Spec)) (a : Statement) (s : Scope) (z : t.Exp) (xs : t.Exps) (x w : Checked) (b : t.Stmt) → expression_as env BoolType s c ≡ Some z
-      → conditions_of_all env Invariant (within s) (specs_in notes) ≡ Some xs → in_scope env a s ≡ Some x → typed_part env third x.scope ≡ Some w → b ≡ t.Loop xs z x.statement w.statement
-      → loop_behind env c third notes a s ≡ Some (record { statement = b; scope = w.scope })
-  loop_gives c third notes a s z xs x w b e i k l same =
-      ap (λ o. and_so o (λ p. and_so (conditions_of_all env Invariant (within s) (specs_in notes)) (λ ps. and_so (in_scope env a s) (λ v. and_so (typed_part env third v.scope) (λ u. next (t.Loop ps p v.statement u.statement) u.scope))))) e
-      ∙ ap (λ o. and_so o (λ ps. and_so (in_scope env a s) (λ v. and_so (typed_part env third v.scope) (λ u. next (t.Loop ps z v.statement u.statement) u.scope)))) i
-      ∙ ap (λ o. and_so o (λ v. and_so (typed_part env third v.scope) (λ u. next (t.Loop xs z v.statement u.statement) u.scope))) k
-      ∙ ap (λ o. and_so o (λ u. next (t.Loop xs z x.statement u.statement) u.scope)) l
-      ∙ ap (λ p. Some (record { statement = p; scope = w.scope })) (sym same)
-
-  pub loop_none : {K : Type 0} (c : Expression) (third : Option SimpleStatement) (notes : List (List Spec)) (a : Statement) (s : Scope) → K ⊎ (in_scope env a s ≡ None) → K ⊎ (loop_behind env c third notes a s ≡ None)
-  loop_none c third notes a s (inl k) = inl k
-  loop_none c third notes a s (inr h) =
-      inr (so_none (expression_as env BoolType s c) _ (λ z. so_none (conditions_of_all env Invariant (within s) (specs_in notes)) _ (λ xs. ap (λ o. and_so o (λ v. and_so (typed_part env third v.scope) (λ u. next (t.Loop xs z v.statement u.statement) u.scope))) h)))
-
-  pub third_none : {K : Type 0} (c : Expression) (third : Option SimpleStatement) (notes : List (List Spec)) (a : Statement) (s : Scope) (x : Checked) → in_scope env a s ≡ Some x → K ⊎ (typed_part env third x.scope ≡ None)
-      → K ⊎ (loop_behind env c third notes a s ≡ None)
-  third_none c third notes a s x k (inl h) = inl h
-  third_none c third notes a s x k (inr h) =
-      inr (so_none (expression_as env BoolType s c) _ (λ z. so_none (conditions_of_all env Invariant (within s) (specs_in notes)) _ (λ xs.
-      ap (λ o. and_so o (λ v. and_so (typed_part env third v.scope) (λ u. next (t.Loop xs z v.statement u.statement) u.scope))) k ∙ ap (λ o. and_so o (λ u. next (t.Loop xs z x.statement u.statement) u.scope)) h)))
-
-  pub for_none : {K : Type 0} (first : Option SimpleStatement) (c : Expression) (third : Option SimpleStatement) (notes : List (List Spec)) (a : Statement) (s : Scope) → declares third ≡ false → (x : Checked)
-      → typed_part env first s ≡ Some x → K ⊎ (loop_behind env c third notes a x.scope ≡ None) → K ⊎ (typed_statement env (For first c third notes a) s ≡ None)
-  for_none first c third notes a s h x e (inl k) = inl k
-  for_none first c third notes a s h x e (inr k) =
-      inr (sym (for_is env first c third notes a s h)
-      ∙ ap (λ o. and_so o (λ z. and_so (loop_behind env c third notes a z.scope) (λ v. next (t.Seq z.statement (t.Seq v.statement t.Skip)) (leave s v.scope)))) e
-      ∙ ap (λ o. and_so o (λ v. next (t.Seq x.statement (t.Seq v.statement t.Skip)) (leave s v.scope))) k)
-
-  pub first_none : {K : Type 0} (first : Option SimpleStatement) (c : Expression) (third : Option SimpleStatement) (notes : List (List Spec)) (a : Statement) (s : Scope) → declares third ≡ false
-      → K ⊎ (typed_part env first s ≡ None) → K ⊎ (typed_statement env (For first c third notes a) s ≡ None)
-  first_none first c third notes a s h (inl k) = inl k
-  first_none first c third notes a s h (inr k) =
-      inr (sym (for_is env first c third notes a s h) ∙ ap (λ o. and_so o (λ z. and_so (loop_behind env c third notes a z.scope) (λ v. next (t.Seq z.statement (t.Seq v.statement t.Skip)) (leave s v.scope)))) k)
-
   -- what holds behind a statement with a scope of its own
   pub scope_cause : (P : Scope → Type 0) (a : Statement) (s : Scope) (x : Checked) → in_scope env a s ≡ Some x → P x.scope → (z : Checked) × (typed_statement env a s ≡ Some z) × P (leave s z.scope)
   scope_cause P a s x e h =
@@ -271,7 +199,3 @@ module _ (env : Environment) where
   pub third_of : {K A B C D : Type 0} → K ⊎ C → (C → D) → K ⊎ A ⊎ B ⊎ D
   third_of (inl k) f = inl k
   third_of (inr h) f = inr (inr (inr (f h)))
-
-  pub fourth_of : {K A B C E D : Type 0} → K ⊎ E → (E → D) → K ⊎ A ⊎ B ⊎ C ⊎ D
-  fourth_of (inl k) f = inl k
-  fourth_of (inr h) f = inr (inr (inr (inr (f h))))

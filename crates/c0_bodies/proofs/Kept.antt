@@ -35,3 +35,40 @@ second_of (inr h) f = inr (inr (f h))
 pub third_alone : {K A B C : Type 0} → K ⊎ C → K ⊎ A ⊎ B ⊎ C
 third_alone (inl k) = inl k
 third_alone (inr h) = inr (inr (inr h))
+
+-- a cause in the parts of a loop beside its body, or in its body, is one in the loop
+pub head_told : {K T A B C D : Type 0} → K ⊎ T ⊎ A ⊎ B ⊎ C → K ⊎ T ⊎ A ⊎ B ⊎ C ⊎ D
+head_told (inl k) = inl k
+head_told (inr (inl h)) = inr (inl h)
+head_told (inr (inr (inl h))) = inr (inr (inl h))
+head_told (inr (inr (inr (inl h)))) = inr (inr (inr (inl h)))
+head_told (inr (inr (inr (inr h)))) = inr (inr (inr (inr (inl h))))
+
+pub body_told : {K T A B C D : Type 0} → K ⊎ D → K ⊎ T ⊎ A ⊎ B ⊎ C ⊎ D
+body_told (inl k) = inl k
+body_told (inr h) = inr (inr (inr (inr (inr h))))
+
+-- a cause in the loop is one in its `for`
+pub loop_told : {K A T L D : Type 0} → K ⊎ T ⊎ L → (L → D) → K ⊎ A ⊎ T ⊎ D
+loop_told (inl k) go = inl k
+loop_told (inr (inl h)) go = inr (inr (inl h))
+loop_told (inr (inr h)) go = inr (inr (inr (go h)))
+
+-- one of two more causes
+pub second_more : {K A B : Type 0} → K ⊎ B → K ⊎ A ⊎ B
+second_more (inl k) = inl k
+second_more (inr h) = inr (inr h)
+
+-- a cause in one of the parts of a loop beside its body
+pub condition_told : {K T A B C : Type 0} → K ⊎ A → K ⊎ T ⊎ A ⊎ B ⊎ C
+condition_told (inl k) = inl k
+condition_told (inr h) = inr (inr (inl h))
+
+pub step_told : {K T A B C : Type 0} → K ⊎ T ⊎ B → K ⊎ T ⊎ A ⊎ B ⊎ C
+step_told (inl k) = inl k
+step_told (inr (inl h)) = inr (inl h)
+step_told (inr (inr h)) = inr (inr (inr (inl h)))
+
+pub notes_told : {K T A B C : Type 0} → K ⊎ C → K ⊎ T ⊎ A ⊎ B ⊎ C
+notes_told (inl k) = inl k
+notes_told (inr h) = inr (inr (inr (inr h)))

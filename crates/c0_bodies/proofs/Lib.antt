@@ -4,6 +4,7 @@ pub mod Causes
 pub mod Changes
 pub mod ConditionLists
 pub mod Kept
+pub mod Loops
 pub mod Made
 pub mod Scopes
 pub mod Sizes

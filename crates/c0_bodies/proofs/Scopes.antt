@@ -3,12 +3,12 @@ use Rattle.std.proofs.Common.{◌≡◌, ℕ, zero, suc, List, [], ◌∷◌, �
 use Rattle.std.specs.Prelude.{not, cond, find, option_map}
 use Rattle.c0_syntax.specs.Trees.{Expression, Spec, SimpleStatement, Declare, Initialize, Assign, Update, Step, Evaluate, Statement, Simple, Block, Annotation, Return, ReturnValue, If, IfElse, While, For, Assert, Error, Break, Continue, Statements, nothing, also}
 use Rattle.c0_typed.specs.Trees as t
-use Rattle.c0_bodies.specs.Bodies.{in_scope, loop_behind}
+use Rattle.c0_bodies.specs.Bodies.{in_scope, loop_behind, loop_head}
 use Rattle.c0_rules.specs.Types.{and_so, Name, ResolvedType, VoidType, IntType, BoolType, StringType, same_type, is_small, small_type, Environment}
 use Rattle.c0_rules.specs.Mentions.{specs_in}
 use Rattle.c0_rules.specs.Expressions.{operator_rule, Local, typed_expression}
 use Rattle.c0_rules.specs.Statements.{Invariant, Assertion, Scope, Checked, leave, within, Destination, ToLocal, ToPlace, change_of, step_of, declares, one, expression_as, conditions_of_all, is_taken, declared, destination, assigned, updated, evaluated, typed_simple, typed_part, typed_statement, typed_statements}
-use Rattle.c0_rules.proofs.Rules.{AllSome, all_so, all_go, all_if}
+use Rattle.c0_rules.proofs.Rules.{AllSome, all_so, all_go, all_if, some_has}
 
 pub map_take : {A B : Type 0} (f : A → B) (n : ℕ) (xs : List A) → map f (take n xs) ≡ take n (map f xs)
 map_take f zero xs = refl
@@ -99,9 +99,33 @@ module _ (env : Environment) where
 
   pub loop_keeps : (c : Expression) (third : Option SimpleStatement) (notes : List (List Spec)) (a : Statement) (s : Scope) → AllSome (Keeps s) (loop_behind env c third notes a s)
   loop_keeps c third notes a s =
-      all_go (Keeps s) (expression_as env BoolType s c) _ (λ z q. all_go (Keeps s) (conditions_of_all env Invariant (within s) (specs_in notes)) _ (λ xs r.
-      all_so (Keeps s) (Keeps s) (in_scope env a s) _ (all_go (Keeps s) (typed_statement env a s) _ (λ x g. same s)) (λ x g.
-      all_so (Keeps x.scope) (Keeps s) (typed_part env third x.scope) _ (part_keeps third x.scope) (λ w i. keeps_on s x w g i))))
+      all_go (Keeps s) (loop_head env c third notes s) _ (λ h q. all_so (Keeps s) (Keeps s) (in_scope env a s) _ (all_go (Keeps s) (typed_statement env a s) _ (λ x g. same s)) (λ x g. g))
+
+  -- ---- what declares no local leaves the scope as it is
+
+  abbrev Stays : Scope → Checked → Type 0
+  Stays s x = x.scope ≡ s
+
+  assigned_stays : (s : Scope) (e : _) (d : Destination) → AllSome (Stays s) (assigned env s e d)
+  assigned_stays s e (ToLocal l) = all_go (Stays s) (expression_as env l.resolved s e) _ (λ x q. refl)
+  assigned_stays s e (ToPlace d) = all_if (Stays s) (is_small d.resolved) _ (λ z. all_go (Stays s) (expression_as env d.resolved s e) _ (λ x q. refl))
+
+  updated_stays : (s : Scope) (o : _) (x : t.Exp) (d : Destination) → AllSome (Stays s) (updated env s o x d)
+  updated_stays s o x (ToLocal l) = all_if (Stays s) (same_type l.resolved IntType) _ (λ z. refl)
+  updated_stays s o x (ToPlace d) = all_if (Stays s) (same_type d.resolved IntType) _ (λ z. refl)
+
+  part_stays : (a : Option SimpleStatement) (s : Scope) → declares a ≡ false → AllSome (Stays s) (typed_part env a s)
+  part_stays None s h = refl
+  part_stays (Some (Declare a n)) s h = absurd (cc h)
+  part_stays (Some (Initialize a n e)) s h = absurd (cc h)
+  part_stays (Some (Assign d e)) s h = all_go (Stays s) (destination env s d) _ (λ q i. assigned_stays s e q)
+  part_stays (Some (Update d o e)) s h =
+      all_go (Stays s) (destination env s d) _ (λ q f. all_go (Stays s) (change_of (operator_rule o)) _ (λ k i. all_go (Stays s) (expression_as env IntType s e) _ (λ x j. updated_stays s k x q)))
+  part_stays (Some (Step d way)) s h = all_go (Stays s) (destination env s d) _ (λ q f. updated_stays s (step_of way) one q)
+  part_stays (Some (Evaluate e)) s h = all_go (Stays s) (and_so (typed_expression env (within s) e) (evaluated env e)) _ (λ x q. refl)
+
+  pub stays : (a : Option SimpleStatement) (s : Scope) (x : Checked) → declares a ≡ false → typed_part env a s ≡ Some x → x.scope ≡ s
+  stays a s x h e = some_has (Stays s) (typed_part env a s) x (part_stays a s h) e
 
 -- so the end of a scope is found by the number of the locals
 pub left : (s : Scope) (x : Checked) → Keeps s x → record x.scope { locals = take (length s.locals) x.scope.locals } ≡ leave s x.scope

@@ -1,5 +1,5 @@
 -- What is in scope as code holds it, and what the rules give of statements.
-use Rattle.std.specs.Prelude.{◌≡◌, ◌⊎◌, ℕ, true, false, List, [], ◌∷◌, Option, Some, None, Result, Ok, Err, map, option_map}
+use Rattle.std.specs.Prelude.{◌≡◌, ◌⊎◌, ℕ, not, true, false, List, [], ◌∷◌, Option, Some, None, Result, Ok, Err, map, option_map}
 use Rattle.c0_source.specs.declared.fault.Fault.{Fault}
 use Rattle.c0_source.specs.declared.fault.FaultKind.TheVariants as k
 use Rattle.c0_source.specs.declared.fault.Span.{Span}
@@ -24,6 +24,7 @@ use Rattle.c0_rules.specs.FaultStatements.{destination_type, has_place, InAnnota
 use Rattle.c0_terms.specs.Terms.{HasTexts, local_of, place_of}
 use Rattle.c0_rules.specs.Types.{and_so, provided, Name, Environment, same_type, is_small, IntType, BoolType}
 use Rattle.c0_tables.specs.Views.{resolved_of}
+use Rattle.c0_bodies.specs.declared.bodies.loops.LoopHead.{LoopHead}
 use Rattle.c0_bodies.specs.declared.scope.Scope.{Scope}
 use Rattle.c0_bodies.specs.declared.scope.Destination.{Destination}
 use Rattle.c0_bodies.specs.declared.scope.Destination.TheVariants as d
@@ -62,11 +63,30 @@ in_scope env b at = and_so (s.typed_statement env b at) (λ x. s.next x.statemen
 abbrev pub block_in_scope : Environment → t.Statements → s.Scope → Option s.Checked
 block_in_scope env rest at = and_so (s.typed_statements env rest at) (λ x. s.next x.statement (s.leave at x.scope))
 
+-- the parts of a loop beside its body
+pub record Head : Type 0 where
+  pub condition : y.Exp
+  pub third : y.Stmt
+  pub invariants : y.Exps
+
+-- the same as code holds them
+abbrev pub head_of : List Name → LoopHead → Head
+head_of texts h = record { condition = v.exp_of texts h.condition; third = v.stmt_of texts h.third; invariants = v.exps_of texts h.invariants.items }
+
+-- the third part of a `for`, which declares no local
+abbrev pub step_of : Environment → Option t.SimpleStatement → s.Scope → Option y.Stmt
+step_of env third at = provided (not (s.declares third)) (and_so (s.typed_part env third at) (λ w. Some w.statement))
+
+-- the parts of a loop beside its body, in the order of the text
+abbrev pub loop_head : Environment → t.Expression → Option t.SimpleStatement → List (List t.Spec) → s.Scope → Option Head
+loop_head env c third notes at =
+    and_so (s.expression_as env BoolType at c) (λ z. and_so (step_of env third at) (λ w.
+    and_so (s.conditions_of_all env s.Invariant (s.within at) (specs_in notes)) (λ xs. Some (record { condition = z; third = w; invariants = xs }))))
+
 -- the loop of a `for`, behind its first part
 abbrev pub loop_behind : Environment → t.Expression → Option t.SimpleStatement → List (List t.Spec) → t.Statement → s.Scope → Option s.Checked
 loop_behind env c third notes a at =
-    and_so (s.expression_as env BoolType at c) (λ z. and_so (s.conditions_of_all env s.Invariant (s.within at) (specs_in notes)) (λ xs.
-    and_so (in_scope env a at) (λ x. and_so (s.typed_part env third x.scope) (λ w. s.next (y.Loop xs z x.statement w.statement) w.scope))))
+    and_so (loop_head env c third notes at) (λ h. and_so (in_scope env a at) (λ x. s.next (y.Loop h.invariants h.condition x.statement h.third) x.scope))
 
 -- ---- specs
 
@@ -117,11 +137,14 @@ InIfElse env fault at c x b =
     InWanted env fault at BoolType c ⊎ InStatement env fault at x.kind x.span
     ⊎ ((z : s.Checked) × (s.typed_statement env (statement_of x) at ≡ Some z) × InStatement env fault (s.leave at z.scope) b.kind b.span)
 
+-- the parts of a loop beside its body
+abbrev pub InHead : Environment → Fault → s.Scope → e.Expression → Option SimpleStatement → List Annotation → Type 0
+InHead env fault at c third notes = InWanted env fault at BoolType c ⊎ InPart env fault at third ⊎ InAnnotations env fault s.Invariant (s.within at) notes
+
 -- the loop of a `for`
 abbrev pub InLoop : Environment → Fault → s.Scope → e.Expression → Option SimpleStatement → List Annotation → a.Statement → Type 0
 InLoop env fault at c third notes x =
-    InWanted env fault at BoolType c ⊎ InAnnotations env fault s.Invariant (s.within at) notes ⊎ InStatement env fault at x.kind x.span
-    ⊎ ((z : s.Checked) × (s.typed_statement env (statement_of x) at ≡ Some z) × InPart env fault (s.leave at z.scope) third)
+    InWanted env fault at BoolType c ⊎ InPart env fault at third ⊎ InAnnotations env fault s.Invariant (s.within at) notes ⊎ InStatement env fault at x.kind x.span
 
 -- a `for`
 abbrev pub InFor : Environment → Fault → s.Scope → Option SimpleStatement → e.Expression → Option SimpleStatement → List Annotation → a.Statement → Type 0

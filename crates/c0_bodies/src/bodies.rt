@@ -28,6 +28,7 @@ use c0_typed::{Expression as TypedExpression, Statement as TypedStatement};
 use std::alloc::Global;
 
 mod conditions;
+mod loops;
 mod nested_statements;
 mod simple_statements;
 

@@ -26,6 +26,16 @@ filter_of_map test view (x ∷ xs) = at (test (view x)) (filter_of_map test view
     at true e = ap (λ z. view x ∷ z) e
     at false e = e
 
+-- a name that is not there is not missed
+pub none_lost : (n : Name) (names : List Name) → is_among n names ≡ false → filter (λ m. not (bytes_eq n m)) names ≡ names
+none_lost n [] e = refl
+none_lost n (m ∷ names) e = at (bytes_eq n m) e (none_lost n names)
+  where
+    at : (b : Bool) → (b || is_among n names) ≡ false → (is_among n names ≡ false → filter (λ m. not (bytes_eq n m)) names ≡ names)
+        → cond (not b) (m ∷ filter (λ m. not (bytes_eq n m)) names) (filter (λ m. not (bytes_eq n m)) names) ≡ m ∷ names
+    at true e k = absurd (cc e)
+    at false e k = ap (λ z. m ∷ z) (k e)
+
 or_false : (b : Bool) → b ≡ (b || false)
 or_false true = refl
 or_false false = refl
@@ -37,6 +47,21 @@ joined_reached names Ended Ended e = absurd (cc e)
 joined_reached names Ended (Reached second) e = refl
 joined_reached names (Reached first) Ended e = λ i. Reached (filter (λ n. or_false (is_among n first) i) names)
 joined_reached names (Reached first) (Reached second) e = refl
+
+-- which of them does
+pub first_leads : {a : Bool} (b : Bool) → a ≡ false → (a && b) ≡ false
+first_leads b e = ap (λ z. z && b) e
+
+pub second_leads : (a : Bool) {b : Bool} → b ≡ false → (a && b) ≡ false
+second_leads true e = e
+second_leads false e = refl
+
+-- the same, of what each way lacks
+pub merged : (names those us vs : List Name) (first second : Flow) → (has_ended first && has_ended second) ≡ false
+    → ((n : Name) → is_among n us ≡ is_unassigned first (OfVariable n)) → ((n : Name) → is_among n vs ≡ is_unassigned second (OfVariable n))
+    → those ≡ filter (λ n. is_among n us || is_among n vs) names → Reached those ≡ joined (Reached names) first second
+merged names those us vs first second leads d e h =
+    ap Reached h ∙ (λ i. Reached (filter (λ n. d n i || e n i) names)) ∙ sym (joined_reached names first second leads)
 
 -- ---- reads
 
@@ -90,6 +115,13 @@ joined_before (Reached names) Ended = ap Reached (all_pass (λ n. is_among n nam
 joined_before (Reached names) (Reached first) =
     ap Reached (all_pass (λ n. is_among n first || is_among n names) names (λ n e. ap (λ z. is_among n first || z) e ∙ or_true (is_among n first)))
 
+-- ... and so where the other way changes nothing
+pub joined_first : (f h : Flow) → joined f f h ≡ f
+joined_first Ended h = refl
+joined_first (Reached names) Ended = ap Reached (all_pass (λ n. is_among n names) names (λ n e. e))
+joined_first (Reached names) (Reached second) =
+    ap Reached (all_pass (λ n. is_among n names || is_among n second) names (λ n e. ap (λ z. z || is_among n second) e))
+
 -- ---- rules in a row
 
 provided_so : {A : Type 0} (b : Bool) (o : Option A) → true ≡ b → provided b o ≡ o
@@ -121,38 +153,38 @@ none_either (Some g) b go e = at (b g) e
 
 -- ---- behind a block
 
-module _ (rest : t.Statements) (f d : Flow) (same : d ≡ f) where
-  pub block_leads : (g out : Flow) → flow_of_statements rest d ≡ Some g → out ≡ left_scope f g → flow_of_statement (t.Block rest) f ≡ Some out
-  block_leads g out e o = ap (λ z. and_so (flow_of_statements rest z) (λ g. Some (left_scope f g))) (sym same) ∙ ap (λ z. and_so z (λ g. Some (left_scope f g))) e ∙ ap Some (sym o)
+module _ (rest : t.Statements) (f : Flow) where
+  pub block_leads : (g out : Flow) → flow_of_statements rest f ≡ Some g → out ≡ left_scope f g → flow_of_statement (t.Block rest) f ≡ Some out
+  block_leads g out e o = ap (λ z. and_so z (λ g. Some (left_scope f g))) e ∙ ap Some (sym o)
 
-  pub block_refused : {K : Type 0} → K ⊎ (flow_of_statements rest d ≡ None) → K ⊎ (flow_of_statement (t.Block rest) f ≡ None)
+  pub block_refused : {K : Type 0} → K ⊎ (flow_of_statements rest f ≡ None) → K ⊎ (flow_of_statement (t.Block rest) f ≡ None)
   block_refused (inl h) = inl h
-  block_refused (inr h) = inr (none_so (flow_of_statements rest f) (λ g. Some (left_scope f g)) (ap (flow_of_statements rest) (sym same) ∙ h))
+  block_refused (inr h) = inr (none_so (flow_of_statements rest f) (λ g. Some (left_scope f g)) h)
 
 -- ---- behind an `if`
 
-pub if_leads : (c : t.Expression) (a : t.Statement) (f d g : Flow) → d ≡ f → true ≡ reads_assigned f c → flow_of_statement a d ≡ Some g → flow_of_statement (t.If c a) f ≡ Some f
-if_leads c a f d g same r e =
+pub if_leads : (c : t.Expression) (a : t.Statement) (f g : Flow) → true ≡ reads_assigned f c → flow_of_statement a f ≡ Some g → flow_of_statement (t.If c a) f ≡ Some f
+if_leads c a f g r e =
     provided_so (reads_assigned f c) (and_so (flow_of_statement a f) (λ g. Some (joined f g f))) r
-    ∙ ap (λ z. and_so z (λ g. Some (joined f g f))) (ap (flow_of_statement a) (sym same) ∙ e)
+    ∙ ap (λ z. and_so z (λ g. Some (joined f g f))) e
     ∙ ap Some (joined_before f g)
 
 -- ---- behind a `for`
 
-module _ (first : Option t.SimpleStatement) (c : t.Expression) (third : Option t.SimpleStatement) (notes : List (List t.Spec)) (a : t.Statement) (f d : Flow) (same : d ≡ f) where
+module _ (first : Option t.SimpleStatement) (c : t.Expression) (third : Option t.SimpleStatement) (notes : List (List t.Spec)) (a : t.Statement) (f : Flow) where
   abbrev reads : Flow → Bool
   reads g = reads_assigned g c && specs_read_assigned g (specs_in notes)
 
   abbrev behind_start : Flow → Option Flow
   behind_start g = and_so (flow_of_statement a g) (λ h. and_so (flow_of_part third (left_scope g h)) (λ k. Some (left_scope f g)))
 
-  pub start_refused : {K : Type 0} → K ⊎ (and_so (flow_of_part first d) (λ g. provided (reads g) (Some g)) ≡ None) → K ⊎ (flow_of_statement (t.For first c third notes a) f ≡ None)
+  pub start_refused : {K : Type 0} → K ⊎ (and_so (flow_of_part first f) (λ g. provided (reads g) (Some g)) ≡ None) → K ⊎ (flow_of_statement (t.For first c third notes a) f ≡ None)
   start_refused (inl h) = inl h
-  start_refused (inr h) = inr (none_either (flow_of_part first f) reads behind_start (subst (λ z. and_so (flow_of_part first z) (λ g. provided (reads g) (Some g)) ≡ None) same h))
+  start_refused (inr h) = inr (none_either (flow_of_part first f) reads behind_start h)
 
-  module _ (g : Flow) (start : and_so (flow_of_part first d) (λ g. provided (reads g) (Some g)) ≡ Some g) where
+  module _ (g : Flow) (start : and_so (flow_of_part first f) (λ g. provided (reads g) (Some g)) ≡ Some g) where
     started : (flow_of_part first f ≡ Some g) × (true ≡ reads g)
-    started = split_so (flow_of_part first f) reads g (subst (λ z. and_so (flow_of_part first z) (λ g. provided (reads g) (Some g)) ≡ Some g) same start)
+    started = split_so (flow_of_part first f) reads g start
 
     from_start : flow_of_statement (t.For first c third notes a) f ≡ behind_start g
     from_start = ap (λ z. and_so z (λ g. provided (reads g) (behind_start g))) started.0 ∙ provided_so (reads g) (behind_start g) started.1
@@ -161,12 +193,16 @@ module _ (first : Option t.SimpleStatement) (c : t.Expression) (third : Option t
     for_body_refused b q (inl h) = inl h
     for_body_refused b q (inr h) = inr (from_start ∙ none_so (flow_of_statement a g) _ (ap (flow_of_statement a) (sym q) ∙ h))
 
-    module _ (b h : Flow) (inside : b ≡ g) (body : flow_of_statement a b ≡ Some h) (e s : Flow) (again : e ≡ g) (left : s ≡ left_scope e h) where
+    module _ (b h : Flow) (inside : b ≡ g) (body : flow_of_statement a b ≡ Some h) (s : Flow) (left : s ≡ left_scope b h) where
       from_body : flow_of_statement (t.For first c third notes a) f ≡ and_so (flow_of_part third s) (λ k. Some (left_scope f g))
       from_body =
           from_start
           ∙ ap (λ z. and_so z (λ h. and_so (flow_of_part third (left_scope g h)) (λ k. Some (left_scope f g)))) (ap (flow_of_statement a) (sym inside) ∙ body)
-          ∙ ap (λ z. and_so (flow_of_part third z) (λ k. Some (left_scope f g))) (ap (λ z. left_scope z h) (sym again) ∙ sym left)
+          ∙ ap (λ z. and_so (flow_of_part third z) (λ k. Some (left_scope f g))) (ap (λ z. left_scope z h) (sym inside) ∙ sym left)
+
+      pub for_third_refused : {K : Type 0} → K ⊎ (flow_of_part third s ≡ None) → K ⊎ (flow_of_statement (t.For first c third notes a) f ≡ None)
+      for_third_refused (inl h) = inl h
+      for_third_refused (inr h) = inr (from_body ∙ none_so (flow_of_part third s) (λ k. Some (left_scope f g)) h)
 
       pub for_leads : (k out : Flow) → flow_of_part third s ≡ Some k → out ≡ left_scope f g → flow_of_statement (t.For first c third notes a) f ≡ Some out
       for_leads k out q o = from_body ∙ ap (λ z. and_so z (λ k. Some (left_scope f g))) q ∙ ap Some (sym o)
@@ -178,7 +214,7 @@ pub third_cause : {K C : Type 0} (A B : Type 0) → K ⊎ C → K ⊎ (A ⊎ B �
 third_cause A B (inl h) = inl h
 third_cause A B (inr h) = inr (inr (inr h))
 
-module _ (fault : Fault) (first : Option SimpleStatement) (c : Expression) (third : Option SimpleStatement) (notes : List Annotation) (a : StatementKind) (f d : Flow) (same : d ≡ f) where
+module _ (fault : Fault) (first : Option SimpleStatement) (c : Expression) (third : Option SimpleStatement) (notes : List Annotation) (a : StatementKind) (f : Flow) where
   -- what is wrong in a `for`, as the rules have it
   abbrev pub InFor : Type 0
   InFor =
@@ -187,21 +223,21 @@ module _ (fault : Fault) (first : Option SimpleStatement) (c : Expression) (thir
       × (ReadIn fault g c ⊎ ReadInAnnotations fault g notes ⊎ ReadInStatement fault g a
       ⊎ ((h : Flow) × (flow_of_statement (statement_of_kind a) g ≡ Some h) × ReadInPart fault (left_scope g h) third)))
 
-  pub start_cause : {K : Type 0} → K ⊎ ReadInPart fault d first ⊎ ((g : Flow) × (flow_of_part (option_map simple_of first) d ≡ Some g) × (ReadIn fault g c ⊎ ReadInAnnotations fault g notes)) → K ⊎ InFor
+  pub start_cause : {K : Type 0} → K ⊎ ReadInPart fault f first ⊎ ((g : Flow) × (flow_of_part (option_map simple_of first) f ≡ Some g) × (ReadIn fault g c ⊎ ReadInAnnotations fault g notes)) → K ⊎ InFor
   start_cause (inl h) = inl h
-  start_cause (inr (inl h)) = inr (inl (subst (λ z. ReadInPart fault z first) same h))
-  start_cause (inr (inr (g, e, inl h))) = inr (inr (g, ap (flow_of_part (option_map simple_of first)) (sym same) ∙ e, inl h))
-  start_cause (inr (inr (g, e, inr h))) = inr (inr (g, ap (flow_of_part (option_map simple_of first)) (sym same) ∙ e, inr (inl h)))
+  start_cause (inr (inl h)) = inr (inl h)
+  start_cause (inr (inr (g, e, inl h))) = inr (inr (g, e, inl h))
+  start_cause (inr (inr (g, e, inr h))) = inr (inr (g, e, inr (inl h)))
 
-  module _ (g : Flow) (b : Flow → Bool) (start : and_so (flow_of_part (option_map simple_of first) d) (λ g. provided (b g) (Some g)) ≡ Some g) where
+  module _ (g : Flow) (b : Flow → Bool) (start : and_so (flow_of_part (option_map simple_of first) f) (λ g. provided (b g) (Some g)) ≡ Some g) (inner : Flow) (q : inner ≡ g) where
     led : flow_of_part (option_map simple_of first) f ≡ Some g
-    led = ap (flow_of_part (option_map simple_of first)) (sym same) ∙ (split_so (flow_of_part (option_map simple_of first) d) b g start).0
+    led = (split_so (flow_of_part (option_map simple_of first) f) b g start).0
 
-    pub inside_cause : {K : Type 0} (inner : Flow) → inner ≡ g → K ⊎ ReadInStatement fault inner a → K ⊎ InFor
-    inside_cause inner q (inl h) = inl h
-    inside_cause inner q (inr h) = inr (inr (g, led, inr (inr (inl (subst (λ z. ReadInStatement fault z a) q h)))))
+    pub inside_cause : {K : Type 0} → K ⊎ ReadInStatement fault inner a → K ⊎ InFor
+    inside_cause (inl h) = inl h
+    inside_cause (inr h) = inr (inr (g, led, inr (inr (inl (subst (λ z. ReadInStatement fault z a) q h)))))
 
-    pub last_cause : {K : Type 0} (inner h e s : Flow) → inner ≡ g → flow_of_statement (statement_of_kind a) inner ≡ Some h → e ≡ g → s ≡ left_scope e h → K ⊎ ReadInPart fault s third → K ⊎ InFor
-    last_cause inner h e s q body again left (inl k) = inl k
-    last_cause inner h e s q body again left (inr k) =
-        inr (inr (g, led, inr (inr (inr (h, ap (flow_of_statement (statement_of_kind a)) (sym q) ∙ body, subst (λ z. ReadInPart fault z third) (left ∙ ap (λ z. left_scope z h) again) k)))))
+    pub last_cause : {K : Type 0} (h s : Flow) → flow_of_statement (statement_of_kind a) inner ≡ Some h → s ≡ left_scope inner h → K ⊎ ReadInPart fault s third → K ⊎ InFor
+    last_cause h s body left (inl k) = inl k
+    last_cause h s body left (inr k) =
+        inr (inr (g, led, inr (inr (inr (h, ap (flow_of_statement (statement_of_kind a)) (sym q) ∙ body, subst (λ z. ReadInPart fault z third) (left ∙ ap (λ z. left_scope z h) q) k)))))

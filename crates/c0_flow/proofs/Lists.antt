@@ -1,7 +1,8 @@
 -- Tests over lists.
-use Rattle.std.proofs.Common.{◌≡◌, ℕ, zero, suc, ◌+◌, ◌<◌, List, [], ◌∷◌, ◌++◌, map, length, get_or, drop, refl, sym, ap, subst, ◌∙◌, Bool, true, false, arith}
-use Rattle.std.specs.Prelude.{◌||◌, not}
-use Rattle.std.specs.List.{Any, list_any}
+use Rattle.std.proofs.Common.{◌≡◌, ℕ, zero, suc, ◌+◌, ◌<◌, List, [], ◌∷◌, ◌++◌, map, length, get_or, drop, refl, sym, ap, subst, ◌∙◌, Bool, true, false, cond, Some, None, ltb, arith}
+use Rattle.std.specs.Prelude.{◌||◌, filter, is_some, not}
+use Rattle.std.specs.List.{Any, list_any, position_from, position_or_len}
+use Rattle.std.proofs.lemmas.Iterator.Adapters.{position_from-zero}
 use Rattle.std.proofs.lemmas.List.{drop_more}
 
 -- a test of what a view shows
@@ -71,3 +72,33 @@ found_right test (x ∷ xs) ys e = at (test x) (found_right test xs ys e)
     at : (b : Bool) → false ≡ not (list_any test (xs ++ ys)) → false ≡ not (b || list_any test (xs ++ ys))
     at true k = refl
     at false k = k
+
+-- ---- places
+
+found_from : {A : Type 0} (test : A → Bool) (i : ℕ) (xs : List A) → is_some (position_from test i xs) ≡ list_any test xs
+found_from test i [] = refl
+found_from test i (x ∷ xs) = at (test x) (found_from test (i + 1) xs)
+  where
+    at : (b : Bool) → is_some (position_from test (i + 1) xs) ≡ list_any test xs → is_some (cond b (Some i) (position_from test (i + 1) xs)) ≡ (b || list_any test xs)
+    at true e = refl
+    at false e = e
+
+-- there is a first place exactly where some element passes
+pub found_where : {A : Type 0} (test : A → Bool) (xs : List A) → is_some (cond (ltb (position_or_len test xs) (length xs)) (Some (position_or_len test xs)) None) ≡ list_any test xs
+found_where test xs = ap is_some (position_from-zero test xs) ∙ found_from test 0 xs
+
+-- the element at a place passes
+pub passes_at : {A : Type 0} (test : A → Bool) (xs : List A) (i : ℕ) (x : A) → i < length xs → x ≡ get_or xs i x → test x ≡ true → list_any test xs ≡ true
+passes_at test xs i x = at_place (λ x. test x ≡ true) (λ xs. list_any test xs ≡ true) (λ x xs e. ap (λ z. z || list_any test xs) e) (λ x xs e. ap (λ z. test x || z) e ∙ or_true (test x)) xs i x
+  where
+    or_true : (b : Bool) → (b || true) ≡ true
+    or_true true = refl
+    or_true false = refl
+
+-- ---- what passes so far
+
+-- what passes of the elements from this one on
+pub passing_step : {A B : Type 0} (test : B → Bool) (view : A → B) (xs : List A) (i : ℕ) (x : A) → i < length xs → x ≡ get_or xs i x
+    → filter test (map view (drop i xs)) ≡ cond (test (view x)) (view x ∷ filter test (map view (drop (i + 1) xs))) (filter test (map view (drop (i + 1) xs)))
+passing_step test view xs i x l e =
+    ap (λ z. filter test (map view z)) (drop_more xs i x l) ∙ ap (λ z. filter test (map view (z ∷ drop (i + 1) xs))) (sym e)

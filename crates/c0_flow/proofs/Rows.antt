@@ -103,9 +103,9 @@ module _ (fault : Fault) where
   pub read_block : (flow : Flow) (all : Vec Statement Global) → ReadInBody fault flow all.items → ReadInStatement fault flow (Block all)
   read_block flow all h = read_statements flow (Block all) (subst (ReadInBody fault flow) (sym (block_items all)) h)
 
-  pub block_cause : {K : Type 0} (flow d : Flow) → d ≡ flow → (all : Vec Statement Global) → K ⊎ ReadInBody fault d all.items → K ⊎ ReadInStatement fault flow (Block all)
-  block_cause flow d same all (inl h) = inl h
-  block_cause flow d same all (inr h) = inr (read_block flow all (subst (λ z. ReadInBody fault z all.items) same h))
+  pub block_cause : {K : Type 0} (flow : Flow) (all : Vec Statement Global) → K ⊎ ReadInBody fault flow all.items → K ⊎ ReadInStatement fault flow (Block all)
+  block_cause flow all (inl h) = inl h
+  block_cause flow all (inr h) = inr (read_block flow all h)
 
   -- the statement at a place, where what follows from that of the rest is known
   pub body_cause : {K : Type 0} (whole : Type 0) (flow : Flow) (xs : List Statement) (i : ℕ) (x : Statement) → i < length xs → x ≡ get_or xs i x → (ReadInBody fault flow (drop i xs) → whole)

@@ -1,11 +1,11 @@
 -- What code holds of the paths of a function, and of what no name may be, read as the definitions have it.
-use Rattle.std.specs.Prelude.{Bool, false, not, List, map}
-use Rattle.std.specs.String.{string_bytes}
+use Rattle.std.specs.Prelude.{Bool, false, not, List, map, ℕ}
+use Rattle.std.specs.Borrow.{Bor}
 use Rattle.c0_source.specs.declared.fault.FaultKind.{FaultKind}
 use Rattle.c0_source.specs.declared.fault.FaultKind.TheVariants as k
 use Rattle.c0_syntax.specs.declared.statement.Statement.{Statement}
 use Rattle.c0_syntax.specs.Views.{statements_of}
-use Rattle.c0_rules.specs.Types.{Environment, is_among, is_ascii}
+use Rattle.c0_rules.specs.Types.{Environment, Name, is_among, is_ascii}
 use Rattle.c0_rules.specs.Programs.{is_callable}
 use Rattle.c0_tables.specs.Views.{environment_of}
 use Rattle.c0_rules.specs.Mentions.{Mention, OfVariable, OfFunction, OfText, statements_assign}
@@ -13,13 +13,24 @@ use Rattle.c0_rules.specs.Assignment as a
 use Rattle.c0_rules.specs.FaultPaths.{is_unassigned}
 use Rattle.c0_flow.specs.declared.flow.Flow.{Flow}
 use Rattle.c0_flow.specs.declared.flow.Flow.TheVariants.{Ended, Reached}
+use Rattle.c0_flow.specs.declared.flow.Behind.{Behind}
+use Rattle.c0_flow.specs.declared.flow.Behind.TheVariants.{Same, Changed}
 use Rattle.c0_flow.specs.declared.mentioned.Refused.{Refused}
 use Rattle.c0_flow.specs.declared.mentioned.Refused.TheVariants.{Unassigned, AssignedIn, Uncallable, BeyondAscii}
+
+-- names by their letters
+abbrev pub letters_of : List (Bor (List ℕ)) → List Name
+letters_of names = map (λ n. n.now) names
 
 -- what stands before a statement
 abbrev pub flow_of : Flow → a.Flow
 flow_of Ended = a.Ended
-flow_of (Reached names) = a.Reached (map string_bytes names.items)
+flow_of (Reached names) = a.Reached (letters_of names.items)
+
+-- what stands behind a statement, where this stands before it
+abbrev pub behind_of : a.Flow → Behind → a.Flow
+behind_of before Same = before
+behind_of before (Changed flow) = flow_of flow
 
 -- whether a name is called that may not be
 abbrev pub is_unknown_to : Environment → Mention → Bool

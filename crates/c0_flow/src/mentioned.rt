@@ -29,7 +29,7 @@ pub mod texts;
 #[derive(Clone, Copy, Debug)]
 pub(crate) enum Refused<'a> {
     /// A local that some path has not assigned.
-    Unassigned(&'a Flow),
+    Unassigned(&'a Flow<'a>),
     /// A variable that these statements assign to.
     AssignedIn(&'a [Statement]),
     /// A called function that is neither defined in the program nor an output call in use.

@@ -137,8 +137,7 @@ module _ (env : Environment) (fault : Fault) where
     InStatement s (For' first c third notes p x here) span =
         InPart s first ⊎ ThirdCause third
         ⊎ ((z : Checked) × (typed_part env (option_map simple_of first) s ≡ Some z)
-        × (InWanted z.scope BoolType c ⊎ InAnnotations Invariant (within z.scope) notes.items ⊎ InStatement z.scope x here
-        ⊎ ((y : Checked) × (typed_statement env (statement_of_kind x) z.scope ≡ Some y) × InPart (leave z.scope y.scope) third)))
+        × (InWanted z.scope BoolType c ⊎ InPart z.scope third ⊎ InAnnotations Invariant (within z.scope) notes.items ⊎ InStatement z.scope x here))
     InStatement s (Assert x) span = InWanted s BoolType x
     InStatement s (Error x) span = InWanted s StringType x
     InStatement s Break span = Told k.Syntax span fault

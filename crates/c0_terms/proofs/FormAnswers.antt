@@ -9,11 +9,11 @@ use Rattle.c0_syntax.specs.declared.operator.PrefixOperator.TheVariants as p
 use Rattle.c0_syntax.specs.Trees as s
 use Rattle.c0_syntax.specs.Views.{expression_of_kind}
 use Rattle.c0_typed.specs.Trees as t
-use Rattle.c0_rules.specs.Types.{Environment, IntType, BoolType, ArrayOf, and_so}
+use Rattle.c0_rules.specs.Types.{Environment, ResolvedType, IntType, BoolType, ArrayOf, and_so}
 use Rattle.c0_rules.specs.Expressions.{Typing, Has, Context, OperatorRule, as_wanted, chosen, dereferenced, held_type, num, operated, operator_rule, prefixed, typed_expression, typed_place, wanted}
 use Rattle.c0_rules.specs.FaultExpressions.{AsPlace, AsValue, InExpression, NoPlace}
 use Rattle.c0_rules.specs.Answers.{Answers}
-use Rattle.c0_terms.specs.Forms.{has_form}
+use Rattle.c0_terms.specs.Forms.{array_of, has_form}
 use Rattle.c0_terms.specs.Terms.{valued}
 use Rattle.c0_terms.proofs.Operands.{valued_is}
 use Rattle.c0_terms.proofs.Refusals.{none_so}
@@ -35,9 +35,10 @@ module _ (env : Environment) (at : Context) where
     pub unary_answers : (op : PrefixOperator) (a : s.Expression) (x : Typing) → valued (typed a) ≡ Some x → Answers view r (prefixed env op x) → Answers view r (typed (s.Unary op a))
     unary_answers op a x v h = then_answers view r (typed a) (prefixed env op) x (is_typed a x v) h
 
-    pub array_answers : (u : s.ValueType) (a : s.Expression) (x : Typing) → valued (typed a) ≡ Some x
-        → Answers view r (and_so (held_type env u) (λ h. and_so (as_wanted env IntType x) (λ n. Some (Has (ArrayOf h) (t.AllocArray (num env h) n))))) → Answers view r (typed (s.AllocArray u a))
-    array_answers u a x v k = subst (λ z. Answers view r (and_so (held_type env u) (λ h. and_so z (λ n. Some (Has (ArrayOf h) (t.AllocArray (num env h) n)))))) (sym (number_is a x v)) k
+    pub array_answers : (u : s.ValueType) (a : s.Expression) (h : ResolvedType) (x : Typing) → held_type env u ≡ Some h → valued (typed a) ≡ Some x → Answers view r (array_of env h x) → Answers view r (typed (s.AllocArray u a))
+    array_answers u a h x e v k =
+        then_answers view r (held_type env u) (λ h. and_so (wanted env IntType (typed a)) (λ n. Some (Has (ArrayOf h) (t.AllocArray (num env h) n)))) h e
+        (subst (λ z. Answers view r (and_so z (λ n. Some (Has (ArrayOf h) (t.AllocArray (num env h) n))))) (sym (number_is a x v)) k)
 
     pub binary_answers : (op : Operator) (rule : OperatorRule) → rule ≡ operator_rule op → (a b : s.Expression) (x y : Typing) → valued (typed a) ≡ Some x → valued (typed b) ≡ Some y
         → Answers view r (operated env rule x y) → Answers view r (typed (s.Binary op a b))

@@ -15,7 +15,7 @@ use Rattle.c0_rules.specs.Expressions.{Typing, Place, Context, OperatorRule, OnN
 use Rattle.c0_rules.specs.FaultExpressions.{AsValue, ArmsCause, ArrowCause, FieldCause, IndexCause, Mistyped, PointerCause, PrefixCause, Told, element_of, has_common, is_value}
 use Rattle.c0_rules.specs.Answers.{Answers}
 use Rattle.c0_terms.specs.Forms.{BinaryCause, PointedCause, PrefixedCause}
-use Rattle.c0_terms.specs.Terms.{OperatedCause, valued}
+use Rattle.c0_terms.specs.Terms.{ArrayCause, LeftCause, OperatedCause, valued}
 use Rattle.c0_terms.proofs.Operands.{valued_is}
 
 -- want of memory, or a cause
@@ -91,6 +91,16 @@ module _ (env : Environment) (at : Context) where
     binary_cause Disjunction a here b there x y v w none (inl h) = inl (mistyped_at BoolType a here x v h.0 h.1)
     binary_cause Disjunction a here b there x y v w none (inr h) = inr (inl (mistyped_at BoolType b there y w h.0 h.1))
 
+    pub left_told : (rule : OperatorRule) (a : ExpressionKind) (here : Span) (b : ExpressionKind) (there : Span) (x : Typing) → IsValue a x → LeftCause env f rule x here → BinaryCause env at f rule a here b there
+    left_told (OnNumbers o) a here b there x v h = inl (mistyped_at IntType a here x v h.0 h.1)
+    left_told (Compares r) a here b there x v h = absurd h
+    left_told Conjunction a here b there x v h = inl (mistyped_at BoolType a here x v h.0 h.1)
+    left_told Disjunction a here b there x v h = inl (mistyped_at BoolType a here x v h.0 h.1)
+
+    pub array_told : (a : ExpressionKind) (here : Span) (i : ExpressionKind) (there span : Span) (x : Typing) → IsValue a x → ArrayCause env f x here span → IndexCause env at f a here i there span
+    array_told a here i there span x v (inl h) = let q = is_typed a x v in inl (x, q.0, q.1, h.0, h.1)
+    array_told a here i there span x v (inr h) = inr (inr (x, h.0, (is_typed a x v).0, h.1, h.2, h.3))
+
     pub index_cause : (a : ExpressionKind) (here : Span) (i : ExpressionKind) (there span : Span) (x y : Typing) → IsValue a x → IsValue i y
         → ((element_of x ≡ None) × Told k.TypeMismatch here f) ⊎ ((as_wanted env IntType y ≡ None) × Told k.TypeMismatch there f) ⊎ ((r : ResolvedType) × (element_of x ≡ Some r) × (cells_of env.structs r ≡ None) × Told k.StructNotComplete span f)
         → IndexCause env at f a here i there span
@@ -120,6 +130,5 @@ module _ (env : Environment) (at : Context) where
         → (x : Typing) × (typed_expression env at (expression_of_kind e) ≡ Some x) × (is_value x ≡ true) × (lengthed env x ≡ None) × Told k.TypeMismatch here f
     length_cause e here x v none told = let q = is_typed e x v in (x, q.0, q.1, none, told)
 
-    pub array_cause : {H N : Type 0} (e : ExpressionKind) (here : Span) (x : Typing) → IsValue e x → H ⊎ ((as_wanted env IntType x ≡ None) × Told k.TypeMismatch here f) → H ⊎ Mistyped env at f IntType e here ⊎ N
-    array_cause e here x v (inl h) = inl h
-    array_cause e here x v (inr h) = inr (inl (mistyped_at IntType e here x v h.0 h.1))
+    pub array_cause : {H N : Type 0} (e : ExpressionKind) (here : Span) (x : Typing) → IsValue e x → (as_wanted env IntType x ≡ None) × Told k.TypeMismatch here f → H ⊎ Mistyped env at f IntType e here ⊎ N
+    array_cause e here x v h = inr (inl (mistyped_at IntType e here x v h.0 h.1))

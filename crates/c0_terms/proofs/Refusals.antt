@@ -1,14 +1,19 @@
 -- Where an operand gives nothing, the form around it gives nothing.
-use Rattle.std.proofs.Common.{◌≡◌, refl, ap, ◌∙◌, Bool, true, false, Option, Some, None, inl, inr}
+use Rattle.std.proofs.Common.{◌≡◌, refl, ap, sym, subst, ◌∙◌, Bool, true, false, Option, Some, None, inl, inr}
 use Rattle.std.specs.Prelude.{◌&&◌, ◌⊎◌}
+use Rattle.c0_source.specs.declared.fault.Fault.{Fault}
+use Rattle.c0_source.specs.declared.fault.FaultKind.TheVariants as k
+use Rattle.c0_source.specs.declared.fault.Span.{Span}
 use Rattle.c0_source.specs.declared.kind.Operator.{Operator}
 use Rattle.c0_syntax.specs.declared.operator.PrefixOperator.{PrefixOperator}
 use Rattle.c0_syntax.specs.declared.operator.PrefixOperator.TheVariants as p
 use Rattle.c0_syntax.specs.Trees as s
 use Rattle.c0_typed.specs.Trees as t
-use Rattle.c0_rules.specs.Types.{Environment, Name, VoidType, IntType, BoolType, ArrayOf, and_so, provided, same_type}
+use Rattle.c0_rules.specs.Types.{Environment, Name, VoidType, IntType, BoolType, ArrayOf, and_so, cells_of, provided, same_type}
 use Rattle.c0_rules.specs.Expressions.{Typing, Has, IsNull, Context, OperatorRule, OnNumbers, Compares, Conjunction, Disjunction, as_wanted, chosen, fielded, held_type, indexed, is_compared, is_equality, lengthed, num, operated, operator_rule, pointed, prefixed, typed_expression, typed_place, wanted}
-use Rattle.c0_terms.specs.Terms.{valued}
+use Rattle.c0_rules.specs.FaultExpressions.{Told}
+use Rattle.c0_terms.specs.Forms.{takes_left}
+use Rattle.c0_terms.specs.Terms.{ArrayCause, LeftCause, valued}
 use Rattle.c0_terms.proofs.Operands.{skipped, valued_is}
 
 -- ---- steps in a row
@@ -57,6 +62,28 @@ void_right env (Compares r) (Has _ x) e = refl
 void_right env (Compares r) (IsNull x) e = not_provided (is_equality r) _ refl
 void_right env Conjunction x e = none_so (as_wanted env BoolType x) _ (λ a. refl)
 void_right env Disjunction x e = none_so (as_wanted env BoolType x) _ (λ a. refl)
+
+-- what is refused on the left is refused with each operand on the right
+pub left_alone : (env : Environment) (f : Fault) (rule : OperatorRule) (x : Typing) (here : Span) → LeftCause env f rule x here → (y : Typing) → operated env rule x y ≡ None
+left_alone env f (OnNumbers o) x here h y = ap (λ z. and_so z (λ a. and_so (as_wanted env IntType y) (λ b. Some (Has IntType (t.Binary o a b))))) h.0
+left_alone env f (Compares r) x here h y = absurd h
+left_alone env f Conjunction x here h y = ap (λ z. and_so z (λ a. and_so (as_wanted env BoolType y) (λ b. Some (Has BoolType (t.And a b))))) h.0
+left_alone env f Disjunction x here h y = ap (λ z. and_so z (λ a. and_so (as_wanted env BoolType y) (λ b. Some (Has BoolType (t.Or a b))))) h.0
+
+pub left_cause : (env : Environment) (f : Fault) (rule : OperatorRule) (x : Typing) (here : Span) → takes_left rule x ≡ false → Told k.TypeMismatch here f → LeftCause env f rule x here
+left_cause env f (OnNumbers o) (Has a e) here h told = (ap (λ z. provided z (Some e)) h, told)
+left_cause env f (OnNumbers o) (IsNull e) here h told = (refl, told)
+left_cause env f (Compares r) x here h told = absurd (cc h)
+left_cause env f Conjunction (Has a e) here h told = (ap (λ z. provided z (Some e)) h, told)
+left_cause env f Conjunction (IsNull e) here h told = (refl, told)
+left_cause env f Disjunction (Has a e) here h told = (ap (λ z. provided z (Some e)) h, told)
+left_cause env f Disjunction (IsNull e) here h told = (refl, told)
+
+-- what has no element has none at any index
+pub no_element : (env : Environment) (f : Fault) (x : Typing) (here span : Span) → ArrayCause env f x here span → (z : t.Exp) → indexed env x z ≡ None
+no_element env f (Has (ArrayOf a) e) here span (inl h) z = absurd (cc h.0)
+no_element env f (Has (ArrayOf a) e) here span (inr h) z = let same : a ≡ h.0 = cc h.1 in ap (λ o. and_so o (λ c. Some (record { resolved = a; place = t.Index (num env a) e z }))) (subst (λ r. cells_of env.structs r ≡ None) (sym same) h.2)
+no_element env f _ here span h z = refl
 
 void_first_arm : (env : Environment) (z e : t.Exp) (y : Typing) → chosen env z (Has VoidType e) y ≡ None
 void_first_arm env z e (Has b y) = not_both (same_type VoidType b) false _ refl
@@ -118,6 +145,17 @@ module _ (env : Environment) (at : Context) where
   right_refused op a b x e h =
       none_then (typed a) (λ x. and_so (typed b) (operated env (operator_rule op) x)) x (valued_is (typed a) x e).0
       (refused (typed b) (operated env (operator_rule op) x) (void_right env (operator_rule op) x) h)
+
+  pub left_not_taken : {K : Type 0} (op : Operator) (rule : OperatorRule) → rule ≡ operator_rule op → (a b : s.Expression) (x : Typing) → valued (typed a) ≡ Some x
+      → ((y : Typing) → operated env rule x y ≡ None) → K ⊎ (typed (s.Binary op a b) ≡ None)
+  left_not_taken op rule e a b x v none =
+      none_then (typed a) (λ x. and_so (typed b) (operated env (operator_rule op) x)) x (valued_is (typed a) x v).0
+      (inr (none_so (typed b) (operated env (operator_rule op) x) (λ y. subst (λ z. operated env z x y ≡ None) e (none y))))
+
+  pub array_not_taken : {K : Type 0} (a i : s.Expression) (x : Typing) → valued (typed a) ≡ Some x → ((z : t.Exp) → indexed env x z ≡ None) → K ⊎ (typed_place env at (s.Index a i) ≡ None)
+  array_not_taken a i x v none =
+      none_then (typed a) (λ x. and_so (wanted env IntType (typed i)) (indexed env x)) x (valued_is (typed a) x v).0
+      (inr (none_so (wanted env IntType (typed i)) (indexed env x) none))
 
   -- the parts of a conditional
   abbrev arms : s.Expression → s.Expression → t.Exp → Option Typing

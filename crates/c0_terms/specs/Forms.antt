@@ -18,6 +18,16 @@ use Rattle.c0_tables.specs.Views.{signature_of}
 use Rattle.c0_terms.specs.declared.terms.names.Callee.{Callee}
 use Rattle.c0_terms.specs.declared.terms.names.Callee.TheVariants as c
 
+-- whether an operator takes an operand of this type on its left, as far as that shows before the other is known
+abbrev pub takes_left : x.OperatorRule → x.Typing → Bool
+takes_left (x.OnNumbers o) (x.Has a e) = t.same_type a t.IntType
+takes_left (x.OnNumbers o) (x.IsNull e) = false
+takes_left (x.Compares r) a = true
+takes_left x.Conjunction (x.Has a e) = t.same_type a t.BoolType
+takes_left x.Conjunction (x.IsNull e) = false
+takes_left x.Disjunction (x.Has a e) = t.same_type a t.BoolType
+takes_left x.Disjunction (x.IsNull e) = false
+
 -- what is called
 abbrev pub callee_of : Callee → x.Callee
 callee_of (c.Output o) = x.ToOutput (v.output_of o)
@@ -32,14 +42,18 @@ has_form (PointerField' p a at n) = true
 has_form (Unary' o.Dereference p a at) = true
 has_form _ = false
 
--- whether an expression has two or three operands, or is a call, an element or a field
+-- whether an expression is one of two values by a condition
+abbrev pub is_conditional : ExpressionKind → Bool
+is_conditional (Conditional' p c at q a here r b there) = true
+is_conditional _ = false
+
+-- whether an expression has two operands, or is a call, an element or a field
 abbrev pub is_composed : ExpressionKind → Bool
 is_composed (Call' x shape es) = true
 is_composed (Index' p a at q i here) = true
 is_composed (Field' p a at n) = true
 is_composed (PointerField' p a at n) = true
 is_composed (Binary' op p a at q b here) = true
-is_composed (Conditional' p c at q a here r b there) = true
 is_composed _ = false
 
 -- what is wrong with the operand of an operator before it, where a value is needed
@@ -67,6 +81,10 @@ PrefixedCause env fault o.Complement operand here span = (x.as_wanted env t.IntT
 PrefixedCause env fault o.Negate operand here span = (x.as_wanted env t.IntType operand ≡ None) × Told k.TypeMismatch here fault
 PrefixedCause env fault o.Dereference operand here span =
     PointedCause env fault operand here span ⊎ ((q : x.Place) × (x.pointed env operand ≡ Some q) × (t.is_small q.resolved ≡ false) × Told k.NotSmall span fault)
+
+-- an array of elements of this type, of this length
+abbrev pub array_of : t.Environment → t.ResolvedType → x.Typing → Option x.Typing
+array_of env r length = t.and_so (x.as_wanted env t.IntType length) (λ n. Some (x.Has (t.ArrayOf r) (y.AllocArray (x.num env r) n)))
 
 -- an expression whose value is not used: small, NULL, or a void call
 abbrev pub discarded : x.Typing → Option y.Exp

@@ -10,7 +10,7 @@ use Rattle.c0_typed.specs.Views as v
 use Rattle.c0_typed.specs.declared.tree.Expression.{Expression as TypedExpression}
 use Rattle.c0_rules.specs.Types as t
 use Rattle.c0_rules.specs.Expressions as x
-use Rattle.c0_rules.specs.FaultExpressions.{Told, is_value}
+use Rattle.c0_rules.specs.FaultExpressions.{Told, element_of, is_value}
 use Rattle.c0_tables.specs.Views.{environment_of, resolved_of}
 use Rattle.c0_terms.specs.declared.typing.Typing.{Typing}
 use Rattle.c0_terms.specs.declared.typing.Typing.TheVariants as d
@@ -69,6 +69,18 @@ OperatedCause env fault x.Conjunction a b here there =
     ((x.as_wanted env t.BoolType a ≡ None) × Told k.TypeMismatch here fault) ⊎ ((x.as_wanted env t.BoolType b ≡ None) × Told k.TypeMismatch there fault)
 OperatedCause env fault x.Disjunction a b here there =
     ((x.as_wanted env t.BoolType a ≡ None) × Told k.TypeMismatch here fault) ⊎ ((x.as_wanted env t.BoolType b ≡ None) × Told k.TypeMismatch there fault)
+
+-- an operand on the left, at this place, that the operator takes with none on the right
+abbrev pub LeftCause : t.Environment → Fault → x.OperatorRule → x.Typing → Span → Type 0
+LeftCause env fault (x.OnNumbers o) a here = (x.as_wanted env t.IntType a ≡ None) × Told k.TypeMismatch here fault
+LeftCause env fault (x.Compares c) a here = ⊥
+LeftCause env fault x.Conjunction a here = (x.as_wanted env t.BoolType a ≡ None) × Told k.TypeMismatch here fault
+LeftCause env fault x.Disjunction a here = (x.as_wanted env t.BoolType a ≡ None) × Told k.TypeMismatch here fault
+
+-- an operand that has no element, whatever the index is
+abbrev pub ArrayCause : t.Environment → Fault → x.Typing → Span → Span → Type 0
+ArrayCause env fault a here span =
+    ((element_of a ≡ None) × Told k.TypeMismatch here fault) ⊎ ((r : t.ResolvedType) × (element_of a ≡ Some r) × (t.cells_of env.structs r ≡ None) × Told k.StructNotComplete span fault)
 
 -- one of the texts
 abbrev pub IsText : List t.Name → t.Name → Type 0

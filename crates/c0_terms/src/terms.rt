@@ -20,7 +20,7 @@ ghost use Rattle.c0_rules.specs.Expressions.{typed_expression, typed_place, want
 ghost use Rattle.c0_rules.specs.FaultExpressions.{AsPlace, AsValue, InExpression, Mistyped, Told, is_value};
 ghost use Rattle.c0_rules.specs.FaultStatements.{InEvaluated};
 ghost use Rattle.c0_rules.specs.Statements.{Scope, evaluated, is_call, within};
-ghost use Rattle.c0_terms.specs.Forms.{ArgumentsCause, CalledCause, InAmong, callee_of, has_form, is_composed};
+ghost use Rattle.c0_terms.specs.Forms.{ArgumentsCause, CalledCause, InAmong, callee_of, has_form, is_composed, is_conditional};
 ghost use Rattle.c0_terms.specs.Terms.{HasTexts, HaveTexts, context_of, env_of, place_of, typing_of, valued};
 ghost use Rattle.c0_rules.specs.Types.{VoidType, and_so, same_type};
 ghost use Rattle.c0_rules.specs.Answers.{Answers};
@@ -35,7 +35,7 @@ use c0_tables::resolved::ResolvedType;
 use c0_typed::{Constant, Expression as TypedExpression, ValueType};
 use names::{Callee, output_takes};
 use operators::operator_rule;
-use steps::fault_at;
+use steps::{fault_at, left_operand};
 
 // Whether this type is `void`.
 fn is_void(resolved: &ResolvedType) -> bool
@@ -133,8 +133,14 @@ impl<'a> Terms<'a> {
             ExpressionKind::Alloc(written) => self.allocated(written),
             ExpressionKind::Result => self.returned(span),
             ExpressionKind::AllocArray(written, length) => {
-                let number = self.value(&length.kind, length.span)?;
-                self.allocated_array(written, number, length.span)
+                let element = self.held(written)?;
+                match self.value(&length.kind, length.span) {
+                    Ok(number) => self.allocated_array(element, number, length.span),
+                    Err(fault) => {
+                        drop(element);
+                        Err(fault)
+                    }
+                }
             }
             ExpressionKind::Length(array) => {
                 let sized = self.value(&array.kind, array.span)?;
@@ -144,30 +150,20 @@ impl<'a> Terms<'a> {
                 let only = self.value(&operand.kind, operand.span)?;
                 self.unary(*operator, only, operand.span, span)
             }
+            ExpressionKind::Conditional(_, _, _) => self.conditional(kind, span),
             _ => self.composed(kind, span),
         }
     }
 
-    // An expression of two or three operands, a call, an element or a field.
+    // One of two values by a condition.
     #[cycle(expression)]
-    fn composed(&self, kind: &ExpressionKind, span: Span) -> Result<Typing, Fault>
+    fn conditional(&self, kind: &ExpressionKind, span: Span) -> Result<Typing, Fault>
         requires texts { HasTexts self.now.texts.now (expression_of_kind kind.now) }
-        requires form { is_composed kind.now ≡ true }
+        requires form { is_conditional kind.now ≡ true }
         ensures answers { Answers (typing_of self.now.texts.now) result (typed_expression (env_of self.now) (context_of self.now) (expression_of_kind kind.now)) }
         ensures cause { IfErr result (λ f. (f.kind ≡ OutOfMemory) ⊎ InExpression (env_of self.now) (context_of self.now) f AsValue kind.now span) }
     {
         match kind {
-            ExpressionKind::Binary(operator, left, right) => {
-                let rule = operator_rule(*operator);
-                let first = self.value(&left.kind, left.span)?;
-                match self.value(&right.kind, right.span) {
-                    Ok(second) => self.operated(rule, first, second, (left.span, right.span)),
-                    Err(fault) => {
-                        drop(first);
-                        Err(fault)
-                    }
-                }
-            }
             ExpressionKind::Conditional(condition, first, second) => {
                 let test = self.value(&condition.kind, condition.span)?;
                 let truth = self.as_wanted(&ResolvedType::Bool, test, condition.span)?;
@@ -183,6 +179,31 @@ impl<'a> Terms<'a> {
                     Err(fault) => {
                         drop(truth);
                         drop(one);
+                        Err(fault)
+                    }
+                }
+            }
+            _ => unreachable!(),
+        }
+    }
+
+    // An expression of two operands, a call, an element or a field.
+    #[cycle(expression)]
+    fn composed(&self, kind: &ExpressionKind, span: Span) -> Result<Typing, Fault>
+        requires texts { HasTexts self.now.texts.now (expression_of_kind kind.now) }
+        requires form { is_composed kind.now ≡ true }
+        ensures answers { Answers (typing_of self.now.texts.now) result (typed_expression (env_of self.now) (context_of self.now) (expression_of_kind kind.now)) }
+        ensures cause { IfErr result (λ f. (f.kind ≡ OutOfMemory) ⊎ InExpression (env_of self.now) (context_of self.now) f AsValue kind.now span) }
+    {
+        match kind {
+            ExpressionKind::Binary(operator, left, right) => {
+                let rule = operator_rule(*operator);
+                let value = self.value(&left.kind, left.span)?;
+                let first = left_operand(rule, value, left.span)?;
+                match self.value(&right.kind, right.span) {
+                    Ok(second) => self.operated(rule, first, second, (left.span, right.span)),
+                    Err(fault) => {
+                        drop(first);
                         Err(fault)
                     }
                 }
@@ -284,7 +305,8 @@ impl<'a> Terms<'a> {
         match kind {
             ExpressionKind::Parenthesized(inner) => self.place(&inner.kind, inner.span),
             ExpressionKind::Index(array, index) => {
-                let sized = self.value(&array.kind, array.span)?;
+                let value = self.value(&array.kind, array.span)?;
+                let sized = self.array_operand(value, array.span, span)?;
                 match self.value(&index.kind, index.span) {
                     Ok(number) => self.element(sized, number, (array.span, index.span), span),
                     Err(fault) => {

@@ -13,7 +13,7 @@ ghost use Rattle.c0_rules.specs.Types.{field_of, provided};
 ghost use Rattle.c0_rules.specs.Answers.{Answers};
 ghost use Rattle.c0_tables.specs.Views.{environment_of, field_table_of, resolved_of, structs_of};
 
-use crate::headers::check_distinct;
+use crate::headers::{check_distinct, first_told};
 use c0_source::fault::{Fault, FaultKind, Span};
 use c0_syntax::name::Name;
 use c0_syntax::program::TypedName;
@@ -93,7 +93,8 @@ pub(crate) struct NewStruct {
     pub(crate) cells: usize,
 }
 
-/// The fields of a struct that may be defined here.
+/// The fields of a struct that may be defined here. Of several faults the first in the text is told; too many cells are one at the name of
+/// the struct, once the types are right.
 pub(crate) fn new_struct(
     environment: &Environment,
     alloc: Global,
@@ -110,14 +111,18 @@ pub(crate) fn new_struct(
             span: name.span,
         });
     }
-    check_distinct(alloc, items)?;
-    let fields = fields(environment, alloc, items)?;
+    let names = check_distinct(alloc, items);
+    let fields = match fields(environment, alloc, items) {
+        Ok(fields) => fields,
+        Err(fault) => return Err(first_told(fault, names)),
+    };
     let Some(cells) = cells_within(&environment.structs, &fields) else {
         return Err(Fault {
             kind: FaultKind::TooLarge,
             span: name.span,
         });
     };
+    names?;
     Ok(NewStruct { fields, cells })
 }
 

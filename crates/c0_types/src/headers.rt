@@ -1,6 +1,6 @@
 // The static rules of a function's header: its types, its names, and what was declared of its name before.
 
-ghost use Rattle.std.specs.Prelude.{◌≡◌, ◌⊎◌, [], IfErr, IfOk, OnOk, Some, map};
+ghost use Rattle.std.specs.Prelude.{◌≡◌, ◌≤◌, ◌⊎◌, [], Err, IfErr, IfOk, OnOk, Some, map};
 ghost use Rattle.c0_source.specs.declared.fault.FaultKind.TheVariants.{OutOfMemory};
 ghost use Rattle.c0_syntax.specs.Views.{annotation_of, header_of, typed_name_of};
 ghost use Rattle.c0_types.specs.DeclareViews.{Accepts};
@@ -37,6 +37,17 @@ pub(crate) fn check_distinct(alloc: Global, items: &[TypedName]) -> Result<(), F
         }
     }
     Ok(())
+}
+
+/// The fault, or another one that stands before it in the text.
+pub(crate) fn first_told(fault: Fault, other: Result<(), Fault>) -> Fault
+    ensures one { (result ≡ fault) ⊎ (other ≡ Err result) }
+    ensures first { (result.span.start ≤ fault.span.start) × IfErr other (λ f. result.span.start ≤ f.span.start) }
+{
+    match other {
+        Err(other) if other.span.start < fault.span.start => other,
+        _ => fault,
+    }
 }
 
 /// The types of parameters.
@@ -79,7 +90,8 @@ fn check_again(environment: &Environment, signature: &Signature, span: Span) -> 
     Ok(())
 }
 
-/// What a header declares.
+/// What a header declares. Of several faults the first in the text is told; a second declaration that does not agree is one at the name of
+/// the function, once the types are right.
 pub(crate) fn signature(
     environment: &Environment,
     alloc: Global,
@@ -90,14 +102,17 @@ pub(crate) fn signature(
     ensures cause { IfErr result (λ f. (f.kind ≡ OutOfMemory) ⊎ InHeader f (environment_of environment.now) defined header.now) }
 {
     let result_type = environment.typedefs.resolve_result(alloc, &header.result)?;
-    let parameters = parameter_types(environment, alloc, &header.parameters)?;
-    check_distinct(alloc, &header.parameters)?;
     if environment.is_output(&header.name.text) {
         return Err(Fault {
             kind: FaultKind::DuplicateName,
             span: header.name.span,
         });
     }
+    let names = check_distinct(alloc, &header.parameters);
+    let parameters = match parameter_types(environment, alloc, &header.parameters) {
+        Ok(types) => types,
+        Err(fault) => return Err(first_told(fault, names)),
+    };
     let signature = Signature {
         name: header.name.text.clone()?,
         result: result_type,
@@ -105,6 +120,7 @@ pub(crate) fn signature(
         defined,
     };
     check_again(environment, &signature, header.name.span)?;
+    names?;
     Ok(signature)
 }
 

@@ -1,6 +1,7 @@
 -- What clap found, read as the words' meaning.
-use Rattle.std.proofs.Common.{◌≡◌, ◌∙◌, Bool, true, false, List, [], ◌∷◌, Option, Some, None, map, find, refl, ap}
+use Rattle.std.proofs.Common.{◌≡◌, ◌∙◌, Bool, true, false, List, [], ◌∷◌, Option, Some, None, map, find, refl, sym, ap, ap₂, ◌||◌, ℕ}
 use Rattle.std.specs.Prelude.{Box, codes, cond, option_map, option_and_then, slice_get}
+use Rattle.std.specs.Option.{option_map_or}
 use Rattle.std.specs.Box.{box_value}
 use Rattle.std.specs.Str.{bytes_eq}
 use Rattle.std.specs.Borrow.{Bor}
@@ -11,7 +12,7 @@ use Rattle.clap.specs.Simple.{App, HasMatchesOf, is_simple, subcommand_of, subco
 use Rattle.clap.specs.declared.parser.matches.ArgMatches.{ArgMatches}
 use Rattle.clap.specs.declared.parser.matches.ArgMatches.TheViews.{out-ArgMatches, out-SubCommand}
 use Rattle.clap.specs.declared.parser.matches.SubCommand.{SubCommand}
-use Rattle.c0far.specs.Shell.{Command, command_in, named_command, shell}
+use Rattle.c0far.specs.Shell.{Command, Mean, command_in, has_checks, mean_command, named_command, number_in, shell}
 use Rattle.clap.specs.declared.parser.matches.Found.{Found}
 use Rattle.clap.specs.declared.parser.matches.MatchedArg.{MatchedArg}
 
@@ -36,6 +37,16 @@ value_is id (e ∷ es) = go (bytes_eq e.0.now id) refl (value_is id es)
 pub first_is : (f : Found) (id : Text) → first_of id (rows_of f) ≡ first_value f id
 first_is f id = value_is id f.entries.items
 
+-- what was found of the flag tells whether contracts are checked
+pub checks_are : (f : Found) (o : Option Text) → o ≡ first_value f (codes "checks") → option_map_or (λ text. bytes_eq text (codes "true")) o false ≡ has_checks (rows_of f)
+checks_are f o e = ap (λ (o : Option Text). option_map_or (λ text. bytes_eq text (codes "true")) o false) (e ∙ sym (first_is f (codes "checks")))
+
+-- what was found of the turns tells the plain run
+pub run_is : (f : Found) (o : Option Text) (n : Option ℕ) (file : Text) → o ≡ first_value f (codes "turns") → n ≡ option_and_then number_in o
+    → option_map (λ turns. Mean (has_checks (rows_of f)) turns file) n ≡ mean_command (rows_of f) file
+run_is f o n file e told =
+    ap (option_map (λ turns. Mean (has_checks (rows_of f)) turns file)) (told ∙ ap (option_and_then number_in) (e ∙ sym (first_is f (codes "turns"))))
+
 -- a pair by its parts
 pair_is : (o : Option (Text × List Row)) (n : Text) (rows : List Row) → Some n ≡ option_map (λ (p : Text × List Row). p.0) o → Some rows ≡ option_map (λ (p : Text × List Row). p.1) o → o ≡ Some (n, rows)
 pair_is None n rows e f = cc
@@ -59,10 +70,14 @@ none_found m e = go (subcommand_rows_of m) (e ∙ name_is m)
 
 -- a command was found, with or without its file
 pub command_found : (m inner : ArgMatches) (name : Text) → Some name ≡ subcommand_name_of m → Some (rows_of (found_of inner)) ≡ option_map (λ (p : Text × List Row). p.1) (subcommand_rows_of m)
-    → command_in (subcommand_rows_of m) ≡ option_and_then (named_command name) (first_value (found_of inner) (codes "file"))
+    → command_in (subcommand_rows_of m) ≡ option_and_then (named_command name (rows_of (found_of inner))) (first_value (found_of inner) (codes "file"))
 command_found m inner name e f =
     ap command_in (pair_is (subcommand_rows_of m) name (rows_of (found_of inner)) (e ∙ name_is m) f)
-    ∙ ap (option_and_then (named_command name)) (first_is (found_of inner) (codes "file"))
+    ∙ ap (option_and_then (named_command name (rows_of (found_of inner)))) (first_is (found_of inner) (codes "file"))
+
+-- one more argument that is not global
+pub still_local : (new old arg : Bool) → new ≡ (old || arg) → old ≡ false → arg ≡ false → new ≡ false
+still_local new old arg n o a = n ∙ ap₂ ◌||◌ o a
 
 -- the shell is simple
 pub shell_simple : is_simple shell ≡ true

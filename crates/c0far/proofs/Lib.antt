@@ -6,6 +6,7 @@ pub mod Found
 pub mod Headlines
 pub mod Instructions
 pub mod NeverRefused
+pub mod Numbers
 pub mod OneProgram
 pub mod OneTree
 pub mod Places

@@ -3,10 +3,12 @@ use Rattle.std.specs.Prelude.{◌≡◌, ◌≢◌, ◌⊎◌, ℕ, ◌+◌, ◌
 use Rattle.std.specs.Io.KnownBytes.{Appends}
 use Rattle.cells.specs.declared.ending.Ended.{Ended}
 use Rattle.cells.specs.Lines.{run_line}
+use Rattle.cells.specs.Outcomes.{Meant}
 use Rattle.c0_source.specs.declared.fault.Fault.{Fault}
 use Rattle.c0_source.specs.declared.fault.FaultKind.TheVariants as f
 use Rattle.c0_source.specs.FaultLines.{fault_line}
 use Rattle.c0_source.specs.Lines.{BeginsLine}
+use Rattle.c0_typed.specs.Meaning.{mean}
 use Rattle.c0_typed.specs.Trees as y
 use Rattle.c0_front.specs.Texts.{IsTypedAs}
 use Rattle.c0_front.specs.Texts as Unchecked
@@ -17,8 +19,9 @@ use Rattle.c0far.specs.Executed.{IsExecuted}
 use Rattle.c0far.specs.FileTexts.{HasText, IsMissing, Known}
 use Rattle.c0far.specs.declared.words.Usage.{Usage}
 use Rattle.c0far.specs.declared.words.Usage.TheVariants as refusal
-use Rattle.c0far.specs.Shell.{Check, Command, Names, Run, shell}
-use Rattle.c0far.specs.Statuses.{run_status}
+use Rattle.c0far.specs.MeantLines.{last_line}
+use Rattle.c0far.specs.Shell.{Check, Command, Mean, Names, Run, shell}
+use Rattle.c0far.specs.Statuses.{ended_status, run_status}
 
 -- ---- what is shown
 
@@ -38,6 +41,10 @@ is_open bytes = is_open_at (slice_get bytes (length bytes - 1))
 -- what a program printed, with its last line finished, and then the line of its end
 abbrev pub shown_end : Ended → List ℕ
 shown_end e = e.output.items ++ (cond (is_open e.output.items) newline [] ++ (run_line e.run ++ newline))
+
+-- what a program printed within its turns, with its last line finished, and then the line of its stop, or that it was cut
+abbrev pub shown_meaning : Meant → List ℕ
+shown_meaning m = m.output ++ (cond (is_open m.output) newline [] ++ (last_line m.stop ++ newline))
 
 -- the line of a fault in a file: FILE:LINE:COLUMN: fault NUMBER NAME
 abbrev pub shown_fault : Text → ℕ → ℕ → Fault → List ℕ
@@ -132,14 +139,28 @@ pub record HasFailed (file : Text) (held : Known) (out err : Writes) (result : �
 abbrev pub Checks : Text → Known → Writes → Writes → ℕ → Type 0
 Checks file held out err result = HasPassed held out err result ⊎ (HasFailed file held out err result ⊎ (IsUnread file held out err result ⊎ LacksMemory out err result))
 
+-- the program of the file's text means this within so many turns: what it printed and its end are shown
+pub record HasMeant (checks : Bool) (turns : ℕ) (held : Known) (out err : Writes) (result : ℕ) : Type 0 where
+  pub text : List ℕ
+  pub read : HasText held text
+  pub typed : y.Program
+  pub accepted : IsTypedAs false text typed
+  pub shown : Says out (shown_meaning (mean typed checks turns)) (ended_status (mean typed checks turns).stop) result
+  pub quiet : IsQuiet err
+
+-- the command `mean` of this file, which holds this
+abbrev pub Means : Text → Bool → ℕ → Known → Writes → Writes → ℕ → Type 0
+Means file checks turns held out err result = HasMeant checks turns held out err result ⊎ (HasFailed file held out err result ⊎ (IsUnread file held out err result ⊎ LacksMemory out err result))
+
 -- the command, where files hold this
 abbrev pub Does : (Text → Known) → Command → Writes → Writes → ℕ → Type 0
 Does held (Check file) out err result = Checks file (held file) out err result
+Does held (Mean checks turns file) out err result = Means file checks turns (held file) out err result
 Does held (Run file) out err result = Runs file (held file) out err result
 
 -- how the words are to be
 abbrev pub usage : List ℕ
-usage = codes "usage: c0far check FILE | c0far run FILE"
+usage = codes "usage: c0far check FILE | c0far mean [-d] --turns N FILE | c0far run FILE"
 
 -- what is said of words that are refused
 abbrev pub usage_line : Usage → List ℕ

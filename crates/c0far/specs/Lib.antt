@@ -5,6 +5,7 @@ pub mod Executed
 pub mod FileTexts
 pub mod Fragment
 pub mod Headline
+pub mod MeantLines
 pub mod MemTexts
 pub mod Reads
 pub mod Shell

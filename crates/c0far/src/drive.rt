@@ -1,7 +1,6 @@
 //! The commands, over files and two writers.
-ghost use Rattle.std.specs.Prelude.{◌≡◌, ◌++◌, ℕ, List, [], IsTrue, MatchResult, codes, cond, map};
-ghost use Rattle.std.specs.Io.KnownBytes.{Appends};
-ghost use Rattle.c0far.specs.Driven.{Checks, IsDriven, Runs, Says, StandsAt, is_open, newline, shown_end, shown_fault, usage, writes};
+ghost use Rattle.std.specs.Prelude.{◌≡◌, ◌++◌, ℕ, List, codes, map};
+ghost use Rattle.c0far.specs.Driven.{Checks, IsDriven, Runs, Says, newline, shown_end, usage, writes};
 ghost use Rattle.c0far.specs.FileTexts.{HasText, Known};
 ghost use Rattle.c0far.specs.Statuses.{run_status};
 
@@ -9,64 +8,19 @@ use crate::compile::compile;
 use crate::execute::execute;
 use crate::files::{FileError, Files};
 use crate::line::line;
+use crate::plain::{Bound, mean};
+use crate::say::{
+    REFUSED, STOPPED, WANTED, after, say_fault, say_memory, say_unread, write_output,
+};
 use crate::words::{Line, Usage};
 use c0_front::check_text;
-use c0_source::fault::{Fault, FaultKind};
-use c0_source::position::{Position, line_column};
+use c0_source::fault::FaultKind;
 use c0_syntax::level::Level;
 use cells::{Ended, Run, Stop};
 use std::alloc::Global;
 use std::io::Write;
 use std::sync::Wait;
-
-/// Some program has stopped otherwise than by a result.
-const STOPPED: u8 = 1;
-/// A refused text, file or usage, or a failed write.
-const REFUSED: u8 = 2;
-/// Some want of memory, objects or store.
-const WANTED: u8 = 3;
-
-/// The status where a write succeeded, else that of a failed write.
-fn after<T: Drop, E: Drop>(written: Result<T, E>, status: u8) -> u8
-    ensures { MatchResult written (λ _. result ≡ status) (λ _. result ≡ 2) }
-{
-    match written {
-        Ok(_) => status,
-        Err(_) => REFUSED,
-    }
-}
-
-/// Says that a growth was refused.
-fn say_memory<E: Write>(err: &mut E) -> u8
-    ensures { Says (writes (E.contents err.old) (E.contents err.new)) (codes "out of memory" ++ newline) 3 result }
-{
-    after(writeln!(err, "out of memory"), WANTED)
-}
-
-/// Says why a text is refused, and where.
-fn say_at<E: Write>(err: &mut E, file: &str, position: Position, fault: Fault) -> u8
-    ensures { Says (writes (E.contents err.old) (E.contents err.new)) (shown_fault file.now position.line position.column fault) 2 result }
-{
-    let line = position.line;
-    let column = position.column;
-    after(writeln!(err, "{file}:{line}:{column}: {fault}"), REFUSED)
-}
-
-/// Says why a text is refused, at the line and column of the fault.
-fn say_fault<E: Write>(err: &mut E, file: &str, text: &[u8], fault: Fault) -> u8
-    ensures { (line : ℕ) × (column : ℕ) × StandsAt text.now fault.span.start line column
-        × Says (writes (E.contents err.old) (E.contents err.new)) (shown_fault file.now line column fault) 2 result }
-{
-    let position = line_column(text, fault.span.start);
-    say_at(err, file, position, fault)
-}
-
-/// Says that a file was not read.
-fn say_unread<E: Write>(err: &mut E, file: &str) -> u8
-    ensures { Says (writes (E.contents err.old) (E.contents err.new)) (file.now ++ (codes ": cannot be read" ++ newline)) 2 result }
-{
-    after(writeln!(err, "{file}: cannot be read"), REFUSED)
-}
+use std::thread::Threads;
 
 /// Says that a text keeps the static rules.
 fn say_ok<O: Write>(out: &mut O) -> u8
@@ -92,29 +46,6 @@ fn status_of(run: &Run) -> u8
         Run::Stopped(Stop::Ended(_)) | Run::Running => 0,
         Run::Stopped(_) => STOPPED,
     }
-}
-
-/// Whether these bytes end in a line that is not finished.
-fn ends_open(bytes: &[u8]) -> bool
-    ensures { result ≡ is_open bytes.now }
-{
-    match bytes.last() {
-        Some(byte) => *byte != b'\n',
-        None => false,
-    }
-}
-
-/// Writes what a program printed, with its last line finished, and tells whether that was written.
-fn write_output<O: Write>(out: &mut O, output: &[u8]) -> bool
-    ensures { IsTrue result → Appends (O.contents out.old) (O.contents out.new) (output.now ++ cond (is_open output.now) newline []) }
-{
-    if out.write_all(output).is_err() {
-        return false;
-    }
-    if !ends_open(output) {
-        return true;
-    }
-    writeln!(out).is_ok()
 }
 
 /// Says what a program printed and how it ended: a newline stands between them where the output doesn't end in one.
@@ -208,7 +139,7 @@ fn check<F: Files, O: Write, E: Write>(
 /// Does the command that the words name, of which the first is the program's name, and gives the exit status: 3 where there
 /// was a want of memory, objects or store; else 2 where a text, a file or the words are refused, or a write failed;
 /// else 1 where the program stopped otherwise than by a result; else 0.
-pub fn drive<W: Wait, F: Files, O: Write, E: Write>(
+pub fn drive<W: Wait + Threads, F: Files, O: Write, E: Write>(
     alloc: Global,
     rt: &W,
     words: &[&str],
@@ -221,6 +152,13 @@ pub fn drive<W: Wait, F: Files, O: Write, E: Write>(
 {
     match line(alloc, words) {
         Ok(Line::Check { file }) => check(alloc, file, files, out, err),
+        Ok(
+            Line::Mean {
+                checks,
+                turns,
+                file,
+            },
+        ) => mean(alloc, rt, Bound { checks, turns }, file, files, out, err),
         Ok(Line::Run { file }) => run(alloc, rt, file, files, out, err),
         Err(Usage::Refused) => say_usage(err),
         Err(Usage::OutOfMemory) => say_memory(err),

@@ -1,28 +1,56 @@
 //! From words to a command.
 ghost use Rattle.std.specs.Prelude.{◌≡◌, [], IfErr, IfOk, List, ℕ, map, option_map, true};
-ghost use Rattle.clap.specs.Words.{app_of, kind_of, subcommand_rows_of, takes};
-ghost use Rattle.c0far.specs.Shell.{Command as Asked, Names, command_in, command_of, named_command, shell};
+ghost use Rattle.clap.specs.Words.{app_of, found_of, kind_of, rows_of, subcommand_rows_of, takes};
+ghost use Rattle.c0far.specs.Shell.{Command as Asked, IsLocal, Names, command_in, command_of, file_shape, has_checks, is_signed, mean_command, mean_shape, named_command, number_in, shell};
 
 use crate::words::{Line, Usage};
 use clap::error::ErrorKind;
 use clap::{Arg, ArgAction, ArgMatches, Command, Error};
 use std::alloc::{AllocError, Global};
 
+/// A command of this name with a file.
+fn of_a_file<'a>(alloc: Global, name: &'a str) -> Result<Command<'a>, AllocError>
+    ensures shape { IfOk result (λ c. app_of c ≡ record { top = file_shape name.now; subs = [] }) }
+    ensures local { IfOk result IsLocal }
+{
+    let file = Arg::new(alloc, "file")
+        .required(true)
+        .action(ArgAction::Set);
+    Command::new(alloc, name).arg(file)
+}
+
+/// The plain run, with its options and its file.
+fn mean<'a>(alloc: Global) -> Result<Command<'a>, AllocError>
+    ensures shape { IfOk result (λ c. app_of c ≡ record { top = mean_shape; subs = [] }) }
+    ensures local { IfOk result IsLocal }
+{
+    let checks = Arg::new(alloc, "checks")
+        .short('d')
+        .action(ArgAction::SetTrue);
+    let turns = Arg::new(alloc, "turns")
+        .long("turns")
+        .required(true)
+        .action(ArgAction::Set);
+    let file = Arg::new(alloc, "file")
+        .required(true)
+        .action(ArgAction::Set);
+    Command::new(alloc, "mean")
+        .arg(checks)?
+        .arg(turns)?
+        .arg(file)
+}
+
 /// The commands that there are.
 fn command<'a>(alloc: Global) -> Result<Command<'a>, AllocError>
     ensures { IfOk result (λ c. app_of c ≡ shell) }
 {
-    let check_file = Arg::new(alloc, "file")
-        .required(true)
-        .action(ArgAction::Set);
-    let run_file = Arg::new(alloc, "file")
-        .required(true)
-        .action(ArgAction::Set);
-    let check = Command::new(alloc, "check").arg(check_file)?;
-    let run = Command::new(alloc, "run").arg(run_file)?;
+    let check = of_a_file(alloc, "check")?;
+    let mean = mean(alloc)?;
+    let run = of_a_file(alloc, "run")?;
     Command::new(alloc, "c0far")
         .subcommand_required(true)
         .subcommand(check)?
+        .subcommand(mean)?
         .subcommand(run)
 }
 
@@ -35,17 +63,64 @@ fn refusal(error: Error) -> Usage
     }
 }
 
-/// The command of this name, with this file.
-fn named<'a>(name: &str, file: &'a str) -> Option<Line<'a>>
-    ensures { option_map command_of result ≡ named_command name.now file.now }
+/// Whether the text begins with a plus.
+fn has_plus(text: &[u8]) -> bool
+    ensures { result ≡ is_signed text.now }
 {
-    if name == "check" {
-        return Some(Line::Check { file });
+    match text.first() {
+        Some(byte) => *byte == b'+',
+        None => false,
     }
-    if name == "run" {
-        return Some(Line::Run { file });
+}
+
+/// The number that the text writes in digits. None where there is a sign or no digit, or it has more than 64 bits.
+fn number(text: &str) -> Option<u64>
+    ensures { result ≡ number_in text.now }
+{
+    if has_plus(text.as_bytes()) {
+        return None;
     }
-    None
+    text.parse().ok()
+}
+
+/// Whether contracts are to be checked.
+fn checks(matches: &ArgMatches<'_>) -> bool
+    ensures { result ≡ has_checks (rows_of (found_of matches.now)) }
+{
+    match matches.get_str("checks") {
+        Some(text) => text == "true",
+        None => false,
+    }
+}
+
+/// The plain run of this file, with the options that clap found.
+fn plain_run<'a>(matches: &ArgMatches<'a>, file: &'a str) -> Option<Line<'a>>
+    ensures { option_map command_of result ≡ mean_command (rows_of (found_of matches.now)) file.now }
+{
+    let Some(text) = matches.get_str("turns") else {
+        return None;
+    };
+    let Some(turns) = number(text) else {
+        return None;
+    };
+    let checks = checks(matches);
+    Some(Line::Mean {
+        checks,
+        turns,
+        file,
+    })
+}
+
+/// The command of this name, with this file and what else clap found.
+fn named<'a>(name: &str, matches: &ArgMatches<'a>, file: &'a str) -> Option<Line<'a>>
+    ensures { option_map command_of result ≡ named_command name.now (rows_of (found_of matches.now)) file.now }
+{
+    match name {
+        "check" => Some(Line::Check { file }),
+        "mean" => plain_run(matches, file),
+        "run" => Some(Line::Run { file }),
+        _ => None,
+    }
 }
 
 /// The command that clap found, with its file.
@@ -56,7 +131,7 @@ fn found<'a>(matches: &ArgMatches<'a>) -> Option<Line<'a>>
         return None;
     };
     match inner.get_str("file") {
-        Some(file) => named(name, file),
+        Some(file) => named(name, inner, file),
         None => None,
     }
 }

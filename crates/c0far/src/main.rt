@@ -10,7 +10,9 @@ mod generate;
 mod laws;
 mod line;
 mod names;
+mod plain;
 mod reader;
+mod say;
 mod tests;
 mod words;
 

@@ -9,6 +9,7 @@ mod tests {
     use std::io::Write;
     use std::sync::Wait;
     use std::test::Fail;
+    use std::thread::Threads;
 
     /// What a command printed, and its status.
     #[derive(Drop)]
@@ -32,7 +33,12 @@ mod tests {
         }
     }
 
-    fn command<W: Wait>(alloc: Global, rt: &W, words: &[&str], files: &mut MemFiles) -> Told {
+    fn command<W: Wait + Threads>(
+        alloc: Global,
+        rt: &W,
+        words: &[&str],
+        files: &mut MemFiles,
+    ) -> Told {
         let mut out = Vec::new(alloc);
         let mut err = Vec::new(alloc);
         let status = drive(alloc, rt, words, files, &mut out, &mut err);
@@ -40,7 +46,7 @@ mod tests {
     }
 
     /// `c0far run NAME` with this text in the file.
-    fn run_file<W: Wait>(
+    fn run_file<W: Wait + Threads>(
         alloc: Global,
         rt: &W,
         name: &str,
@@ -53,7 +59,7 @@ mod tests {
     }
 
     /// The same of a text that is no file's bytes but the body of `main`.
-    fn run_body<W: Wait>(alloc: Global, rt: &W, body: &str) -> Result<Told, Fail> {
+    fn run_body<W: Wait + Threads>(alloc: Global, rt: &W, body: &str) -> Result<Told, Fail> {
         let text = format!(in alloc; "int main() {{ {body} }}")?;
         Ok(run_file(alloc, rt, "a.c0", text.as_bytes())?)
     }
@@ -183,7 +189,7 @@ mod tests {
     }
 
     /// `c0far check NAME` with this text in the file: what it writes to its two streams, one behind the other, and its status.
-    fn checked<W: Wait>(
+    fn checked<W: Wait + Threads>(
         alloc: Global,
         rt: &W,
         name: &str,
@@ -276,12 +282,117 @@ mod tests {
         Ok(())
     }
 
+    /// `c0far mean` with these options, in front of the file's name, with this text in the file: what it writes and its status.
+    fn meant<W: Wait + Threads>(
+        alloc: Global,
+        rt: &W,
+        options: &[&str],
+        text: &str,
+    ) -> Result<Told, Fail> {
+        let mut files = MemFiles::new(alloc);
+        files.write(alloc, "a.c0", text.as_bytes())?;
+        let mut words = vec![in alloc; "c0far", "mean"]?;
+        words.extend_from_slice(options)?;
+        words.push("a.c0")?;
+        Ok(command(alloc, rt, &words, &mut files))
+    }
+
+    const ENDLESS: &str = "#use <conio>\nint main() { while (true) { print(\"a\"); } return 0; }";
+
+    const NOTHING: &str = "int main() { return 0; }";
+
+    const KEPT_NOT: &str =
+        "int main() { int i = 0; while (i < 3) //@loop_invariant i < 3;\n{ i++; } return i; }";
+
+    const STOPPED: &str = "#use <conio>\nint main() { println(\"a\"); assert(false); return 0; }";
+
+    const CALLS: &str =
+        "int f(int n) { return n == 0 ? 0 : 1 + f(n - 1); } int main() { return f(3); }";
+
+    #[test]
+    fn meanings(rt: HostRuntime) -> Result<(), Fail> {
+        let rows: [(&[&str], &str, &str, u8); 9] = [
+            (&["--turns", "4"], ENDLESS, "aaa\ncut\n", 0),
+            (&["--turns", "0"], NOTHING, "cut\n", 0),
+            (&["--turns", "1"], NOTHING, "result: 0\n", 0),
+            (
+                &["--turns", "18446744073709551615"],
+                NOTHING,
+                "result: 0\n",
+                0,
+            ),
+            (&["--turns", "5000"], KEPT_NOT, "result: 3\n", 0),
+            (&["-d", "--turns=5000"], KEPT_NOT, "assertion failed\n", 1),
+            (&["--turns", "5000"], STOPPED, "a\nassertion failed\n", 1),
+            (&["--turns", "4", "-d"], CALLS, "cut\n", 0),
+            (&["--turns", "5", "-d"], CALLS, "result: 3\n", 0),
+        ];
+        for (options, text, shown, status) in rows {
+            let told = meant(rt.alloc(), &rt, options, text)?;
+            assert_eq!(rt; told.out.as_slice(), shown.as_bytes());
+            assert_eq!(rt; told.err.len(), 0);
+            assert_eq!(rt; told.status, status);
+        }
+        Ok(())
+    }
+
+    #[test]
+    fn no_meaning(rt: HostRuntime) -> Result<(), Fail> {
+        let told = meant(rt.alloc(), &rt, &["--turns", "9"], "int main() { break; }")?;
+        assert_eq!(rt;
+            told.err.as_slice(),
+            b"a.c0:1:14: fault 20 Syntax\n".as_slice()
+        );
+        assert_eq!(rt; told.status, 2);
+        assert_eq!(rt; told.out.len(), 0);
+        let mut files = MemFiles::new(rt.alloc());
+        let words = ["c0far", "mean", "--turns", "9", "none.c0"];
+        let told = command(rt.alloc(), &rt, &words, &mut files);
+        assert_eq!(rt;
+            told.err.as_slice(),
+            b"none.c0: cannot be read\n".as_slice()
+        );
+        assert_eq!(rt; told.status, 2);
+        Ok(())
+    }
+
+    #[test]
+    fn refused_turns(rt: HostRuntime) -> Result<(), Fail> {
+        let rows: [&[&str]; 8] = [
+            &[],
+            &["-d"],
+            &["--turns", "x"],
+            &["--turns", "-1"],
+            &["--turns=-1"],
+            &["--turns", "+1"],
+            &["--turns="],
+            &["--turns", "18446744073709551616"],
+        ];
+        for options in rows {
+            let told = meant(rt.alloc(), &rt, options, NOTHING)?;
+            assert_eq!(rt;
+                told.err.as_slice(),
+                b"usage: c0far check FILE | c0far mean [-d] --turns N FILE | c0far run FILE\n".as_slice()
+            );
+            assert_eq!(rt; told.out.len(), 0);
+            assert_eq!(rt; told.status, 2);
+        }
+        Ok(())
+    }
+
     #[test]
     fn command_lines(rt: HostRuntime) -> Result<(), Fail> {
         let words = ["c0far", "run", "a.c0"];
         assert_eq!(rt; line(rt.alloc(), &words), Ok(Line::Run { file: "a.c0" }));
         let words = ["c0far", "check", "a.c0"];
         assert_eq!(rt; line(rt.alloc(), &words), Ok(Line::Check { file: "a.c0" }));
+        let words = ["c0far", "mean", "-d", "--turns", "7", "a.c0"];
+        let asked = Line::Mean {
+            checks: true,
+            turns: 7,
+            file: "a.c0",
+        };
+        assert_eq!(rt; line(rt.alloc(), &words), Ok(asked));
         let words = ["c0far", "walk", "a.c0"];
         assert_eq!(rt; line(rt.alloc(), &words), Err(Usage::Refused));
         let words = ["c0far", "run"];

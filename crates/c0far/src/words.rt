@@ -6,9 +6,19 @@ use thiserror::Error;
 #[derive(Clone, Copy, Debug, PartialEq, Eq)]
 pub enum Line<'a> {
     /// Tells whether a text keeps the static rules.
-    Check { file: &'a str },
+    Check {
+        file: &'a str,
+    },
+    /// The plain run of a text: what its program means within so many turns, with contracts checked or not.
+    Mean {
+        checks: bool,
+        turns: u64,
+        file: &'a str,
+    },
     /// Runs the program of a text.
-    Run { file: &'a str },
+    Run {
+        file: &'a str,
+    },
 }
 
 /// Why the words are no command.
@@ -28,7 +38,10 @@ impl fmt::Display for Usage {
 
     fn fmt<W: fmt::Write>(&self, f: &mut fmt::Formatter<W>) -> fmt::Result {
         match self {
-            Usage::Refused => write!(f, "usage: c0far check FILE | c0far run FILE"),
+            Usage::Refused => write!(
+                f,
+                "usage: c0far check FILE | c0far mean [-d] --turns N FILE | c0far run FILE"
+            ),
             Usage::OutOfMemory => write!(f, "out of memory"),
         }
     }

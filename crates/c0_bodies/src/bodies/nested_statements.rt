@@ -16,6 +16,7 @@ ghost use Rattle.c0_terms.specs.Terms.{HasTexts};
 ghost use Rattle.c0_rules.specs.Types.{BoolType, Environment, Name};
 ghost use Rattle.c0_tables.specs.Views.{environment_of};
 
+use super::loops::{repeated, repetition};
 use super::{Body, skip};
 use c0_source::fault::{Fault, FaultKind, Span};
 use c0_syntax::expression::Expression;
@@ -81,66 +82,6 @@ fn chosen(
     }
 }
 
-// A loop whose body is boxed.
-fn repetition_of_boxed(
-    alloc: Global,
-    invariants: Vec<TypedExpression>,
-    condition: TypedExpression,
-    body: Box<TypedStatement>,
-    third: TypedStatement,
-) -> Result<TypedStatement, AllocError>
-    ensures { IfOk result (λ b. (texts : List Name) → stmt_of texts b ≡ y.Loop (exps_of texts invariants.items) (exp_of texts condition) (stmt_of texts (box_value body)) (stmt_of texts third)) }
-{
-    match Box::new(alloc, third) {
-        Ok(third) => Ok(TypedStatement::Loop(invariants, condition, body, third)),
-        Err(error) => {
-            drop(condition);
-            Err(error.into())
-        }
-    }
-}
-
-// A loop.
-fn repetition(
-    alloc: Global,
-    invariants: Vec<TypedExpression>,
-    condition: TypedExpression,
-    body: TypedStatement,
-    third: TypedStatement,
-) -> Result<TypedStatement, AllocError>
-    ensures { IfOk result (λ b. (texts : List Name) → stmt_of texts b ≡ y.Loop (exps_of texts invariants.items) (exp_of texts condition) (stmt_of texts body) (stmt_of texts third)) }
-{
-    match Box::new(alloc, body) {
-        Ok(body) => repetition_of_boxed(alloc, invariants, condition, body, third),
-        Err(error) => {
-            drop(condition);
-            drop(third);
-            Err(error.into())
-        }
-    }
-}
-
-// A loop whose third part has this result.
-fn repeated(
-    alloc: Global,
-    invariants: Vec<TypedExpression>,
-    condition: TypedExpression,
-    body: TypedStatement,
-    third: Result<TypedStatement, Fault>,
-) -> Result<TypedStatement, Fault>
-    ensures answers { IfOk result (λ r. IsOkAnd third (λ b. (texts : List Name) → stmt_of texts r ≡ y.Loop (exps_of texts invariants.items) (exp_of texts condition) (stmt_of texts body) (stmt_of texts b))) }
-    ensures cause { IfErr result (λ f. (f.kind ≡ OutOfMemory) ⊎ (third ≡ Err f)) }
-{
-    match third {
-        Ok(third) => Ok(repetition(alloc, invariants, condition, body, third)?),
-        Err(fault) => {
-            drop(condition);
-            drop(body);
-            Err(fault)
-        }
-    }
-}
-
 // Two statements in order.
 fn in_turn(
     alloc: Global,
@@ -176,39 +117,7 @@ fn followed(
     }
 }
 
-// The third part of a `for` declares no local.
-fn check_third(third: &Option<SimpleStatement>) -> Result<(), Fault>
-    ensures answers { is_err result ≡ declares (option_map simple_of third.now) }
-    ensures cause { IfErr result (λ f. (env : Environment) → ThirdCause env f third.now) }
-{
-    let Some(simple) = third else {
-        return Ok(());
-    };
-    match simple.kind {
-        SimpleKind::Declare(_, _) | SimpleKind::Initialize(_, _, _) => Err(Fault {
-            kind: FaultKind::StepDeclares,
-            span: simple.span,
-        }),
-        SimpleKind::Assign(_, _) | SimpleKind::Update(_, _, _) => Ok(()),
-        SimpleKind::Step(_, _) | SimpleKind::Evaluate(_) => Ok(()),
-    }
-}
-
 impl<'a> Body<'a> {
-    // A part of a `for`.
-    fn part(&mut self, part: &Option<SimpleStatement>) -> Result<TypedStatement, Fault>
-        requires { PartHasTexts self.old.texts.now (option_map simple_of part.now) }
-        ensures environment { self.new.environment ≡ self.old.environment }
-        ensures texts { self.new.texts ≡ self.old.texts }
-        ensures answers { Gives self.old.texts.now self.new.scope result (typed_part (environment_of self.old.environment.now) (option_map simple_of part.now) (scope_of self.old.scope)) }
-        ensures cause { IfErr result (λ f. (f.kind ≡ OutOfMemory) ⊎ InPart (environment_of self.old.environment.now) f (scope_of self.old.scope) part.now) }
-    {
-        match part {
-            Some(simple) => self.simple(simple),
-            None => Ok(skip(self.alloc)),
-        }
-    }
-
     // A `return` without a value.
     fn returned(&self, span: Span) -> Result<TypedStatement, Fault>
         ensures answers { Gives self.now.texts.now self.now.scope result (typed_statement (environment_of self.now.environment.now) t.Return (scope_of self.now.scope)) }
@@ -416,13 +325,11 @@ impl<'a> Body<'a> {
         ensures environment { self.new.environment ≡ self.old.environment }
         ensures texts { self.new.texts ≡ self.old.texts }
         ensures answers { Gives self.old.texts.now self.new.scope result (loop_behind (environment_of self.old.environment.now) (expression_of condition.now) (option_map simple_of third.now) (map annotation_of annotations.now) (statement_of body.now) (scope_of self.old.scope)) }
-        ensures cause { IfErr result (λ f. (f.kind ≡ OutOfMemory) ⊎ InLoop (environment_of self.old.environment.now) f (scope_of self.old.scope) condition.now third.now annotations.now body.now) }
+        ensures cause { IfErr result (λ f. (f.kind ≡ OutOfMemory) ⊎ ThirdCause (environment_of self.old.environment.now) f third.now ⊎ InLoop (environment_of self.old.environment.now) f (scope_of self.old.scope) condition.now third.now annotations.now body.now) }
     {
-        let condition = self.wanted(&ResolvedType::Bool, condition)?;
-        let invariants = self.invariants(annotations)?;
-        let inside = self.inner(body)?;
-        let third = self.part(third);
-        repeated(self.alloc, invariants, condition, inside, third)
+        let head = self.head(condition, third, annotations)?;
+        let inside = self.inner(body);
+        repeated(self.alloc, head, inside)
     }
 
     // A `for`, which is a scope.
@@ -441,7 +348,6 @@ impl<'a> Body<'a> {
         ensures answers { Gives self.old.texts.now self.new.scope result (typed_statement (environment_of self.old.environment.now) (t.For (option_map simple_of first.now) (expression_of condition.now) (option_map simple_of third.now) (map annotation_of annotations.now) (statement_of body.now)) (scope_of self.old.scope)) }
         ensures cause { IfErr result (λ f. (f.kind ≡ OutOfMemory) ⊎ InFor (environment_of self.old.environment.now) f (scope_of self.old.scope) first.now condition.now third.now annotations.now body.now) }
     {
-        check_third(third)?;
         let before = self.scope.locals.len();
         let first = self.part(first)?;
         let repeats = self.loop_behind(condition, third, annotations, body);

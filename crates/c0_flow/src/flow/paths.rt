@@ -11,7 +11,7 @@ ghost use Rattle.c0_rules.specs.Statements.{Postcondition, role_of, same_role};
 ghost use Rattle.c0_rules.specs.Types.{Signature, VoidType, any_among, same_type};
 
 use super::Flow;
-use super::statements::flow_of_statements;
+use super::statements::behind_statements;
 use crate::mentioned::Refused;
 use c0_source::fault::{Fault, FaultKind};
 use c0_source::kind::Clause;
@@ -72,8 +72,9 @@ pub fn check_paths(
     ensures cause { (f : Signature) → same_type f.result VoidType ≡ is_void → IfErr result (λ fault. (fault.kind ≡ OutOfMemory) ⊎ InPaths fault f header.now body.now) }
 {
     check_ensures(&header.annotations, body)?;
-    let behind = flow_of_statements(alloc, body, Flow::Reached(Vec::new(alloc)))?;
-    if behind.has_ended() || is_void {
+    let start = Flow::Reached(Vec::new(alloc));
+    let behind = behind_statements(alloc, body, &start)?;
+    if behind.over(&start).has_ended() || is_void {
         return Ok(());
     }
     Err(Fault {

@@ -2,12 +2,12 @@
 
 ghost use Rattle.std.specs.Prelude.{◌≡◌, ◌⊎◌, None, Some, IfErr, IfOk};
 ghost use Rattle.c0_source.specs.declared.fault.FaultKind.TheVariants.{OutOfMemory, TypeMismatch, UnknownName};
-ghost use Rattle.c0_syntax.specs.Views.{expression_of, name_of, type_of};
+ghost use Rattle.c0_syntax.specs.Views.{expression_of, name_of};
 ghost use Rattle.c0_typed.specs.Trees as y;
 ghost use Rattle.c0_typed.specs.Views.{exp_of, exps_of};
 ghost use Rattle.c0_rules.specs.Expressions as x;
-ghost use Rattle.c0_rules.specs.FaultExpressions.{AsValue, FieldCause, HeldTypeCause, InExpression, Mistyped, Told};
-ghost use Rattle.c0_terms.specs.Forms.{PointedCause, PrefixedCause, callee_of, discarded};
+ghost use Rattle.c0_rules.specs.FaultExpressions.{AsValue, FieldCause, InExpression, Mistyped, Told};
+ghost use Rattle.c0_terms.specs.Forms.{PointedCause, PrefixedCause, array_of, callee_of, discarded};
 ghost use Rattle.c0_terms.specs.Terms.{context_of, env_of, place_of, typing_of};
 ghost use Rattle.c0_rules.specs.Types as t;
 ghost use Rattle.c0_rules.specs.Answers.{Answers};
@@ -22,7 +22,6 @@ use c0_source::fault::{Fault, FaultKind, Span};
 use c0_syntax::expression::Expression;
 use c0_syntax::name::Name;
 use c0_syntax::operator::PrefixOperator;
-use c0_syntax::value_type::ValueType as WrittenType;
 use c0_tables::resolved::ResolvedType;
 use c0_typed::{Expression as TypedExpression, ValueType};
 use std::alloc::AllocError;
@@ -45,21 +44,26 @@ impl<'a> Terms<'a> {
         self.as_wanted(want, typing, e.span)
     }
 
-    /// An array of this many elements.
+    /// An array of this many elements of this type.
     pub(crate) fn allocated_array(
         &self,
-        written: &WrittenType,
+        element: ResolvedType,
         length: Typing,
         here: Span,
     ) -> Result<Typing, Fault>
-        ensures answers { Answers (typing_of self.now.texts.now) result (t.and_so (x.held_type (env_of self.now) (type_of written.now)) (λ r. t.and_so (x.as_wanted (env_of self.now) t.IntType (typing_of self.now.texts.now length)) (λ n. Some (x.Has (t.ArrayOf r) (y.AllocArray (x.num (env_of self.now) r) n))))) }
-        ensures cause { IfErr result (λ f. (f.kind ≡ OutOfMemory) ⊎ HeldTypeCause (env_of self.now) f written.now ⊎ ((x.as_wanted (env_of self.now) t.IntType (typing_of self.now.texts.now length) ≡ None) × Told TypeMismatch here f)) }
+        ensures answers { Answers (typing_of self.now.texts.now) result (array_of (env_of self.now) (resolved_of element) (typing_of self.now.texts.now length)) }
+        ensures cause { IfErr result (λ f. (f.kind ≡ OutOfMemory) ⊎ ((x.as_wanted (env_of self.now) t.IntType (typing_of self.now.texts.now length) ≡ None) × Told TypeMismatch here f)) }
     {
-        let resolved = self.held(written)?;
-        let length = self.as_wanted(&ResolvedType::Int, length, here)?;
-        let value_type = self.numbered(&resolved)?;
+        let length = match self.as_wanted(&ResolvedType::Int, length, here) {
+            Ok(length) => length,
+            Err(fault) => {
+                drop(element);
+                return Err(fault);
+            }
+        };
+        let value_type = self.numbered(&element)?;
         let length = Box::new(self.alloc, length)?;
-        let element = Box::new(self.alloc, resolved)?;
+        let element = Box::new(self.alloc, element)?;
         Ok(Typing::Has(
             ResolvedType::Array(element),
             TypedExpression::AllocArray(value_type, length),

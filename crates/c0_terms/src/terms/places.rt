@@ -1,12 +1,12 @@
 // Steps to places of the heap, and what stands there.
 
-ghost use Rattle.std.specs.Prelude.{◌≡◌, ◌⊎◌, None, Some, false, true, IfErr, IfOk};
+ghost use Rattle.std.specs.Prelude.{◌≡◌, ◌⊎◌, None, Some, false, true, IfErr, IfOk, IfSome};
 ghost use Rattle.c0_source.specs.declared.fault.FaultKind.TheVariants.{NotSmall, NullDereference, OutOfMemory, StructNotComplete, TypeMismatch, UnknownField};
 ghost use Rattle.c0_syntax.specs.Views.{name_of};
 ghost use Rattle.c0_typed.specs.Views.{exp_of, place_of as at_of};
 ghost use Rattle.c0_rules.specs.Expressions as x;
 ghost use Rattle.c0_rules.specs.FaultExpressions.{FieldCause, Told, element_of, is_null};
-ghost use Rattle.c0_terms.specs.Terms.{context_of, env_of, field_place, place_of, typing_of};
+ghost use Rattle.c0_terms.specs.Terms.{ArrayCause, context_of, env_of, field_place, place_of, typing_of};
 ghost use Rattle.c0_rules.specs.Types as t;
 ghost use Rattle.c0_rules.specs.Answers.{Answers};
 ghost use Rattle.c0_tables.specs.Views.{field_entry_of, resolved_of, struct_entry_of};
@@ -70,6 +70,42 @@ impl<'a> Terms<'a> {
                 _ => Err(fault_at(FaultKind::TypeMismatch, here)),
             },
             Typing::Null(_) => Err(fault_at(FaultKind::TypeMismatch, here)),
+        }
+    }
+
+    /// The array of an element at this place; it is refused where it has none, whatever the index is, so that a fault in that isn't
+    /// told before.
+    pub(crate) fn array_operand(
+        &self,
+        array: Typing,
+        here: Span,
+        span: Span,
+    ) -> Result<Typing, Fault>
+        ensures taken { IfOk result (λ x. x ≡ array) }
+        ensures refused { IfErr result (λ f. ArrayCause (env_of self.now) f (typing_of self.now.texts.now array) here span) }
+    {
+        let found = self.array_fault(&array, here, span);
+        match found {
+            None => Ok(array),
+            Some(fault) => {
+                drop(array);
+                Err(fault)
+            }
+        }
+    }
+
+    // Why a value has no element.
+    fn array_fault(&self, array: &Typing, here: Span, span: Span) -> Option<Fault>
+        ensures { IfSome result (λ f. ArrayCause (env_of self.now) f (typing_of self.now.texts.now array.now) here span) }
+    {
+        match array {
+            Typing::Has(ResolvedType::Array(element), _) => {
+                if self.environment.structs.cells(element).is_none() {
+                    return Some(fault_at(FaultKind::StructNotComplete, span));
+                }
+                None
+            }
+            _ => Some(fault_at(FaultKind::TypeMismatch, here)),
         }
     }
 

@@ -1,14 +1,15 @@
 // The steps from what operands are to what they are together.
 
-ghost use Rattle.std.specs.Prelude.{◌≡◌, ◌≢◌, ◌⊎◌, None, Some, false, IfErr, IfOk};
+ghost use Rattle.std.specs.Prelude.{◌≡◌, ◌≢◌, ◌⊎◌, List, None, Some, false, IfErr, IfOk};
 ghost use Rattle.c0_source.specs.declared.fault.FaultKind.TheVariants.{OutOfMemory, TypeMismatch};
 ghost use Rattle.c0_typed.specs.Trees as t;
 ghost use Rattle.c0_typed.specs.Views.{exp_of, relation_of, type_of};
 ghost use Rattle.c0_rules.specs.Expressions as x;
 ghost use Rattle.c0_rules.specs.FaultExpressions.{Told, has_common};
 ghost use Rattle.c0_syntax.specs.declared.operator.PrefixOperator.TheVariants.{Dereference};
-ghost use Rattle.c0_terms.specs.Terms.{OperatedCause, env_of, pair_of, rule_of, typing_of};
-ghost use Rattle.c0_rules.specs.Types.{BoolType, and_so};
+ghost use Rattle.c0_terms.specs.Terms.{LeftCause, OperatedCause, env_of, pair_of, rule_of, typing_of};
+ghost use Rattle.c0_terms.specs.Forms.{takes_left};
+ghost use Rattle.c0_rules.specs.Types.{BoolType, Environment, Name, and_so};
 ghost use Rattle.c0_rules.specs.Answers.{Answers};
 ghost use Rattle.c0_tables.specs.Views.{resolved_of};
 
@@ -26,6 +27,40 @@ pub(crate) fn fault_at(kind: FaultKind, span: Span) -> Fault
     ensures { Told kind span result }
 {
     Fault { kind, span }
+}
+
+// Whether an operator takes an operand of this type on its left, as far as that shows before the other is known.
+fn takes_left(rule: OperatorRule, first: &Typing) -> bool
+    ensures { (texts : List Name) → result ≡ takes_left (rule_of rule) (typing_of texts first.now) }
+{
+    match (rule, first) {
+        (OperatorRule::Compares(_), _) => true,
+        (OperatorRule::OnNumbers(_), Typing::Has(resolved, _)) => {
+            resolved.same_as(&ResolvedType::Int)
+        }
+        (OperatorRule::Conjunction, Typing::Has(resolved, _)) => {
+            resolved.same_as(&ResolvedType::Bool)
+        }
+        (OperatorRule::Disjunction, Typing::Has(resolved, _)) => {
+            resolved.same_as(&ResolvedType::Bool)
+        }
+        (_, Typing::Null(_)) => false,
+    }
+}
+
+/// The operand on the left of an operator, which stands here; it is refused where the operator doesn't take it, whatever the other is,
+/// so that a fault in the other isn't told before.
+#[tactic(auto, using(crate::proofs::Refusals::left_cause))]
+pub(crate) fn left_operand(rule: OperatorRule, first: Typing, here: Span) -> Result<Typing, Fault>
+    ensures taken { IfOk result (λ x. x ≡ first) }
+    ensures refused { (env : Environment) (texts : List Name) → IfErr result (λ f. LeftCause env f (rule_of rule) (typing_of texts first) here) }
+{
+    if takes_left(rule, &first) {
+        Ok(first)
+    } else {
+        drop(first);
+        Err(fault_at(FaultKind::TypeMismatch, here))
+    }
 }
 
 impl<'a> Terms<'a> {

@@ -10,15 +10,16 @@ use Rattle.c0_syntax.specs.Views.{annotation_of, expression_of, simple_of, state
 use Rattle.c0_typed.specs.Trees as y
 use Rattle.c0_typed.specs.Views.{block_of, exp_of, exps_of, stmt_of}
 use Rattle.c0_terms.specs.Terms.{HasTexts, local_of}
-use Rattle.c0_rules.specs.FaultStatements.{InAnnotations, InBody, InPart, InStatement, InWanted}
+use Rattle.c0_rules.specs.FaultStatements.{InAnnotations, InBody, InStatement, InWanted, ThirdCause}
 use Rattle.c0_rules.specs.Mentions.{specs_in}
-use Rattle.c0_rules.specs.Statements.{Checked, Invariant, typed_part, typed_statement, typed_statements, within}
+use Rattle.c0_rules.specs.Statements.{Checked, Invariant, typed_statement, typed_statements, within}
 use Rattle.c0_rules.specs.Types.{BoolType}
 use Rattle.c0_tables.specs.Views.{environment_of}
-use Rattle.c0_bodies.specs.Bodies.{Gives, InFor, InLoop, PartHasTexts, SpecsHaveTexts, StatementHasTexts, StatementsHaveTexts, in_scope, loop_behind, scope_of}
+use Rattle.c0_bodies.specs.Bodies.{Gives, InFor, InLoop, PartHasTexts, SpecsHaveTexts, StatementHasTexts, StatementsHaveTexts, head_of, in_scope, loop_behind, scope_of}
 use Rattle.c0_bodies.proofs.BodyRows.{block_is, block_told, typed_block_is}
-use Rattle.c0_bodies.proofs.Branches.{after_all, after_none, block_gives, body_cause, body_has, body_step, else_none, first_none, for_declares, for_gives, for_none, fourth_of, if_else_gives, if_else_none, if_gives, if_none, loop_gives, loop_none, nested_gives, scope_cause, statement_more, statement_none, statements_done, third_none, third_of, while_gives, while_none}
-use Rattle.c0_bodies.proofs.Kept.{at_start, block_none, first_alone, in_texts, scope_none, second_of, third_alone}
+use Rattle.c0_bodies.proofs.Branches.{after_all, after_none, block_gives, body_cause, body_has, body_step, else_none, if_else_gives, if_else_none, if_gives, if_none, nested_gives, scope_cause, statement_more, statement_none, statements_done, third_of, while_gives, while_none}
+use Rattle.c0_bodies.proofs.Kept.{at_start, block_none, body_told, first_alone, head_told, in_texts, loop_told, scope_none, second_of, third_alone}
+use Rattle.c0_bodies.proofs.Loops.{first_none, for_gives, for_none, head_none, loop_gives, loop_none}
 use Rattle.c0_bodies.proofs.Made.{made_gives, made_told}
 use Rattle.c0_bodies.proofs.Sizes.{size_in, size_statement}
 use Rattle.c0_bodies.proofs.bodies.Body.+statement.Goals as goal
@@ -266,48 +267,45 @@ statement-choice_of_two-requires t c =
 
 -- ---- the loop of a `for`
 
-pub loop_behind-returns-in_err-inside-clause-answers : goal.loop_behind-returns-in_err-inside-clause-answers
-loop_behind-returns-in_err-inside-clause-answers t c =
-    let p = err_from_is_err_and c.from_residual-in_err-inside.result c.from_residual-in_err-inside.ensures.1 in
-    rw (p.1, p.2) (loop_none (environment_of c.args.self.now.environment.now) (expression_of c.args.condition.now) (option_map simple_of c.args.third.now) (map annotation_of c.args.annotations.now) (statement_of c.args.body.now) (scope_of c.args.self.now.scope) c.in_err-inside.ensures.answers)
+pub loop_behind-returns-in_err-head-clause-answers : goal.loop_behind-returns-in_err-head-clause-answers
+loop_behind-returns-in_err-head-clause-answers t c =
+    let p = err_from_is_err_and c.from_residual.result c.from_residual.ensures.1 in
+    rw (p.1, p.2) (head_none (environment_of c.args.self.now.environment.now) (expression_of c.args.condition.now) (option_map simple_of c.args.third.now) (map annotation_of c.args.annotations.now) (statement_of c.args.body.now) (scope_of c.args.self.now.scope) c.in_err-head.ensures.answers)
 
-pub loop_behind-returns-in_err-inside-clause-cause : goal.loop_behind-returns-in_err-inside-clause-cause
-loop_behind-returns-in_err-inside-clause-cause t c =
-    let p = err_from_is_err_and c.from_residual-in_err-inside.result c.from_residual-in_err-inside.ensures.1 in
-    rw (p.1, p.2) (third_of (environment_of c.args.self.now.environment.now) c.in_err-inside.ensures.cause (λ h. inl h))
+pub loop_behind-returns-in_err-head-clause-cause : goal.loop_behind-returns-in_err-head-clause-cause
+loop_behind-returns-in_err-head-clause-cause t c =
+    let p = err_from_is_err_and c.from_residual.result c.from_residual.ensures.1 in
+    rw (p.1, p.2) (head_told c.in_err-head.ensures.cause)
 
-pub loop_behind-inner-requires : goal.loop_behind-inner-requires
-loop_behind-inner-requires t c = (omega (arith, c.decreases), c.requires.3)
-
-pub loop_behind-part-third-requires : goal.loop_behind-part-third-requires
-loop_behind-part-third-requires t c = in_texts (λ w. PartHasTexts w (option_map simple_of c.args.third.now)) c.inner.ensures.texts c.requires.1
+pub loop_behind-inner-inside-requires : goal.loop_behind-inner-inside-requires
+loop_behind-inner-inside-requires t c = (omega (arith, c.decreases), in_texts (λ w. StatementHasTexts w (statement_of c.args.body.now)) c.head.ensures.texts c.requires.3)
 
 pub loop_behind-returns-clause-answers : goal.loop_behind-returns-clause-answers
 loop_behind-returns-clause-answers t c =
     let env = environment_of c.args.self.now.environment.now in
     let texts = c.args.self.now.texts.now in
     let at = scope_of c.args.self.now.scope in
-    let behind = c.part-third.new.self.scope in
-    let last = c.part-third.result in
+    let behind = c.inner-inside.new.self.scope in
+    let last = c.inner-inside.result in
     let condition = expression_of c.args.condition.now in
     let third = option_map simple_of c.args.third.now in
     let notes = map annotation_of c.args.annotations.now in
     let a = statement_of c.args.body.now in
-    let inside : Checked = record { statement = stmt_of texts c.in_ok-inside.inside; scope = scope_of c.inner.new.self.scope } in
-    let given = at_start (λ e w. Gives w behind last (typed_part e third inside.scope)) c.inner.ensures.environment c.inner.ensures.texts c.part-third.ensures.answers in
-    made_gives (λ w b. y.Loop (exps_of w c.in_ok-invariants.invariants.items) (exp_of w c.in_ok-condition.condition) (stmt_of w c.in_ok-inside.inside) b) texts behind behind last c.repeated.result (typed_part env third inside.scope) (loop_behind env condition third notes a at) c.repeated.ensures.answers c.repeated.ensures.cause given
-    (λ b h. loop_gives env condition third notes a at (exp_of texts c.in_ok-condition.condition) (exps_of texts c.in_ok-invariants.invariants.items) inside (record { statement = b; scope = scope_of behind }) _ c.in_ok-condition.ensures.answers c.in_ok-invariants.ensures.answers c.in_ok-inside.ensures.answers h refl)
-    (λ K h. third_none env condition third notes a at inside c.in_ok-inside.ensures.answers h)
+    let head = c.in_ok-head.head in
+    let there = at_start (λ e w. Gives w behind last (in_scope e a (scope_of c.head.new.self.scope))) c.head.ensures.environment c.head.ensures.texts c.inner-inside.ensures.answers in
+    let given = subst (λ s. Gives texts behind last (in_scope env a s)) c.in_ok-head.ensures.scope there in
+    made_gives (λ w b. y.Loop (exps_of w head.invariants.items) (exp_of w head.condition) b (stmt_of w head.third)) texts behind behind last c.repeated.result (in_scope env a at) (loop_behind env condition third notes a at) c.repeated.ensures.answers c.repeated.ensures.cause given
+    (λ b h. loop_gives env condition third notes a at (head_of texts head) (record { statement = b; scope = scope_of behind }) c.in_ok-head.ensures.answers h)
+    (λ K h. loop_none env condition third notes a at h)
 
 pub loop_behind-returns-clause-cause : goal.loop_behind-returns-clause-cause
 loop_behind-returns-clause-cause t c =
     let env = environment_of c.args.self.now.environment.now in
-    let at = scope_of c.args.self.now.scope in
-    let last = c.part-third.result in
-    let third = c.args.third.now in
-    let inside : Checked = record { statement = stmt_of c.args.self.now.texts.now c.in_ok-inside.inside; scope = scope_of c.inner.new.self.scope } in
-    let there = at_start (λ e w. IfErr last (λ f. (f.kind ≡ OutOfMemory) ⊎ InPart e f inside.scope third)) c.inner.ensures.environment c.inner.ensures.texts c.part-third.ensures.cause in
-    made_told last c.repeated.result c.repeated.ensures.cause there (λ f h. fourth_of env h (scope_cause env (λ s. InPart env f s third) (statement_of c.args.body.now) at inside c.in_ok-inside.ensures.answers))
+    let last = c.inner-inside.result in
+    let body = c.args.body.now in
+    let there = at_start (λ e w. IfErr last (λ f. (f.kind ≡ OutOfMemory) ⊎ InStatement e f (scope_of c.head.new.self.scope) body.kind body.span)) c.head.ensures.environment c.head.ensures.texts c.inner-inside.ensures.cause in
+    let told = subst (λ s. IfErr last (λ f. (f.kind ≡ OutOfMemory) ⊎ InStatement env f s body.kind body.span)) c.in_ok-head.ensures.scope there in
+    made_told last c.repeated.result c.repeated.ensures.cause told (λ f h. body_told h)
 
 -- ---- a `for`
 
@@ -319,25 +317,14 @@ for_loop-loop_behind-repeats-requires t c =
     let a = statement_of c.args.body.now in
     (omega (arith, c.decreases), in_texts (λ w. HasTexts w condition × PartHasTexts w third × SpecsHaveTexts w specs × StatementHasTexts w a) c.part.ensures.texts (c.requires.1, c.requires.2, c.requires.3, c.requires.4))
 
-pub for_loop-returns-in_err-check_third-clause-answers : goal.for_loop-returns-in_err-check_third-clause-answers
-for_loop-returns-in_err-check_third-clause-answers t c =
-    let p = err_from_is_err_and c.from_residual.result c.from_residual.ensures.1 in
-    let none = for_declares (environment_of c.args.self.now.environment.now) (option_map simple_of c.args.first.now) (expression_of c.args.condition.now) (option_map simple_of c.args.third.now) (map annotation_of c.args.annotations.now) (statement_of c.args.body.now) (scope_of c.args.self.now.scope) (sym c.in_err-check_third.ensures.answers) in
-    rw (p.1, p.2) (inr none)
-
-pub for_loop-returns-in_err-check_third-clause-cause : goal.for_loop-returns-in_err-check_third-clause-cause
-for_loop-returns-in_err-check_third-clause-cause t c =
-    let p = err_from_is_err_and c.from_residual.result c.from_residual.ensures.1 in
-    rw (p.1, p.2) (inr (inr (inl (c.in_err-check_third.ensures.cause (environment_of c.args.self.now.environment.now)))))
-
 pub for_loop-returns-in_err-first-clause-answers : goal.for_loop-returns-in_err-first-clause-answers
 for_loop-returns-in_err-first-clause-answers t c =
-    let p = err_from_is_err_and c.from_residual-in_err-first.result c.from_residual-in_err-first.ensures.1 in
-    rw (p.1, p.2) (first_none (environment_of c.args.self.now.environment.now) (option_map simple_of c.args.first.now) (expression_of c.args.condition.now) (option_map simple_of c.args.third.now) (map annotation_of c.args.annotations.now) (statement_of c.args.body.now) (scope_of c.args.self.now.scope) (sym c.in_ok-check_third.ensures.answers) c.in_err-first.ensures.answers)
+    let p = err_from_is_err_and c.from_residual.result c.from_residual.ensures.1 in
+    rw (p.1, p.2) (first_none (environment_of c.args.self.now.environment.now) (option_map simple_of c.args.first.now) (expression_of c.args.condition.now) (option_map simple_of c.args.third.now) (map annotation_of c.args.annotations.now) (statement_of c.args.body.now) (scope_of c.args.self.now.scope) c.in_err-first.ensures.answers)
 
 pub for_loop-returns-in_err-first-clause-cause : goal.for_loop-returns-in_err-first-clause-cause
 for_loop-returns-in_err-first-clause-cause t c =
-    let p = err_from_is_err_and c.from_residual-in_err-first.result c.from_residual-in_err-first.ensures.1 in
+    let p = err_from_is_err_and c.from_residual.result c.from_residual.ensures.1 in
     rw (p.1, p.2) (first_alone c.in_err-first.ensures.cause)
 
 pub for_loop-returns-clause-answers : goal.for_loop-returns-clause-answers
@@ -353,22 +340,21 @@ for_loop-returns-clause-answers t c =
     let third = option_map simple_of c.args.third.now in
     let notes = map annotation_of c.args.annotations.now in
     let a = statement_of c.args.body.now in
-    let none = sym c.in_ok-check_third.ensures.answers in
     let locals = c.args.self.now.scope.locals in
     let size : c.len-before.result ≡ length (map local_of locals.items) = omega (arith, c.len-before.ensures, locals.ok.0, length-map locals.items local_of) in
     let first : Checked = record { statement = stmt_of texts c.in_ok-first.first; scope = scope_of c.part.new.self.scope } in
     let given = at_start (λ e w. Gives w inner last (loop_behind e condition third notes a first.scope)) c.part.ensures.environment c.part.ensures.texts c.loop_behind-repeats.ensures.answers in
     made_gives (λ w b. y.Seq (stmt_of w c.in_ok-first.first) (y.Seq b y.Skip)) texts inner behind last c.followed.result (loop_behind env condition third notes a first.scope) (typed_statement env (tree.For part condition third notes a) at) c.followed.ensures.answers c.followed.ensures.cause given
-    (λ b h. for_gives env part condition third notes a at none first (record { statement = b; scope = scope_of inner }) c.in_ok-first.ensures.answers h c.len-before.result (scope_of behind) size c.leave.ensures)
-    (λ K h. for_none env part condition third notes a at none first c.in_ok-first.ensures.answers h)
+    (λ b h. for_gives env part condition third notes a at first (record { statement = b; scope = scope_of inner }) c.in_ok-first.ensures.answers h c.len-before.result (scope_of behind) size c.leave.ensures)
+    (λ K h. for_none env part condition third notes a at first c.in_ok-first.ensures.answers h)
 
 pub for_loop-returns-clause-cause : goal.for_loop-returns-clause-cause
 for_loop-returns-clause-cause t c =
     let env = environment_of c.args.self.now.environment.now in
     let last = c.loop_behind-repeats.result in
     let first : Checked = record { statement = stmt_of c.args.self.now.texts.now c.in_ok-first.first; scope = scope_of c.part.new.self.scope } in
-    let there = at_start (λ e w. IfErr last (λ f. (f.kind ≡ OutOfMemory) ⊎ InLoop e f first.scope c.args.condition.now c.args.third.now c.args.annotations.now c.args.body.now)) c.part.ensures.environment c.part.ensures.texts c.loop_behind-repeats.ensures.cause in
-    made_told last c.followed.result c.followed.ensures.cause there (λ f h. third_of env h (λ k. (first, c.in_ok-first.ensures.answers, k)))
+    let there = at_start (λ e w. IfErr last (λ f. (f.kind ≡ OutOfMemory) ⊎ ThirdCause e f c.args.third.now ⊎ InLoop e f first.scope c.args.condition.now c.args.third.now c.args.annotations.now c.args.body.now)) c.part.ensures.environment c.part.ensures.texts c.loop_behind-repeats.ensures.cause in
+    made_told last c.followed.result c.followed.ensures.cause there (λ f h. loop_told h (λ k. (first, c.in_ok-first.ensures.answers, k)))
 
 pub statement-for_loop-requires : goal.statement-for_loop-requires
 statement-for_loop-requires t c =

@@ -7,18 +7,18 @@ use Rattle.c0_syntax.specs.declared.expression.Expression.{Expression, the_lemma
 use Rattle.c0_syntax.specs.declared.expression.ExpressionKind.{the_lemmas as expression_lemmas}
 use Rattle.c0_syntax.specs.Views.{expression_of, expression_of_kind, expressions_of, name_of, type_of}
 use Rattle.c0_typed.specs.Views.{exp_of, exps_of}
-use Rattle.c0_rules.specs.Expressions.{as_wanted, lengthed, operated, typed_arguments, typed_expression}
+use Rattle.c0_rules.specs.Expressions.{as_wanted, held_type, lengthed, operated, typed_arguments, typed_expression}
 use Rattle.c0_rules.specs.Types.{BoolType, and_so}
 use Rattle.c0_tables.specs.Views.{resolved_of}
 use Rattle.c0_terms.specs.Terms.{HasTexts, context_of, env_of, place_of, rule_of, typing_of}
 use Rattle.c0_terms.proofs.ArgumentLists.{argument_cause, argument_has, argument_more, argument_none, arguments_done, call_in, call_is, no_front, other_number}
 use Rattle.c0_terms.proofs.CallForms.{arguments_refused, call_refused, call_told}
 use Rattle.c0_terms.proofs.FormAnswers.{array_answers, binary_answers, conditional_answers, no_place, unary_answers}
-use Rattle.c0_terms.proofs.FormCauses.{among, arms_cause, array_cause, arrow_cause, binary_cause, causes, first_three, index_cause, length_cause, none_causes, pointer_cause, unary_cause, wanted_cause}
+use Rattle.c0_terms.proofs.FormCauses.{among, arms_cause, array_cause, array_told, arrow_cause, binary_cause, causes, first_three, index_cause, left_told, length_cause, none_causes, pointer_cause, unary_cause, wanted_cause}
 use Rattle.c0_terms.specs.Forms.{BinaryCause, callee_of}
 use Rattle.c0_terms.proofs.Operands.{void_told}
 use Rattle.c0_terms.proofs.PlaceForms.{is_part, not_there, only_star, part_read}
-use Rattle.c0_terms.proofs.Refusals.{array_of_index_refused, array_refused, arrow_refused, condition_refused, first_arm_refused, index_refused, left_refused, length_refused, none_first, none_then, pointer_refused, right_refused, second_arm_refused, test_is, test_refused, unary_refused}
+use Rattle.c0_terms.proofs.Refusals.{array_not_taken, array_of_index_refused, array_refused, arrow_refused, condition_refused, first_arm_refused, index_refused, left_alone, left_not_taken, left_refused, length_refused, no_element, none_first, none_then, pointer_refused, right_refused, second_arm_refused, test_is, test_refused, unary_refused}
 use Rattle.c0_terms.proofs.typing.Terms.+expression.Goals as goal
 
 pub value-returns-else-has_value-clause-cause : goal.value-returns-else-has_value-clause-cause
@@ -31,8 +31,9 @@ composed-returns-in-Err-clause-answers t c =
     let s = c.args.self.now in
     let x = c.in-Binary in
     let shape = ap expression_of_kind x.is in
-    let first = rw c.deref.ensures at c.in_ok-first-in-Binary.ensures.answers in
-    let refused = rw c.deref-in-Binary-2.ensures at c.in-Err.ensures.answers in
+    let value = rw c.deref.ensures at c.in_ok-value-in-Binary.ensures.answers in
+    let first = rw (sym c.in_ok-first-in-Binary.ensures.taken) at value in
+    let refused = rw c.deref-in-Binary-3.ensures at c.in-Err.ensures.answers in
     rw shape (right_refused (env_of s) (context_of s) x.operator (expression_of x.left.value) (expression_of x.right.value) (typing_of s.texts.now c.in_ok-first-in-Binary.first) first refused)
 
 pub composed-returns-in-Ok-clause-answers : goal.composed-returns-in-Ok-clause-answers
@@ -40,8 +41,9 @@ composed-returns-in-Ok-clause-answers t c =
     let s = c.args.self.now in
     let x = c.in-Binary in
     let shape = ap expression_of_kind x.is in
-    let first = rw c.deref.ensures at c.in_ok-first-in-Binary.ensures.answers in
-    let second = rw c.deref-in-Binary-2.ensures at c.in-Ok.ensures.answers in
+    let value = rw c.deref.ensures at c.in_ok-value-in-Binary.ensures.answers in
+    let first = rw (sym c.in_ok-first-in-Binary.ensures.taken) at value in
+    let second = rw c.deref-in-Binary-3.ensures at c.in-Ok.ensures.answers in
     rw shape (binary_answers (env_of s) (context_of s) (typing_of s.texts.now) c.operated.result x.operator (rule_of c.operator_rule-rule.result) c.operator_rule-rule.ensures (expression_of x.left.value) (expression_of x.right.value) (typing_of s.texts.now c.in_ok-first-in-Binary.first) (typing_of s.texts.now c.in-Ok.second) first second c.operated.ensures.answers)
 
 pub composed-returns-in-Ok-clause-cause : goal.composed-returns-in-Ok-clause-cause
@@ -53,19 +55,33 @@ composed-returns-in-Ok-clause-cause t c =
     let rule = rule_of c.operator_rule-rule.result in
     let one = typing_of s.texts.now c.in_ok-first-in-Binary.first in
     let other = typing_of s.texts.now c.in-Ok.second in
-    let first = rw c.deref.ensures at c.in_ok-first-in-Binary.ensures.answers in
-    let second = rw c.deref-in-Binary-2.ensures at c.in-Ok.ensures.answers in
+    let value = rw c.deref.ensures at c.in_ok-value-in-Binary.ensures.answers in
+    let first = rw (sym c.in_ok-first-in-Binary.ensures.taken) at value in
+    let second = rw c.deref-in-Binary-3.ensures at c.in-Ok.ensures.answers in
     let told = rw (c.deref-in-Ok.ensures, c.deref-in-Ok-2.ensures) at c.operated.ensures.cause in
     rw x.is (none_causes (typing_of s.texts.now) c.operated.result (operated (env_of s) rule one other) _ _ (λ f none h. first_three (subst (λ z. BinaryCause (env_of s) (context_of s) f z a.kind a.span b.kind b.span) c.operator_rule-rule.ensures (binary_cause (env_of s) (context_of s) f rule a.kind a.span b.kind b.span one other first second none h))) c.operated.ensures.answers told)
 
-pub typing-returns-in_err-number-in-AllocArray-clause-answers : goal.typing-returns-in_err-number-in-AllocArray-clause-answers
-typing-returns-in_err-number-in-AllocArray-clause-answers t c =
+pub typing-returns-in_err-element-in-AllocArray-clause-answers : goal.typing-returns-in_err-element-in-AllocArray-clause-answers
+typing-returns-in_err-element-in-AllocArray-clause-answers t c =
     let s = c.args.self.now in
     let x = c.in-AllocArray in
     let shape = ap expression_of_kind x.is in
     let p = err_from_is_err_and c.from_residual.result c.from_residual.ensures.1 in
-    let refused = rw c.deref-in-AllocArray.ensures at c.in_err-number-in-AllocArray.ensures.answers in
-    rw (p.1, p.2, shape) (array_refused (env_of s) (context_of s) (type_of x.written) (expression_of x.length.value) refused)
+    rw (p.1, p.2, shape) (none_first (held_type (env_of s) (type_of x.written)) _ c.in_err-element-in-AllocArray.ensures.answers)
+
+pub typing-returns-in_err-element-in-AllocArray-clause-cause : goal.typing-returns-in_err-element-in-AllocArray-clause-cause
+typing-returns-in_err-element-in-AllocArray-clause-cause t c =
+    let x = c.in-AllocArray in
+    let p = err_from_is_err_and c.from_residual.result c.from_residual.ensures.1 in
+    rw (p.1, p.2, x.is) (among c.in_err-element-in-AllocArray.ensures.cause)
+
+pub typing-returns-in-Err-clause-answers : goal.typing-returns-in-Err-clause-answers
+typing-returns-in-Err-clause-answers t c =
+    let s = c.args.self.now in
+    let x = c.in-AllocArray in
+    let shape = ap expression_of_kind x.is in
+    let refused = rw c.deref-in-AllocArray.ensures at c.in-Err.ensures.answers in
+    rw shape (array_refused (env_of s) (context_of s) (type_of x.written) (expression_of x.length.value) refused)
 
 pub typing-returns-in_err-sized-in-Length-clause-answers : goal.typing-returns-in_err-sized-in-Length-clause-answers
 typing-returns-in_err-sized-in-Length-clause-answers t c =
@@ -85,30 +101,57 @@ typing-returns-in_err-only-in-Unary-clause-answers t c =
     let refused = rw c.deref-in-Unary.ensures at c.in_err-only-in-Unary.ensures.answers in
     rw (p.1, p.2, shape) (unary_refused (env_of s) (context_of s) x.operator (expression_of x.operand.value) refused)
 
+pub composed-returns-in_err-value-in-Binary-clause-answers : goal.composed-returns-in_err-value-in-Binary-clause-answers
+composed-returns-in_err-value-in-Binary-clause-answers t c =
+    let s = c.args.self.now in
+    let x = c.in-Binary in
+    let shape = ap expression_of_kind x.is in
+    let p = err_from_is_err_and c.from_residual.result c.from_residual.ensures.1 in
+    let refused = rw c.deref.ensures at c.in_err-value-in-Binary.ensures.answers in
+    rw (p.1, p.2, shape) (left_refused (env_of s) (context_of s) x.operator (expression_of x.left.value) (expression_of x.right.value) refused)
+
 pub composed-returns-in_err-first-in-Binary-clause-answers : goal.composed-returns-in_err-first-in-Binary-clause-answers
 composed-returns-in_err-first-in-Binary-clause-answers t c =
     let s = c.args.self.now in
     let x = c.in-Binary in
     let shape = ap expression_of_kind x.is in
-    let p = err_from_is_err_and c.from_residual.result c.from_residual.ensures.1 in
-    let refused = rw c.deref.ensures at c.in_err-first-in-Binary.ensures.answers in
-    rw (p.1, p.2, shape) (left_refused (env_of s) (context_of s) x.operator (expression_of x.left.value) (expression_of x.right.value) refused)
+    let p = err_from_is_err_and c.from_residual-in_err-first-in-Binary.result c.from_residual-in_err-first-in-Binary.ensures.1 in
+    let rule = rule_of c.operator_rule-rule.result in
+    let one = typing_of s.texts.now c.in_ok-value-in-Binary.value in
+    let value = rw c.deref.ensures at c.in_ok-value-in-Binary.ensures.answers in
+    let alone = left_alone (env_of s) c.in_err-first-in-Binary.field-0.0 rule one _ (c.in_err-first-in-Binary.ensures.refused (env_of s) s.texts.now) in
+    rw (p.1, p.2, shape) (left_not_taken (env_of s) (context_of s) x.operator rule c.operator_rule-rule.ensures (expression_of x.left.value) (expression_of x.right.value) one value alone)
 
-pub typing-returns-in_ok-number-in-AllocArray-clause-answers : goal.typing-returns-in_ok-number-in-AllocArray-clause-answers
-typing-returns-in_ok-number-in-AllocArray-clause-answers t c =
+pub composed-returns-in_err-first-in-Binary-clause-cause : goal.composed-returns-in_err-first-in-Binary-clause-cause
+composed-returns-in_err-first-in-Binary-clause-cause t c =
+    let s = c.args.self.now in
+    let x = c.in-Binary in
+    let a = x.left.value in
+    let b = x.right.value in
+    let p = err_from_is_err_and c.from_residual-in_err-first-in-Binary.result c.from_residual-in_err-first-in-Binary.ensures.1 in
+    let f = c.in_err-first-in-Binary.field-0.0 in
+    let rule = rule_of c.operator_rule-rule.result in
+    let one = typing_of s.texts.now c.in_ok-value-in-Binary.value in
+    let value = rw c.deref.ensures at c.in_ok-value-in-Binary.ensures.answers in
+    let told = rw c.deref-in-Binary-2.ensures at (c.in_err-first-in-Binary.ensures.refused (env_of s) s.texts.now) in
+    let cause = left_told (env_of s) (context_of s) f rule a.kind a.span b.kind b.span one value told in
+    rw (p.1, p.2, x.is) (inr (first_three (subst (λ z. BinaryCause (env_of s) (context_of s) f z a.kind a.span b.kind b.span) c.operator_rule-rule.ensures cause)))
+
+pub typing-returns-in-Ok-clause-answers : goal.typing-returns-in-Ok-clause-answers
+typing-returns-in-Ok-clause-answers t c =
     let s = c.args.self.now in
     let x = c.in-AllocArray in
-    let value = rw c.deref-in-AllocArray.ensures at c.in_ok-number-in-AllocArray.ensures.answers in
+    let value = rw c.deref-in-AllocArray.ensures at c.in-Ok.ensures.answers in
     let shape = ap expression_of_kind x.is in
-    rw shape (array_answers (env_of s) (context_of s) (typing_of s.texts.now) c.allocated_array.result (type_of x.written) (expression_of x.length.value) (typing_of s.texts.now c.in_ok-number-in-AllocArray.number) value c.allocated_array.ensures.answers)
+    rw shape (array_answers (env_of s) (context_of s) (typing_of s.texts.now) c.allocated_array.result (type_of x.written) (expression_of x.length.value) (resolved_of c.in_ok-element-in-AllocArray.element) (typing_of s.texts.now c.in-Ok.number) c.in_ok-element-in-AllocArray.ensures.answers value c.allocated_array.ensures.answers)
 
-pub typing-returns-in_ok-number-in-AllocArray-clause-cause : goal.typing-returns-in_ok-number-in-AllocArray-clause-cause
-typing-returns-in_ok-number-in-AllocArray-clause-cause t c =
+pub typing-returns-in-Ok-clause-cause : goal.typing-returns-in-Ok-clause-cause
+typing-returns-in-Ok-clause-cause t c =
     let s = c.args.self.now in
     let x = c.in-AllocArray in
-    let value = rw c.deref-in-AllocArray.ensures at c.in_ok-number-in-AllocArray.ensures.answers in
-    let told = rw c.deref-in-AllocArray-3.ensures at c.allocated_array.ensures.cause in
-    rw x.is (causes c.allocated_array.result _ _ (λ f h. array_cause (env_of s) (context_of s) f x.length.value.kind x.length.value.span (typing_of s.texts.now c.in_ok-number-in-AllocArray.number) value h) told)
+    let value = rw c.deref-in-AllocArray.ensures at c.in-Ok.ensures.answers in
+    let told = rw c.deref-in-Ok.ensures at c.allocated_array.ensures.cause in
+    rw x.is (causes c.allocated_array.result _ _ (λ f h. array_cause (env_of s) (context_of s) f x.length.value.kind x.length.value.span (typing_of s.texts.now c.in-Ok.number) value h) told)
 
 pub typing-returns-in_ok-sized-in-Length-clause-cause : goal.typing-returns-in_ok-sized-in-Length-clause-cause
 typing-returns-in_ok-sized-in-Length-clause-cause t c =
@@ -135,85 +178,85 @@ typing-returns-in_ok-only-in-Unary-clause-cause t c =
     let told = rw c.deref-in-Unary-3.ensures at c.unary.ensures.cause in
     rw x.is (causes c.unary.result _ _ (λ f h. inl (unary_cause (env_of s) (context_of s) f x.operator x.operand.value.kind x.operand.value.span _ c.args.span (typing_of s.texts.now c.in_ok-only-in-Unary.only) refl value h)) told)
 
-pub composed-returns-in_err-test-in-Conditional-clause-answers : goal.composed-returns-in_err-test-in-Conditional-clause-answers
-composed-returns-in_err-test-in-Conditional-clause-answers t c =
+pub conditional-returns-in_err-test-in-Conditional-clause-answers : goal.conditional-returns-in_err-test-in-Conditional-clause-answers
+conditional-returns-in_err-test-in-Conditional-clause-answers t c =
     let s = c.args.self.now in
     let x = c.in-Conditional in
     let shape = ap expression_of_kind x.is in
-    let p = err_from_is_err_and c.from_residual-in_err-test-in-Conditional.result c.from_residual-in_err-test-in-Conditional.ensures.1 in
-    let refused = rw c.deref-in-Conditional.ensures at c.in_err-test-in-Conditional.ensures.answers in
+    let p = err_from_is_err_and c.from_residual.result c.from_residual.ensures.1 in
+    let refused = rw c.deref.ensures at c.in_err-test-in-Conditional.ensures.answers in
     rw (p.1, p.2, shape) (condition_refused (env_of s) (context_of s) (expression_of x.condition.value) (expression_of x.first.value) (expression_of x.second.value) refused)
 
-pub composed-returns-in_err-truth-in-Conditional-clause-answers : goal.composed-returns-in_err-truth-in-Conditional-clause-answers
-composed-returns-in_err-truth-in-Conditional-clause-answers t c =
+pub conditional-returns-in_err-truth-in-Conditional-clause-answers : goal.conditional-returns-in_err-truth-in-Conditional-clause-answers
+conditional-returns-in_err-truth-in-Conditional-clause-answers t c =
     let s = c.args.self.now in
     let x = c.in-Conditional in
     let shape = ap expression_of_kind x.is in
     let p = err_from_is_err_and c.from_residual-in_err-truth-in-Conditional.result c.from_residual-in_err-truth-in-Conditional.ensures.1 in
-    let tested = rw c.deref-in-Conditional.ensures at c.in_ok-test-in-Conditional.ensures.answers in
+    let tested = rw c.deref.ensures at c.in_ok-test-in-Conditional.ensures.answers in
     let w = typing_of s.texts.now c.in_ok-test-in-Conditional.test in
     rw (p.1, p.2, shape) (test_refused (env_of s) (context_of s) (expression_of x.condition.value) (expression_of x.first.value) (expression_of x.second.value) w tested c.in_err-truth-in-Conditional.ensures.answers)
 
-pub composed-returns-in_err-truth-in-Conditional-clause-cause : goal.composed-returns-in_err-truth-in-Conditional-clause-cause
-composed-returns-in_err-truth-in-Conditional-clause-cause t c =
+pub conditional-returns-in_err-truth-in-Conditional-clause-cause : goal.conditional-returns-in_err-truth-in-Conditional-clause-cause
+conditional-returns-in_err-truth-in-Conditional-clause-cause t c =
     let s = c.args.self.now in
     let x = c.in-Conditional in
     let p = err_from_is_err_and c.from_residual-in_err-truth-in-Conditional.result c.from_residual-in_err-truth-in-Conditional.ensures.1 in
-    let tested = rw c.deref-in-Conditional.ensures at c.in_ok-test-in-Conditional.ensures.answers in
+    let tested = rw c.deref.ensures at c.in_ok-test-in-Conditional.ensures.answers in
     let w = typing_of s.texts.now c.in_ok-test-in-Conditional.test in
-    let told = rw c.deref-in-Conditional-3.ensures at c.in_err-truth-in-Conditional.ensures.cause in
+    let told = rw c.deref-in-Conditional-2.ensures at c.in_err-truth-in-Conditional.ensures.cause in
     rw (p.1, p.2, x.is) (among (wanted_cause (env_of s) (context_of s) c.in_err-truth-in-Conditional.field-0.0 BoolType x.condition.value.kind x.condition.value.span w tested c.in_err-truth-in-Conditional.ensures.answers told))
 
-pub composed-returns-in-Err-value-clause-answers : goal.composed-returns-in-Err-value-clause-answers
-composed-returns-in-Err-value-clause-answers t c =
+pub conditional-returns-in-Err-clause-answers : goal.conditional-returns-in-Err-clause-answers
+conditional-returns-in-Err-clause-answers t c =
     let s = c.args.self.now in
     let x = c.in-Conditional in
     let shape = ap expression_of_kind x.is in
-    let tested = rw c.deref-in-Conditional.ensures at c.in_ok-test-in-Conditional.ensures.answers in
+    let tested = rw c.deref.ensures at c.in_ok-test-in-Conditional.ensures.answers in
     let w = typing_of s.texts.now c.in_ok-test-in-Conditional.test in
     let z = exp_of s.texts.now c.in_ok-truth-in-Conditional.truth in
     let is = test_is (env_of s) (context_of s) (expression_of x.condition.value) w z tested c.in_ok-truth-in-Conditional.ensures.answers in
-    let refused = rw c.deref-in-Conditional-4.ensures at c.in-Err-value.ensures.answers in
+    let refused = rw c.deref-in-Conditional-3.ensures at c.in-Err.ensures.answers in
     rw shape (first_arm_refused (env_of s) (context_of s) (expression_of x.condition.value) (expression_of x.first.value) (expression_of x.second.value) z is refused)
 
-pub composed-returns-in-Err-value-2-clause-answers : goal.composed-returns-in-Err-value-2-clause-answers
-composed-returns-in-Err-value-2-clause-answers t c =
+pub conditional-returns-in-Err-value-clause-answers : goal.conditional-returns-in-Err-value-clause-answers
+conditional-returns-in-Err-value-clause-answers t c =
     let s = c.args.self.now in
     let x = c.in-Conditional in
     let shape = ap expression_of_kind x.is in
-    let tested = rw c.deref-in-Conditional.ensures at c.in_ok-test-in-Conditional.ensures.answers in
+    let tested = rw c.deref.ensures at c.in_ok-test-in-Conditional.ensures.answers in
     let w = typing_of s.texts.now c.in_ok-test-in-Conditional.test in
     let z = exp_of s.texts.now c.in_ok-truth-in-Conditional.truth in
     let is = test_is (env_of s) (context_of s) (expression_of x.condition.value) w z tested c.in_ok-truth-in-Conditional.ensures.answers in
-    let first = rw c.deref-in-Conditional-4.ensures at c.in-Ok-value.ensures.answers in
-    let one = typing_of s.texts.now c.in-Ok-value.one in
-    let refused = rw c.deref-in-Conditional-6.ensures at c.in-Err-value-2.ensures.answers in
+    let first = rw c.deref-in-Conditional-3.ensures at c.in-Ok.ensures.answers in
+    let one = typing_of s.texts.now c.in-Ok.one in
+    let refused = rw c.deref-in-Conditional-5.ensures at c.in-Err-value.ensures.answers in
     rw shape (second_arm_refused (env_of s) (context_of s) (expression_of x.condition.value) (expression_of x.first.value) (expression_of x.second.value) z one is first refused)
 
-pub composed-returns-in-Ok-value-2-clause-answers : goal.composed-returns-in-Ok-value-2-clause-answers
-composed-returns-in-Ok-value-2-clause-answers t c =
+pub conditional-returns-in-Ok-value-clause-answers : goal.conditional-returns-in-Ok-value-clause-answers
+conditional-returns-in-Ok-value-clause-answers t c =
     let s = c.args.self.now in
     let x = c.in-Conditional in
     let shape = ap expression_of_kind x.is in
-    let tested = rw c.deref-in-Conditional.ensures at c.in_ok-test-in-Conditional.ensures.answers in
+    let tested = rw c.deref.ensures at c.in_ok-test-in-Conditional.ensures.answers in
     let w = typing_of s.texts.now c.in_ok-test-in-Conditional.test in
     let z = exp_of s.texts.now c.in_ok-truth-in-Conditional.truth in
     let is = test_is (env_of s) (context_of s) (expression_of x.condition.value) w z tested c.in_ok-truth-in-Conditional.ensures.answers in
-    let first = rw c.deref-in-Conditional-4.ensures at c.in-Ok-value.ensures.answers in
-    let one = typing_of s.texts.now c.in-Ok-value.one in
-    let second = rw c.deref-in-Conditional-6.ensures at c.in-Ok-value-2.ensures.answers in
-    let other = typing_of s.texts.now c.in-Ok-value-2.other in
+    let first = rw c.deref-in-Conditional-3.ensures at c.in-Ok.ensures.answers in
+    let one = typing_of s.texts.now c.in-Ok.one in
+    let second = rw c.deref-in-Conditional-5.ensures at c.in-Ok-value.ensures.answers in
+    let other = typing_of s.texts.now c.in-Ok-value.other in
     rw shape (conditional_answers (env_of s) (context_of s) (typing_of s.texts.now) c.chosen.result (expression_of x.condition.value) (expression_of x.first.value) (expression_of x.second.value) z one other is first second c.chosen.ensures.answers)
 
-pub composed-returns-in-Ok-value-2-clause-cause : goal.composed-returns-in-Ok-value-2-clause-cause
-composed-returns-in-Ok-value-2-clause-cause t c =
+pub conditional-returns-in-Ok-value-clause-cause : goal.conditional-returns-in-Ok-value-clause-cause
+conditional-returns-in-Ok-value-clause-cause t c =
     let s = c.args.self.now in
     let x = c.in-Conditional in
-    let first = rw c.deref-in-Conditional-4.ensures at c.in-Ok-value.ensures.answers in
-    let one = typing_of s.texts.now c.in-Ok-value.one in
-    let second = rw c.deref-in-Conditional-6.ensures at c.in-Ok-value-2.ensures.answers in
-    let other = typing_of s.texts.now c.in-Ok-value-2.other in
-    let told = rw c.deref-in-Ok-value-2.ensures at c.chosen.ensures.cause in
+    let first = rw c.deref-in-Conditional-3.ensures at c.in-Ok.ensures.answers in
+    let one = typing_of s.texts.now c.in-Ok.one in
+    let second = rw c.deref-in-Conditional-5.ensures at c.in-Ok-value.ensures.answers in
+    let other = typing_of s.texts.now c.in-Ok-value.other in
+    let told = rw c.deref-in-Ok-value.ensures at c.chosen.ensures.cause in
     rw x.is (causes c.chosen.result _ _ (λ f h. inr (inl (arms_cause (env_of s) (context_of s) f x.first.value.kind x.second.value.kind x.second.value.span one other first second h))) told)
 
 pub composed-returns-in_ok-place-in-Index-clause-cause : goal.composed-returns-in_ok-place-in-Index-clause-cause
@@ -239,8 +282,31 @@ place_at-returns-in_err-sized-in-Index-clause-answers t c =
     let s = c.args.self.now in
     let x = c.in-Index in
     let shape = ap expression_of_kind x.is in
+    let p = err_from_is_err_and c.from_residual-in_err-sized-in-Index.result c.from_residual-in_err-sized-in-Index.ensures.1 in
+    let one = typing_of s.texts.now c.in_ok-value-in-Index.value in
+    let value = rw c.deref-in-Index.ensures at c.in_ok-value-in-Index.ensures.answers in
+    let none = no_element (env_of s) c.in_err-sized-in-Index.field-0.0 one _ _ c.in_err-sized-in-Index.ensures.refused in
+    rw (p.1, p.2, shape) (array_not_taken (env_of s) (context_of s) (expression_of x.array.value) (expression_of x.index.value) one value none)
+
+pub place_at-returns-in_err-sized-in-Index-clause-cause : goal.place_at-returns-in_err-sized-in-Index-clause-cause
+place_at-returns-in_err-sized-in-Index-clause-cause t c =
+    let s = c.args.self.now in
+    let x = c.in-Index in
+    let a = x.array.value in
+    let i = x.index.value in
+    let p = err_from_is_err_and c.from_residual-in_err-sized-in-Index.result c.from_residual-in_err-sized-in-Index.ensures.1 in
+    let one = typing_of s.texts.now c.in_ok-value-in-Index.value in
+    let value = rw c.deref-in-Index.ensures at c.in_ok-value-in-Index.ensures.answers in
+    let told = rw c.deref-in-Index-3.ensures at c.in_err-sized-in-Index.ensures.refused in
+    rw (p.1, p.2, x.is) (inr (inl (array_told (env_of s) (context_of s) c.in_err-sized-in-Index.field-0.0 a.kind a.span i.kind i.span c.args.span one value told)))
+
+pub place_at-returns-in_err-value-in-Index-clause-answers : goal.place_at-returns-in_err-value-in-Index-clause-answers
+place_at-returns-in_err-value-in-Index-clause-answers t c =
+    let s = c.args.self.now in
+    let x = c.in-Index in
+    let shape = ap expression_of_kind x.is in
     let p = err_from_is_err_and c.from_residual.result c.from_residual.ensures.1 in
-    let refused = rw c.deref-in-Index.ensures at c.in_err-sized-in-Index.ensures.answers in
+    let refused = rw c.deref-in-Index.ensures at c.in_err-value-in-Index.ensures.answers in
     rw (p.1, p.2, shape) (array_of_index_refused (env_of s) (context_of s) (expression_of x.array.value) (expression_of x.index.value) refused)
 
 pub place_at-returns-in-Err-clause-answers : goal.place_at-returns-in-Err-clause-answers
@@ -248,8 +314,9 @@ place_at-returns-in-Err-clause-answers t c =
     let s = c.args.self.now in
     let x = c.in-Index in
     let shape = ap expression_of_kind x.is in
-    let first = rw c.deref-in-Index.ensures at c.in_ok-sized-in-Index.ensures.answers in
-    let refused = rw c.deref-in-Index-3.ensures at c.in-Err.ensures.answers in
+    let value = rw c.deref-in-Index.ensures at c.in_ok-value-in-Index.ensures.answers in
+    let first = rw (sym c.in_ok-sized-in-Index.ensures.taken) at value in
+    let refused = rw c.deref-in-Index-4.ensures at c.in-Err.ensures.answers in
     rw shape (index_refused (env_of s) (context_of s) (expression_of x.array.value) (expression_of x.index.value) (typing_of s.texts.now c.in_ok-sized-in-Index.sized) first refused)
 
 pub place_at-returns-in_err-pointer-in-PointerField-clause-answers : goal.place_at-returns-in_err-pointer-in-PointerField-clause-answers
@@ -275,8 +342,9 @@ pub place_at-returns-in-Ok-clause-cause : goal.place_at-returns-in-Ok-clause-cau
 place_at-returns-in-Ok-clause-cause t c =
     let s = c.args.self.now in
     let x = c.in-Index in
-    let first = rw c.deref-in-Index.ensures at c.in_ok-sized-in-Index.ensures.answers in
-    let second = rw c.deref-in-Index-3.ensures at c.in-Ok.ensures.answers in
+    let value = rw c.deref-in-Index.ensures at c.in_ok-value-in-Index.ensures.answers in
+    let first = rw (sym c.in_ok-sized-in-Index.ensures.taken) at value in
+    let second = rw c.deref-in-Index-4.ensures at c.in-Ok.ensures.answers in
     let one = typing_of s.texts.now c.in_ok-sized-in-Index.sized in
     let other = typing_of s.texts.now c.in-Ok.number in
     let told = rw (c.deref-in-Ok.ensures, c.deref-in-Ok-2.ensures) at c.element.ensures.cause in

@@ -1,0 +1,103 @@
+//! From a text to what it means, over a stack that is as deep as its calls may nest.
+
+ghost use Rattle.std.specs.Prelude.{◌≡◌, ◌⊎◌, ℕ, Bool, false, IfErr, IfOk, MatchResult};
+ghost use Rattle.c0_source.specs.FaultNumbers.{memory_fault};
+ghost use Rattle.c0_source.specs.declared.fault.FaultKind.TheVariants.{OutOfMemory};
+ghost use Rattle.c0_typed.specs.Meaning.{mean as mean_of};
+ghost use Rattle.c0_typed.specs.Trees as y;
+ghost use Rattle.c0_typed.specs.Views.{program_of};
+ghost use Rattle.c0_meaning.specs.Run.{meant_of};
+ghost use Rattle.c0_front.specs.Texts.{IsRefusedText, IsTypedAs};
+ghost use Rattle.c0_plain.specs.Plain.{IsMeant};
+
+use c0_front::check_text;
+use c0_meaning::{Meant, mean};
+use c0_source::fault::{Fault, FaultKind, Span};
+use c0_syntax::level::Level;
+use c0_typed::Typed;
+use cells::Want;
+use std::alloc::Global;
+use std::snapshot::Snapshot;
+use std::thread::{Builder, Promise, Threads};
+
+/// Enough for a program of one call, however deep its tree.
+const LEAST_STACK: u64 = 16 * 1024 * 1024;
+/// More than a call of a program's function takes: 3 KiB were measured where it stands alone, and 260 KiB as the index of 190 reads of
+/// arrays, one in another.
+const STACK_OF_A_CALL: u64 = 512 * 1024;
+/// The largest stack that is asked for; the system gives it page by page.
+const GREATEST_STACK: u64 = 4 * 1024 * 1024 * 1024;
+
+/// What a run of a program promises of its result.
+#[derive(Drop)]
+struct MeaningOf {
+    program: Snapshot<Typed>,
+    checks: bool,
+    turns: u64,
+}
+
+impl Promise<Result<Meant, Want>> for MeaningOf {
+    ghost kept_by = { λ p r. IsMeant p.program.value p.checks p.turns r };
+}
+
+/// The stack for so many turns: no more calls nest than there are turns.
+fn stack_for(turns: u64) -> usize {
+    let wanted = turns
+        .saturating_mul(STACK_OF_A_CALL)
+        .saturating_add(LEAST_STACK);
+    wanted.min(GREATEST_STACK) as usize
+}
+
+/// The bounded meaning of a program, by a thread of its own with a stack for its calls.
+fn mean_apart<R: Threads>(
+    alloc: Global,
+    rt: &R,
+    program: Typed,
+    checks: bool,
+    turns: u64,
+) -> Result<Meant, Want>
+    ensures { IsMeant program checks turns result }
+{
+    let promise = MeaningOf {
+        program: Snapshot::of(&program),
+        checks,
+        turns,
+    };
+    let run = move || mean(alloc, &program, checks, turns);
+    let stack = Builder::new().stack_size(stack_for(turns));
+    match stack.spawn_with(rt, promise, run) {
+        Ok(thread) => thread.join(rt),
+        Err(_refused) => Err(Want::OutOfMemory),
+    }
+}
+
+/// Want of memory, which stands at no byte.
+fn memory() -> Fault
+    ensures { result ≡ memory_fault }
+{
+    Fault {
+        kind: FaultKind::OutOfMemory,
+        span: Span { start: 0, end: 0 },
+    }
+}
+
+/// What the program of a text means within this many turns: how it ends, and what it prints. `checks` tells whether contracts are
+/// checked. The fault is of the first stage that refuses the text, or 50, where memory runs out, for the stack too.
+pub fn mean_text<R: Threads>(
+    alloc: Global,
+    rt: &R,
+    text: &[u8],
+    checks: bool,
+    turns: u64,
+) -> Result<Meant, Fault>
+    ensures meant { IfOk result (λ m. (p : y.Program) × IsTypedAs false text.now p × (meant_of m ≡ mean_of p checks turns)) }
+    ensures refused { IfErr result (λ f. (f.kind ≡ OutOfMemory) ⊎ IsRefusedText false text.now f) }
+    // A text of a well-typed program is run as that program, and as no other, unless memory runs out.
+    ensures every { (p : y.Program) → IsTypedAs false text.now p → MatchResult result (λ m. meant_of m ≡ mean_of p checks turns) (λ f. f.kind ≡ OutOfMemory) }
+{
+    let program = check_text(alloc, text, Level::Core)?;
+    match mean_apart(alloc, rt, program, checks, turns) {
+        Ok(meant) => Ok(meant),
+        Err(_) => Err(memory()),
+    }
+}

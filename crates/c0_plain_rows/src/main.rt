@@ -1,0 +1,100 @@
+//! Runs each text that the words name plainly, and prints what it means: the command, what the program prints, and how it ends. Before a name
+//! may stand `-d`, for contracts to be checked, and a number of turns in place of 5,000. The status is 1 where a text is refused.
+#![tactic(auto)]
+
+use c0_meaning::Meant;
+use c0_plain::mean_text;
+use std::alloc::Global;
+use std::io::Write;
+use std::process::ExitCode;
+use std::thread::Threads;
+use std::{env, fs, io};
+
+/// How a text is to be run.
+#[derive(Clone, Copy, Debug, PartialEq, Eq)]
+struct Asked {
+    checks: bool,
+    turns: u64,
+}
+
+impl Asked {
+    /// What is asked where nothing else is said.
+    fn plainly() -> Asked {
+        Asked {
+            checks: false,
+            turns: 5000,
+        }
+    }
+
+    /// The same, with what this word asks for. None where it is the name of a text.
+    fn with(self, word: &str) -> Option<Asked> {
+        if word == "-d" {
+            return Some(Asked {
+                checks: true,
+                turns: self.turns,
+            });
+        }
+        match word.parse() {
+            Ok(turns) => Some(Asked {
+                checks: self.checks,
+                turns,
+            }),
+            Err(_) => None,
+        }
+    }
+}
+
+/// Writes what a program printed, with its last line finished, and how it ended.
+fn tell<O: Write>(out: &mut O, meant: &Meant) -> io::Result<()> {
+    out.write_all(&meant.output)?;
+    if meant.output.last().is_some_and(|byte| *byte != b'\n') {
+        writeln!(out)?;
+    }
+    match &meant.stop {
+        Some(stop) => writeln!(out, "{stop}"),
+        None => writeln!(out, "cut"),
+    }
+}
+
+/// Runs this text and tells what it means. False where it is refused.
+fn run<R: Threads, O: Write>(
+    alloc: Global,
+    rt: &R,
+    asked: Asked,
+    name: &str,
+    text: &[u8],
+    out: &mut O,
+) -> io::Result<bool> {
+    let flag = if asked.checks { " -d" } else { "" };
+    let turns = asked.turns;
+    writeln!(out, "mean{flag} --turns {turns} {name}")?;
+    match mean_text(alloc, rt, text, asked.checks, turns) {
+        Ok(meant) => {
+            tell(out, &meant)?;
+            Ok(true)
+        }
+        Err(fault) => {
+            writeln!(out, "{fault}")?;
+            Ok(false)
+        }
+    }
+}
+
+fn main(rt: HostRuntime) -> io::Result<ExitCode> {
+    let words: Vec<String> = env::args(&rt)?.collect(rt.alloc())?;
+    let mut out = io::writer(&rt);
+    let mut asked = Asked::plainly();
+    let mut status = 0;
+    for word in words.iter().skip(1) {
+        if let Some(more) = asked.with(word.as_str()) {
+            asked = more;
+            continue;
+        }
+        let text = fs::read(&rt, word.as_str())?;
+        if !run(rt.alloc(), &rt, asked, word.as_str(), &text, &mut out)? {
+            status = 1;
+        }
+        asked = Asked::plainly();
+    }
+    Ok(ExitCode::from(status))
+}

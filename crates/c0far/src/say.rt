@@ -1,0 +1,80 @@
+//! What commands say on their two streams, with the exit status.
+ghost use Rattle.std.specs.Prelude.{◌≡◌, ◌++◌, ℕ, [], IsTrue, MatchResult, codes, cond};
+ghost use Rattle.std.specs.Io.KnownBytes.{Appends};
+ghost use Rattle.c0far.specs.Driven.{Says, StandsAt, is_open, newline, shown_fault, writes};
+
+use c0_source::fault::Fault;
+use c0_source::position::{Position, line_column};
+use std::io::Write;
+
+/// Some program has stopped otherwise than by a result.
+pub const STOPPED: u8 = 1;
+/// A refused text, file or usage, or a failed write.
+pub const REFUSED: u8 = 2;
+/// Some want of memory, objects or store.
+pub const WANTED: u8 = 3;
+
+/// The status where a write succeeded, else that of a failed write.
+pub fn after<T: Drop, E: Drop>(written: Result<T, E>, status: u8) -> u8
+    ensures { MatchResult written (λ _. result ≡ status) (λ _. result ≡ 2) }
+{
+    match written {
+        Ok(_) => status,
+        Err(_) => REFUSED,
+    }
+}
+
+/// Says that a growth was refused.
+pub fn say_memory<E: Write>(err: &mut E) -> u8
+    ensures { Says (writes (E.contents err.old) (E.contents err.new)) (codes "out of memory" ++ newline) 3 result }
+{
+    after(writeln!(err, "out of memory"), WANTED)
+}
+
+/// Says why a text is refused, and where.
+fn say_at<E: Write>(err: &mut E, file: &str, position: Position, fault: Fault) -> u8
+    ensures { Says (writes (E.contents err.old) (E.contents err.new)) (shown_fault file.now position.line position.column fault) 2 result }
+{
+    let line = position.line;
+    let column = position.column;
+    after(writeln!(err, "{file}:{line}:{column}: {fault}"), REFUSED)
+}
+
+/// Says why a text is refused, at the line and column of the fault.
+pub fn say_fault<E: Write>(err: &mut E, file: &str, text: &[u8], fault: Fault) -> u8
+    ensures { (line : ℕ) × (column : ℕ) × StandsAt text.now fault.span.start line column
+        × Says (writes (E.contents err.old) (E.contents err.new)) (shown_fault file.now line column fault) 2 result }
+{
+    let position = line_column(text, fault.span.start);
+    say_at(err, file, position, fault)
+}
+
+/// Says that a file was not read.
+pub fn say_unread<E: Write>(err: &mut E, file: &str) -> u8
+    ensures { Says (writes (E.contents err.old) (E.contents err.new)) (file.now ++ (codes ": cannot be read" ++ newline)) 2 result }
+{
+    after(writeln!(err, "{file}: cannot be read"), REFUSED)
+}
+
+/// Whether these bytes end in a line that is not finished.
+fn ends_open(bytes: &[u8]) -> bool
+    ensures { result ≡ is_open bytes.now }
+{
+    match bytes.last() {
+        Some(byte) => *byte != b'\n',
+        None => false,
+    }
+}
+
+/// Writes what a program printed, with its last line finished, and tells whether that was written.
+pub fn write_output<O: Write>(out: &mut O, output: &[u8]) -> bool
+    ensures { IsTrue result → Appends (O.contents out.old) (O.contents out.new) (output.now ++ cond (is_open output.now) newline []) }
+{
+    if out.write_all(output).is_err() {
+        return false;
+    }
+    if !ends_open(output) {
+        return true;
+    }
+    writeln!(out).is_ok()
+}

@@ -1,0 +1,4 @@
+pub mod Form
+pub mod Meaning
+pub mod Samples
+pub mod WellFormed
