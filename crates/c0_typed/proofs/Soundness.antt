@@ -17,29 +17,29 @@ use Rattle.c0_typed.specs.Typing.{IsSmall, IsHeld, AreHeld, unary_type, output_t
 
 -- ---- lists
 
-get_more : {A : Type 0} (xs ys : List A) (k : ℕ) (x : A) → slice_get xs k ≡ Some x → slice_get (xs ++ ys) k ≡ Some x
+pub get_more : {A : Type 0} (xs ys : List A) (k : ℕ) (x : A) → slice_get xs k ≡ Some x → slice_get (xs ++ ys) k ≡ Some x
 get_more [] ys k x e = absurd (cc e)
 get_more (y ∷ xs) ys zero x e = e
 get_more (y ∷ xs) ys (suc k) x e = get_more xs ys k x e
 
-get_last : {A : Type 0} (xs : List A) (x : A) → slice_get (xs ++ x ∷ []) (length xs) ≡ Some x
+pub get_last : {A : Type 0} (xs : List A) (x : A) → slice_get (xs ++ x ∷ []) (length xs) ≡ Some x
 get_last [] x = refl
 get_last (y ∷ xs) x = get_last xs x
 
 pub extends_refl : (a : List Kept) → Extends a a
 extends_refl a = ([], sym (append-nil a))
 
-extends_trans : (a b c : List Kept) → Extends a b → Extends b c → Extends a c
+pub extends_trans : (a b c : List Kept) → Extends a b → Extends b c → Extends a c
 extends_trans a b c x y = (x.0 ++ y.0, y.1 ∙ ap (λ l. l ++ y.0) x.1 ∙ append_assoc a x.0 y.0)
 
-made_more : (old new : List Kept) → Extends old new → (r : ℕ) (k : Kept) → IsMade old r k → IsMade new r k
+pub made_more : (old new : List Kept) → Extends old new → (r : ℕ) (k : Kept) → IsMade old r k → IsMade new r k
 made_more old new e zero k h = h
 made_more old new e (suc r) k h = subst (λ l. slice_get l r ≡ Some k) (sym e.1) (get_more old e.0 r k h)
 
 -- ---- more allocations keep what has a type
 
 module _ (p : Program) (old new : List Kept) (e : Extends old new) where
-  is_more : (t : Ty) (v : Value) → Is p old t v → Is p new t v
+  pub is_more : (t : Ty) (v : Value) → Is p old t v → Is p new t v
   is_more VoidTy v h = h
   is_more IntTy v h = h
   is_more BoolTy v h = h
@@ -57,32 +57,32 @@ module _ (p : Program) (old new : List Kept) (e : Extends old new) where
       at (inl z) = inl z
       at (inr m) = inr (m.0, made_more old new e h.0 (Many m.0 t) m.1)
 
-  are_more : (ts : List Ty) (vs : List Value) → AreAll p old ts vs → AreAll p new ts vs
+  pub are_more : (ts : List Ty) (vs : List Value) → AreAll p old ts vs → AreAll p new ts vs
   are_more [] [] h = h
   are_more [] (v ∷ vs) h = h
   are_more (t ∷ ts) [] h = h
   are_more (t ∷ ts) (v ∷ vs) h = (is_more t v h.0, are_more ts vs h.1)
 
   mutual
-    grown_more : (t : Ty) (a : Tree) → Grown p old t a → Grown p new t a
+    pub grown_more : (t : Ty) (a : Tree) → Grown p old t a → Grown p new t a
     grown_more t (Leaf v) h = (h.0, is_more t v h.1)
     grown_more t (Node ts) h = (h.0, h.1, h.2, h.3, all_more h.1 ts h.4)
 
-    all_more : (ts : List Ty) (as' : Trees) → GrownAll p old ts as' → GrownAll p new ts as'
+    pub all_more : (ts : List Ty) (as' : Trees) → GrownAll p old ts as' → GrownAll p new ts as'
     all_more [] Nil h = h
     all_more [] (Cons a rest) h = h
     all_more (t ∷ ts) Nil h = h
     all_more (t ∷ ts) (Cons a rest) h = (grown_more t a h.0, all_more ts rest h.1)
 
-  each_more : (t : Ty) (ts : Trees) → GrownEach p old t ts → GrownEach p new t ts
+  pub each_more : (t : Ty) (ts : Trees) → GrownEach p old t ts → GrownEach p new t ts
   each_more t Nil h = h
   each_more t (Cons a rest) h = (grown_more t a h.0, each_more t rest h.1)
 
-  object_more : (k : Kept) (a : Tree) → IsObject p old k a → IsObject p new k a
+  pub object_more : (k : Kept) (a : Tree) → IsObject p old k a → IsObject p new k a
   object_more (One t) a h = grown_more t a h
   object_more (Many n t) a h = (h.0, h.1, h.2, h.3, each_more t h.0 h.4)
 
-  objects_more : (ks : List Kept) (ts : List Tree) → AreObjects p old ks ts → AreObjects p new ks ts
+  pub objects_more : (ks : List Kept) (ts : List Tree) → AreObjects p old ks ts → AreObjects p new ks ts
   objects_more [] [] h = h
   objects_more [] (a ∷ ts) h = h
   objects_more (k ∷ ks) [] h = h
@@ -116,13 +116,13 @@ fine_turn {A} made P s go h = at s.turns
 
 -- ---- locals
 
-local_is : (p : Program) (made : List Kept) (ts : List Ty) (vs : List Value) (x : ℕ) (t : Ty) → AreAll p made ts vs → slice_get ts x ≡ Some t → Is p made t (get_or vs x Void)
+pub local_is : (p : Program) (made : List Kept) (ts : List Ty) (vs : List Value) (x : ℕ) (t : Ty) → AreAll p made ts vs → slice_get ts x ≡ Some t → Is p made t (get_or vs x Void)
 local_is p made [] vs x t h e = absurd (cc e)
 local_is p made (u ∷ ts) [] x t h e = absurd h
 local_is p made (u ∷ ts) (v ∷ vs) zero t h e = let same : u ≡ t = cc e in subst (λ z. Is p made z v) same h.0
 local_is p made (u ∷ ts) (v ∷ vs) (suc x) t h e = local_is p made ts vs x t h.1 e
 
-set_is : (p : Program) (made : List Kept) (ts : List Ty) (vs : List Value) (x : ℕ) (t : Ty) (w : Value) → AreAll p made ts vs → slice_get ts x ≡ Some t → Is p made t w → AreAll p made ts (set vs x w)
+pub set_is : (p : Program) (made : List Kept) (ts : List Ty) (vs : List Value) (x : ℕ) (t : Ty) (w : Value) → AreAll p made ts vs → slice_get ts x ≡ Some t → Is p made t w → AreAll p made ts (set vs x w)
 set_is p made [] vs x t w h e i = absurd (cc e)
 set_is p made (u ∷ ts) [] x t w h e i = absurd h
 set_is p made (u ∷ ts) (v ∷ vs) zero t w h e i = let same : t ≡ u = sym (cc e) in (subst (λ z. Is p made z w) same i, h.1)
@@ -135,52 +135,52 @@ module _ (p : Program) where
   way_on [] t j k u h f = (j, u, h, f, refl)
   way_on (i ∷ path) t j k u h f = (h.0, h.1, h.2, h.3, way_on path h.1 j k u h.4 f)
 
-  way_in_on : (kept : Kept) (path : List ℕ) (j k : ℕ) (u : Ty) → IsWayIn p kept path (StructTy j) → IsField p.structs j k u → IsWayIn p kept (path ++ k ∷ []) u
+  pub way_in_on : (kept : Kept) (path : List ℕ) (j k : ℕ) (u : Ty) → IsWayIn p kept path (StructTy j) → IsField p.structs j k u → IsWayIn p kept (path ++ k ∷ []) u
   way_in_on (One t) path j k u h f = way_on path t j k u h f
   way_in_on (Many n t) [] j k u h f = absurd h
   way_in_on (Many n t) (i ∷ path) j k u h f = (h.0, way_on path t j k u h.1 f)
 
-  place_more : (old new : List Kept) (e : Extends old new) (u : Ty) (at : Spot) → IsPlace p old u at → IsPlace p new u at
+  pub place_more : (old new : List Kept) (e : Extends old new) (u : Ty) (at : Spot) → IsPlace p old u at → IsPlace p new u at
   place_more old new e u at h = record { kept = h.kept; made_so = made_more old new e at.allocation h.kept h.made_so; way = h.way }
 
 module _ (p : Program) (made : List Kept) where
-  part_grown : (ts : List Ty) (as' : Trees) (k : ℕ) (t : Ty) → GrownAll p made ts as' → slice_get ts k ≡ Some t → Grown p made t (part k as')
+  pub part_grown : (ts : List Ty) (as' : Trees) (k : ℕ) (t : Ty) → GrownAll p made ts as' → slice_get ts k ≡ Some t → Grown p made t (part k as')
   part_grown [] as' k t h e = absurd (cc e)
   part_grown (u ∷ ts) Nil k t h e = absurd h
   part_grown (u ∷ ts) (Cons a rest) zero t h e = let same : u ≡ t = cc e in subst (λ z. Grown p made z a) same h.0
   part_grown (u ∷ ts) (Cons a rest) (suc k) t h e = part_grown ts rest k t h.1 e
 
-  with_part_grown : (ts : List Ty) (as' : Trees) (k : ℕ) (t : Ty) (new : Tree) → GrownAll p made ts as' → slice_get ts k ≡ Some t → Grown p made t new → GrownAll p made ts (with_part k new as')
+  pub with_part_grown : (ts : List Ty) (as' : Trees) (k : ℕ) (t : Ty) (new : Tree) → GrownAll p made ts as' → slice_get ts k ≡ Some t → Grown p made t new → GrownAll p made ts (with_part k new as')
   with_part_grown [] as' k t new h e g = absurd (cc e)
   with_part_grown (u ∷ ts) Nil k t new h e g = absurd h
   with_part_grown (u ∷ ts) (Cons a rest) zero t new h e g = let same : t ≡ u = sym (cc e) in (subst (λ z. Grown p made z new) same g, h.1)
   with_part_grown (u ∷ ts) (Cons a rest) (suc k) t new h e g = (h.0, with_part_grown ts rest k t new h.1 e g)
 
-  each_part : (t : Ty) (ts : Trees) (k : ℕ) → GrownEach p made t ts → k < count ts → Grown p made t (part k ts)
+  pub each_part : (t : Ty) (ts : Trees) (k : ℕ) → GrownEach p made t ts → k < count ts → Grown p made t (part k ts)
   each_part t Nil k h l = absurd (let q : ⊥ = omega arith in q)
   each_part t (Cons a rest) zero h l = h.0
   each_part t (Cons a rest) (suc k) h l = each_part t rest k h.1 (omega arith)
 
-  with_part_each : (t : Ty) (ts : Trees) (k : ℕ) (new : Tree) → GrownEach p made t ts → Grown p made t new → GrownEach p made t (with_part k new ts)
+  pub with_part_each : (t : Ty) (ts : Trees) (k : ℕ) (new : Tree) → GrownEach p made t ts → Grown p made t new → GrownEach p made t (with_part k new ts)
   with_part_each t Nil k new h g = h
   with_part_each t (Cons a rest) zero new h g = (g, h.1)
   with_part_each t (Cons a rest) (suc k) new h g = (h.0, with_part_each t rest k new h.1 g)
 
-  count_with : (k : ℕ) (new : Tree) (ts : Trees) → count (with_part k new ts) ≡ count ts
+  pub count_with : (k : ℕ) (new : Tree) (ts : Trees) → count (with_part k new ts) ≡ count ts
   count_with k new Nil = refl
   count_with zero new (Cons a rest) = refl
   count_with (suc k) new (Cons a rest) = ap suc (count_with k new rest)
 
-  each_copies : (t : Ty) (n : ℕ) (a : Tree) → Grown p made t a → GrownEach p made t (copies n a)
+  pub each_copies : (t : Ty) (n : ℕ) (a : Tree) → Grown p made t a → GrownEach p made t (copies n a)
   each_copies t zero a g = tt
   each_copies t (suc n) a g = (g, each_copies t n a g)
 
   -- a struct is a node with its fields
-  struct_parts : (j : ℕ) (a : Tree) → Grown p made (StructTy j) a → (fs : List Ty) × (ts : Trees) × (a ≡ Node ts) × (slice_get p.structs j ≡ Some fs) × GrownAll p made fs ts
+  pub struct_parts : (j : ℕ) (a : Tree) → Grown p made (StructTy j) a → (fs : List Ty) × (ts : Trees) × (a ≡ Node ts) × (slice_get p.structs j ≡ Some fs) × GrownAll p made fs ts
   struct_parts j (Leaf v) h = absurd h.0
   struct_parts j (Node ts) h = let same : j ≡ h.0 = cc h.2 in (h.1, ts, refl, ap (slice_get p.structs) same ∙ h.3, h.4)
 
-  part_way : (path : List ℕ) (t u : Ty) (a : Tree) → IsWay p t path u → Grown p made t a → Grown p made u (part_at path a)
+  pub part_way : (path : List ℕ) (t u : Ty) (a : Tree) → IsWay p t path u → Grown p made t a → Grown p made u (part_at path a)
   part_way [] t u a h g = subst (λ z. Grown p made z a) h g
   part_way (k ∷ path) t u a h g =
       let s = struct_parts h.0 a (subst (λ z. Grown p made z a) h.2 g) in
@@ -188,7 +188,7 @@ module _ (p : Program) (made : List Kept) where
       let e : slice_get s.0 k ≡ Some h.1 = subst (λ z. slice_get z k ≡ Some h.1) same h.3.2 in
       part_way path h.1 u (part k (parts a)) h.4 (subst (λ z. Grown p made h.1 (part k (parts z))) (sym s.2) (part_grown s.0 s.1 k h.1 s.4 e))
 
-  with_way : (path : List ℕ) (t u : Ty) (a new : Tree) → IsWay p t path u → Grown p made t a → Grown p made u new → Grown p made t (with_part_at path new a)
+  pub with_way : (path : List ℕ) (t u : Ty) (a new : Tree) → IsWay p t path u → Grown p made t a → Grown p made u new → Grown p made t (with_part_at path new a)
   with_way [] t u a new h g n = subst (λ z. Grown p made z new) (sym h) n
   with_way (k ∷ path) t u (Leaf v) new h g n = g
   with_way (k ∷ path) t u (Node ts) new h g n =
@@ -198,14 +198,14 @@ module _ (p : Program) (made : List Kept) where
       let inner = with_way path h.1 u (part k ts) new h.4 (part_grown g.1 ts k h.1 g.4 e) n in
       (g.0, g.1, g.2, g.3, with_part_grown g.1 ts k h.1 (with_part_at path new (part k ts)) g.4 e inner)
 
-  part_way_in : (kept : Kept) (path : List ℕ) (u : Ty) (a : Tree) → IsWayIn p kept path u → IsObject p made kept a → Grown p made u (part_at path a)
+  pub part_way_in : (kept : Kept) (path : List ℕ) (u : Ty) (a : Tree) → IsWayIn p kept path u → IsObject p made kept a → Grown p made u (part_at path a)
   part_way_in (One t) path u a h g = part_way path t u a h g
   part_way_in (Many n t) [] u a h g = absurd h
   part_way_in (Many n t) (i ∷ path) u a h g =
       subst (λ z. Grown p made u (part_at (i ∷ path) z)) (sym g.1)
       (part_way path t u (part i g.0) h.1 (each_part t g.0 i g.4 (subst (λ z. i < z) (sym g.2) h.0)))
 
-  with_way_in : (kept : Kept) (path : List ℕ) (u : Ty) (a new : Tree) → IsWayIn p kept path u → IsObject p made kept a → Grown p made u new → IsObject p made kept (with_part_at path new a)
+  pub with_way_in : (kept : Kept) (path : List ℕ) (u : Ty) (a new : Tree) → IsWayIn p kept path u → IsObject p made kept a → Grown p made u new → IsObject p made kept (with_part_at path new a)
   with_way_in (One t) path u a new h g n = with_way path t u a new h g n
   with_way_in (Many n t) [] u a new h g q = absurd h
   with_way_in (Many n t) (i ∷ path) u a new h g q =
@@ -214,19 +214,19 @@ module _ (p : Program) (made : List Kept) where
       let all = with_part_each t g.0 i (with_part_at path new (part i g.0)) g.4 inner in
       (with_part i (with_part_at path new (part i g.0)) g.0, ap (with_part_at (i ∷ path) new) g.1, count_with i _ g.0 ∙ g.2, g.3, all)
 
-  object_at : (ks : List Kept) (heap : List Tree) (r : ℕ) (k : Kept) → AreObjects p made ks heap → slice_get ks r ≡ Some k → IsObject p made k (get_or heap r (Leaf Void))
+  pub object_at : (ks : List Kept) (heap : List Tree) (r : ℕ) (k : Kept) → AreObjects p made ks heap → slice_get ks r ≡ Some k → IsObject p made k (get_or heap r (Leaf Void))
   object_at [] heap r k h e = absurd (cc e)
   object_at (x ∷ ks) [] r k h e = absurd h
   object_at (x ∷ ks) (a ∷ heap) zero k h e = let same : x ≡ k = cc e in subst (λ z. IsObject p made z a) same h.0
   object_at (x ∷ ks) (a ∷ heap) (suc r) k h e = object_at ks heap r k h.1 e
 
-  object_set : (ks : List Kept) (heap : List Tree) (r : ℕ) (k : Kept) (new : Tree) → AreObjects p made ks heap → slice_get ks r ≡ Some k → IsObject p made k new → AreObjects p made ks (set heap r new)
+  pub object_set : (ks : List Kept) (heap : List Tree) (r : ℕ) (k : Kept) (new : Tree) → AreObjects p made ks heap → slice_get ks r ≡ Some k → IsObject p made k new → AreObjects p made ks (set heap r new)
   object_set [] heap r k new h e o = absurd (cc e)
   object_set (x ∷ ks) [] r k new h e o = absurd h
   object_set (x ∷ ks) (a ∷ heap) zero k new h e o = let same : k ≡ x = sym (cc e) in (subst (λ z. IsObject p made z new) same o, h.1)
   object_set (x ∷ ks) (a ∷ heap) (suc r) k new h e o = (h.0, object_set ks heap r k new h.1 e o)
 
-  objects_add : (ks : List Kept) (heap : List Tree) (k : Kept) (a : Tree) → AreObjects p made ks heap → IsObject p made k a → AreObjects p made (ks ++ k ∷ []) (heap ++ a ∷ [])
+  pub objects_add : (ks : List Kept) (heap : List Tree) (k : Kept) (a : Tree) → AreObjects p made ks heap → IsObject p made k a → AreObjects p made (ks ++ k ∷ []) (heap ++ a ∷ [])
   objects_add [] [] k a h o = (o, tt)
   objects_add [] (x ∷ heap) k a h o = absurd h
   objects_add (y ∷ ks) [] k a h o = absurd h
@@ -242,7 +242,7 @@ module _ (p : Program) (made : List Kept) where
   allocated_object heap zero k h m = absurd m
   allocated_object heap (suc r) k h m = object_at made heap r k h m
 
-  small_leaf : (u : Ty) (a : Tree) → IsSmall u → Grown p made u a → Is p made u (leaf a)
+  pub small_leaf : (u : Ty) (a : Tree) → IsSmall u → Grown p made u a → Is p made u (leaf a)
   small_leaf u (Leaf v) s g = g.1
   small_leaf u (Node ts) s g = absurd (subst IsSmall g.2 s)
 
@@ -274,7 +274,7 @@ NotFits = (z : ℤ) → FitsSigned w32 (int_bit_not w32 z)
 abbrev pub FreshFits : Program → List Tree → Type 0
 FreshFits p structs = (made : List Kept) (t : Ty) → IsHeld (length p.structs) t → Grown p made t (default structs t)
 
-number_fits : (p : Program) (made : List Kept) (v : Value) → Is p made IntTy v → FitsSigned w32 (as_number v)
+pub number_fits : (p : Program) (made : List Kept) (v : Value) → Is p made IntTy v → FitsSigned w32 (as_number v)
 number_fits p made v h = subst (λ x. FitsSigned w32 (as_number x)) (sym h.1) h.2
 
 module _ (ops : OpsFit) (nots : NotFits) (p : Program) (types : List Ty) where
@@ -287,7 +287,7 @@ module _ (ops : OpsFit) (nots : NotFits) (p : Program) (types : List Ty) where
   done : (made : List Kept) (t : Ty) (v : Value) (s : State) → IsState p types made s → Is p made t v → Fine made (Gives p types t) (Done v s)
   done made t v s g h = (made, extends_refl made, (g, h))
 
-  constant_is : (made : List Kept) (t : Ty) (v : Value) → IsConstant p.texts v t → Is p made t v
+  pub constant_is : (made : List Kept) (t : Ty) (v : Value) → IsConstant p.texts v t → Is p made t v
   constant_is made t (Number z) h = subst (λ u. Is p made u (Number z)) (sym h.0) (z, refl, h.1)
   constant_is made t (Truth b) h = subst (λ u. Is p made u (Truth b)) (sym h) (b, refl)
   constant_is made t (Letter c) h = subst (λ u. Is p made u (Letter c)) (sym h.0) (c, refl, h.1)
@@ -295,7 +295,7 @@ module _ (ops : OpsFit) (nots : NotFits) (p : Program) (types : List Ty) where
   constant_is made t (Ref r) h = absurd h
   constant_is made t Void h = absurd h
 
-  unary_is : (made : List Kept) (o : UnaryOp) (v : Value) → Is p made (unary_type o) v → Is p made (unary_type o) (unary_value o v)
+  pub unary_is : (made : List Kept) (o : UnaryOp) (v : Value) → Is p made (unary_type o) v → Is p made (unary_type o) (unary_value o v)
   unary_is made Negate v h = (wrap32 (neg_ℤ (as_number v)), refl, SFits-int_wrap w32 (neg_ℤ (as_number v)))
   unary_is made Complement v h = (int_bit_not w32 (as_number v), refl, nots (as_number v))
   unary_is made Not v h = (not (as_truth v), refl)
@@ -307,7 +307,7 @@ module _ (ops : OpsFit) (nots : NotFits) (p : Program) (types : List Ty) where
       at None e = tt
       at (Some z) e = done made IntTy (Number z) s g (z, refl, ops o (as_number v) (as_number w) z (number_fits p made v h) (number_fits p made w k) e)
 
-  fine_pointed : (made : List Kept) (u : Ty) (v : Value) (s : State) → IsState p types made s → Is p made (PointerTy u) v → Fine made (Finds p types u) (pointed v s)
+  pub fine_pointed : (made : List Kept) (u : Ty) (v : Value) (s : State) → IsState p types made s → Is p made (PointerTy u) v → Fine made (Finds p types u) (pointed v s)
   fine_pointed made u v s g h = subst (λ x. Fine made (Finds p types u) (pointed x s)) (sym h.1) (at h.0 h.2)
     where
       at : (r : ℕ) → ((r ≡ 0) ⊎ IsMade made r (One u)) → Fine made (Finds p types u) (pointed (Ref r) s)
@@ -315,10 +315,10 @@ module _ (ops : OpsFit) (nots : NotFits) (p : Program) (types : List Ty) where
       at (suc r) (inl z) = absurd (cc z)
       at (suc r) (inr m) = (made, extends_refl made, (g, record { kept = One u; made_so = m; way = refl }))
 
-  array_long : (made : List Kept) (heap : List Tree) (r n : ℕ) (u : Ty) → IsHeap p made heap → IsMade made r (Many n u) → array_length heap r ≡ n
+  pub array_long : (made : List Kept) (heap : List Tree) (r n : ℕ) (u : Ty) → IsHeap p made heap → IsMade made r (Many n u) → array_length heap r ≡ n
   array_long made heap r n u h m = let o = allocated_object p made heap r (Many n u) h m in ap (λ a. count (parts a)) o.1 ∙ o.2
 
-  fine_element : (made : List Kept) (u : Ty) (v : Value) (z : ℤ) (s : State) → IsState p types made s → Is p made (ArrayTy u) v → Fine made (Finds p types u) (element v z s)
+  pub fine_element : (made : List Kept) (u : Ty) (v : Value) (z : ℤ) (s : State) → IsState p types made s → Is p made (ArrayTy u) v → Fine made (Finds p types u) (element v z s)
   fine_element made u v (negsuc k) s g h = tt
   fine_element made u v (pos k) s g h = subst (λ x. Fine made (Finds p types u) (element x (pos k) s)) (sym h.1) (at (nat_lt k (array_length s.heap h.0)) refl h.2)
     where
@@ -332,14 +332,14 @@ module _ (ops : OpsFit) (nots : NotFits) (p : Program) (types : List Ty) where
           let less : k < array_length s.heap h.0 = ltb-true k (array_length s.heap h.0) e in
           (made, extends_refl made, (g, record { kept = Many m.0 u; made_so = m.1; way = (subst (λ n. k < n) (array_long made s.heap h.0 m.0 u g.0 m.1) less, refl) }))
 
-  fine_allocate : (made : List Kept) (k : Kept) (t : Ty) (a : Tree) (s : State) → IsState p types made s → IsObject p (made ++ k ∷ []) k a → ((r : ℕ) → IsMade (made ++ k ∷ []) r k → Is p (made ++ k ∷ []) t (Ref r)) → Fine made (Gives p types t) (allocate a s)
+  pub fine_allocate : (made : List Kept) (k : Kept) (t : Ty) (a : Tree) (s : State) → IsState p types made s → IsObject p (made ++ k ∷ []) k a → ((r : ℕ) → IsMade (made ++ k ∷ []) r k → Is p (made ++ k ∷ []) t (Ref r)) → Fine made (Gives p types t) (allocate a s)
   fine_allocate made k t a s g o is =
       let new = made ++ k ∷ [] in
       let e : Extends made new = (k ∷ [], refl) in
       let here : slice_get new (length s.heap) ≡ Some k = ap (slice_get new) (same_length p made made s.heap g.0) ∙ get_last made k in
       (new, e, ((objects_add p new made s.heap k a (objects_more p made new e made s.heap g.0) o, are_more p made new e types s.locals g.1), is (suc (length s.heap)) here))
 
-  fine_length : (made : List Kept) (u : Ty) (v : Value) (s : State) → IsState p types made s → Is p made (ArrayTy u) v → Is p made IntTy (Number (pos (array_length s.heap (as_ref v))))
+  pub fine_length : (made : List Kept) (u : Ty) (v : Value) (s : State) → IsState p types made s → Is p made (ArrayTy u) v → Is p made IntTy (Number (pos (array_length s.heap (as_ref v))))
   fine_length made u v s g h = subst (λ x. Is p made IntTy (Number (pos (array_length s.heap (as_ref x))))) (sym h.1) (at h.0 h.2)
     where
       at : (r : ℕ) → ((r ≡ 0) ⊎ ((n : ℕ) × IsMade made r (Many n u))) → Is p made IntTy (Number (pos (array_length s.heap r)))
@@ -349,14 +349,14 @@ module _ (ops : OpsFit) (nots : NotFits) (p : Program) (types : List Ty) where
           (pos (array_length s.heap r), refl, subst (λ n. FitsSigned w32 (pos n)) (sym (array_long made s.heap r m.0 u g.0 m.1)) o.3)
 
   -- the locals of the caller are there again
-  called : (made : List Kept) (u : State) (o : Outcome Value) (f : Function) → IsState p types made u → Fine made (λ new v t. Is p new f.result v × IsHeap p new t.heap × (t.locals ≡ u.locals)) o → Fine made (Gives p types f.result) o
+  pub called : (made : List Kept) (u : State) (o : Outcome Value) (f : Function) → IsState p types made u → Fine made (λ new v t. Is p new f.result v × IsHeap p new t.heap × (t.locals ≡ u.locals)) o → Fine made (Gives p types f.result) o
   called made u (Stopped x out) f g h = tt
   called made u (Cut out) f g h = tt
   called made u (Done v t) f g h =
       (h.0, h.1, ((h.2.1, subst (λ l. AreAll p h.0 types l) (sym h.2.2) (are_more p made h.0 h.1 types u.locals g.1)), h.2.0))
 
   module _ (structs : List Tree) (fresh : FreshFits p structs) (run : ℕ → List Value → State → Outcome Value) (calls : CallsFit p run) where
-    fine_array : (made : List Kept) (u : Ty) (v : Value) (s : State) → IsHeld (length p.structs) u → IsState p types made s → Is p made IntTy v → Fine made (Gives p types (ArrayTy u)) (allocate_array (default structs u) (as_number v) s)
+    pub fine_array : (made : List Kept) (u : Ty) (v : Value) (s : State) → IsHeld (length p.structs) u → IsState p types made s → Is p made IntTy v → Fine made (Gives p types (ArrayTy u)) (allocate_array (default structs u) (as_number v) s)
     fine_array made u v s held g h = at (as_number v) (number_fits p made v h)
       where
         at : (z : ℤ) → FitsSigned w32 z → Fine made (Gives p types (ArrayTy u)) (allocate_array (default structs u) z s)
@@ -534,7 +534,7 @@ module _ (ops : OpsFit) (nots : NotFits) (p : Program) (types : List Ty) where
 
 -- ---- functions
 
-blank_is : (p : Program) (made : List Kept) (t : Ty) → IsSmall t → Is p made t (blank t)
+pub blank_is : (p : Program) (made : List Kept) (t : Ty) → IsSmall t → Is p made t (blank t)
 blank_is p made VoidTy h = absurd h
 blank_is p made IntTy h = (pos 0, refl, fits_signed_from_abs w32 (pos 0) (omega arith))
 blank_is p made BoolTy h = (false, refl)
@@ -544,14 +544,14 @@ blank_is p made (StructTy k) h = absurd h
 blank_is p made (PointerTy t) h = (0, refl, inl refl)
 blank_is p made (ArrayTy t) h = (0, refl, inl refl)
 
-blanks_are : (p : Program) (made : List Kept) (ts us : List Ty) (vs : List Value) → AreAll p made ts vs → AreSmall us → AreAll p made (ts ++ us) (vs ++ map blank us)
+pub blanks_are : (p : Program) (made : List Kept) (ts us : List Ty) (vs : List Value) → AreAll p made ts vs → AreSmall us → AreAll p made (ts ++ us) (vs ++ map blank us)
 blanks_are p made [] [] [] a h = tt
 blanks_are p made [] (u ∷ us) [] a h = (blank_is p made u h.0, blanks_are p made [] us [] tt h.1)
 blanks_are p made [] us (v ∷ vs) a h = absurd a
 blanks_are p made (t ∷ ts) us [] a h = absurd a
 blanks_are p made (t ∷ ts) us (v ∷ vs) a h = (a.0, blanks_are p made ts us vs a.1 h)
 
-result_blank : (p : Program) (made : List Kept) (t : Ty) → IsResult t → Is p made t (blank t)
+pub result_blank : (p : Program) (made : List Kept) (t : Ty) → IsResult t → Is p made t (blank t)
 result_blank p made t (inl z) = subst (λ u. Is p made u (blank u)) (sym z) refl
 result_blank p made t (inr s) = blank_is p made t s
 

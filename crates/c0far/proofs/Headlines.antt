@@ -15,9 +15,8 @@ use Rattle.world_events.specs.Causes.{HasCause}
 use Rattle.world_events.specs.Following.{IsAt}
 use Rattle.world_events.specs.Programs.{Program, Wanted}
 use Rattle.world_events.specs.Worlds.{Event, Follows, Sizes, World, start}
-use Rattle.c0far.specs.Correct.{Behaves}
-use Rattle.c0far.specs.Compiled.{IsCompiled, Means}
-use Rattle.c0far.specs.Fragment.{Program as Translated, typed_of}
+use Rattle.c0_image.specs.Correct.{Behaves}
+use Rattle.c0_image.specs.Compiled.{IsCompiled}
 use Rattle.c0far.specs.Headline.{EndsSo, IsRun, Promised, Settles, Headline}
 
 -- what the meaning, the code's run and the world promise
@@ -140,7 +139,6 @@ module _ (laws : Laws) where
 
   pub composed : Headline
   composed text checks C compiled meant means =
-      let P : Typed = typed_of meant in
       let same : compiled.program ≡ meant = sym (compiled.only meant means) in
-      let behaves : Behaves P checks C = subst (λ (p : Translated). Behaves (typed_of p) checks C) same compiled.behaves in
-      (promised P checks C behaves, settles P checks C behaves)
+      let behaves : Behaves meant checks C = subst (λ (p : Typed). Behaves p checks C) same compiled.behaves in
+      (promised meant checks C behaves, settles meant checks C behaves)

@@ -14,7 +14,7 @@ use Rattle.c0_front.specs.Texts.{IsTypedAs}
 use Rattle.c0_front.specs.Texts as Unchecked
 use Rattle.code_form.specs.Form.{Image}
 use Rattle.clap.specs.Words.{Text, takes}
-use Rattle.c0far.specs.Compiled.{IsCompiled, IsRefusedText}
+use Rattle.c0_image.specs.Compiled.{IsCompiled}
 use Rattle.c0far.specs.Executed.{IsExecuted}
 use Rattle.c0far.specs.FileTexts.{HasText, IsMissing, Known}
 use Rattle.c0far.specs.declared.words.Usage.{Usage}
@@ -74,29 +74,16 @@ Says w bytes status result = (result ≡ 2) ⊎ ((result ≡ status) × Appends 
 abbrev pub IsQuiet : Writes → Type 0
 IsQuiet w = w.after ≡ w.before
 
--- the program of the file's text ran: what it printed and its end are shown
-pub record HasRun (held : Known) (out err : Writes) (result : ℕ) : Type 0 where
+-- the program of the file's text ran, with contracts checked or not: what it printed and its end are shown
+pub record HasRun (checks : Bool) (held : Known) (out err : Writes) (result : ℕ) : Type 0 where
   pub text : List ℕ
   pub read : HasText held text
   pub image : Image
   pub ended : Ended
-  pub compiled : IsCompiled text false image
+  pub compiled : IsCompiled text checks image
   pub executed : IsExecuted image ended
   pub shown : Says out (shown_end ended) (run_status ended.run) result
   pub quiet : IsQuiet err
-
--- the file's text is refused: its fault is shown, and where it stands
-pub record HasRefused (file : Text) (held : Known) (out err : Writes) (result : ℕ) : Type 0 where
-  pub text : List ℕ
-  pub read : HasText held text
-  pub fault : Fault
-  pub cause : IsRefusedText text fault
-  pub other : fault.kind ≢ f.OutOfMemory
-  pub line : ℕ
-  pub column : ℕ
-  pub place : StandsAt text fault.span.start line column
-  pub shown : Says err (shown_fault file line column fault) 2 result
-  pub quiet : IsQuiet out
 
 -- the file was not read
 pub record IsUnread (file : Text) (held : Known) (out err : Writes) (result : ℕ) : Type 0 where
@@ -108,10 +95,6 @@ pub record IsUnread (file : Text) (held : Known) (out err : Writes) (result : �
 pub record LacksMemory (out err : Writes) (result : ℕ) : Type 0 where
   pub shown : Says err (codes "out of memory" ++ newline) 3 result
   pub quiet : IsQuiet out
-
--- the command `run` of this file, which holds this
-abbrev pub Runs : Text → Known → Writes → Writes → ℕ → Type 0
-Runs file held out err result = HasRun held out err result ⊎ (HasRefused file held out err result ⊎ (IsUnread file held out err result ⊎ LacksMemory out err result))
 
 -- the program of the file's text keeps the static rules
 pub record HasPassed (held : Known) (out err : Writes) (result : ℕ) : Type 0 where
@@ -152,15 +135,19 @@ pub record HasMeant (checks : Bool) (turns : ℕ) (held : Known) (out err : Writ
 abbrev pub Means : Text → Bool → ℕ → Known → Writes → Writes → ℕ → Type 0
 Means file checks turns held out err result = HasMeant checks turns held out err result ⊎ (HasFailed file held out err result ⊎ (IsUnread file held out err result ⊎ LacksMemory out err result))
 
+-- the command `run` of this file, which holds this
+abbrev pub Runs : Text → Bool → Known → Writes → Writes → ℕ → Type 0
+Runs file checks held out err result = HasRun checks held out err result ⊎ (HasFailed file held out err result ⊎ (IsUnread file held out err result ⊎ LacksMemory out err result))
+
 -- the command, where files hold this
 abbrev pub Does : (Text → Known) → Command → Writes → Writes → ℕ → Type 0
 Does held (Check file) out err result = Checks file (held file) out err result
 Does held (Mean checks turns file) out err result = Means file checks turns (held file) out err result
-Does held (Run file) out err result = Runs file (held file) out err result
+Does held (Run checks file) out err result = Runs file checks (held file) out err result
 
 -- how the words are to be
 abbrev pub usage : List ℕ
-usage = codes "usage: c0far check FILE | c0far mean [-d] --turns N FILE | c0far run FILE"
+usage = codes "usage: c0far check FILE | c0far mean [-d] --turns N FILE | c0far run [-d] FILE"
 
 -- what is said of words that are refused
 abbrev pub usage_line : Usage → List ℕ

@@ -1,5 +1,5 @@
 -- How the run of an image ends.
-use Rattle.std.specs.Prelude.{◌≡◌, ◌<◌, ◌+◌, ℕ, List, Some, None}
+use Rattle.std.specs.Prelude.{◌≡◌, ◌<◌, ◌+◌, ℕ, true, List, Some, None}
 use Rattle.cells.specs.declared.ending.Run.{Run}
 use Rattle.cells.specs.declared.ending.Run.TheVariants.{Running, Stopped, Wanted}
 use Rattle.cells.specs.declared.ending.Ended.{Ended}
@@ -9,6 +9,7 @@ use Rattle.cells.specs.Stops.{stop_of as stop_read}
 use Rattle.code_form.specs.Form.{Image}
 use Rattle.code_form.specs.Effects.{code_run}
 use Rattle.code_form.specs.Code.{Core, allocations_of, code, effect, output_of, sizes, stop_of}
+use Rattle.code_form.specs.Growth.{may_grow, rest_of}
 use Rattle.code_form.specs.Placed.{next_object, pieces}
 use Rattle.code_form.specs.Touches.{touch_of}
 use Rattle.code_form.specs.declared.touch.Touch.TheVariants.{Allocs}
@@ -23,11 +24,11 @@ AllocatesNext C c n = touch_of (effect C c) ≡ Allocs n
 abbrev pub objects_of : List ℕ → ℕ
 objects_of cells = next_object piece_cells 0 cells
 
--- why a program wants something: its next instruction is an allocation, and that would take more than 65,536 objects in all,
--- or a growth was refused
+-- why a program wants something: its next instruction is an allocation, which would take more than 65,536 objects in all; or memory
+-- may have to grow for its next instruction, and a growth was refused
 abbrev pub WantsFor : Image → Core → Want → Type 0
 WantsFor C c NoObjects = (n : ℕ) × AllocatesNext C c n × (65536 < objects_of (sizes (allocations_of c)) + pieces piece_cells n)
-WantsFor C c OutOfMemory = (n : ℕ) × AllocatesNext C c n
+WantsFor C c OutOfMemory = may_grow (touch_of (effect C c)) (rest_of c) ≡ true
 WantsFor C c StoreFailed = ⊥
 
 -- the program has stopped so, or has not stopped and wants this

@@ -1,8 +1,9 @@
 -- What is promised of programs that run in a world beside others, whatever the events.
-use Rattle.std.specs.Prelude.{◌≡◌, ℕ, ◌<◌, ◌≤◌, Bool, List, None}
+use Rattle.std.specs.Prelude.{◌≡◌, ℕ, ◌<◌, ◌≤◌, Bool, false, List, None}
 use Rattle.cells.specs.declared.ending.Want.{Want}
 use Rattle.cells.specs.Stops.{Stop}
 use Rattle.cells.specs.Outcomes.{IsPrefix, stops_with}
+use Rattle.c0_front.specs.Texts.{IsTypedAs}
 use Rattle.c0_typed.specs.Trees.{Program as Typed}
 use Rattle.c0_typed.specs.Meaning.{mean}
 use Rattle.code_form.specs.Form.{Image}
@@ -12,8 +13,7 @@ use Rattle.code_form.specs.Code.{Stopped, code, output_of, stop_of}
 use Rattle.world_events.specs.Causes.{HasCause}
 use Rattle.world_events.specs.Programs.{Program, Wanted}
 use Rattle.world_events.specs.Worlds.{Event, Follows, Sizes, World, start}
-use Rattle.c0far.specs.Compiled.{IsCompiled, Means}
-use Rattle.c0far.specs.Fragment.{Program as Meant, typed_of}
+use Rattle.c0_image.specs.Compiled.{IsCompiled}
 
 -- the meaning ends so: from some number of turns on, each number gives this output and this stop
 abbrev pub EndsSo : Typed → Bool → Stop → List ℕ → Type 0
@@ -43,7 +43,7 @@ Settles P checks C = (s : Stop) (o : List ℕ) → EndsSo P checks s o
 -- Of every text that is accepted, the image that it was compiled to, and the program that it means: in every run of whatever world,
 -- beside whatever other programs and evacuators, with pieces, frames and objects of whatever number, each program with that image is as promised
 abbrev pub Headline : Type 0
-Headline = (text : List ℕ) (checks : Bool) (C : Image) → IsCompiled text checks C → (meant : Meant) → Means text meant
+Headline = (text : List ℕ) (checks : Bool) (C : Image) → IsCompiled text checks C → (meant : Typed) → IsTypedAs false text meant
     → ((z : Sizes) (images : ℕ → Image) (events : List Event) (v : World) (k : ℕ) → IsRun z images events v → images k ≡ C
-    → Promised (typed_of meant) checks (v.programs k) (λ want. HasCause (Unit {0}) z images k want (start images) events))
-    × Settles (typed_of meant) checks C
+    → Promised meant checks (v.programs k) (λ want. HasCause (Unit {0}) z images k want (start images) events))
+    × Settles meant checks C

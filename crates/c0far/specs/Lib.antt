@@ -1,14 +1,8 @@
-pub mod Compiled
-pub mod Correct
 pub mod Driven
 pub mod Executed
 pub mod FileTexts
-pub mod Fragment
 pub mod Headline
 pub mod MeantLines
 pub mod MemTexts
-pub mod Reads
 pub mod Shell
 pub mod Statuses
-pub mod Trees
-pub mod Views

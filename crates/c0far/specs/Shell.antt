@@ -24,7 +24,7 @@ checks_rule = record (new_rule (codes "checks")) { short = Some 100; action = So
 abbrev pub turns_rule : Rule
 turns_rule = record (new_rule (codes "turns")) { long = Some (codes "turns"); required = true; action = Some Set }
 
--- check FILE, and run FILE
+-- check FILE
 abbrev pub file_shape : Text → Shape
 file_shape name = (with_rule (new_app name) file_rule).top
 
@@ -32,23 +32,27 @@ file_shape name = (with_rule (new_app name) file_rule).top
 abbrev pub mean_shape : Shape
 mean_shape = (with_rule (with_rule (with_rule (new_app (codes "mean")) checks_rule) turns_rule) file_rule).top
 
+-- run [-d] FILE
+abbrev pub run_shape : Shape
+run_shape = (with_rule (with_rule (new_app (codes "run")) checks_rule) file_rule).top
+
 -- c0far, which wants a command
 abbrev pub top_shape : Shape
 top_shape = record (new_app (codes "c0far")).top { subcommand_required = true }
 
 -- the program with its commands
 unfoldable pub shell : App
-shell = with_subcommand (with_subcommand (with_subcommand (record { top = top_shape; subs = [] }) (file_shape (codes "check"))) mean_shape) (file_shape (codes "run"))
+shell = with_subcommand (with_subcommand (with_subcommand (record { top = top_shape; subs = [] }) (file_shape (codes "check"))) mean_shape) run_shape
 
 -- what clap builds for a command has no argument that is the commands' below it too
 abbrev pub IsLocal : Built → Type 0
 IsLocal c = (out-Command c).has_globals ≡ false
 
--- a command, with its file; `mean` with whether contracts are checked, and with its turns
+-- a command, with its file; `mean` and `run` with whether contracts are checked, `mean` with its turns
 pub data Command : Type 0 where
   Check : Text → Command
   Mean : Bool → ℕ → Text → Command
-  Run : Text → Command
+  Run : Bool → Text → Command
 
 -- these are digits, one or more, and their number has at most 64 bits
 abbrev pub is_number : Text → Bool
@@ -75,7 +79,7 @@ abbrev pub named_command : Text → List Row → Text → Option Command
 named_command name rows file =
     cond (bytes_eq name (codes "check")) (Some (Check file))
     (cond (bytes_eq name (codes "mean")) (mean_command rows file)
-    (cond (bytes_eq name (codes "run")) (Some (Run file)) None))
+    (cond (bytes_eq name (codes "run")) (Some (Run (has_checks rows) file)) None))
 
 -- the command that clap found, with its rows
 abbrev pub command_in : Option (Text × List Row) → Option Command
@@ -86,7 +90,7 @@ command_in (Some p) = option_and_then (named_command p.0 p.1) (first_of (codes "
 abbrev pub command_of : Line → Command
 command_of (line.Check file) = Check file.now
 command_of (line.Mean checks turns file) = Mean checks turns file.now
-command_of (line.Run file) = Run file.now
+command_of (line.Run checks file) = Run checks file.now
 
 -- the words are this command, as clap reads them
 abbrev pub Names : List Text → Command → Type 0

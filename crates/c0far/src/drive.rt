@@ -4,7 +4,6 @@ ghost use Rattle.c0far.specs.Driven.{Checks, IsDriven, Runs, Says, newline, show
 ghost use Rattle.c0far.specs.FileTexts.{HasText, Known};
 ghost use Rattle.c0far.specs.Statuses.{run_status};
 
-use crate::compile::compile;
 use crate::execute::execute;
 use crate::files::{FileError, Files};
 use crate::line::line;
@@ -14,6 +13,7 @@ use crate::say::{
 };
 use crate::words::{Line, Usage};
 use c0_front::check_text;
+use c0_image::compile;
 use c0_source::fault::FaultKind;
 use c0_syntax::level::Level;
 use cells::{Ended, Run, Stop};
@@ -64,14 +64,15 @@ fn say_end<O: Write>(out: &mut O, ended: &Ended) -> u8
 fn run_text<W: Wait, O: Write, E: Write>(
     alloc: Global,
     rt: &W,
+    checks: bool,
     file: &str,
     text: &[u8],
     out: &mut O,
     err: &mut E,
 ) -> u8
-    ensures { (held : Known) → HasText held text.now → Runs file.now held (writes (O.contents out.old) (O.contents out.new)) (writes (E.contents err.old) (E.contents err.new)) result }
+    ensures { (held : Known) → HasText held text.now → Runs file.now checks held (writes (O.contents out.old) (O.contents out.new)) (writes (E.contents err.old) (E.contents err.new)) result }
 {
-    let image = match compile(alloc, text, false) {
+    let image = match compile(alloc, text, checks) {
         Ok(image) => image,
         Err(fault) if fault.kind == FaultKind::OutOfMemory => return say_memory(err),
         Err(fault) => return say_fault(err, file, text, fault),
@@ -86,16 +87,17 @@ fn run_text<W: Wait, O: Write, E: Write>(
 fn run<W: Wait, F: Files, O: Write, E: Write>(
     alloc: Global,
     rt: &W,
+    checks: bool,
     file: &str,
     files: &mut F,
     out: &mut O,
     err: &mut E,
 ) -> u8
     ensures files { (name : List ℕ) → F.holds files.new name ≡ F.holds files.old name }
-    ensures done { Runs file.now (F.holds files.old file.now) (writes (O.contents out.old) (O.contents out.new)) (writes (E.contents err.old) (E.contents err.new)) result }
+    ensures done { Runs file.now checks (F.holds files.old file.now) (writes (O.contents out.old) (O.contents out.new)) (writes (E.contents err.old) (E.contents err.new)) result }
 {
     match files.read(alloc, file) {
-        Ok(text) => run_text(alloc, rt, file, &text, out, err),
+        Ok(text) => run_text(alloc, rt, checks, file, &text, out, err),
         Err(FileError::Cannot) => say_unread(err, file),
         Err(FileError::OutOfMemory) => say_memory(err),
     }
@@ -159,7 +161,7 @@ pub fn drive<W: Wait + Threads, F: Files, O: Write, E: Write>(
                 file,
             },
         ) => mean(alloc, rt, Bound { checks, turns }, file, files, out, err),
-        Ok(Line::Run { file }) => run(alloc, rt, file, files, out, err),
+        Ok(Line::Run { checks, file }) => run(alloc, rt, checks, file, files, out, err),
         Err(Usage::Refused) => say_usage(err),
         Err(Usage::OutOfMemory) => say_memory(err),
     }

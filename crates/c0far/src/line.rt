@@ -1,7 +1,7 @@
 //! From words to a command.
 ghost use Rattle.std.specs.Prelude.{◌≡◌, [], IfErr, IfOk, List, ℕ, map, option_map, true};
 ghost use Rattle.clap.specs.Words.{app_of, found_of, kind_of, rows_of, subcommand_rows_of, takes};
-ghost use Rattle.c0far.specs.Shell.{Command as Asked, IsLocal, Names, command_in, command_of, file_shape, has_checks, is_signed, mean_command, mean_shape, named_command, number_in, shell};
+ghost use Rattle.c0far.specs.Shell.{Command as Asked, IsLocal, Names, command_in, command_of, file_shape, has_checks, is_signed, mean_command, mean_shape, named_command, number_in, run_shape, shell};
 
 use crate::words::{Line, Usage};
 use clap::error::ErrorKind;
@@ -40,13 +40,27 @@ fn mean<'a>(alloc: Global) -> Result<Command<'a>, AllocError>
         .arg(file)
 }
 
+/// The run, with its option and its file.
+fn run<'a>(alloc: Global) -> Result<Command<'a>, AllocError>
+    ensures shape { IfOk result (λ c. app_of c ≡ record { top = run_shape; subs = [] }) }
+    ensures local { IfOk result IsLocal }
+{
+    let checks = Arg::new(alloc, "checks")
+        .short('d')
+        .action(ArgAction::SetTrue);
+    let file = Arg::new(alloc, "file")
+        .required(true)
+        .action(ArgAction::Set);
+    Command::new(alloc, "run").arg(checks)?.arg(file)
+}
+
 /// The commands that there are.
 fn command<'a>(alloc: Global) -> Result<Command<'a>, AllocError>
     ensures { IfOk result (λ c. app_of c ≡ shell) }
 {
     let check = of_a_file(alloc, "check")?;
     let mean = mean(alloc)?;
-    let run = of_a_file(alloc, "run")?;
+    let run = run(alloc)?;
     Command::new(alloc, "c0far")
         .subcommand_required(true)
         .subcommand(check)?
@@ -118,7 +132,10 @@ fn named<'a>(name: &str, matches: &ArgMatches<'a>, file: &'a str) -> Option<Line
     match name {
         "check" => Some(Line::Check { file }),
         "mean" => plain_run(matches, file),
-        "run" => Some(Line::Run { file }),
+        "run" => Some(Line::Run {
+            checks: checks(matches),
+            file,
+        }),
         _ => None,
     }
 }

@@ -1,17 +1,12 @@
 //! A compiler for C0, and a runtime whose heap may be larger than local memory.
 #![tactic(auto)]
 
-mod compile;
 mod drive;
 mod execute;
 mod files;
-mod fragment;
-mod generate;
 mod laws;
 mod line;
-mod names;
 mod plain;
-mod reader;
 mod say;
 mod tests;
 mod words;

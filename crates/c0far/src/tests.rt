@@ -153,7 +153,7 @@ mod tests {
         let told = run_file(rt.alloc(), &rt, "e.c0", b"")?;
         assert_eq!(rt;
             told.err.as_slice(),
-            b"e.c0:1:1: fault 20 Syntax\n".as_slice()
+            b"e.c0:1:1: fault 41 BadMain\n".as_slice()
         );
         assert_eq!(rt; told.status, 2);
         let told = run_file(rt.alloc(), &rt, "h.c0", b"int main() { return 0; } \xff")?;
@@ -336,6 +336,97 @@ mod tests {
         Ok(())
     }
 
+    /// `c0far run` with these options, with this text in the file.
+    fn run_text<W: Wait + Threads>(
+        alloc: Global,
+        rt: &W,
+        options: &[&str],
+        text: &str,
+    ) -> Result<Told, Fail> {
+        let mut files = MemFiles::new(alloc);
+        files.write(alloc, "a.c0", text.as_bytes())?;
+        let mut words = vec![in alloc; "c0far", "run"]?;
+        words.extend_from_slice(options)?;
+        words.push("a.c0")?;
+        Ok(command(alloc, rt, &words, &mut files))
+    }
+
+    const OUTPUT: &str =
+        "#use <conio>\nint main() { println(\"a\"); printint(-7); printbool(1 < 2); printchar('x'); flush(); return 3; }";
+
+    const ARRAY: &str =
+        "int main() { int[] a = alloc_array(int, 3); a[0] = 5; a[2] += a[0] * 2; return a[1] + a[2]; }";
+
+    const BEHIND: &str =
+        "#use <conio>\nint main() { int[] a = alloc_array(int, 3); int i = 3; print(\"b\"); a[i] = 1; return 0; }";
+
+    const NULL_FIRST: &str =
+        "#use <conio>\nint f() { println(\"f\"); return 1; } int main() { int* p = NULL; *p = f(); return 0; }";
+
+    const NEGATIVE: &str = "int main() { int n = 0; int[] a = alloc_array(int, n - 1); return 0; }";
+
+    const DIVIDED: &str = "int main() { int n = 0; return 7 % n; }";
+
+    const SHIFTED: &str = "int main() { int n = 32; return 1 << n; }";
+
+    const TOLD: &str = "#use <conio>\nint main() { print(\"x\"); error(\"no more\"); return 0; }";
+
+    const ENSURED: &str =
+        "int f(int x)\n//@ensures \\result > x;\n{ if (x > 5) return x + 1; return x; } int main() { return f(9) + f(2); }";
+
+    const REQUIRED: &str =
+        "int f(int x)\n//@requires x > 0;\n{ return x; } int main() { return f(1) + f(0); }";
+
+    const CIRCUITS: &str =
+        "#use <conio>\nbool f(bool b) { printbool(b); return b; } int main() { bool a = f(false) && f(true); bool c = f(true) || f(false); return (a || c) && a == false ? 1 : 2; }";
+
+    const NESTED: &str =
+        "int main() { int s = 0; for (int i = 0; i < 10; i++) { int j = 0; while (j < i) { if (j == 3) { s -= 1; } else { s += j; } j++; } } return s; }";
+
+    const LIST: &str =
+        "struct node { int value; struct node* next; }; int main() { struct node* l = NULL; for (int i = 0; i < 1000; i++) { struct node* n = alloc(struct node); n->value = i; n->next = l; l = n; } int s = 0; while (l != NULL) { s += l->value; l = l->next; } return s; }";
+
+    const LONG: &str =
+        "int main() { int[] a = alloc_array(int, 100000); for (int i = 0; i < 100000; i++) a[i] = i; int s = 0; for (int i = 0; i < 100000; i++) s += a[i]; return s; }";
+
+    const DEEP: &str =
+        "int f(int n) { return n == 0 ? 0 : 1 + f(n - 1); } int main() { return f(100000); }";
+
+    const FULL: &str =
+        "int main() { int[] a = alloc_array(int, 4194304); a[4194303] = 1; int* p = alloc(int); return 0; }";
+
+    #[test]
+    fn runs(rt: HostRuntime) -> Result<(), Fail> {
+        let rows: [(&[&str], &str, &str, u8); 19] = [
+            (&[], OUTPUT, "a\n-7truex\nresult: 3\n", 0),
+            (&[], ARRAY, "result: 10\n", 0),
+            (&[], BEHIND, "b\nbounds fault\n", 1),
+            (&[], NULL_FIRST, "null fault\n", 1),
+            (&[], NEGATIVE, "length fault\n", 1),
+            (&[], DIVIDED, "arithmetic fault\n", 1),
+            (&[], SHIFTED, "arithmetic fault\n", 1),
+            (&[], TOLD, "x\nerror: no more\n", 1),
+            (&[], ENSURED, "result: 12\n", 0),
+            (&["-d"], ENSURED, "assertion failed\n", 1),
+            (&[], REQUIRED, "result: 1\n", 0),
+            (&["-d"], REQUIRED, "assertion failed\n", 1),
+            (&["-d"], KEPT_NOT, "assertion failed\n", 1),
+            (&[], CIRCUITS, "falsetrue\nresult: 1\n", 0),
+            (&[], NESTED, "result: 96\n", 0),
+            (&[], LIST, "result: 499500\n", 0),
+            (&[], LONG, "result: 704982704\n", 0),
+            (&[], DEEP, "result: 100000\n", 0),
+            (&[], FULL, "no objects\n", 3),
+        ];
+        for (options, text, shown, status) in rows {
+            let told = run_text(rt.alloc(), &rt, options, text)?;
+            assert_eq!(rt; told.out.as_slice(), shown.as_bytes());
+            assert_eq!(rt; told.err.len(), 0);
+            assert_eq!(rt; told.status, status);
+        }
+        Ok(())
+    }
+
     #[test]
     fn no_meaning(rt: HostRuntime) -> Result<(), Fail> {
         let told = meant(rt.alloc(), &rt, &["--turns", "9"], "int main() { break; }")?;
@@ -372,7 +463,7 @@ mod tests {
             let told = meant(rt.alloc(), &rt, options, NOTHING)?;
             assert_eq!(rt;
                 told.err.as_slice(),
-                b"usage: c0far check FILE | c0far mean [-d] --turns N FILE | c0far run FILE\n".as_slice()
+                b"usage: c0far check FILE | c0far mean [-d] --turns N FILE | c0far run [-d] FILE\n".as_slice()
             );
             assert_eq!(rt; told.out.len(), 0);
             assert_eq!(rt; told.status, 2);
@@ -383,7 +474,17 @@ mod tests {
     #[test]
     fn command_lines(rt: HostRuntime) -> Result<(), Fail> {
         let words = ["c0far", "run", "a.c0"];
-        assert_eq!(rt; line(rt.alloc(), &words), Ok(Line::Run { file: "a.c0" }));
+        let asked = Line::Run {
+            checks: false,
+            file: "a.c0",
+        };
+        assert_eq!(rt; line(rt.alloc(), &words), Ok(asked));
+        let words = ["c0far", "run", "-d", "a.c0"];
+        let asked = Line::Run {
+            checks: true,
+            file: "a.c0",
+        };
+        assert_eq!(rt; line(rt.alloc(), &words), Ok(asked));
         let words = ["c0far", "check", "a.c0"];
         assert_eq!(rt; line(rt.alloc(), &words), Ok(Line::Check { file: "a.c0" }));
         let words = ["c0far", "mean", "-d", "--turns", "7", "a.c0"];

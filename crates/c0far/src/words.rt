@@ -15,8 +15,9 @@ pub enum Line<'a> {
         turns: u64,
         file: &'a str,
     },
-    /// Runs the program of a text.
+    /// Runs the program of a text, with contracts checked or not.
     Run {
+        checks: bool,
         file: &'a str,
     },
 }
@@ -40,7 +41,7 @@ impl fmt::Display for Usage {
         match self {
             Usage::Refused => write!(
                 f,
-                "usage: c0far check FILE | c0far mean [-d] --turns N FILE | c0far run FILE"
+                "usage: c0far check FILE | c0far mean [-d] --turns N FILE | c0far run [-d] FILE"
             ),
             Usage::OutOfMemory => write!(f, "out of memory"),
         }

@@ -4,9 +4,11 @@ mod Computing
 mod Endings
 mod Entering
 mod Few
+mod Growth
 mod Heaps
 mod Runs
 mod Scopes
+mod Texts
 mod Tidy
 mod Tracks
 mod Within

@@ -1,8 +1,10 @@
 pub mod Code
+pub mod Commands
 pub mod Computed
 pub mod Decisions
 pub mod Effects
 pub mod Form
+pub mod Growth
 pub mod Laws
 pub mod Placed
 pub mod Statuses

@@ -1,5 +1,5 @@
 //! The allocations of a run.
-ghost use Rattle.code_form.specs.Code.{cells_of, sizes};
+ghost use Rattle.code_form.specs.Code.{cells_of, length_of, sizes};
 ghost use Rattle.std.specs.Prelude.{◌≡◌, ◌∷◌, [], MatchResult, length};
 
 use std::alloc::{AllocError, Global};
@@ -56,6 +56,19 @@ impl Allocations {
             return 0;
         }
         self.items[(reference - 1) as usize].cells
+    }
+
+    /// How many elements the allocation of this number has; 0 where there is none.
+    pub(crate) fn length(&self, reference: u64) -> u64
+        ensures { result ≡ length_of self.now reference }
+    {
+        if reference == 0 {
+            return 0;
+        }
+        if reference > self.items.len() as u64 {
+            return 0;
+        }
+        self.items[(reference - 1) as usize].length
     }
 
     /// Adds an allocation. Where memory is refused nothing is changed.

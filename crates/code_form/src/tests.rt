@@ -1,28 +1,40 @@
 //! The touches of a program, in order.
+mod programs;
+mod runs;
+
 use crate::{
-    Block, Cell, Execution, Fact, Function, Image, Instruction, Kind, Touch, computed, effect_laws,
-    heap_laws, run_laws, stuck,
+    Block, Cell, Execution, Fact, Function, Image, Instruction, Kind, Operation, Touch, computed,
+    effect_laws, heap_laws, run_laws, stuck,
 };
 use cells::Stop;
 use std::alloc::{AllocError, Global};
 use std::test::Fail;
 
-/// Writes 5 into a new struct, reads it back and returns it.
-fn writes_and_reads(alloc: Global) -> Result<Image, AllocError> {
-    let aim = Instruction::Aim {
+/// Aims scope 0 at the first cell of what register 0 refers to.
+fn aims() -> Instruction {
+    Instruction::Aim {
         scope: 0,
         register: 0,
         offset: None,
         displacement: 0,
-    };
+    }
+}
+
+/// A new struct into register 0.
+fn allocates() -> Instruction {
+    Instruction::Simple(Operation::Alloc { to: 0, layout: 0 })
+}
+
+/// Writes 5 into a new struct, reads it back and returns it.
+fn writes_and_reads(alloc: Global) -> Result<Image, AllocError> {
     let code = vec![in alloc;
-        Instruction::Alloc { to: 0, layout: 0 },
-        Instruction::Const { to: 1, value: 5 },
-        Instruction::CheckNull { register: 0 },
-        aim,
+        Instruction::Simple(Operation::Alloc { to: 0, layout: 0 }),
+        Instruction::Simple(Operation::Const { to: 1, value: 5 }),
+        Instruction::Simple(Operation::CheckNull { register: 0 }),
+        aims(),
         Instruction::Store { scope: 0, from: 1 },
         Instruction::Leave { scope: 0 },
-        aim,
+        aims(),
         Instruction::Load { to: 1, scope: 0 },
         Instruction::Leave { scope: 0 },
         Instruction::Return { from: 1 },
@@ -61,7 +73,7 @@ fn step(execution: &mut Execution, loaded: u64) -> Result<(), AllocError> {
         | Touch::Leaves(_)
         | Touch::Ends
         | Touch::Wrong
-        | Touch::Nothing => execution.proceed(loaded),
+        | Touch::Nothing => execution.proceed(loaded)?,
     }
     Ok(())
 }
@@ -102,7 +114,7 @@ fn touches_in_order(rt: HostRuntime) -> Result<(), Fail> {
         assert_eq!(rt; execution.next(), touch);
         step(&mut execution, 5)?;
     }
-    assert_eq!(rt; execution.stop(), Some(Stop::Ended(5)));
+    assert_eq!(rt; execution.stop(rt.alloc())?, Some(Stop::Ended(5)));
     assert_eq!(rt; execution.output().len(), 0);
     Ok(())
 }
@@ -110,27 +122,24 @@ fn touches_in_order(rt: HostRuntime) -> Result<(), Fail> {
 #[test]
 fn null_stops(rt: HostRuntime) -> Result<(), Fail> {
     let code = vec![in rt.alloc();
-        Instruction::Null { to: 0 },
-        Instruction::CheckNull { register: 0 },
+        Instruction::Simple(Operation::Null { to: 0 }),
+        Instruction::Simple(Operation::CheckNull { register: 0 }),
     ]?;
     let image = image_with(rt.alloc(), code)?;
     let mut execution = Execution::new(rt.alloc(), &image)?;
     step(&mut execution, 0)?;
     assert_eq!(rt; execution.next(), Touch::Ends);
     step(&mut execution, 0)?;
-    assert_eq!(rt; execution.stop(), Some(Stop::NullFault));
+    assert_eq!(rt; execution.stop(rt.alloc())?, Some(Stop::NullFault));
     Ok(())
 }
 
 #[test]
 fn blocked_by_an_open_scope(rt: HostRuntime) -> Result<(), Fail> {
-    let aim = Instruction::Aim {
-        scope: 0,
-        register: 0,
-        offset: None,
-        displacement: 0,
-    };
-    let code = vec![in rt.alloc(); aim, Instruction::Alloc { to: 0, layout: 0 }]?;
+    let code = vec![in rt.alloc();
+        aims(),
+        Instruction::Simple(Operation::Alloc { to: 0, layout: 0 }),
+    ]?;
     let image = image_with(rt.alloc(), code)?;
     let mut execution = Execution::new(rt.alloc(), &image)?;
     assert_eq!(rt; execution.next(), Touch::Aims(0, None));
@@ -142,18 +151,12 @@ fn blocked_by_an_open_scope(rt: HostRuntime) -> Result<(), Fail> {
 /// Writes -3 into a new struct, reads it back and returns it.
 #[test]
 fn a_cell_holds_its_number_modulo_2_to_the_32(rt: HostRuntime) -> Result<(), Fail> {
-    let aim = Instruction::Aim {
-        scope: 0,
-        register: 0,
-        offset: None,
-        displacement: 0,
-    };
     let code = vec![in rt.alloc();
-        Instruction::Alloc { to: 0, layout: 0 },
-        Instruction::Const { to: 1, value: -3 },
-        aim,
+        Instruction::Simple(Operation::Alloc { to: 0, layout: 0 }),
+        Instruction::Simple(Operation::Const { to: 1, value: -3 }),
+        aims(),
         Instruction::Store { scope: 0, from: 1 },
-        Instruction::Const { to: 1, value: 0 },
+        Instruction::Simple(Operation::Const { to: 1, value: 0 }),
         Instruction::Load { to: 1, scope: 0 },
         Instruction::Leave { scope: 0 },
         Instruction::Return { from: 1 },
@@ -171,22 +174,15 @@ fn a_cell_holds_its_number_modulo_2_to_the_32(rt: HostRuntime) -> Result<(), Fai
     for _ in 0..4 {
         step(&mut execution, 4294967293)?;
     }
-    assert_eq!(rt; execution.stop(), None);
+    assert_eq!(rt; execution.stop(rt.alloc())?, None);
     step(&mut execution, 0)?;
-    assert_eq!(rt; execution.stop(), Some(Stop::Ended(-3)));
+    assert_eq!(rt; execution.stop(rt.alloc())?, Some(Stop::Ended(-3)));
     Ok(())
 }
 
 #[test]
 fn allocations_are_numbered(rt: HostRuntime) -> Result<(), Fail> {
-    let allocates = Instruction::Alloc { to: 0, layout: 0 };
-    let aim = Instruction::Aim {
-        scope: 0,
-        register: 0,
-        offset: None,
-        displacement: 0,
-    };
-    let code = vec![in rt.alloc(); allocates, allocates, aim]?;
+    let code = vec![in rt.alloc(); allocates(), allocates(), aims()]?;
     let image = image_with(rt.alloc(), code)?;
     let mut execution = Execution::new(rt.alloc(), &image)?;
     step(&mut execution, 0)?;
@@ -206,6 +202,6 @@ fn code_without_an_instruction_is_stuck(rt: HostRuntime) -> Result<(), Fail> {
     assert_eq!(rt; execution.next(), Touch::Wrong);
     step(&mut execution, 0)?;
     assert_eq!(rt; execution.next(), Touch::Nothing);
-    assert_eq!(rt; execution.stop(), None);
+    assert_eq!(rt; execution.stop(rt.alloc())?, None);
     Ok(())
 }

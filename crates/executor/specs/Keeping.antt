@@ -86,8 +86,9 @@ pub record IsNext (x : Touch) (s : State) : Type 0 where
   pub free : is_blocked s.core ≡ false
   pub within : IsWithin (most_scopes s.image.functions) s.core x
 
--- an instruction that touches this is no allocation, no end, not wrong, and there is one
+-- an instruction that touches this uses a scope
 abbrev pub IsSimple : Touch → Type 0
+IsSimple touch.Plain = ⊥
 IsSimple (touch.Allocs n) = ⊥
 IsSimple touch.Ends = ⊥
 IsSimple touch.Wrong = ⊥

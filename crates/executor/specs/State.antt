@@ -8,6 +8,7 @@ use Rattle.cells.specs.Stops.{stop_of as stop_read}
 use Rattle.code_form.specs.Form.{Image}
 use Rattle.code_form.specs.Effects.{code_run}
 use Rattle.code_form.specs.Code.{Core, sizes, allocations_of, effect, code, held, stop_of, is_blocked}
+use Rattle.code_form.specs.Growth.{may_grow, rest_of}
 use Rattle.code_form.specs.Placed.{SameHeap, next_object, object_at, pieces}
 use Rattle.code_form.specs.Touches.{cell_option, touch_of}
 use Rattle.code_form.specs.declared.touch.Cell.{Cell}
@@ -82,11 +83,11 @@ abbrev pub IsHalted : State → Type 0
 IsHalted s = (next_touch s ≡ touch.Wrong) ⊎ ((next_touch s ≡ touch.Nothing) ⊎ (is_blocked s.core ≡ true))
 
 -- Why a want is answered, where so many calls had been refused before. NoObjects: the pieces of the allocation that is next don't fit in
--- what is left of the share. OutOfMemory: memory was refused to an allocation. StoreFailed: one call was refused through the session's own port;
+-- what is left of the share. OutOfMemory: memory was refused to an instruction for which it may have to grow. StoreFailed: one call was refused through the session's own port;
 -- or none was, and the code is halted
 abbrev pub Caused : Type 0 → ℕ → State → Want → Type 0
 Caused reliable before s NoObjects = (s.refusals ≡ before) × ((n : ℕ) × (next_touch s ≡ touch.Allocs n) × (s.view.high < next_object piece_cells s.view.low (cells_in s) + pieces piece_cells n))
-Caused reliable before s OutOfMemory = (s.refusals ≡ before) × ((n : ℕ) × (next_touch s ≡ touch.Allocs n))
+Caused reliable before s OutOfMemory = (s.refusals ≡ before) × (may_grow (next_touch s) (rest_of s.core) ≡ true)
 Caused reliable before s StoreFailed = Refused reliable before s.refusals ⊎ ((s.refusals ≡ before) × IsHalted s)
 
 -- the program and its share of the objects are the same

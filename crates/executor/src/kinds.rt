@@ -1,13 +1,16 @@
 //! Each kind of instruction, by what it touches.
 ghost use Rattle.code_form.specs.declared.touch.Touch.TheVariants.{Aims, Allocs, Ends, Leaves, Loads, Plain, Saves};
+ghost use Rattle.code_form.specs.Growth.{may_grow, rest_of};
 ghost use Rattle.executor.specs.Keeping.{Allocated, IsNext, IsSafe, IsSimple, Made, Moves};
+ghost use Rattle.executor.specs.State.{next_touch};
 ghost use Rattle.remote_store.specs.Kept.{piece_cells};
-ghost use Rattle.std.specs.Prelude.{◌≡◌, ◌+◌, ◌%◌, ◌<◌, ◌^◌};
+ghost use Rattle.std.specs.Prelude.{◌≡◌, ◌+◌, ◌%◌, ◌<◌, ◌^◌, MatchResult, true};
 
 use crate::machine::{Machine, pieces};
 use cells::Want;
 use code_form::{Cell, Touch, effect_laws};
 use remote_store::{PIECE_CELLS, RawStore};
+use std::alloc::AllocError;
 use std::sync::Wait;
 
 /// The place of a cell in its piece.
@@ -18,15 +21,19 @@ fn place(cell: Cell) -> usize
 }
 
 impl<'a, S: RawStore> Machine<'a, S> {
-    fn goes(&mut self)
+    /// Completes an instruction that touches nothing. `Err` where memory is refused: then nothing is changed.
+    pub(crate) fn goes(&mut self) -> Result<(), AllocError>
         requires safe { IsSafe self.old }
         requires next { IsNext Plain self.old }
         requires room { self.old.completed + 1 < 2 ^ 64 }
-        ensures safe { IsSafe self.new }
-        ensures moves { Moves S.honest Plain self.old self.new }
+        ensures { MatchResult result (λ _. IsSafe self.new × Moves S.honest Plain self.old self.new)
+            (λ _. (self.new ≡ self.old) × (may_grow (next_touch self.old) (rest_of self.old.core) ≡ true)) }
     {
         effect_laws();
-        self.finish(0);
+        match self.proceed() {
+            Ok(()) => Ok(()),
+            Err(error) => Err(error),
+        }
     }
 
     /// False where the store failed.
@@ -115,7 +122,7 @@ impl<'a, S: RawStore> Machine<'a, S> {
         }
     }
 
-    /// Completes an instruction that is no allocation and does not stop the program. False where the store failed.
+    /// Completes an instruction that uses a scope. False where the store failed.
     pub(crate) fn make<R: Wait>(&mut self, rt: &R, touch: Touch) -> bool
         requires safe { IsSafe self.old }
         requires next { IsNext touch self.old }
@@ -125,10 +132,10 @@ impl<'a, S: RawStore> Machine<'a, S> {
     {
         match touch {
             Touch::Aims(scope, wanted) => return self.aims(rt, scope, wanted),
-            Touch::Plain => self.goes(),
             Touch::Loads(scope, cell) => self.loads(scope, cell),
             Touch::Saves(scope, cell, value) => self.saves(scope, cell, value),
             Touch::Leaves(scope) => self.leaves(scope),
+            Touch::Plain => unreachable!(),
             Touch::Allocs(_) => unreachable!(),
             Touch::Ends => unreachable!(),
             Touch::Wrong => unreachable!(),

@@ -1,9 +1,10 @@
 //! A program with what its scopes hold, at one seat of a table: single steps, and those that keep the holds right.
-ghost use Rattle.code_form.specs.Code.{is_blocked as is_blocked_in, most_scopes, output_of, stop_of};
+ghost use Rattle.code_form.specs.Code.{effect, is_blocked as is_blocked_in, most_scopes, output_of, stop_of};
 ghost use Rattle.code_form.specs.Form.{image_of};
+ghost use Rattle.code_form.specs.Growth.{has_text, may_grow, rest_of};
 ghost use Rattle.code_form.specs.Placed.{pieces as pieces_of};
-ghost use Rattle.code_form.specs.Touches.{IsCell, IsCellOrNone, IsWithin, cells_asked};
-ghost use Rattle.code_form.specs.declared.touch.Touch.TheVariants.{Allocs};
+ghost use Rattle.code_form.specs.Touches.{IsCell, IsCellOrNone, IsWithin, cells_asked, resumed};
+ghost use Rattle.code_form.specs.declared.touch.Touch.TheVariants.{Allocs, Ends, Plain};
 ghost use Rattle.cells.specs.Stops.{stop_of as stop_read};
 ghost use Rattle.executor.specs.Keeping.{Changes, Closes, Fails, HasWriter, Holds, HoldsObject, IsHolding, cleared, count_of, extended, finished, first_of, has_object, Misses, shut, shut_at, wants, written};
 ghost use Rattle.executor.specs.State.{AllShut, Matches, State, begin, hold_at, latest_in, next_touch, object_of};
@@ -26,6 +27,7 @@ use std::sync::Wait;
 /// A program with what its scopes hold, at one seat of a table.
 #[derive(Drop)]
 pub(crate) struct Machine<'a, S: RawStore> {
+    alloc: Global,
     table: &'a ObjectTable<S>,
     owner: OwnerSeat<S>,
     execution: Execution<'a>,
@@ -62,6 +64,7 @@ impl<'a, S: RawStore> Machine<'a, S> {
         let holds = Vec::from_elem(alloc, None, 4)?;
         let next = owner.low() as u64;
         Ok(Machine {
+            alloc,
             table,
             owner,
             execution,
@@ -85,10 +88,21 @@ impl<'a, S: RawStore> Machine<'a, S> {
         self.execution.output()
     }
 
-    pub(crate) fn stop(&self) -> Option<Stop>
-        ensures { option_map stop_read result ≡ stop_of self.now.core }
+    /// How the program has stopped, if it has. `Err` where memory is refused for the text of an error.
+    pub(crate) fn stop(&self) -> Result<Option<Stop>, AllocError>
+        ensures { MatchResult result (λ s. option_map stop_read s ≡ stop_of self.now.core) (λ _. has_text (stop_of self.now.core) ≡ true) }
     {
-        self.execution.stop()
+        self.execution.stop(self.alloc)
+    }
+
+    /// How the next instruction stops the program. `Err` where memory is refused for the text of an error.
+    pub(crate) fn stop_ahead(&self) -> Result<Option<Stop>, AllocError>
+        requires { next_touch self.now ≡ Ends }
+        ensures { MatchResult result
+            (λ s. option_map stop_read s ≡ stop_of (resumed (effect self.now.image self.now.core) self.now.core 0))
+            (λ _. may_grow (next_touch self.now) (rest_of self.now.core) ≡ true) }
+    {
+        self.execution.stop_ahead(self.alloc)
     }
 
     pub(crate) fn want(&self) -> Option<Want>
@@ -194,14 +208,28 @@ impl<'a, S: RawStore> Machine<'a, S> {
         self.table.load(&mut self.owner, object, frame, index)
     }
 
-    /// Does what is left of the next instruction, which is no allocation.
+    /// Does what is left of the next instruction, which is no allocation and uses a scope or ends the program.
     pub(crate) fn finish(&mut self, loaded: u64)
         requires next { cells_asked (next_touch self.old) ≡ None }
+        requires other { next_touch self.old ≢ Plain }
         requires room { self.old.completed + 1 < 2 ^ 64 }
         ensures { self.new ≡ finished self.old loaded }
     {
-        self.execution.proceed(loaded);
+        let Ok(()) = self.execution.proceed(loaded) else {
+            unreachable!()
+        };
         self.completed += 1;
+    }
+
+    /// Does the next instruction, which touches nothing. `Err` where memory is refused: then nothing is changed.
+    pub(crate) fn proceed(&mut self) -> Result<(), AllocError>
+        requires next { next_touch self.old ≡ Plain }
+        requires room { self.old.completed + 1 < 2 ^ 64 }
+        ensures { MatchResult result (λ _. self.new ≡ finished self.old 0) (λ _. (self.new ≡ self.old) × (may_grow (next_touch self.old) (rest_of self.old.core) ≡ true)) }
+    {
+        self.execution.proceed(0)?;
+        self.completed += 1;
+        Ok(())
     }
 
     /// Does the next instruction, which is an allocation of this many pieces. `Err` where memory is refused: then nothing is

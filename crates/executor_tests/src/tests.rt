@@ -4,7 +4,7 @@ ghost use Rattle.code_form.specs.Form.{image_of};
 ghost use Rattle.std.specs.Prelude.{◌<◌, ◌≤◌, ◌^◌, IfOk};
 
 use cells::{Run, Stop, Want};
-use code_form::{Block, Fact, Function, Image, Instruction, Kind};
+use code_form::{Block, Fact, Function, Image, Instruction, Kind, Operation};
 use executor::Session;
 use object_lock::ObjectTable;
 use remote_store::{Config, FarHeap, FaultPlan, FaultStore, FaultStores};
@@ -16,20 +16,14 @@ use std::test::Fail;
 fn writes_and_reads(alloc: Global) -> Result<Image, AllocError>
     ensures { IfOk result (λ image. most_scopes (image_of image).functions ≤ 4) }
 {
-    let aim = Instruction::Aim {
-        scope: 0,
-        register: 0,
-        offset: None,
-        displacement: 0,
-    };
     let code = vec![in alloc;
-        Instruction::Alloc { to: 0, layout: 0 },
-        Instruction::Const { to: 1, value: 5 },
-        Instruction::CheckNull { register: 0 },
-        aim,
+        Instruction::Simple(Operation::Alloc { to: 0, layout: 0 }),
+        Instruction::Simple(Operation::Const { to: 1, value: 5 }),
+        Instruction::Simple(Operation::CheckNull { register: 0 }),
+        aim_at(0),
         Instruction::Store { scope: 0, from: 1 },
         Instruction::Leave { scope: 0 },
-        aim,
+        aim_at(0),
         Instruction::Load { to: 1, scope: 0 },
         Instruction::Leave { scope: 0 },
         Instruction::Return { from: 1 },
@@ -74,25 +68,22 @@ fn image_over(alloc: Global, kinds: Vec<Kind>, code: Vec<Instruction>) -> Result
 fn allocates_twice(alloc: Global) -> Result<Image, AllocError>
     ensures { IfOk result (λ image. most_scopes (image_of image).functions ≤ 4) }
 {
-    let allocates = Instruction::Alloc { to: 0, layout: 0 };
-    image_with(alloc, vec![in alloc; allocates, allocates]?)
+    let code = vec![in alloc;
+        Instruction::Simple(Operation::Alloc { to: 0, layout: 0 }),
+        Instruction::Simple(Operation::Alloc { to: 0, layout: 0 }),
+    ]?;
+    image_with(alloc, code)
 }
 
 /// Checks a pointer that is NULL, with a scope open.
 fn stops_with_an_open_scope(alloc: Global) -> Result<Image, AllocError>
     ensures { IfOk result (λ image. most_scopes (image_of image).functions ≤ 4) }
 {
-    let aim = Instruction::Aim {
-        scope: 0,
-        register: 0,
-        offset: None,
-        displacement: 0,
-    };
     let code = vec![in alloc;
-        Instruction::Alloc { to: 0, layout: 0 },
-        aim,
-        Instruction::Null { to: 0 },
-        Instruction::CheckNull { register: 0 },
+        Instruction::Simple(Operation::Alloc { to: 0, layout: 0 }),
+        aim_at(0),
+        Instruction::Simple(Operation::Null { to: 0 }),
+        Instruction::Simple(Operation::CheckNull { register: 0 }),
     ]?;
     image_with(alloc, code)
 }
@@ -103,12 +94,12 @@ fn writes_three_and_reads_the_first(alloc: Global) -> Result<Image, AllocError>
 {
     let mut code = Vec::new(alloc);
     for (register, value) in [(0u32, 1), (1, 2), (2, 3)] {
-        code.push(Instruction::Alloc {
+        code.push(Instruction::Simple(Operation::Alloc {
             to: register,
             layout: 0,
-        })?;
-        code.push(Instruction::Const { to: 3, value })?;
-        code.push(Instruction::CheckNull { register })?;
+        }))?;
+        code.push(Instruction::Simple(Operation::Const { to: 3, value }))?;
+        code.push(Instruction::Simple(Operation::CheckNull { register }))?;
         code.push(aim_at(register))?;
         code.push(Instruction::Store { scope: 0, from: 3 })?;
         code.push(Instruction::Leave { scope: 0 })?;
@@ -161,11 +152,11 @@ fn ran_over_a_failing_store<R: Wait>(
     let Ok(mut session) = Session::new(alloc, &table, image, seat) else {
         return Err(Fail::from(AllocError));
     };
-    let first = session.run(rt, 100);
+    let first = session.run(rt, 100)?;
     if session.completed() > 100 {
         return Err(Fail::from(AllocError));
     }
-    Ok((first, session.run(rt, 100)))
+    Ok((first, session.run(rt, 100)?))
 }
 
 /// What a program answers twice that has one object and one frame, and how many instructions it completed.
@@ -189,11 +180,11 @@ fn ran<R: Wait>(rt: &R, alloc: Global, image: &Image, limit: u64) -> Result<(Run
     let Ok(mut session) = Session::new(alloc, &table, image, seat) else {
         return Err(Fail::from(AllocError));
     };
-    let first = session.run(rt, limit);
+    let first = session.run(rt, limit)?;
     if session.completed() > limit {
         return Err(Fail::from(AllocError));
     }
-    let second = session.run(rt, limit);
+    let second = session.run(rt, limit)?;
     Ok((first, second, session.completed()))
 }
 
@@ -217,12 +208,12 @@ fn five_through_far_memory(rt: HostRuntime) -> Result<(), Fail> {
     let Ok(mut session) = Session::new(alloc, &table, &image, seat) else {
         return Err(Fail::from(AllocError));
     };
-    assert!(rt; session.run(&rt, 9) == Run::Running);
+    assert!(rt; session.run(&rt, 9)? == Run::Running);
     assert!(rt; session.completed() == 9);
-    assert!(rt; session.run(&rt, 9) == Run::Stopped(Stop::Ended(5)));
+    assert!(rt; session.run(&rt, 9)? == Run::Stopped(Stop::Ended(5)));
     assert!(rt; session.completed() == 10);
     assert!(rt; session.output().is_empty());
-    assert!(rt; session.run(&rt, 9) == Run::Stopped(Stop::Ended(5)));
+    assert!(rt; session.run(&rt, 9)? == Run::Stopped(Stop::Ended(5)));
     assert!(rt; session.completed() == 10);
     Ok(())
 }
@@ -307,5 +298,130 @@ fn the_store_fails_from_a_call_on(rt: HostRuntime) -> Result<(), Fail> {
         let plain = (Run::Stopped(Stop::Ended(1)), Run::Stopped(Stop::Ended(1)));
         assert!(rt; ran == if number < 5 { failed } else { plain });
     }
+    Ok(())
+}
+
+/// Puts 9 into the last of 100 numbers, 8 into the first, gives what the last keeps to function 1, and stops by `error`.
+fn array_call_and_error_code(alloc: Global) -> Result<Vec<Instruction>, AllocError> {
+    let code = vec![in alloc;
+        Instruction::Simple(Operation::Const { to: 1, value: 100 }),
+        Instruction::Simple(Operation::AllocArray {
+            to: 0,
+            layout: 0,
+            length: 1
+        }),
+        Instruction::Simple(Operation::Const { to: 1, value: 99 }),
+        Instruction::Simple(Operation::CheckIndex {
+            to: 2,
+            register: 0,
+            index: 1,
+            size: 1
+        }),
+        aim_behind(2),
+        Instruction::Simple(Operation::Const { to: 3, value: 9 }),
+        Instruction::Store { scope: 0, from: 3 },
+        Instruction::Leave { scope: 0 },
+        Instruction::Simple(Operation::Const { to: 3, value: 8 }),
+        aim_at(0),
+        Instruction::Store { scope: 0, from: 3 },
+        Instruction::Leave { scope: 0 },
+        aim_behind(2),
+        Instruction::Load { to: 3, scope: 0 },
+        Instruction::Leave { scope: 0 },
+        Instruction::Call {
+            to: None,
+            function: 1,
+            arguments: vec![in alloc; 3]?
+        },
+        Instruction::Simple(Operation::TextOf { to: 4, number: 1 }),
+        Instruction::Error { text: 4 },
+    ]?;
+    Ok(code)
+}
+
+/// The array, the call and the error, where function 1 prints its parameter.
+fn array_call_and_error(alloc: Global) -> Result<Image, AllocError>
+    ensures { IfOk result (λ image. most_scopes (image_of image).functions ≤ 4) }
+{
+    let code = array_call_and_error_code(alloc)?;
+    let shows = vec![in alloc;
+        Instruction::Simple(Operation::Printint { from: 0 }),
+        Instruction::ReturnVoid,
+    ]?;
+    let main = Function {
+        result: Some(Kind::Int),
+        parameters: 0,
+        kinds: vec![in alloc;
+            Kind::Arr(0),
+            Kind::Int,
+            Kind::Off(0),
+            Kind::Int,
+            Kind::Text,
+        ]?,
+        scopes: 1,
+        blocks: block_of(alloc, code)?,
+    };
+    let shown = Function {
+        result: None,
+        parameters: 1,
+        kinds: vec![in alloc; Kind::Int]?,
+        scopes: 0,
+        blocks: block_of(alloc, shows)?,
+    };
+    let mut functions = Vec::new(alloc);
+    functions.push(main)?;
+    functions.push(shown)?;
+    Ok(Image {
+        texts: vec![in alloc; String::from_str(alloc, "bad")?]?,
+        layouts: vec![in alloc; vec![in alloc; Kind::Int]?]?,
+        functions,
+    })
+}
+
+/// Aims in the array of register 0, at the element whose offset this register holds.
+fn aim_behind(offset: u32) -> Instruction {
+    Instruction::Aim {
+        scope: 0,
+        register: 0,
+        offset: Some(offset),
+        displacement: 0,
+    }
+}
+
+/// These instructions alone.
+fn block_of(alloc: Global, code: Vec<Instruction>) -> Result<Vec<Block>, AllocError> {
+    let block = Block {
+        facts: Vec::new(alloc),
+        code,
+    };
+    Ok(vec![in alloc; block]?)
+}
+
+/// The array has two pieces, and there is one frame: so each piece is moved out and brought back.
+#[test]
+fn an_array_of_two_pieces_a_call_and_an_error(rt: HostRuntime) -> Result<(), Fail> {
+    let alloc = rt.alloc();
+    let image = array_call_and_error(alloc)?;
+    let config = Config {
+        frames: 1,
+        objects: 2,
+        evacuators: 0,
+        fetchers: 0,
+        stores: FarHeap,
+    };
+    let Ok((table, mut owners, _movers)) = ObjectTable::<FarHeap>::new(alloc, 1, &config) else {
+        return Err(Fail::from(AllocError));
+    };
+    let Some(seat) = owners.pop() else {
+        return Err(Fail::from(AllocError));
+    };
+    let Ok(mut session) = Session::new(alloc, &table, &image, seat) else {
+        return Err(Fail::from(AllocError));
+    };
+    let bad = Run::Stopped(Stop::ErrorCalled(String::from_str(alloc, "bad")?));
+    assert!(rt; session.run(&rt, 100)? == bad);
+    assert!(rt; session.output() == b"9".as_slice());
+    assert!(rt; session.completed() == 20);
+    assert!(rt; session.run(&rt, 100)? == bad);
     Ok(())
 }

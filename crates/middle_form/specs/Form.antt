@@ -1,7 +1,8 @@
 -- The middle form: structured code of simple instructions over numbered registers, each of one kind in its function.
 use Rattle.std.specs.Prelude.{ℕ, List, Option}
 use Rattle.code_form.specs.declared.form.Kind.{Kind}
-use Rattle.code_form.specs.Form.{Head, Operation}
+use Rattle.code_form.specs.declared.form.Operation.{Operation}
+use Rattle.code_form.specs.Form.{Head}
 
 -- Code goes on behind itself, or leaves some of the loops and blocks round it. Operands are registers by their number
 pub data Code : Type 0 where

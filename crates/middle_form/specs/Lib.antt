@@ -1,4 +1,5 @@
 pub mod Form
 pub mod Meaning
 pub mod Samples
+pub mod Views
 pub mod WellFormed

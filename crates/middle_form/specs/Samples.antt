@@ -3,7 +3,8 @@ use Rattle.std.specs.Prelude.{ℕ, List, [], ◌∷◌, Some, None, pos}
 use Rattle.cells.specs.declared.int32.Int32Op.TheVariants.{Add, Sub}
 use Rattle.code_form.specs.declared.form.Kind.TheVariants as kind
 use Rattle.code_form.specs.declared.form.Relation.TheVariants as relation
-use Rattle.code_form.specs.Form.{Head, Const, TextOf, Move, Binary, Compare, CheckNull, CheckIndex, Alloc, AllocArray, Null, Printint}
+use Rattle.code_form.specs.declared.form.Operation.TheVariants.{Const, TextOf, Move, Binary, Compare, CheckNull, CheckIndex, Alloc, AllocArray, Null, Printint}
+use Rattle.code_form.specs.Form.{Head}
 use Rattle.middle_form.specs.Form.{Code, Nothing, Do, Fetch, Keep, Invoke, Fail, Then, Choose, Loop, Block, Exit, Program}
 
 -- code in order

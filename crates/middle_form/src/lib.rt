@@ -1,6 +1,8 @@
 //! The middle form: what it is and what it means.
 #![tactic(auto)]
 
+mod form;
 mod laws;
 
+pub use form::{Code, Function, Middle};
 pub use laws::{computed, formed};

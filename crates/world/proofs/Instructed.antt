@@ -220,6 +220,25 @@ module _ {C : Type 0} (content : C → Option (List ℕ)) (h : Type 0) (z : Size
   pub goes_on : (x' : Seat) → x' ≡ finished x 0 → TurnsTo content h z t berths x s p is (λ a. Alone (grows x.setting p a)) t berths x'
   goes_on x' same = alone_to content h z t berths x s p is (λ a. Alone (grows x.setting p a)) x' (finished_as x.setting p 0) refl (program_finished x x' p 0 is.program same) (ap (λ (j : Seat). j.setting) same)
 
+  -- memory is refused to an instruction that touches nothing
+  pub plain_refused : (x' : Seat) → next_touch x ≡ touch.Plain → may_grow touch.Plain (rest_of x.core) ≡ true → x' ≡ record x { mode = m.Wanted OutOfMemory }
+      → TurnsTo content h z t berths x s p is (λ a. Alone (grows x.setting p a)) t berths x'
+  plain_refused x' next grow same =
+      let a : Answer = record { stored = true; read = None; grew = false } in
+      let touches : touch_next x.setting p ≡ touch.Plain = ap (λ c. touch_of (effect x.setting.image c)) core_is ∙ next in
+      let q : Program = in_mode p (Wanted OutOfMemory) in
+      let f : Program = finished_as x.setting p 0 in
+      let grew : grows x.setting p a ≡ q =
+      ap (λ y. cond (may_grow y (rest_of p.core)) q f) touches ∙ (ap (λ c. cond (may_grow touch.Plain (rest_of c)) q f) core_is ∙ ap (λ b. cond b q f) grow) in (
+        a,
+        (λ _. reads_none piece_cells s p.mode),
+        (
+          (s, q),
+          ap (taken piece_cells s) (ap Alone grew),
+          (is.shows, program_mode x x' p (m.Wanted OutOfMemory) (Wanted OutOfMemory) is.program same refl, ap (λ (j : Seat). j.setting) same),
+        ),
+      )
+
   -- ---- an allocation
 
   fits_is : (n cells : ℕ) (b : Bool) → n ≡ next_object piece_cells x.setting.base (sizes (allocations_of x.core)) → nat_le (n + pieces piece_cells cells) x.setting.limit ≡ b

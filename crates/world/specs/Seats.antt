@@ -50,13 +50,14 @@ mode_of (m.Wanted w) words = Wanted w
 abbrev pub next_touch : Seat → Touch
 next_touch x = touch_of (effect x.setting.image x.core)
 
--- an instruction that is neither an allocation nor wrong
+-- an instruction that uses a scope or ends the program, or there is none
 abbrev pub IsSteady : Touch → Type 0
+IsSteady touch.Plain = ⊥
 IsSteady (touch.Allocs n) = ⊥
 IsSteady touch.Wrong = ⊥
 IsSteady _ = Unit {0}
 
--- the next instruction of a program that brings an object in is neither an allocation nor wrong
+-- the next instruction of a program that brings an object in uses a scope
 abbrev pub Waits : RustMode → Touch → Type 0
 Waits m.Ready x = Unit {0}
 Waits (m.Missing o) x = IsSteady x

@@ -29,34 +29,35 @@ impl Mode {
     }
 }
 
-/// How a program has stopped or what it wants, or that it runs.
-fn run_of(program: &Program<'_>) -> Run
-    ensures { (p : Defined) → IsProgram program.now p → RunsAs p result }
+/// How a program has stopped or what it wants, or that it runs. `Err` where memory is refused for the text of an error.
+fn run_of(alloc: Global, program: &Program<'_>) -> Result<Run, AllocError>
+    ensures { IfOk result (λ r. (p : Defined) → IsProgram program.now p → RunsAs p r) }
 {
-    match program.stop() {
+    Ok(match program.stop(alloc)? {
         Some(stop) => Run::Stopped(stop),
         None => match program.mode().want() {
             Some(want) => Run::Wanted(want),
             None => Run::Running,
         },
-    }
+    })
 }
 
-/// What a program printed, how it runs, and how many instructions it completed. `Err` where memory is refused for the output.
+/// What a program printed, how it runs, and how many instructions it completed. `Err` where memory is refused for the output or
+/// the text of an error.
 fn end_of(alloc: Global, program: &Program<'_>) -> Result<Ended, AllocError>
     ensures { IfOk result (λ e. (p : Defined) → IsProgram program.now p → IsEnded p e) }
 {
     let output = program.output().to_vec(alloc)?;
     Ok(Ended {
         output,
-        run: run_of(program),
+        run: run_of(alloc, program)?,
         completed: program.completed(),
     })
 }
 
 impl<'a, S: RawStore> World<'a, S> {
     /// What a program printed, how it runs, and how many instructions it completed, modulo 2^64. `Err` where memory is refused for the
-    /// output.
+    /// output or the text of an error.
     pub fn ended(&self, alloc: Global, program: usize) -> Result<Ended, AllocError>
         requires { program < length self.now.programs.items }
         ensures { IfOk result (λ e. (z : Sizes) (images : ℕ → Image) (w : DefinedWorld) → IsWorld S.content S.honest z images self.now.lock.machine self.now.lock.berths.items self.now.programs.items self.now.evacuators.items w

@@ -296,7 +296,22 @@ impl<'a> Program<'a> {
         self.store(lock, scope, object, index as usize, value)
     }
 
-    /// The next instruction is completed, which touches nothing or stops the program.
+    /// The next instruction is completed, which touches nothing, or memory is refused to it.
+    fn go_plain<S: RawStore>(&mut self, lock: &mut Lock<S>) -> Step
+        requires { next_touch self.old ≡ touch.Plain }
+        ensures { Turns S.content S.honest lock.old.machine lock.new.machine lock.old.berths.items lock.new.berths.items self.old self.new
+            (λ s p a. Alone (grows self.old.setting p a)) ((lock.new ≡ lock.old) × (self.new ≡ self.old)) result }
+    {
+        match self.proceed() {
+            Ok(()) => Step::Took,
+            Err(_refused) => {
+                self.want_memory();
+                Step::Took
+            }
+        }
+    }
+
+    /// The next instruction is completed, which stops the program.
     fn go_on<S: RawStore>(&mut self, lock: &mut Lock<S>) -> Step
         requires { IsSteady (next_touch self.old) }
         ensures { Turns S.content S.honest lock.old.machine lock.new.machine lock.old.berths.items lock.new.berths.items self.old self.new
@@ -316,7 +331,7 @@ impl<'a> Program<'a> {
             match self.extend(cells) {
                 Ok(()) => Step::Took,
                 Err(_refused) => {
-                    self.set_mode(Mode::Wanted(Want::OutOfMemory));
+                    self.want_memory();
                     Step::Took
                 }
             }
@@ -347,7 +362,7 @@ impl<'a> Program<'a> {
             return Step::NotEnabled;
         }
         match self.touch() {
-            Touch::Plain => self.go_on(lock),
+            Touch::Plain => self.go_plain(lock),
             Touch::Aims(scope, wanted) => self.aim(lock, scope, wanted),
             Touch::Loads(scope, cell) => self.load_cell(lock, scope, cell),
             Touch::Saves(scope, cell, value) => self.store_cell(lock, scope, cell, value),

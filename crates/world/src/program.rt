@@ -2,9 +2,10 @@
 ghost use Rattle.cells.specs.Stops.{stop_of as stop_read};
 ghost use Rattle.code_form.specs.Code.{allocations_of, begins, is_blocked as is_blocked_in, most_scopes, output_of, sizes, stop_of};
 ghost use Rattle.code_form.specs.Form.{image_of};
+ghost use Rattle.code_form.specs.Growth.{may_grow, rest_of};
 ghost use Rattle.code_form.specs.Placed.{next_object, object_at, pieces as pieces_of};
 ghost use Rattle.code_form.specs.Touches.{IsCell, IsWithin};
-ghost use Rattle.code_form.specs.declared.touch.Touch.TheVariants.{Allocs};
+ghost use Rattle.code_form.specs.declared.touch.Touch.TheVariants.{Allocs, Plain};
 ghost use Rattle.pointer_word.specs.Machine.{Far, State};
 ghost use Rattle.remote_store.specs.Kept.{piece_cells};
 ghost use Rattle.std.specs.Prelude.{◌≡◌, ◌+◌, ◌-◌, ◌/◌, ◌<◌, ◌≤◌, ◌^◌, ℕ, IfOk, MatchResult, None, Some, length, option_map, slice_index, slice_set, true};
@@ -142,6 +143,13 @@ impl<'a> Program<'a> {
         self.mode = mode;
     }
 
+    /// Memory was refused to it, and it goes on no more.
+    pub(crate) fn want_memory(&mut self)
+        ensures { self.new ≡ record self.old { mode = Mode.Wanted Want.OutOfMemory } }
+    {
+        self.set_mode(Mode::Wanted(Want::OutOfMemory));
+    }
+
     /// The word with which it fills the cell of this index.
     pub(crate) fn word(&self, index: usize) -> u64
         requires { index < piece_cells }
@@ -233,11 +241,11 @@ impl<'a> Program<'a> {
         self.execution.output()
     }
 
-    /// How it has stopped, if it has.
-    pub(crate) fn stop(&self) -> Option<Stop>
-        ensures { option_map stop_read result ≡ stop_of self.now.core }
+    /// How it has stopped, if it has. `Err` where memory is refused for the text of an error.
+    pub(crate) fn stop(&self, alloc: Global) -> Result<Option<Stop>, AllocError>
+        ensures { IfOk result (λ s. option_map stop_read s ≡ stop_of self.now.core) }
     {
-        self.execution.stop()
+        self.execution.stop(alloc)
     }
 
     /// How many instructions were completed, modulo 2^64.
@@ -275,15 +283,29 @@ impl<'a> Program<'a> {
         (first + cell.index / PIECE_CELLS as u64) as usize
     }
 
-    /// Completes the next instruction, which is no allocation; `loaded` is what it loads, if it loads something.
+    /// Completes the next instruction, which uses a scope or ends the program; `loaded` is what it loads, if it loads something.
     pub(crate) fn finish(&mut self, loaded: u64)
         requires { IsSteady (next_touch self.old) }
         ensures { self.new ≡ finished self.old loaded }
     {
         effect_laws();
-        self.execution.proceed(loaded);
+        let Ok(()) = self.execution.proceed(loaded) else {
+            unreachable!()
+        };
         self.mode = Mode::Ready;
         self.completed = self.completed.wrapping_add(1);
+    }
+
+    /// Completes the next instruction, which touches nothing. `Err` where memory is refused: then nothing is changed.
+    pub(crate) fn proceed(&mut self) -> Result<(), AllocError>
+        requires { next_touch self.old ≡ Plain }
+        ensures { MatchResult result (λ _. self.new ≡ finished self.old 0) (λ _. (self.new ≡ self.old) × (may_grow Plain (rest_of self.old.core) ≡ true)) }
+    {
+        effect_laws();
+        self.execution.proceed(0)?;
+        self.mode = Mode::Ready;
+        self.completed = self.completed.wrapping_add(1);
+        Ok(())
     }
 
     /// Completes the next instruction, which is an allocation of this many cells. `Err` where memory is refused: then nothing is

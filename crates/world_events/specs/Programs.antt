@@ -1,11 +1,11 @@
 -- The actors of the world: programs, and movers that move objects out.
-use Rattle.std.specs.Prelude.{ℕ, suc, Bool, true, false, Option, Some, None, List, [], ◌∷◌, slice_index_or, slice_set}
+use Rattle.std.specs.Prelude.{ℕ, suc, Option, Some, None, List, [], ◌∷◌, slice_index_or, slice_set}
 use Rattle.cells.specs.declared.ending.Want.{Want}
 use Rattle.code_form.specs.declared.touch.Cell.{Cell}
 use Rattle.code_form.specs.declared.touch.Touch.{Touch}
-use Rattle.code_form.specs.declared.touch.Touch.TheVariants as touch
-use Rattle.code_form.specs.Form.{Operation, Print, Println, Printint, Printbool, Printchar, Instruction, Simple, Call, Error, Image}
-use Rattle.code_form.specs.Code.{Core, Running, Stopped, Stuck, sizes, allocations_of, code, effect}
+use Rattle.code_form.specs.Form.{Image}
+use Rattle.code_form.specs.Code.{Core, sizes, allocations_of, code, effect}
+pub use Rattle.code_form.specs.Growth.{may_grow, rest_of}
 use Rattle.code_form.specs.Placed.{next_object, object_at}
 use Rattle.code_form.specs.Touches.{resumed, touch_of}
 pub use Rattle.world_events.specs.declared.hold.Hold.{Hold}
@@ -110,26 +110,3 @@ abbrev pub first_hold : List (Option Hold) → Option (ℕ × Hold)
 first_hold [] = None
 first_hold (None ∷ hs) = behind (first_hold hs)
 first_hold (Some h ∷ hs) = Some (0, h)
-
--- a simple instruction that prints
-abbrev pub prints : Operation → Bool
-prints (Print a) = true
-prints (Println a) = true
-prints (Printint a) = true
-prints (Printbool a) = true
-prints (Printchar a) = true
-prints _ = false
-
--- memory may have to grow for an instruction that touches this, the first of these: an allocation, output, a call, or the text of an error
-abbrev pub may_grow : Touch → List Instruction → Bool
-may_grow (touch.Allocs n) is = true
-may_grow touch.Plain (Simple op ∷ is) = prints op
-may_grow touch.Plain (Call d f xs ∷ is) = true
-may_grow touch.Ends (Error a ∷ is) = true
-may_grow _ is = false
-
--- the instructions that are next
-abbrev pub rest_of : Core → List Instruction
-rest_of (Running f st al o) = f.rest
-rest_of (Stopped s al o) = []
-rest_of (Stuck al o) = []

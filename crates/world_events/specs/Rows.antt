@@ -2,7 +2,8 @@
 use Rattle.std.specs.Prelude.{ℕ, zero, suc, true, false, Option, Some, None, List, [], ◌∷◌, ◌++◌, length, pos}
 use Rattle.cells.specs.declared.ending.Want.{Want}
 use Rattle.cells.specs.Stops.{Stop}
-use Rattle.code_form.specs.Form.{Image, Simple, Aim, Leave, Return, Alloc, Const, Null, CheckNull}
+use Rattle.code_form.specs.declared.form.Operation.TheVariants.{Alloc, Const, Null, CheckNull}
+use Rattle.code_form.specs.Form.{Image, Simple, Aim, Leave, Return}
 use Rattle.code_form.specs.Code.{stop_of}
 use Rattle.code_form.specs.Computed.{image_v, image_with}
 use Rattle.pointer_word.specs.Words.{pack}

@@ -1,7 +1,7 @@
 //! What the tests work on.
 ghost use Rattle.std.specs.Prelude.{◌≡◌};
 
-use code_form::{Block, Fact, Function, Image, Instruction, Kind};
+use code_form::{Block, Fact, Function, Image, Instruction, Kind, Operation};
 use remote_store::{Config, Stores};
 use std::alloc::{AllocError, Global};
 
@@ -25,22 +25,26 @@ pub(crate) fn image_with(alloc: Global, code: Vec<Instruction>) -> Result<Image,
     })
 }
 
-/// Writes 5 into a new struct, reads it back and returns it.
-pub(crate) fn five(alloc: Global) -> Result<Image, AllocError> {
-    let aim = Instruction::Aim {
+/// Aims scope 0 at the first cell of what register 0 refers to.
+fn aim() -> Instruction {
+    Instruction::Aim {
         scope: 0,
         register: 0,
         offset: None,
         displacement: 0,
-    };
+    }
+}
+
+/// Writes 5 into a new struct, reads it back and returns it.
+pub(crate) fn five(alloc: Global) -> Result<Image, AllocError> {
     let code = vec![in alloc;
-        Instruction::Alloc { to: 0, layout: 0 },
-        Instruction::Const { to: 1, value: 5 },
-        Instruction::CheckNull { register: 0 },
-        aim,
+        Instruction::Simple(Operation::Alloc { to: 0, layout: 0 }),
+        Instruction::Simple(Operation::Const { to: 1, value: 5 }),
+        Instruction::Simple(Operation::CheckNull { register: 0 }),
+        aim(),
         Instruction::Store { scope: 0, from: 1 },
         Instruction::Leave { scope: 0 },
-        aim,
+        aim(),
         Instruction::Load { to: 1, scope: 0 },
         Instruction::Leave { scope: 0 },
         Instruction::Return { from: 1 },

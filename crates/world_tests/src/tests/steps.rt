@@ -1,7 +1,7 @@
 //! Worked schedules, driven through the world that code keeps.
 use crate::tests::fixtures::{five, image_with, two_frames};
 use cells::{Run, Stop, Want};
-use code_form::Instruction;
+use code_form::{Instruction, Operation};
 use remote_store::{FarHeap, FaultPlan, FaultStores, RawStore};
 use std::alloc::{AllocError, Global};
 use std::test::Fail;
@@ -136,8 +136,8 @@ fn a_get_that_fails(rt: HostRuntime) -> Result<(), Fail> {
 #[test]
 fn no_objects(rt: HostRuntime) -> Result<(), Fail> {
     let code = vec![in rt.alloc();
-        Instruction::Alloc { to: 0, layout: 0 },
-        Instruction::Alloc { to: 0, layout: 0 },
+        Instruction::Simple(Operation::Alloc { to: 0, layout: 0 }),
+        Instruction::Simple(Operation::Alloc { to: 0, layout: 0 }),
     ]?;
     let images = vec![in rt.alloc(); image_with(rt.alloc(), code)?]?;
     let made: Result<World<FarHeap>, Want> = World::new(rt.alloc(), &images, &two_frames(FarHeap));

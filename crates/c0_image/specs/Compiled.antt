@@ -1,0 +1,17 @@
+-- The image of a text.
+use Rattle.std.specs.Prelude.{◌≡◌, ℕ, Bool, false, List}
+use Rattle.c0_front.specs.Texts.{IsTypedAs}
+use Rattle.c0_typed.specs.Trees.{Program}
+use Rattle.code_form.specs.Form.{Image}
+use Rattle.code_form.specs.Code.{Covered}
+use Rattle.c0_image.specs.Correct.{Behaves}
+
+-- the image is that of the one program that the text is the text of: it does what that means, both ways
+pub record IsCompiled (text : List ℕ) (checks : Bool) (C : Image) : Type 0 where
+  pub program : Program
+  pub typed : IsTypedAs false text program
+  -- and of no other program
+  pub only : (other : Program) → IsTypedAs false text other → other ≡ program
+  pub behaves : Behaves program checks C
+  -- no function has more than four scopes, none of its runs gets stuck or allocates, calls or returns with a scope open
+  pub covered : Covered C

@@ -1,0 +1,34 @@
+//! From the bytes of a text to the image of its program.
+ghost use Rattle.std.specs.Prelude.{◌≡◌, ◌⊎◌, false, IfErr, IfOk, MatchResult};
+ghost use Rattle.c0_source.specs.declared.fault.FaultKind.TheVariants.{OutOfMemory};
+ghost use Rattle.c0_typed.specs.Trees as y;
+ghost use Rattle.code_form.specs.Form.{image_of};
+ghost use Rattle.c0_front.specs.Texts.{IsRefusedText, IsTypedAs};
+ghost use Rattle.c0_image.specs.Compiled.{IsCompiled};
+ghost use Rattle.c0_image.specs.Correct.{Behaves};
+
+use c0_front::check_text;
+use c0_rules::elaborated;
+use c0_source::fault::Fault;
+use c0_syntax::level::Level;
+use code_form::Image;
+use codegen::{generate, generated_is_covered, generated_keeps_the_meaning};
+use lower::lower;
+use std::alloc::Global;
+
+/// The image of the program that a text is the text of. `checks` tells whether contracts are checked. The fault is of the first stage
+/// that refuses the text: 10 or 22 of its bytes, 11 or 12 of its tokens, 20 to 22 of what they read as, 22 and 30 to 47 of the static
+/// rules; or 50, where memory runs out.
+pub fn compile(alloc: Global, text: &[u8], checks: bool) -> Result<Image, Fault>
+    ensures compiled { IfOk result (λ i. IsCompiled text.now checks (image_of i)) }
+    ensures refused { IfErr result (λ f. (f.kind ≡ OutOfMemory) ⊎ IsRefusedText false text.now f) }
+    // A text of a well-typed program is compiled to code that does what it means, unless memory runs out.
+    ensures every { (p : y.Program) → IsTypedAs false text.now p → MatchResult result (λ i. Behaves p checks (image_of i)) (λ f. f.kind ≡ OutOfMemory) }
+{
+    elaborated();
+    generated_keeps_the_meaning();
+    generated_is_covered();
+    let typed = check_text(alloc, text, Level::Core)?;
+    let middle = lower(alloc, &typed, checks)?;
+    Ok(generate(alloc, &middle)?)
+}

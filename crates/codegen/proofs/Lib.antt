@@ -1,0 +1,12 @@
+pub mod Both
+pub mod Bracketed
+pub mod Computing
+pub mod Covers
+pub mod Emits
+pub mod Generates
+pub mod Images
+pub mod Lands
+pub mod Refused
+pub mod Rows
+pub mod WellFormed
+pub mod Whole

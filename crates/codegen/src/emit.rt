@@ -1,0 +1,235 @@
+//! The blocks of structured code. A block under construction holds its instructions last first.
+ghost use Rattle.code_form.specs.Form.{Aim, Branch, Call, Jump, Leave, Load, Store, instruction_of};
+ghost use Rattle.codegen.specs.Building.{back, backs, exits_of, is_straight};
+ghost use Rattle.codegen.specs.Generated.{extra, first};
+ghost use Rattle.middle_form.specs.Views.{code_of};
+ghost use Rattle.std.specs.Prelude.{◌≡◌, ◌++◌, ◌∷◌, ℕ, [], IfOk, OnOk, length, slice_index, true};
+
+use code_form::Instruction;
+use middle_form::Code;
+use std::alloc::{AllocError, Global};
+
+/// The scope of all loads and stores.
+const SCOPE: u8 = 0;
+
+/// The blocks behind the loops and blocks round some code, the innermost first.
+#[derive(Drop)]
+pub(crate) enum Exits<'a> {
+    Nowhere,
+    Around(u32, &'a Exits<'a>),
+}
+
+/// Where an exit leads; to the first block where nothing is round it.
+fn exit_at(exits: &Exits, out: u32) -> u32
+    ensures { result ≡ slice_index (exits_of exits.now) out }
+{
+    match exits {
+        Exits::Nowhere => 0,
+        Exits::Around(block, outer) => if out == 0 {
+            *block
+        } else {
+            exit_at(outer, out - 1)
+        },
+    }
+}
+
+/// One more instruction in front.
+#[tactic(auto, using(crate::proofs::Emits::back_push))]
+fn put(
+    mut block: Vec<Instruction>,
+    instruction: Instruction,
+) -> Result<Vec<Instruction>, AllocError>
+    ensures { IfOk result (λ v. back v.items ≡ instruction_of instruction ∷ back block.items) }
+{
+    block.push(instruction)?;
+    Ok(block)
+}
+
+/// A block of one instruction.
+pub(crate) fn one(alloc: Global, instruction: Instruction) -> Result<Vec<Instruction>, AllocError>
+    ensures { IfOk result (λ v. back v.items ≡ instruction_of instruction ∷ []) }
+{
+    put(Vec::new(alloc), instruction)
+}
+
+/// A block that goes on at another.
+fn jump(alloc: Global, block: u32) -> Result<Vec<Instruction>, AllocError>
+    ensures { IfOk result (λ v. back v.items ≡ Jump block ∷ []) }
+{
+    one(alloc, Instruction::Jump { block })
+}
+
+/// A block that goes on at one of two.
+fn branch(
+    alloc: Global,
+    condition: u32,
+    then_block: u32,
+    else_block: u32,
+) -> Result<Vec<Instruction>, AllocError>
+    ensures { IfOk result (λ v. back v.items ≡ Branch condition then_block else_block ∷ []) }
+{
+    one(
+        alloc,
+        Instruction::Branch {
+            condition,
+            then_block,
+            else_block,
+        },
+    )
+}
+
+/// A load or a store in front, with its aim before it and a leave behind.
+fn put_access(
+    block: Vec<Instruction>,
+    register: u32,
+    offset: Option<u32>,
+    displacement: u32,
+    access: Instruction,
+) -> Result<Vec<Instruction>, AllocError>
+    ensures { IfOk result (λ v. back v.items ≡ Aim 0 register offset displacement ∷ instruction_of access ∷ Leave 0 ∷ back block.items) }
+{
+    let left = put(block, Instruction::Leave { scope: SCOPE })?;
+    let used = put(left, access)?;
+    put(
+        used,
+        Instruction::Aim {
+            scope: SCOPE,
+            register,
+            offset,
+            displacement,
+        },
+    )
+}
+
+/// A load from a cell.
+fn load(to: u32) -> Instruction
+    ensures { instruction_of result ≡ Load to 0 }
+{
+    Instruction::Load { to, scope: SCOPE }
+}
+
+/// A store into a cell.
+fn store(from: u32) -> Instruction
+    ensures { instruction_of result ≡ Store 0 from }
+{
+    Instruction::Store { scope: SCOPE, from }
+}
+
+/// A call.
+fn call(
+    alloc: Global,
+    to: Option<u32>,
+    function: u32,
+    arguments: &[u32],
+) -> Result<Instruction, AllocError>
+    ensures { IfOk result (λ i. instruction_of i ≡ Call to function arguments.now) }
+{
+    Ok(Instruction::Call {
+        to,
+        function,
+        arguments: Vec::from_slice(alloc, arguments)?,
+    })
+}
+
+/// One more block, and its number. More than numbers of 32 bits tell apart can't be had.
+#[tactic(auto, using(crate::proofs::Emits::backs_push, crate::proofs::Emits::length_backs))]
+pub(crate) fn finish(
+    blocks: &mut Vec<Vec<Instruction>>,
+    block: Vec<Instruction>,
+) -> Result<u32, AllocError>
+    ensures number { IfOk result (λ n. n ≡ length (backs blocks.old.items)) }
+    ensures added { OnOk result (backs blocks.new.items ≡ backs blocks.old.items ++ back block.items ∷ []) }
+{
+    let Ok(number) = u32::try_from(blocks.len()) else {
+        return Err(AllocError);
+    };
+    blocks.push(block)?;
+    Ok(number)
+}
+
+/// The instructions that come in place of code that needs no more blocks, and of what follows it.
+fn emit_straight(
+    alloc: Global,
+    code: &Code,
+    next: Vec<Instruction>,
+    exits: &Exits,
+) -> Result<Vec<Instruction>, AllocError>
+    ensures { IfOk result (λ v. is_straight (code_of code.now) ≡ true → (b : ℕ) → back v.items ≡ first (code_of code.now) b (back next.items) (exits_of exits.now)) }
+{
+    match code {
+        Code::Do(operation) => put(next, Instruction::Simple(*operation)),
+        Code::Fetch {
+            to,
+            register,
+            offset,
+            displacement,
+        } => put_access(next, *register, *offset, *displacement, load(*to)),
+        Code::Keep {
+            register,
+            offset,
+            displacement,
+            from,
+        } => put_access(next, *register, *offset, *displacement, store(*from)),
+        Code::Invoke {
+            to,
+            function,
+            arguments,
+        } => put(next, call(alloc, *to, *function, arguments)?),
+        Code::Fail { text } => one(alloc, Instruction::Error { text: *text }),
+        Code::Exit(out) => jump(alloc, exit_at(exits, *out)),
+        _ => Ok(next),
+    }
+}
+
+/// The instructions that come in place of code and of what follows it. Its other blocks are added.
+pub(crate) fn emit(
+    alloc: Global,
+    blocks: &mut Vec<Vec<Instruction>>,
+    code: &Code,
+    mut next: Vec<Instruction>,
+    exits: &Exits,
+) -> Result<Vec<Instruction>, AllocError>
+    ensures instructions { IfOk result (λ v. back v.items ≡ first (code_of code.now) (length (backs blocks.old.items)) (back next.items) (exits_of exits.now)) }
+    ensures added { OnOk result (backs blocks.new.items ≡ backs blocks.old.items ++ extra (code_of code.now) (length (backs blocks.old.items)) (back next.items) (exits_of exits.now)) }
+{
+    match code {
+        Code::Sequence(parts) => {
+            for i in (0..parts.len()).rev() {
+                next = emit(alloc, blocks, &parts[i], next, exits)?;
+            }
+            Ok(next)
+        }
+        Code::Choose {
+            condition,
+            then_code,
+            else_code,
+        } => {
+            let join = finish(blocks, next)?;
+            let then_part = emit(alloc, blocks, then_code, jump(alloc, join)?, exits)?;
+            let then_block = finish(blocks, then_part)?;
+            let else_part = emit(alloc, blocks, else_code, jump(alloc, join)?, exits)?;
+            let else_block = finish(blocks, else_part)?;
+            branch(alloc, *condition, then_block, else_block)
+        }
+        Code::Loop {
+            test,
+            condition,
+            body,
+        } => {
+            let head = finish(blocks, Vec::new(alloc))?;
+            let out = finish(blocks, next)?;
+            let inside = Exits::Around(out, &*exits);
+            let turn = emit(alloc, blocks, body, jump(alloc, head)?, &inside)?;
+            let turn_block = finish(blocks, turn)?;
+            let end = branch(alloc, *condition, turn_block, out)?;
+            blocks[head as usize] = emit(alloc, blocks, test, end, &inside)?;
+            jump(alloc, head)
+        }
+        Code::Block(inner) => {
+            let out = finish(blocks, next)?;
+            let inside = Exits::Around(out, &*exits);
+            emit(alloc, blocks, inner, jump(alloc, out)?, &inside)
+        }
+        _ => emit_straight(alloc, code, next, exits),
+    }
+}

@@ -1,0 +1,59 @@
+//! What is promised of every image that is generated: functions that do nothing, and whose contracts hold.
+ghost use Rattle.cells.specs.Stops.{BoundsFault, Ended, ErrorCalled, NullFault};
+ghost use Rattle.code_form.specs.Code.{Covered};
+ghost use Rattle.code_form.specs.Computed.{image_v, image_with};
+ghost use Rattle.code_form.specs.Form.{Call, Jump, Load, Return};
+ghost use Rattle.codegen.specs.Correct.{IsSafe, Keeps, ran};
+ghost use Rattle.codegen.specs.Generated.{generated};
+ghost use Rattle.codegen.specs.WellFormed.{IsWellFormed};
+ghost use Rattle.middle_form.specs.Form.{Program};
+ghost use Rattle.middle_form.specs.WellFormed.{is_well_formed};
+ghost use Rattle.middle_form.specs.Samples.{counting, failing, fibonacci, indexing, null_checked, pointing, stepping};
+ghost use Rattle.std.specs.Prelude.{◌∷◌, ◌≡◌, [], None, Some, codes, pos, true};
+
+use code_form::run_laws;
+
+/// What is generated does what the structured code means, both ways, and is never stuck.
+pub fn generated_keeps_the_meaning()
+    ensures { (P : Program) → IsSafe P → Keeps P (generated P) }
+{
+    run_laws();
+}
+
+/// What is generated of well-formed code is well formed: each jump leads to a block of its function, each block ends in one instruction that
+/// leads out of it, and all that an instruction names is there and of the right kind.
+pub fn generated_is_well_formed()
+    ensures { (P : Program) → is_well_formed P ≡ true → IsWellFormed (generated P) }
+{}
+
+/// What is generated is covered: no function has more than four scopes, and no state of a run is stuck, has more scopes open than the function
+/// with the most has, or has one open at an allocation, a call or a return.
+pub fn generated_is_covered()
+    ensures { (P : Program) → IsSafe P → Covered (generated P) }
+{
+    run_laws();
+}
+
+/// What the images of some programs come to: calls return, exits leave what they name, a cell holds what was stored, and each stop tells itself.
+pub fn computed()
+    ensures calls { ran (generated fibonacci) 200 ≡ record { stop = Some (Ended (pos 5)); output = [] } }
+    ensures left { ran (generated counting) 60 ≡ record { stop = Some (Ended (pos 3)); output = codes "012" } }
+    ensures cut { ran (generated counting) 22 ≡ record { stop = None; output = codes "01" } }
+    ensures behind { ran (generated stepping) 60 ≡ record { stop = Some (Ended (pos 3)); output = [] } }
+    ensures pointed { ran (generated pointing) 30 ≡ record { stop = Some (Ended (pos 7)); output = [] } }
+    ensures element { ran (generated (indexing 2)) 30 ≡ record { stop = Some (Ended (pos 9)); output = [] } }
+    ensures bounds { ran (generated (indexing 3)) 30 ≡ record { stop = Some BoundsFault; output = [] } }
+    ensures error { ran (generated failing) 10 ≡ record { stop = Some (ErrorCalled (codes "no")); output = codes "0" } }
+    ensures null { ran (generated null_checked) 5 ≡ record { stop = Some NullFault; output = [] } }
+{}
+
+/// Which images are well formed, and each cause why another is not.
+pub fn formed()
+    ensures accepted { IsWellFormed image_v }
+    ensures no_end { IsWellFormed (image_with []) → ⊥ }
+    ensures goes_on { IsWellFormed (image_with (Return 1 ∷ Return 1 ∷ [])) → ⊥ }
+    ensures outside { IsWellFormed (image_with (Jump 1 ∷ [])) → ⊥ }
+    ensures shut { IsWellFormed (image_with (Load 1 0 ∷ Return 1 ∷ [])) → ⊥ }
+    ensures another_kind { IsWellFormed (image_with (Return 0 ∷ [])) → ⊥ }
+    ensures no_function { IsWellFormed (image_with (Call None 1 [] ∷ Return 1 ∷ [])) → ⊥ }
+{}

@@ -1,0 +1,13 @@
+//! Images from structured code.
+#![tactic(auto)]
+
+mod emit;
+mod image;
+mod laws;
+#[cfg(test)]
+mod tests;
+
+pub use image::generate;
+pub use laws::{
+    computed, formed, generated_is_covered, generated_is_well_formed, generated_keeps_the_meaning,
+};

@@ -1,0 +1,29 @@
+use Rattle.std.proofs.Common.{◌≡◌, ◌<◌, ◌≤◌, List, [], sym, ap, ◌∙◌, arith, rules, subst, length, drop, get_or, vec_len}
+use Rattle.std.proofs.lemmas.List.{length-map}
+use Rattle.c0_typed.specs.Views.{struct_of}
+use Rattle.code_form.specs.declared.form.Kind.{Kind}
+use Rattle.lower.specs.Gathered.{all_learned, types_of_functions}
+use Rattle.lower.specs.Known.{KnowsFunctions, KnowsProgram}
+use Rattle.lower.specs.Tables.{structs_of}
+use Rattle.lower.proofs.CodeGathered.{all_of, function_step}
+use Rattle.lower.proofs.CodeKnown.{all_known, knows_functions}
+use Rattle.lower.proofs.gathering.gathered.Goals as goal
+
+pub loop-function-preserved : goal.loop-function-preserved
+loop-function-preserved c =
+    let all = c.args.typed.now.functions.items in
+    let here : c.loop-function.function-index < length all = subst (λ fs. c.loop-function.function-index < length fs) c.deref-function-items.ensures.value c.loop-function-test.true in
+    let is : c.function-item.result ≡ get_or all c.loop-function.function-index c.function-item.result = c.function-item.is ∙ ap (λ fs. get_or fs c.loop-function.function-index c.function-item.result) c.deref-function-items.ensures.value in
+    (c.from_function.ensures.numbered, function_step c.in-Ok.structs [] _ _ all c.loop-function.function-index c.function-item.result here is c.in_ok-from_function.ensures.learned c.loop-function.invariant.1)
+
+pub returns-clause-known : goal.returns-clause-known
+returns-clause-known c =
+    let all = c.args.typed.now.functions.items in
+    let n = length (structs_of c.args.typed.now) in
+    let end : length all ≤ c.loop-function.function-index = subst (λ fs. length fs ≤ c.loop-function.function-index) c.deref-function-items.ensures.value c.loop-function-test.false in
+    let structs = c.args.typed.now.structs in
+    let long : vec_len structs ≡ length structs.items = search rules in
+    let mapped : n ≡ length structs.items = length-map structs.items struct_of in
+    let many : c.in-Ok.structs ≡ n = omega arith in
+    let told : all_learned n [] (types_of_functions all) ≡ c.loop-function.singles.items = ap (λ k. all_learned k [] (types_of_functions all)) (sym many) ∙ c.loop-function.invariant.1 ∙ all_of c.in-Ok.structs c.loop-function.singles.items all c.loop-function.function-index end in
+    subst (λ (s : List Kind). KnowsFunctions n s all) told (knows_functions n (all_learned n [] (types_of_functions all)) all (all_known n [] (types_of_functions all)))

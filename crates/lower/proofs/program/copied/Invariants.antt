@@ -1,0 +1,7 @@
+use Rattle.std.proofs.Common.{◌≡◌, ◌++◌, map, drop}
+use Rattle.std.specs.Prelude.{string_bytes}
+use Rattle.lower.proofs.program.copied.Given as goal
+
+-- what is copied, and then the rest
+abbrev pub invariant-loop-text : goal.invariant-loop-text
+invariant-loop-text l = map string_bytes l.texts ≡ map string_bytes l.copies.items ++ map string_bytes (drop l.text-index l.texts)

@@ -1,0 +1,25 @@
+use Rattle.std.proofs.Common.{◌≡◌, ◌++◌, ◌+◌, ◌*◌, ℕ, length, drop}
+use Rattle.lower.specs.Building.{block_code, body_kinds, codes}
+use Rattle.lower.proofs.CodeSizes.{size_body, size_statement}
+use Rattle.lower.proofs.statement_code.+statements.Given as goal
+
+abbrev pub decreases-statement : goal.decreases-statement
+decreases-statement l = 3 * size_statement l.whole.now
+
+abbrev pub decreases-choice : goal.decreases-choice
+decreases-choice l = 2 + 3 * (size_statement l.first.now.value + size_statement l.second.now.value)
+
+abbrev pub decreases-branch : goal.decreases-branch
+decreases-branch l = 1 + 3 * size_statement l.whole.now
+
+abbrev pub decreases-repeat : goal.decreases-repeat
+decreases-repeat l = 2 + 3 * (size_statement l.body.now.value + size_statement l.step.now.value)
+
+abbrev pub decreases-statements : goal.decreases-statements
+decreases-statements l = 3 * size_body l.all.now
+
+-- what is there, and then what the rest adds
+abbrev pub invariant-statements-loop-part : goal.invariant-statements-loop-part
+invariant-statements-loop-part l =
+    (l.fn.kinds.items ++ body_kinds l.context l.all ≡ l.kinds.items ++ body_kinds l.context (drop l.part-index l.all))
+    × (codes l.fn.code.items ++ block_code l.context l.all (length l.fn.kinds.items) l.out ≡ codes l.code.items ++ block_code l.context (drop l.part-index l.all) (length l.kinds.items) l.out)

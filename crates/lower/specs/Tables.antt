@@ -1,0 +1,26 @@
+-- Tables of a program's layouts, in the words of the definitions.
+use Rattle.std.specs.Prelude.{ℕ, ◌+◌, List, [], ◌∷◌, length, map}
+use Rattle.std.specs.declared.vec.Vec.{Vec}
+use Rattle.std.specs.declared.alloc.Global.{Global}
+use Rattle.c0_typed.specs.Trees as t
+use Rattle.c0_typed.specs.Views.{struct_of}
+use Rattle.c0_typed.specs.declared.tree.Typed.{Typed}
+use Rattle.code_form.specs.declared.form.Kind.{Kind}
+use Rattle.lower.specs.Kinds.{cell_kinds}
+
+-- layouts in order
+abbrev pub layouts_read : List (Vec Kind Global) → List (List Kind)
+layouts_read ls = map (λ (l : Vec Kind Global). l.items) ls
+
+-- numbers of cells in order
+abbrev pub offsets_read : List (Vec ℕ Global) → List (List ℕ)
+offsets_read ls = map (λ (l : Vec ℕ Global). l.items) ls
+
+-- the structs of a program
+abbrev pub structs_of : Typed → List (List t.Ty)
+structs_of p = map struct_of p.structs.items
+
+-- where each of these fields begins behind others, and where the last one ends, over n structs of these layouts
+abbrev pub starts : ℕ → List Kind → List (List Kind) → ℕ → List t.Ty → List ℕ
+starts n singles layouts at [] = at ∷ []
+starts n singles layouts at (ty ∷ rest) = at ∷ starts n singles layouts (at + length (cell_kinds n singles layouts ty)) rest

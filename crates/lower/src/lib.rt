@@ -1,0 +1,18 @@
+//! Structured code of typed programs.
+#![tactic(auto)]
+
+mod building;
+mod constants;
+mod context;
+mod expression_code;
+mod gathering;
+mod kinds;
+mod laws;
+mod lowering;
+mod place_code;
+mod program;
+mod statement_code;
+mod struct_layouts;
+
+pub use laws::lowered_means_the_same;
+pub use lowering::lower;
