@@ -1,4 +1,3 @@
-pub mod Ending
 pub mod Found
 pub mod Headlines
 pub mod Numbers

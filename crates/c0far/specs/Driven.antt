@@ -15,7 +15,7 @@ use Rattle.c0_front.specs.Texts as Unchecked
 use Rattle.code_form.specs.Form.{Image}
 use Rattle.clap.specs.Words.{Text, takes}
 use Rattle.c0_image.specs.Compiled.{IsCompiled}
-use Rattle.c0far.specs.Executed.{IsExecuted}
+use Rattle.image_run.specs.Executed.{IsExecuted}
 use Rattle.c0far.specs.FileTexts.{HasText, IsMissing, Known}
 use Rattle.c0far.specs.declared.words.Usage.{Usage}
 use Rattle.c0far.specs.declared.words.Usage.TheVariants as refusal

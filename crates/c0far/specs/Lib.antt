@@ -1,5 +1,4 @@
 pub mod Driven
-pub mod Executed
 pub mod FileTexts
 pub mod Headline
 pub mod MeantLines

@@ -4,7 +4,6 @@ ghost use Rattle.c0far.specs.Driven.{Checks, IsDriven, Runs, Says, newline, show
 ghost use Rattle.c0far.specs.FileTexts.{HasText, Known};
 ghost use Rattle.c0far.specs.Statuses.{run_status};
 
-use crate::execute::execute;
 use crate::files::{FileError, Files};
 use crate::line::line;
 use crate::plain::{Bound, mean};
@@ -17,6 +16,7 @@ use c0_image::compile;
 use c0_source::fault::FaultKind;
 use c0_syntax::level::Level;
 use cells::{Ended, Run, Stop};
+use image_run::execute;
 use std::alloc::Global;
 use std::io::Write;
 use std::sync::Wait;

@@ -2,7 +2,6 @@
 #![tactic(auto)]
 
 mod drive;
-mod execute;
 mod files;
 mod laws;
 mod line;

@@ -1,9 +1,19 @@
+//! Commands over files in memory, and a compiled program over a store that fails.
+ghost use Rattle.code_form.specs.Code.{Covered};
+ghost use Rattle.code_form.specs.Form.{image_of};
+
 #[cfg(test)]
 mod tests {
     use crate::drive::drive;
     use crate::files::{FileError, Files, MemFiles};
     use crate::line::line;
     use crate::words::{Line, Usage};
+    use c0_image::compile;
+    use cells::{Run, Stop, Want};
+    use code_form::Image;
+    use executor::Session;
+    use object_lock::ObjectTable;
+    use remote_store::{Config, FarHeap, FaultPlan, FaultStore, FaultStores};
     use std::alloc::{AllocError, Global};
     use std::io;
     use std::io::Write;
@@ -424,6 +434,69 @@ mod tests {
             assert_eq!(rt; told.err.len(), 0);
             assert_eq!(rt; told.status, status);
         }
+        Ok(())
+    }
+
+    const TEN: &str =
+        "struct node { int value; struct node* next; }; int main() { struct node* l = NULL; for (int i = 0; i < 10; i++) { struct node* n = alloc(struct node); n->value = i; n->next = l; l = n; } int s = 0; while (l != NULL) { s += l->value; l = l->next; } return s; }";
+
+    /// What the image answers twice over 10 objects and 4 frames, where the store fails by this plan.
+    fn ran_over_a_failing_store<R: Wait>(
+        alloc: Global,
+        rt: &R,
+        image: &Image,
+        plan: FaultPlan,
+    ) -> Result<(Run, Run), Fail>
+        requires { Covered (image_of image.now) }
+    {
+        let Ok(stores) = FaultStores::new(alloc, FarHeap, plan) else {
+            return Err(Fail::from(AllocError));
+        };
+        let config = Config {
+            frames: 4,
+            objects: 10,
+            evacuators: 0,
+            fetchers: 0,
+            stores,
+        };
+        let Ok((table, mut owners, _movers)) = ObjectTable::<FaultStore<FarHeap>>::new(
+            alloc, 1, &config,
+        ) else {
+            return Err(Fail::from(AllocError));
+        };
+        let Some(seat) = owners.pop() else {
+            return Err(Fail::from(AllocError));
+        };
+        let Ok(mut session) = Session::new(alloc, &table, image, seat) else {
+            return Err(Fail::from(AllocError));
+        };
+        let first = session.run(rt, 10_000)?;
+        if session.completed() > 10_000 {
+            return Err(Fail::from(AllocError));
+        }
+        Ok((first, session.run(rt, 10_000)?))
+    }
+
+    // Ten nodes in four frames: six are moved out while the list is made, so the store is called six times before it is walked.
+    #[test]
+    fn each_call_of_the_store_fails_once(rt: HostRuntime) -> Result<(), Fail> {
+        let alloc = rt.alloc();
+        let Ok(image) = compile(alloc, TEN.as_bytes(), false) else {
+            return Err(Fail::from(AllocError));
+        };
+        let mut met = 0;
+        for number in 1..100 {
+            let plan = FaultPlan::Only(number);
+            let (first, second) = ran_over_a_failing_store(alloc, &rt, &image, plan)?;
+            if first == Run::Wanted(Want::StoreFailed) {
+                assert!(rt; met + 1 == number);
+                met = number;
+            } else {
+                assert!(rt; first == Run::Stopped(Stop::Ended(45)));
+            }
+            assert!(rt; first == second);
+        }
+        assert!(rt; 6 < met && met < 99);
         Ok(())
     }
 

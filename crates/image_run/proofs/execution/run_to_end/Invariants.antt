@@ -1,6 +1,6 @@
 use Rattle.std.proofs.Common.{◌≡◌}
 use Rattle.executor.specs.State.{IsGoing, SameProgram}
-use Rattle.c0far.proofs.execute.run_to_end.Given as goal
+use Rattle.image_run.proofs.execution.run_to_end.Given as goal
 
 abbrev pub invariant-loop : goal.invariant-loop
 invariant-loop g l =

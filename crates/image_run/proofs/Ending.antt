@@ -14,7 +14,7 @@ use Rattle.code_form.specs.Code.{Core, code, output_of}
 use Rattle.code_form.specs.Placed.{next_object}
 use Rattle.remote_store.specs.Kept.{piece_cells}
 use Rattle.executor.specs.State.{Caused, IsAt, State, cells_in}
-use Rattle.c0far.specs.Executed.{EndsAs, IsExecuted, IsOver, WantsFor}
+use Rattle.image_run.specs.Executed.{EndsAs, IsExecuted, IsOver, WantsFor}
 
 -- what holds of all elements holds of the last
 pub last_of_all : {X : Type 0} (P : X → Type 0) (xs front : List X) (x : X) → xs ≡ front ++ x ∷ [] → ((k : ℕ) (d : X) → k < length xs → P (get_or xs k d)) → P x

@@ -4,8 +4,8 @@ use Rattle.code_form.specs.Code.{Covered}
 use Rattle.code_form.specs.Form as form
 use Rattle.executor.specs.State.{State}
 use Rattle.object_lock.specs.Fresh.{IsFreshOwner}
-use Rattle.c0far.proofs.Ending.{executed, last_of_all}
-use Rattle.c0far.proofs.execute.execute.Goals as goal
+use Rattle.image_run.proofs.Ending.{executed, last_of_all}
+use Rattle.image_run.proofs.execution.execute.Goals as goal
 
 pub new-requires-2-clause-own : goal.new-requires-2-clause-own
 new-requires-2-clause-own g c κs =

@@ -1,12 +1,18 @@
-//! Runs each text that the words name plainly, and prints what it means: the command, what the program prints, and how it ends. Before a name
-//! may stand `-d`, for contracts to be checked, and a number of turns in place of 5,000. The status is 1 where a text is refused.
+//! Runs each text that the words name plainly, and prints what it means: the command, what the program prints, and how it ends. Where it ends,
+//! the text is compiled and run too, and a line tells whether that printed the same and ended the same way. Before a name may stand `-d`, for
+//! contracts to be checked, and a number of turns in place of 5,000. The status is 1 where a text is refused or a run differs.
 #![tactic(auto)]
 
+use c0_image::compile;
 use c0_meaning::Meant;
 use c0_plain::mean_text;
+use c0_source::fault::Fault;
+use cells::{Run, Stop};
+use image_run::execute;
 use std::alloc::Global;
 use std::io::Write;
 use std::process::ExitCode;
+use std::sync::Wait;
 use std::thread::Threads;
 use std::{env, fs, io};
 
@@ -56,8 +62,54 @@ fn tell<O: Write>(out: &mut O, meant: &Meant) -> io::Result<()> {
     }
 }
 
-/// Runs this text and tells what it means. False where it is refused.
-fn run<R: Threads, O: Write>(
+/// Whether the compiled text prints this and stops so.
+fn runs_so<R: Wait>(
+    alloc: Global,
+    rt: &R,
+    checks: bool,
+    text: &[u8],
+    output: &[u8],
+    stop: &Stop,
+) -> Result<bool, Fault> {
+    let image = compile(alloc, text, checks)?;
+    let ended = execute(alloc, rt, &image)?;
+    let same_end = match &ended.run {
+        Run::Stopped(other) => other == stop,
+        Run::Running | Run::Wanted(_) => false,
+    };
+    Ok(same_end && ended.output.as_slice() == output)
+}
+
+/// Runs the compiled text where its meaning has ended, and tells whether it does what the meaning says. False where it does not.
+fn compare<R: Wait, O: Write>(
+    alloc: Global,
+    rt: &R,
+    checks: bool,
+    text: &[u8],
+    meant: &Meant,
+    out: &mut O,
+) -> io::Result<bool> {
+    let Some(stop) = &meant.stop else {
+        return Ok(true);
+    };
+    match runs_so(alloc, rt, checks, text, &meant.output, stop) {
+        Ok(true) => {
+            writeln!(out, "run: the same")?;
+            Ok(true)
+        }
+        Ok(false) => {
+            writeln!(out, "run: otherwise")?;
+            Ok(false)
+        }
+        Err(fault) => {
+            writeln!(out, "run: {fault}")?;
+            Ok(false)
+        }
+    }
+}
+
+/// Runs this text and tells what it means. False where it is refused, or the compiled text does something else.
+fn run<R: Threads + Wait, O: Write>(
     alloc: Global,
     rt: &R,
     asked: Asked,
@@ -71,7 +123,7 @@ fn run<R: Threads, O: Write>(
     match mean_text(alloc, rt, text, asked.checks, turns) {
         Ok(meant) => {
             tell(out, &meant)?;
-            Ok(true)
+            compare(alloc, rt, asked.checks, text, &meant, out)
         }
         Err(fault) => {
             writeln!(out, "{fault}")?;

@@ -1,11 +1,11 @@
-//! Runs an image on the calling thread.
+//! A run of an image over a store in memory.
 ghost use Rattle.std.specs.Prelude.{◌≢◌, IfOk};
 ghost use Rattle.cells.specs.declared.ending.Run.TheVariants.{Wanted};
 ghost use Rattle.cells.specs.declared.ending.Want.TheVariants.{StoreFailed};
 ghost use Rattle.code_form.specs.Code.{Covered};
 ghost use Rattle.code_form.specs.Form.{image_of};
 ghost use Rattle.executor.specs.State.{IsAt, IsGoing, SameProgram};
-ghost use Rattle.c0far.specs.Executed.{IsExecuted, IsOver};
+ghost use Rattle.image_run.specs.Executed.{IsExecuted, IsOver};
 
 use cells::{Ended, Run};
 use code_form::Image;

@@ -1,0 +1,6 @@
+//! Runs an image on the calling thread.
+#![tactic(auto)]
+
+mod execution;
+
+pub use execution::execute;
