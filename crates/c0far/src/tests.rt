@@ -477,26 +477,29 @@ mod tests {
         Ok((first, session.run(rt, 10_000)?))
     }
 
-    // Ten nodes in four frames: six are moved out while the list is made, so the store is called six times before it is walked.
+    // Ten nodes in four frames: six are moved out while the list is made, so the store is called six times before it is walked,
+    // and then again for those that are brought back.
     #[test]
     fn each_call_of_the_store_fails_once(rt: HostRuntime) -> Result<(), Fail> {
         let alloc = rt.alloc();
         let Ok(image) = compile(alloc, TEN.as_bytes(), false) else {
             return Err(Fail::from(AllocError));
         };
-        let mut met = 0;
+        let mut first_unmet = None;
         for number in 1..100 {
             let plan = FaultPlan::Only(number);
             let (first, second) = ran_over_a_failing_store(alloc, &rt, &image, plan)?;
-            if first == Run::Wanted(Want::StoreFailed) {
-                assert!(rt; met + 1 == number);
-                met = number;
-            } else {
-                assert!(rt; first == Run::Stopped(Stop::Ended(45)));
-            }
             assert!(rt; first == second);
+            if first == Run::Stopped(Stop::Ended(45)) {
+                if first_unmet.is_none() {
+                    first_unmet = Some(number);
+                }
+            } else {
+                assert!(rt; first == Run::Wanted(Want::StoreFailed));
+                assert!(rt; first_unmet.is_none());
+            }
         }
-        assert!(rt; 6 < met && met < 99);
+        assert!(rt; matches!(first_unmet, Some(8..)));
         Ok(())
     }
 
