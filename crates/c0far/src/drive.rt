@@ -30,7 +30,7 @@ fn say_ok<O: Write>(out: &mut O) -> u8
 }
 
 /// Says how the words are to be.
-fn say_usage<E: Write>(err: &mut E) -> u8
+pub fn say_usage<E: Write>(err: &mut E) -> u8
     ensures { Says (writes (E.contents err.old) (E.contents err.new)) (usage ++ newline) 2 result }
 {
     let usage = Usage::Refused;

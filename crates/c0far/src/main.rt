@@ -10,20 +10,38 @@ mod say;
 mod tests;
 mod words;
 
-use crate::drive::drive;
+use crate::drive::{drive, say_usage};
 use crate::files::FolderFiles;
+use crate::say::say_memory;
 use std::alloc::{AllocError, Global};
 use std::process::ExitCode;
 use std::{env, io};
 
-fn main(rt: HostRuntime) -> io::Result<ExitCode> {
-    let words: Vec<String> = env::args(&rt)?.collect(rt.alloc())?;
-    let mut names: Vec<&str> = Vec::new(rt.alloc());
-    for word in &words {
-        names.push(word.as_str())?;
+/// The words as slices.
+fn slices<'a>(alloc: Global, words: &'a [String]) -> Result<Vec<&'a str>, AllocError> {
+    let mut slices = Vec::new(alloc);
+    for word in words {
+        slices.push(word.as_str())?;
     }
-    let mut out = io::writer(&rt);
+    Ok(slices)
+}
+
+fn main(rt: HostRuntime) -> io::Result<ExitCode> {
     let mut err = rt.stderr();
+    let words: Vec<String> = match env::args(&rt) {
+        Ok(words) => match words.collect(rt.alloc()) {
+            Ok(words) => words,
+            Err(_refused) => return Ok(ExitCode::from(say_memory(&mut err))),
+        },
+        Err(error) if error.kind() == io::ErrorKind::OutOfMemory => {
+            return Ok(ExitCode::from(say_memory(&mut err)));
+        }
+        Err(_unread) => return Ok(ExitCode::from(say_usage(&mut err))),
+    };
+    let Ok(names) = slices(rt.alloc(), &words) else {
+        return Ok(ExitCode::from(say_memory(&mut err)));
+    };
+    let mut out = io::writer(&rt);
     let mut files = FolderFiles::new(&rt);
     let status = drive(rt.alloc(), &rt, &names, &mut files, &mut out, &mut err);
     Ok(ExitCode::from(status))
