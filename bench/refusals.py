@@ -1,6 +1,6 @@
 #!/usr/bin/env python3
 """Runs a program with each of its allocations refused in turn: prints how many there are, and each run that ends by a signal, or with the
-status of the whole run but other output.
+status of the whole run but other output. Of more than 3,000 it refuses the first and the last 1,000, and 1,000 at equal steps between.
 
 usage: bench/refusals.py PROGRAM [WORD..]
 Wants a C compiler, for a library that stands between the program and the allocator.
@@ -53,6 +53,14 @@ void *aligned_alloc(size_t align, size_t size) {
 """
 
 
+def numbers_of(calls):
+    """Which allocations are refused, of so many."""
+    if calls <= 3000:
+        return range(1, calls + 1)
+    between = range(1001, calls - 999, max(1, (calls - 2000) // 1000))
+    return [*range(1, 1001), *between, *range(calls - 999, calls + 1)]
+
+
 def main():
     words = sys.argv[1:]
     if not words:
@@ -70,14 +78,14 @@ def main():
         whole = run(CALLS=told)
         with open(told) as file:
             calls = int(file.read())
-        statuses, bad = {}, 0
-        for k in range(1, calls + 1):
+        statuses, bad, numbers = {}, 0, numbers_of(calls)
+        for k in numbers:
             status, output = run(REFUSED=str(k))
             statuses[status] = statuses.get(status, 0) + 1
             if status < 0 or status == whole[0] and output != whole[1]:
                 bad += 1
                 print(f"allocation {k} refused: status {status}, output {output[:80]!r}")
-    print(f"status {whole[0]} with all; {calls} allocations refused in turn, runs by status: {statuses}; {bad} bad")
+    print(f"status {whole[0]} with all; {len(numbers)} of {calls} allocations refused in turn, runs by status: {statuses}; {bad} bad")
     sys.exit(bad > 0)
 
 
