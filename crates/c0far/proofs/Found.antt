@@ -1,14 +1,17 @@
 -- What clap found, read as the words' meaning.
-use Rattle.std.proofs.Common.{◌≡◌, ◌∙◌, Bool, true, false, List, [], ◌∷◌, Option, Some, None, map, find, refl, sym, ap, ap₂, ◌||◌, ℕ}
-use Rattle.std.specs.Prelude.{Box, codes, cond, option_map, option_and_then, slice_get}
+use Rattle.std.proofs.Common.{◌≡◌, ◌∙◌, Bool, true, false, List, [], ◌∷◌, Option, Some, None, map, find, refl, sym, ap, ap₂, subst, inl, inr, ◌||◌, ℕ}
+use Rattle.std.specs.Prelude.{Box, codes, option_map, option_and_then, slice_get}
 use Rattle.std.specs.Option.{option_map_or}
 use Rattle.std.specs.Box.{box_value}
 use Rattle.std.specs.Str.{bytes_eq}
 use Rattle.std.specs.Borrow.{Bor}
 use Rattle.clap.specs.Walk.{Row, Text, first_of, row_of, rows_of}
+use Rattle.clap.specs.Words.{HasKind, Kinds, fault_of, is_simple_and_free, kind_of}
 use Rattle.clap.specs.Facts.{Entry}
 use Rattle.clap.specs.Matches.{first_value, found_of, subcommand_name_of}
 use Rattle.clap.specs.Simple.{App, HasMatchesOf, is_simple, subcommand_of, subcommand_rows, subcommand_rows_of}
+use Rattle.clap.specs.declared.error.kind.ErrorKind.TheVariants.{OutOfMemory}
+use Rattle.clap.specs.declared.error.Error.{Error}
 use Rattle.clap.specs.declared.parser.matches.ArgMatches.{ArgMatches}
 use Rattle.clap.specs.declared.parser.matches.ArgMatches.TheViews.{out-ArgMatches, out-SubCommand}
 use Rattle.clap.specs.declared.parser.matches.SubCommand.{SubCommand}
@@ -83,6 +86,24 @@ still_local new old arg n o a = n ∙ ap₂ ◌||◌ o a
 pub shell_simple : is_simple shell ≡ true
 unfolding shell
 shell_simple = refl
+
+-- no rule of the shell is on another
+shell_free : is_simple_and_free shell ≡ true
+unfolding shell
+shell_free = refl
+
+-- clap found no fault where it took the words
+pub no_fault : (a : App) (words : List Text) → a ≡ shell → (is_simple_and_free a ≡ true → fault_of a words ≡ []) → fault_of shell words ≡ []
+no_fault a words same none = subst (λ b. fault_of b words ≡ []) same (none (ap is_simple_and_free same ∙ shell_free))
+
+-- where it finds no fault, it refuses words only for want of memory
+pub only_memory : (a : App) (words : List Text) (e : Error) → a ≡ shell → (is_simple_and_free a ≡ true → HasKind (fault_of a words) e) → fault_of shell words ≡ [] → kind_of e ≡ OutOfMemory
+only_memory a words e same has none = go _ none (subst (λ b. HasKind (fault_of b words) e) same (has (ap is_simple_and_free same ∙ shell_free)))
+  where
+    go : (kinds : Kinds) → kinds ≡ [] → HasKind kinds e → kind_of e ≡ OutOfMemory
+    go [] f (inl k) = k
+    go [] f (inr among) = absurd among
+    go (k ∷ ks) f h = cc
 
 -- what clap found is what the words mean
 pub rows_are : (a : App) (words : List Text) (m : ArgMatches) → a ≡ shell → HasMatchesOf a words m → subcommand_rows_of m ≡ subcommand_of shell words

@@ -1,5 +1,5 @@
 -- what every interleaving leaves of a program, from what the compiler, the meaning and the world promise
-use Rattle.std.proofs.Common.{◌≡◌, ◌≢◌, ℕ, zero, suc, ◌+◌, ◌-◌, ◌<◌, ◌≤◌, Bool, true, false, Option, Some, None, List, [], ◌∷◌, ◌++◌, refl, sym, ap, ◌∙◌, subst, arith, append_assoc}
+use Rattle.std.proofs.Common.{◌≡◌, ℕ, zero, suc, ◌+◌, ◌-◌, ◌<◌, ◌≤◌, Bool, true, false, Option, Some, None, List, [], ◌∷◌, ◌++◌, refl, sym, ap, ◌∙◌, subst, arith, append_assoc}
 use Rattle.cells.specs.declared.ending.Want.{Want}
 use Rattle.cells.specs.Stops.{Stop}
 use Rattle.cells.specs.Outcomes.{Meant, IsPrefix, KeepsEnd, stops_with}
@@ -13,10 +13,9 @@ use Rattle.code_form.specs.Code.{Core, Running, Stopped, Stuck, code, output_of,
 use Rattle.code_form.specs.Laws.{StepsAdd, StoppedStays}
 use Rattle.world_events.specs.Causes.{HasCause}
 use Rattle.world_events.specs.Following.{IsAt}
-use Rattle.world_events.specs.Programs.{Program, Wanted}
+use Rattle.world_events.specs.Programs.{Wanted}
 use Rattle.world_events.specs.Worlds.{Event, Follows, Sizes, World, start}
 use Rattle.c0_image.specs.Correct.{Behaves}
-use Rattle.c0_image.specs.Compiled.{IsCompiled}
 use Rattle.c0far.specs.Headline.{EndsSo, IsRun, Promised, Settles, Headline}
 
 -- what the meaning, the code's run and the world promise

@@ -1,5 +1,5 @@
 -- What a command writes, and its exit status.
-use Rattle.std.specs.Prelude.{◌≡◌, ◌≢◌, ◌⊎◌, ℕ, ◌+◌, ◌-◌, ◌==◌, min, Bool, true, false, not, List, [], ◌∷◌, ◌++◌, length, take, count_by, Option, Some, None, slice_get, codes, cond, decimal}
+use Rattle.std.specs.Prelude.{◌≡◌, ◌≢◌, ◌⊎◌, ℕ, ◌+◌, ◌-◌, ◌==◌, min, Bool, false, not, List, [], ◌∷◌, ◌++◌, length, take, count_by, Option, Some, None, slice_get, codes, cond, decimal}
 use Rattle.std.specs.Io.KnownBytes.{Appends}
 use Rattle.cells.specs.declared.ending.Ended.{Ended}
 use Rattle.cells.specs.Lines.{run_line}
@@ -13,14 +13,14 @@ use Rattle.c0_typed.specs.Trees as y
 use Rattle.c0_front.specs.Texts.{IsTypedAs}
 use Rattle.c0_front.specs.Texts as Unchecked
 use Rattle.code_form.specs.Form.{Image}
-use Rattle.clap.specs.Words.{Text, takes}
+use Rattle.clap.specs.Words.{Text}
 use Rattle.c0_image.specs.Compiled.{IsCompiled}
 use Rattle.image_run.specs.Executed.{IsExecuted}
 use Rattle.c0far.specs.FileTexts.{HasText, IsMissing, Known}
 use Rattle.c0far.specs.declared.words.Usage.{Usage}
 use Rattle.c0far.specs.declared.words.Usage.TheVariants as refusal
 use Rattle.c0far.specs.MeantLines.{last_line}
-use Rattle.c0far.specs.Shell.{Check, Command, Mean, Names, Run, shell}
+use Rattle.c0far.specs.Shell.{Check, Command, Mean, Names, Run}
 use Rattle.c0far.specs.Statuses.{ended_status, run_status}
 
 -- ---- what is shown
@@ -112,6 +112,8 @@ pub record HasFailed (file : Text) (held : Known) (out err : Writes) (result : �
   pub none : (typed : y.Program) → IsTypedAs false text typed → ⊥
   pub fault : Fault
   pub cause : Unchecked.IsRefusedText false text fault
+  -- want of memory is told otherwise
+  pub told : fault.kind ≢ f.OutOfMemory
   pub line : ℕ
   pub column : ℕ
   pub place : StandsAt text fault.span.start line column
@@ -156,7 +158,7 @@ usage_line refusal.OutOfMemory = codes "out of memory"
 
 -- the words are no command
 pub record IsUsage (words : List Text) (out err : Writes) (result : ℕ) : Type 0 where
-  pub none : takes shell words ≡ true → (command : Command) → Names words command → ⊥
+  pub none : (command : Command) → Names words command → ⊥
   pub shown : Says err (usage ++ newline) 2 result
   pub quiet : IsQuiet out
 

@@ -5,7 +5,7 @@ use Rattle.std.specs.List.{list_all}
 use Rattle.std.specs.Option.{option_map_or}
 use Rattle.std.specs.Str.{bytes_eq}
 use Rattle.std.specs.Str.Parse.{digits_value}
-use Rattle.clap.specs.Words.{App, Row, Rule, Shape, Text, first_of, new_app, new_rule, subcommand_of, with_rule, with_subcommand}
+use Rattle.clap.specs.Words.{App, Row, Rule, Shape, Text, fault_of, first_of, new_app, new_rule, subcommand_of, with_rule, with_subcommand}
 use Rattle.clap.specs.declared.builder.ArgAction.TheVariants.{Set, SetTrue}
 use Rattle.clap.specs.declared.builder.command.Command.{Command as Built}
 use Rattle.clap.specs.declared.builder.command.Command.TheViews.{out-Command}
@@ -92,6 +92,6 @@ command_of (line.Check file) = Check file.now
 command_of (line.Mean checks turns file) = Mean checks turns file.now
 command_of (line.Run checks file) = Run checks file.now
 
--- the words are this command, as clap reads them
+-- clap finds no fault in the words, and they are this command, as it reads them
 abbrev pub Names : List Text → Command → Type 0
-Names words command = command_in (subcommand_of shell words) ≡ Some command
+Names words command = (fault_of shell words ≡ []) × (command_in (subcommand_of shell words) ≡ Some command)

@@ -1,6 +1,6 @@
 //! From words to a command.
 ghost use Rattle.std.specs.Prelude.{◌≡◌, [], IfErr, IfOk, List, ℕ, map, option_map, true};
-ghost use Rattle.clap.specs.Words.{app_of, found_of, kind_of, rows_of, subcommand_rows_of, takes};
+ghost use Rattle.clap.specs.Words.{app_of, found_of, kind_of, rows_of, subcommand_rows_of};
 ghost use Rattle.c0far.specs.Shell.{Command as Asked, IsLocal, Names, command_in, command_of, file_shape, has_checks, is_signed, mean_command, mean_shape, named_command, number_in, run_shape, shell};
 
 use crate::words::{Line, Usage};
@@ -153,11 +153,11 @@ fn found<'a>(matches: &ArgMatches<'a>) -> Option<Line<'a>>
     }
 }
 
-/// The command that the words name, of which the first is the program's name. `Refused` where clap does not take them, or they name
+/// The command that the words name, of which the first is the program's name. `Refused` where clap finds a fault in them, or they name
 /// no command with its file; `OutOfMemory` where a growth was refused.
 pub fn line<'a>(alloc: Global, words: &'a [&'a str]) -> Result<Line<'a>, Usage>
     ensures named { IfOk result (λ l. Names (map (λ w. w.now) words.entry.now) (command_of l)) }
-    ensures refused { IfErr result (λ u. takes shell (map (λ w. w.now) words.entry.now) ≡ true → (command : Asked) → Names (map (λ w. w.now) words.entry.now) command → u ≡ Usage.OutOfMemory) }
+    ensures refused { IfErr result (λ u. (command : Asked) → Names (map (λ w. w.now) words.entry.now) command → u ≡ Usage.OutOfMemory) }
 {
     let command = match command(alloc) {
         Ok(command) => command,

@@ -470,11 +470,11 @@ mod tests {
         let Ok(mut session) = Session::new(alloc, &table, image, seat) else {
             return Err(Fail::from(AllocError));
         };
-        let first = session.run(rt, 10_000)?;
+        let first = session.run(rt, 10_000);
         if session.completed() > 10_000 {
             return Err(Fail::from(AllocError));
         }
-        Ok((first, session.run(rt, 10_000)?))
+        Ok((first, session.run(rt, 10_000)))
     }
 
     // Ten nodes in four frames: six are moved out while the list is made, so the store is called six times before it is walked,

@@ -8,7 +8,7 @@ use Rattle.cells.specs.Stops.{stop_of as stop_read}
 use Rattle.code_form.specs.Form.{Image}
 use Rattle.code_form.specs.Effects.{code_run}
 use Rattle.code_form.specs.Code.{Core, sizes, allocations_of, effect, code, held, stop_of, is_blocked}
-use Rattle.code_form.specs.Growth.{may_grow, rest_of}
+use Rattle.code_form.specs.Growth.{has_text, may_grow, rest_of}
 use Rattle.code_form.specs.Placed.{SameHeap, next_object, object_at, pieces}
 use Rattle.code_form.specs.Touches.{cell_option, touch_of}
 use Rattle.code_form.specs.declared.touch.Cell.{Cell}
@@ -100,6 +100,10 @@ abbrev pub Ran : Type 0 → ℕ → State → State → Run → Type 0
 Ran reliable n s t Running = SameProgram s t × (t.completed ≡ s.completed + n) × IsGoing t × (t.refusals ≡ s.refusals)
 Ran reliable n s t (Stopped x) = SameProgram s t × (t.completed ≤ s.completed + n) × (stop_of t.core ≡ Some (stop_read x)) × (t.refusals ≡ s.refusals)
 Ran reliable n s t (Wanted w) = SameProgram s t × (t.completed ≤ s.completed + n) × (t.want ≡ Some w) × (stop_of t.core ≡ None) × (IsGoing s → Caused reliable s.refusals t w)
+
+-- a program that had stopped by an error, for whose text memory is refused: that is answered alone, and nothing is changed
+abbrev pub IsUntold : State → State → Run → Type 0
+IsUntold s t r = (t ≡ s) × (has_text (stop_of s.core) ≡ true) × (r ≡ Wanted OutOfMemory)
 
 -- a session at its beginning
 abbrev pub begin : Image → View → ℕ → State

@@ -4,19 +4,18 @@ ghost use Rattle.cells.specs.declared.ending.Want.TheVariants.{OutOfMemory, Stor
 ghost use Rattle.cells.specs.Stops.{Stop};
 ghost use Rattle.code_form.specs.Code.{Covered, most_scopes, output_of, stop_of};
 ghost use Rattle.code_form.specs.Form.{image_of};
-ghost use Rattle.code_form.specs.Growth.{has_text};
 ghost use Rattle.executor.specs.Keeping.{IsSession};
-ghost use Rattle.executor.specs.State.{AllShut, IsAt, IsGoing, Ran, ScopesHold, State, begin};
+ghost use Rattle.executor.specs.State.{AllShut, IsAt, IsGoing, IsUntold, Ran, ScopesHold, State, begin};
 ghost use Rattle.executor.specs.Taken.{IsQuiet, Refused};
 ghost use Rattle.object_lock.specs.Fresh.{IsFresh};
-ghost use Rattle.std.specs.Prelude.{◌≡◌, ◌≢◌, ◌+◌, ◌<◌, ◌≤◌, ◌^◌, IfOk, MatchResult, Ok, Some, true};
+ghost use Rattle.std.specs.Prelude.{◌≡◌, ◌≢◌, ◌⊎◌, ◌+◌, ◌<◌, ◌≤◌, ◌^◌, IfOk, MatchResult, Some};
 
 use crate::machine::Machine;
 use cells::{Run, Want};
 use code_form::{Image, effect_laws, heap_laws, run_laws};
 use object_lock::{ObjectTable, OwnerSeat};
 use remote_store::RawStore;
-use std::alloc::{AllocError, Global};
+use std::alloc::Global;
 use std::marker::Model;
 use std::sync::Wait;
 
@@ -61,29 +60,31 @@ impl<'a, S: RawStore> Session<'a, S> {
     }
 
     /// Completes `limit` instructions, unless the program stops or wants something; it may wait. Having answered a stop or a want it
-    /// answers the same from then on and changes nothing. Where its frames are full it moves objects out by itself.
-    ///
-    /// `Err` where it had stopped before by an error, for whose text memory is refused: then nothing is changed.
+    /// answers the same from then on and changes nothing; only where it had stopped by an error, for whose text memory is refused now,
+    /// this call alone answers `OutOfMemory`. Where its frames are full it moves objects out by itself.
     ///
     /// `NoObjects`: the pieces of the allocation that is next don't fit in what is left of the program's share. `OutOfMemory`: memory
     /// was refused to an allocation, to output, to a call, or for the text of an error. `StoreFailed`: a call was refused through the session's own port; or the code is stuck, or an
     /// allocation or a return finds a scope open, which is never so where the store is honest and the image covered. Then
     /// the session has given back what it had in hand, and every scope is shut.
-    pub fn run<R: Wait>(&mut self, rt: &R, limit: u64) -> Result<Run, AllocError>
+    pub fn run<R: Wait>(&mut self, rt: &R, limit: u64) -> Run
         requires { self.old.completed + limit < 2 ^ 64 }
         ensures at { S.honest → IsAt self.new }
-        ensures told { MatchResult result (λ r. Ran S.reliable limit self.old self.new r) (λ _. (self.new ≡ self.old) × (has_text (stop_of self.old.core) ≡ true)) }
+        ensures told { Ran S.reliable limit self.old self.new result ⊎ IsUntold self.old self.new result }
         ensures scopes { self.new.want ≢ Some StoreFailed → ScopesHold self.new }
         ensures shut { (x : Stop) → stop_of self.new.core ≡ Some x → AllShut self.new }
         ensures failed { self.new.want ≡ Some StoreFailed → AllShut self.new }
         ensures quiet { IsQuiet self.new.view }
-        ensures covered { S.honest → Covered self.old.image → IsGoing self.old → result ≡ Ok (Wanted StoreFailed) → Refused S.reliable self.old.refusals self.new.refusals }
+        ensures covered { S.honest → Covered self.old.image → IsGoing self.old → result ≡ Wanted StoreFailed → Refused S.reliable self.old.refusals self.new.refusals }
         ensures ended { (IsGoing self.old → ⊥) → self.new ≡ self.old }
     {
         effect_laws();
         heap_laws();
         run_laws();
-        self.machine.run(rt, limit)
+        match self.machine.run(rt, limit) {
+            Ok(run) => run,
+            Err(_refused) => Run::Wanted(Want::OutOfMemory),
+        }
     }
 
     /// What the program printed.

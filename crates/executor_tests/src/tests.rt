@@ -152,11 +152,11 @@ fn ran_over_a_failing_store<R: Wait>(
     let Ok(mut session) = Session::new(alloc, &table, image, seat) else {
         return Err(Fail::from(AllocError));
     };
-    let first = session.run(rt, 100)?;
+    let first = session.run(rt, 100);
     if session.completed() > 100 {
         return Err(Fail::from(AllocError));
     }
-    Ok((first, session.run(rt, 100)?))
+    Ok((first, session.run(rt, 100)))
 }
 
 /// What a program answers twice that has one object and one frame, and how many instructions it completed.
@@ -180,11 +180,11 @@ fn ran<R: Wait>(rt: &R, alloc: Global, image: &Image, limit: u64) -> Result<(Run
     let Ok(mut session) = Session::new(alloc, &table, image, seat) else {
         return Err(Fail::from(AllocError));
     };
-    let first = session.run(rt, limit)?;
+    let first = session.run(rt, limit);
     if session.completed() > limit {
         return Err(Fail::from(AllocError));
     }
-    let second = session.run(rt, limit)?;
+    let second = session.run(rt, limit);
     Ok((first, second, session.completed()))
 }
 
@@ -208,12 +208,12 @@ fn five_through_far_memory(rt: HostRuntime) -> Result<(), Fail> {
     let Ok(mut session) = Session::new(alloc, &table, &image, seat) else {
         return Err(Fail::from(AllocError));
     };
-    assert!(rt; session.run(&rt, 9)? == Run::Running);
+    assert!(rt; session.run(&rt, 9) == Run::Running);
     assert!(rt; session.completed() == 9);
-    assert!(rt; session.run(&rt, 9)? == Run::Stopped(Stop::Ended(5)));
+    assert!(rt; session.run(&rt, 9) == Run::Stopped(Stop::Ended(5)));
     assert!(rt; session.completed() == 10);
     assert!(rt; session.output().is_empty());
-    assert!(rt; session.run(&rt, 9)? == Run::Stopped(Stop::Ended(5)));
+    assert!(rt; session.run(&rt, 9) == Run::Stopped(Stop::Ended(5)));
     assert!(rt; session.completed() == 10);
     Ok(())
 }
@@ -419,9 +419,9 @@ fn an_array_of_two_pieces_a_call_and_an_error(rt: HostRuntime) -> Result<(), Fai
         return Err(Fail::from(AllocError));
     };
     let bad = Run::Stopped(Stop::ErrorCalled(String::from_str(alloc, "bad")?));
-    assert!(rt; session.run(&rt, 100)? == bad);
+    assert!(rt; session.run(&rt, 100) == bad);
     assert!(rt; session.output() == b"9".as_slice());
     assert!(rt; session.completed() == 20);
-    assert!(rt; session.run(&rt, 100)? == bad);
+    assert!(rt; session.run(&rt, 100) == bad);
     Ok(())
 }

@@ -34,10 +34,7 @@ fn run_to_end<S: RawStore, W: Wait>(rt: &W, session: &mut Session<'_, S>) -> Run
 {
     for _ in rt.forever() {
         if session.completed() <= u64::MAX - QUANTUM {
-            let Ok(run) = session.run(rt, QUANTUM) else {
-                unreachable!()
-            };
-            match run {
+            match session.run(rt, QUANTUM) {
                 Run::Running => {}
                 Run::Stopped(stop) => return Run::Stopped(stop),
                 Run::Wanted(want) => return Run::Wanted(want),
