@@ -10,7 +10,7 @@ mod tests {
     use crate::words::{Line, Usage};
     use c0_image::compile;
     use cells::{Run, Stop, Want};
-    use code_form::Image;
+    use code_form::{Image, Kind};
     use executor::Session;
     use object_lock::ObjectTable;
     use remote_store::{Config, FarHeap, FaultPlan, FaultStore, FaultStores};
@@ -500,6 +500,53 @@ mod tests {
             }
         }
         assert!(rt; matches!(first_unmet, Some(8..)));
+        Ok(())
+    }
+
+    /// Whether the layouts that these kinds name are there.
+    fn have_layouts(image: &Image, kinds: &[Kind]) -> bool {
+        for kind in kinds {
+            if let Kind::Ptr(layout) | Kind::Arr(layout) | Kind::Off(layout) = *kind {
+                if layout as usize >= image.layouts.len() {
+                    return false;
+                }
+            }
+        }
+        true
+    }
+
+    /// Whether the layouts that registers and cells name are there.
+    fn names_layouts(image: &Image) -> bool {
+        for function in &image.functions {
+            if !have_layouts(image, &function.kinds) {
+                return false;
+            }
+        }
+        for layout in &image.layouts {
+            if !have_layouts(image, layout) {
+                return false;
+            }
+        }
+        true
+    }
+
+    // Types that nothing allocates or looks at: of a local, of NULL, of a parameter, of a field, and behind pointers.
+    #[test]
+    fn layouts_are_there(rt: HostRuntime) -> Result<(), Fail> {
+        let texts = [
+            "int main() { int* p = NULL; return 0; }",
+            "int f(bool** p, string[] a) { return 1; } int main() { return 0; }",
+            "struct s { char* c; struct t* t; int*[] a; }; int main() { struct s* p = alloc(struct s); return p == NULL ? 1 : 0; }",
+            "int main() { return NULL == NULL ? 1 : 0; }",
+            LIST,
+            ARRAY,
+        ];
+        for text in texts {
+            let Ok(image) = compile(rt.alloc(), text.as_bytes(), true) else {
+                return Err(Fail::from(AllocError));
+            };
+            assert!(rt; names_layouts(&image));
+        }
         Ok(())
     }
 

@@ -11,10 +11,10 @@ use Rattle.c0_typed.specs.declared.tree.Function.{Function}
 use Rattle.code_form.specs.declared.form.Kind.{Kind}
 use Rattle.code_form.specs.declared.form.Kind.TheVariants as kind
 use Rattle.code_form.specs.Code.{same_kind}
-use Rattle.lower.specs.Kinds.{kind_of, layout_number, position}
+use Rattle.lower.specs.Kinds.{kind_of, layout_number, position, single_layout}
 use Rattle.lower.specs.Known.{IsKnown, Knows, KnowsRow, KnowsPlace, KnowsAll, KnowsStatement, KnowsBlock, KnowsBody, KnowsFunction, KnowsFunctions}
 use Rattle.lower.specs.Gathered.{all_learned, learned, types_at, types_in, types_in_all, types_in_row, types_of, types_of_all, types_of_block, types_of_function, types_of_functions, with_kind}
-use Rattle.lower.proofs.Layouts.{same_kind_refl}
+use Rattle.lower.proofs.Layouts.{same_kind_refl, single_there}
 
 abbrev Has : Kind → List Kind → Type 0
 Has k singles = position k singles < length singles
@@ -94,17 +94,21 @@ module _ (n : ℕ) where
   Settled singles (t.PointerTy ty) = Settled singles ty × Has (kind.Ptr (layout_number n singles ty)) singles
   Settled singles (t.ArrayTy ty) = Settled singles ty × Has (kind.Arr (layout_number n singles ty)) singles
 
+  same_single : (k : Kind) (singles later : List Kind) → Extends singles later → Has k singles → single_layout n later k ≡ single_layout n singles k
+  same_single k singles later x h =
+      single_there n later k (has_kept k singles later x h) ∙ ap (λ p. suc (n + p)) (same_kept k singles later x h) ∙ sym (single_there n singles k h)
+
   same_number : (singles later : List Kind) (ty : t.Ty) → Extends singles later → Settled singles ty → layout_number n later ty ≡ layout_number n singles ty
   same_number singles later t.VoidTy x s = refl
   same_number singles later (t.StructTy j) x s = refl
-  same_number singles later t.IntTy x s = ap (λ p. suc (n + p)) (same_kept kind.Int singles later x s)
-  same_number singles later t.BoolTy x s = ap (λ p. suc (n + p)) (same_kept kind.Bool singles later x s)
-  same_number singles later t.CharTy x s = ap (λ p. suc (n + p)) (same_kept kind.Char singles later x s)
-  same_number singles later t.TextTy x s = ap (λ p. suc (n + p)) (same_kept kind.Text singles later x s)
+  same_number singles later t.IntTy x s = same_single kind.Int singles later x s
+  same_number singles later t.BoolTy x s = same_single kind.Bool singles later x s
+  same_number singles later t.CharTy x s = same_single kind.Char singles later x s
+  same_number singles later t.TextTy x s = same_single kind.Text singles later x s
   same_number singles later (t.PointerTy ty) x s =
-      ap (λ k. suc (n + position (kind.Ptr k) later)) (same_number singles later ty x s.0) ∙ ap (λ p. suc (n + p)) (same_kept (kind.Ptr (layout_number n singles ty)) singles later x s.1)
+      ap (λ k. single_layout n later (kind.Ptr k)) (same_number singles later ty x s.0) ∙ same_single (kind.Ptr (layout_number n singles ty)) singles later x s.1
   same_number singles later (t.ArrayTy ty) x s =
-      ap (λ k. suc (n + position (kind.Arr k) later)) (same_number singles later ty x s.0) ∙ ap (λ p. suc (n + p)) (same_kept (kind.Arr (layout_number n singles ty)) singles later x s.1)
+      ap (λ k. single_layout n later (kind.Arr k)) (same_number singles later ty x s.0) ∙ same_single (kind.Arr (layout_number n singles ty)) singles later x s.1
 
   settled_kept : (singles later : List Kind) (ty : t.Ty) → Extends singles later → Settled singles ty → Settled later ty
   settled_kept singles later t.VoidTy x s = tt

@@ -1,7 +1,7 @@
 -- Layouts of types: the kinds of their cells, and where their parts begin.
 use Rattle.std.proofs.Common.{◌≡◌, ℕ, zero, suc, ◌+◌, ◌<◌, ◌≤◌, Bool, true, false, cond, List, [], ◌∷◌, ◌++◌, length, map, get_or, take, refl, sym, ap, ◌∙◌, subst, arith, append_assoc, append-nil, Some, option_map}
 use Rattle.std.specs.Prelude.{nat_lt, slice_get}
-use Rattle.std.proofs.lemmas.Bool.{eq-eqb, eqb-true, ltb-false, ltb-true}
+use Rattle.std.proofs.lemmas.Bool.{eq-eqb, eqb-true, lt-ltb, ltb-false, ltb-true}
 use Rattle.std.proofs.lemmas.List.{get_or_past, length-append}
 use Rattle.std.proofs.lemmas.Option.{get_or_from_slice_get, slice_get-get_or, slice_get-map}
 use Rattle.c0_typed.specs.Trees.{Ty, VoidTy, IntTy, BoolTy, CharTy, TextTy, StructTy, PointerTy, ArrayTy, Program}
@@ -9,7 +9,7 @@ use Rattle.c0_typed.specs.Typing.{IsSmall, IsHeld, AreHeld, IsField, FitsStructs
 use Rattle.code_form.specs.declared.form.Kind.{Kind}
 use Rattle.code_form.specs.declared.form.Kind.TheVariants as kind
 use Rattle.code_form.specs.Code.{same_kind}
-use Rattle.lower.specs.Kinds.{position, layout_number, kind_of, cell_kinds, field_kinds, struct_layouts, layouts_of, cells_of, field_offset}
+use Rattle.lower.specs.Kinds.{position, layout_number, single_layout, kind_of, cell_kinds, field_kinds, struct_layouts, layouts_of, cells_of, field_offset}
 use Rattle.lower.specs.Coded.{type_offset}
 use Rattle.lower.proofs.Lists.{get_front, get_behind, get_or_front, get_last, length_more}
 
@@ -135,12 +135,16 @@ small_cells structs singles TextTy s = refl
 small_cells structs singles (PointerTy t) s = refl
 small_cells structs singles (ArrayTy t) s = refl
 
-single_known : (structs : List (List Ty)) (singles : List Kind) (a : Kind) → position a singles < length singles → slice_get (layouts_of structs singles) (suc (length structs + position a singles)) ≡ Some (a ∷ [])
+-- the layout of a kind that the list has
+pub single_there : (n : ℕ) (singles : List Kind) (a : Kind) → position a singles < length singles → single_layout n singles a ≡ suc (n + position a singles)
+single_there n singles a l = ap (λ b. cond b (suc (n + position a singles)) n) (lt-ltb (position a singles) (length singles) l)
+
+single_known : (structs : List (List Ty)) (singles : List Kind) (a : Kind) → position a singles < length singles → slice_get (layouts_of structs singles) (single_layout (length structs) singles a) ≡ Some (a ∷ [])
 single_known structs singles a l =
     let all : List (List Kind) = struct_layouts (length structs) singles [] structs in
     let rest : List (List Kind) = map (λ k. k ∷ []) singles in
     let long : length all ≡ 0 + length structs = layouts_length (length structs) singles [] structs in
-    ap (slice_get (layouts_of structs singles)) (let z : suc (length structs + position a singles) ≡ length all + suc (position a singles) = omega (arith, long) in z)
+    ap (slice_get (layouts_of structs singles)) (single_there (length structs) singles a l ∙ (let z : suc (length structs + position a singles) ≡ length all + suc (position a singles) = omega (arith, long) in z))
     ∙ get_behind all ([] ∷ rest) (suc (position a singles)) ∙ slice_get-map (λ k. k ∷ []) singles (position a singles) ∙ ap (option_map (λ k. k ∷ [])) (position_there a singles l)
 
 -- behind the structs' layouts stands one without cells

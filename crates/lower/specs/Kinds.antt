@@ -10,20 +10,24 @@ abbrev pub position : Kind → List Kind → ℕ
 position k [] = 0
 position k (j ∷ js) = cond (same_kind k j) 0 (suc (position k js))
 
--- The layouts: one for each of n structs, one without cells for all structs that are never defined, and one of a single cell for each
--- kind of a list, which has those of all that is allocated and is no struct.
+-- The layouts: one for each of n structs, one without cells for all structs that are never defined and for all that is never allocated or
+-- looked at, and one of a single cell for each kind of a list, which has those of all that is allocated and is no struct.
 module _ (n : ℕ) (singles : List Kind) where
+  -- the layout of a single cell of this kind; the one without cells where the list has no such kind
+  abbrev pub single_layout : Kind → ℕ
+  single_layout k = cond (nat_lt (position k singles) (length singles)) (suc (n + position k singles)) n
+
   abbrev mutual
     -- the layout of what a pointer or an array of this type refers to, by its number
     pub layout_number : Ty → ℕ
     layout_number VoidTy = n
     layout_number (StructTy j) = cond (nat_lt j n) j n
-    layout_number IntTy = suc (n + position kind.Int singles)
-    layout_number BoolTy = suc (n + position kind.Bool singles)
-    layout_number CharTy = suc (n + position kind.Char singles)
-    layout_number TextTy = suc (n + position kind.Text singles)
-    layout_number (PointerTy t) = suc (n + position (kind.Ptr (layout_number t)) singles)
-    layout_number (ArrayTy t) = suc (n + position (kind.Arr (layout_number t)) singles)
+    layout_number IntTy = single_layout kind.Int
+    layout_number BoolTy = single_layout kind.Bool
+    layout_number CharTy = single_layout kind.Char
+    layout_number TextTy = single_layout kind.Text
+    layout_number (PointerTy t) = single_layout (kind.Ptr (layout_number t))
+    layout_number (ArrayTy t) = single_layout (kind.Arr (layout_number t))
 
   -- the kind of a register or a cell that holds a value of this type
   abbrev pub kind_of : Ty → Kind

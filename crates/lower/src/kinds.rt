@@ -1,7 +1,7 @@
 //! Kinds and layouts of types, over the kinds of single cells.
 ghost use Rattle.c0_typed.specs.Views.{type_of};
 ghost use Rattle.code_form.specs.Code.{same_kind};
-ghost use Rattle.lower.specs.Kinds.{kind_of as kind_with, layout_number as layout_with, position as place_of};
+ghost use Rattle.lower.specs.Kinds.{kind_of as kind_with, layout_number as layout_with, position as place_of, single_layout as single_with};
 ghost use Rattle.std.specs.Prelude.{◌≡◌, ◌+◌, ◌<◌, ◌≤◌, ◌^◌, length};
 
 use c0_typed::ValueType;
@@ -35,6 +35,19 @@ pub(crate) fn position(kinds: &[Kind], kind: Kind) -> usize
     kinds.len()
 }
 
+/// The layout of a single cell of this kind; the one without cells where the list has no such kind.
+fn single_layout(structs: u32, singles: &[Kind], kind: Kind) -> u32
+    requires { structs + length singles.now + 1 < 2 ^ 32 }
+    ensures { result ≡ single_with structs singles.now kind }
+{
+    let place = position(singles, kind);
+    if place < singles.len() {
+        structs + 1 + place as u32
+    } else {
+        structs
+    }
+}
+
 /// The layout of what a pointer or an array of this type refers to, by its number.
 pub(crate) fn layout_number(structs: u32, singles: &[Kind], ty: &ValueType) -> u32
     requires { structs + length singles.now + 1 < 2 ^ 32 }
@@ -50,7 +63,7 @@ pub(crate) fn layout_number(structs: u32, singles: &[Kind], ty: &ValueType) -> u
         ValueType::Pointer(inner) => Kind::Ptr(layout_number(structs, singles, inner)),
         ValueType::Array(inner) => Kind::Arr(layout_number(structs, singles, inner)),
     };
-    structs + 1 + position(singles, kind) as u32
+    single_layout(structs, singles, kind)
 }
 
 /// The kind of a register or a cell that holds a value of this type.
