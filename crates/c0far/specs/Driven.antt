@@ -112,8 +112,6 @@ pub record HasFailed (file : Text) (held : Known) (out err : Writes) (result : �
   pub none : (typed : y.Program) → IsTypedAs false text typed → ⊥
   pub fault : Fault
   pub cause : Unchecked.IsRefusedText false text fault
-  -- want of memory is told otherwise
-  pub told : fault.kind ≢ f.OutOfMemory
   pub line : ℕ
   pub column : ℕ
   pub place : StandsAt text fault.span.start line column

@@ -621,6 +621,8 @@ mod tests {
         assert_eq!(rt; line(rt.alloc(), &words), Err(Usage::Refused));
         let words = ["c0far", "run"];
         assert_eq!(rt; line(rt.alloc(), &words), Err(Usage::Refused));
+        let words = ["c0far", "run", "a.c0", "b.c0"];
+        assert_eq!(rt; line(rt.alloc(), &words), Err(Usage::Refused));
         let words = ["c0far"];
         assert_eq!(rt; line(rt.alloc(), &words), Err(Usage::Refused));
         let mut files = MemFiles::new(rt.alloc());

@@ -1,4 +1,4 @@
-use Rattle.std.proofs.Common.{◌≡◌, ◌∙◌, ◌⊎◌, inl, inr, refl, rules, subst, sym, true}
+use Rattle.std.proofs.Common.{◌≡◌, ◌∙◌, ◌⊎◌, inl, inr, refl, subst, sym, true}
 use Rattle.cells.specs.declared.ending.Run.TheVariants.{Wanted}
 use Rattle.cells.specs.declared.ending.Want.TheVariants.{OutOfMemory, StoreFailed}
 use Rattle.code_form.specs.Code.{Covered, stop_of}
@@ -10,10 +10,6 @@ use Rattle.executor.proofs.Opening.{never_failed, stopped_shut}
 use Rattle.executor.proofs.Running.{HeapLaws}
 use Rattle.executor.proofs.session.Session.run.Goals as goal
 use Rattle.executor.proofs.session.Session.run.Goals.{in-Ok, in-Err}
-
--- want of memory is no failed store
-apart : {X : Type 0} → Wanted OutOfMemory ≡ Wanted StoreFailed → X
-apart e = search rules
 
 pub returns-clause-covered : goal.returns-clause-covered
 returns-clause-covered g c =
@@ -27,7 +23,7 @@ returns-clause-covered g c =
           subst (λ (s : State). Refused rel s.refusals c.run.new.self.refusals) c.self.view_is
           (never_failed g.S.RawStore.honest rel laws heaps c.args.limit m _ (Wanted StoreFailed) c.run.ensures.session told q
           (subst (λ (s : State). Covered s.image) (sym c.self.view_is) cover) (subst IsGoing (sym c.self.view_is) going) refl)
-      | in-Err w ↦ λ q cover going e. apart (sym w.result-is ∙ e)
+      | in-Err w ↦ λ q cover going e. absurd (let clash : Wanted OutOfMemory ≡ Wanted StoreFailed = sym w.result-is ∙ e in cc clash)
     ]
 
 pub returns-clause-shut : goal.returns-clause-shut
