@@ -1,5 +1,5 @@
 -- What a command writes, and its exit status.
-use Rattle.std.specs.Prelude.{◌≡◌, ◌≢◌, ◌⊎◌, ℕ, ◌+◌, ◌-◌, ◌==◌, min, Bool, false, not, List, [], ◌∷◌, ◌++◌, length, take, count_by, Option, Some, None, slice_get, codes, cond, decimal}
+use Rattle.std.specs.Prelude.{◌≡◌, ◌⊎◌, ℕ, ◌+◌, ◌-◌, ◌==◌, min, Bool, false, not, List, [], ◌∷◌, ◌++◌, length, take, count_by, Option, Some, None, slice_get, codes, cond, decimal}
 use Rattle.std.specs.Io.KnownBytes.{Appends}
 use Rattle.cells.specs.declared.ending.Ended.{Ended}
 use Rattle.cells.specs.Lines.{run_line}
