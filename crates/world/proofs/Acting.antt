@@ -37,6 +37,15 @@ pub goes_same : {A : Type 0} (s : State) (turn : Answer → Turn A) (honest : An
 goes_same s turn honest Q same same' step.Took f g = g
 goes_same s turn honest Q same same' step.NotEnabled f g = (g.0, f g.1)
 
+-- what an answer is, said otherwise
+pub leads_with : {A : Type 0} (s : State) (turn : Answer → Turn A) (honest honest' : Answer → Type 0) (Q : State → A → Type 0) → ((a : Answer) → honest a → honest' a) → Leads s turn honest Q → Leads s turn honest' Q
+leads_with s turn honest honest' Q f l = (l.0, f l.0 l.1, l.2)
+
+pub goes_with : {A : Type 0} (s : State) (turn : Answer → Turn A) (honest honest' : Answer → Type 0) (Q : State → A → Type 0) (same : Type 0) (r : Step) → ((a : Answer) → honest a → honest' a)
+    → Goes s turn honest Q same r → Goes s turn honest' Q same r
+goes_with s turn honest honest' Q same step.Took f g = leads_with s turn honest honest' Q f g
+goes_with s turn honest honest' Q same step.NotEnabled f g = g
+
 -- ---- what lies in the tables
 
 place_inside : (z : Sizes) (t : Tables) (s : State) (o : ℕ) (p : Place) → Shown z t s → (s.word o).place ≡ p → p ≢ Away → o < z.objects

@@ -16,14 +16,16 @@ use Rattle.pointer_word.proofs.Ordered.{filled_all}
 use Rattle.pointer_word.proofs.Upd.{upd-same}
 use Rattle.remote_store.specs.Kept.{piece_cells}
 use Rattle.remote_store.specs.declared.berth.Berth.{Berth}
+use Rattle.remote_store.specs.declared.port.Port.{Port}
 use Rattle.world.specs.declared.machine.Object.{Object}
 use Rattle.world.specs.declared.machine.Place.{Place as RustPlace}
 use Rattle.world.specs.declared.machine.Place.TheVariants as placed
 use Rattle.world.specs.declared.program.Eviction.{Eviction as RustEviction}
 use Rattle.world.specs.declared.program.Mode.{Mode as RustMode}
 use Rattle.world.specs.declared.program.Mode.TheVariants as m
-use Rattle.world.specs.Acting.{Done, Failed, IsProgram, Leads, Moves, On, Outcome, Seated, Shows, Unread, resumes}
-use Rattle.world_events.specs.InHand.{BringsInto, FitsMode, OnlyBrings}
+use Rattle.world.specs.Acting.{Done, Failed, IsProgram, Leads, Moves, On, Outcome, Seated, Shows, UnreadSo, resumes}
+use Rattle.world.specs.Answered.{AnswersSo, Nothing, asked_in, reading}
+use Rattle.world_events.specs.InHand.{BringsInto, FitsMode, OnlyBrings, WasPut}
 use Rattle.world_events.specs.Programs.{Copying, Mode, Ready, Missing, Bringing, Reading, Filling, Evicting, Releasing, Retreating, Closing, Wanted, Program, finished as finished_as, in_mode}
 use Rattle.world.specs.Seats.{Seat, eviction_of, finished, mode_of}
 use Rattle.world.specs.Shown.{AreTables, IsNew, Shown}
@@ -31,6 +33,7 @@ use Rattle.world.specs.Tables.{Tables, frame_at, frame_word, is_away_at, object_
 use Rattle.world_events.specs.Turns.{Answer, Turn, Alone, Calls, began, claimed_so, evicts, found, marked_so, read_so, taken, to_fill}
 use Rattle.world_events.specs.Worlds.{IsHonestRead, ReadsHonestly, Sizes}
 use Rattle.world.proofs.Acting.{bringing_inside, claimed_inside, leads_call, plain, refused_call}
+use Rattle.world.proofs.Answered.{unasked}
 use Rattle.world.proofs.MovedOut.{leads_on}
 use Rattle.world.proofs.Showing.{in_objects}
 
@@ -78,6 +81,10 @@ module _ {C : Type 0} (content : C → Option (List ℕ)) (h : Type 0) (z : Size
   calls_to turn t' berths' x' c go e l shows program same =
       leads_call s turn (λ a. h → ReadsHonestly piece_cells s p.mode a.read) (λ u q. Shows content z t' berths' u × IsProgram x' q × (x'.setting ≡ x.setting)) plain c go
       (λ _. reads_none piece_cells s p.mode) e l (shows, program, same)
+
+  -- the same, where the store answered so
+  abbrev pub TurnsToSo : (Answer → Type 0) → (Answer → Turn Program) → Tables → List (Berth C) → Seat → Type 0
+  TurnsToSo told turn t' berths' x' = Leads s turn (λ a. (h → ReadsHonestly piece_cells s p.mode a.read) × told a) (λ u q. Shows content z t' berths' u × IsProgram x' q × (x'.setting ≡ x.setting))
 
   pub alone_to : (turn : Answer → Turn Program) (x' : Seat) (q : Program) → turn plain ≡ Alone q → IsProgram x' q → x'.setting ≡ x.setting → TurnsTo turn t berths x'
   alone_to turn x' q e program same = (plain, (λ _. reads_none piece_cells s p.mode), ((s, q), ap (taken piece_cells s) e, (is.shows, program, same)))
@@ -214,12 +221,24 @@ module _ {C : Type 0} (content : C → Option (List ℕ)) (h : Type 0) (z : Size
 
   -- ---- reading and filling
 
-  pub reads : (o f : ℕ) (words : List ℕ) (x' : Seat) → x.mode ≡ m.Reading o f → (h → IsHonestRead piece_cells (s.far o) (Some words)) → x' ≡ record x { words = words; mode = m.Filling o f 0 }
-      → TurnsTo (λ a. Alone (in_mode p (read_so o f a.read))) t berths x'
-  reads o f words x' e honest same =
-      let a : Answer = record { stored = true; read = Some words; grew = true } in (
+  -- the object that it brings in was put before
+  pub was_put : (o f : ℕ) → x.mode ≡ m.Reading o f → WasPut (s.far o)
+  was_put o f e = (fits_as (m.Reading o f) e).1
+
+  -- what it asks of the store
+  pub asked_as_mode : (mode : RustMode) → x.mode ≡ mode → asked_in piece_cells p.mode ≡ asked_in piece_cells (mode_of mode x.words)
+  asked_as_mode mode e = ap (asked_in piece_cells) (mode_is mode e)
+
+  pub unasked_in : {S : Type 0} (reliable : Type 0) (failures : S → ℕ) (gives : S → C → List ℕ → S → Type 0) (q : Port S C) (a : Answer) (mode : RustMode) → x.mode ≡ mode → asked_in piece_cells (mode_of mode x.words) ≡ Nothing
+      → AnswersSo reliable failures gives berths q q s.far (asked_in piece_cells p.mode) a
+  unasked_in reliable failures gives q a mode e none = unasked reliable failures gives berths q q s.far a (asked_in piece_cells p.mode) (asked_as_mode mode e ∙ none) refl
+
+  pub reads : (o f : ℕ) (words : List ℕ) (x' : Seat) (told : Answer → Type 0) → told (reading true words) → x.mode ≡ m.Reading o f → (h → IsHonestRead piece_cells (s.far o) (Some words)) → x' ≡ record x { words = words; mode = m.Filling o f 0 }
+      → TurnsToSo told (λ a. Alone (in_mode p (read_so o f a.read))) t berths x'
+  reads o f words x' told answered e honest same =
+      let a : Answer = reading true words in (
         a,
-        (λ k. subst (λ (y : Mode). ReadsHonestly piece_cells s y (Some words)) (sym (mode_is (m.Reading o f) e)) (honest k)),
+        ((λ k. subst (λ (y : Mode). ReadsHonestly piece_cells s y (Some words)) (sym (mode_is (m.Reading o f) e)) (honest k)), answered),
         (
           (s, in_mode p (Filling o f words 0)),
           refl,
@@ -231,11 +250,21 @@ module _ {C : Type 0} (content : C → Option (List ℕ)) (h : Type 0) (z : Size
         ),
       )
 
-  pub reads_not : (o f : ℕ) (words : List ℕ) (x' : Seat) → x' ≡ record x { words = words; mode = m.Releasing o f } → TurnsTo (λ a. Alone (in_mode p (read_so o f a.read))) t berths x'
-  reads_not o f words x' same =
-      alone_to (λ a. Alone (in_mode p (read_so o f a.read))) x' (in_mode p (Releasing o f)) refl
-      (subst (λ (y : Seat). IsProgram y (in_mode p (Releasing o f))) (sym same) (record { core = is.program.core; holds = is.program.holds; mode = refl; completed = is.program.completed }))
-      (ap (λ (k : Seat). k.setting) same)
+  pub reads_not : (o f : ℕ) (words : List ℕ) (x' : Seat) (told : Answer → Type 0) → told (reading false words) → x' ≡ record x { words = words; mode = m.Releasing o f }
+      → TurnsToSo told (λ a. Alone (in_mode p (read_so o f a.read))) t berths x'
+  reads_not o f words x' told answered same = (
+    reading false words,
+    ((λ _. reads_none piece_cells s p.mode), answered),
+    (
+      (s, in_mode p (Releasing o f)),
+      refl,
+      (
+        is.shows,
+        subst (λ (y : Seat). IsProgram y (in_mode p (Releasing o f))) (sym same) (record { core = is.program.core; holds = is.program.holds; mode = refl; completed = is.program.completed }),
+        ap (λ (k : Seat). k.setting) same,
+      ),
+    ),
+  )
 
   pub filling : (o f : ℕ) (words : List ℕ) (k : ℕ) → mode_of x.mode x.words ≡ Filling o f words k → FitsMode h piece_cells s.far (s.hand x.setting.mover) (Filling o f words k)
   filling o f words k e = subst (FitsMode h piece_cells s.far (s.hand x.setting.mover)) (is.program.mode ∙ e) is.fits
@@ -311,15 +340,15 @@ module _ {C : Type 0} (content : C → Option (List ℕ)) (h : Type 0) (z : Size
   pub moving : (o : ℕ) (y : RustEviction) → x.mode ≡ m.Evicting o y → Moves content h z t berths x.setting.mover (eviction_of y x.words) s
   moving o y e = record { shows = is.shows; inv = is.inv; fits = (fits_as (m.Evicting o y) e).2 }
 
-  pub moves_on : (o : ℕ) (y : RustEviction) (r : Outcome) (t' : Tables) (berths' : List (Berth C)) (words : List ℕ) (mode : RustMode) (x' : Seat)
-      → Leads s (λ a. evicts piece_cells x.setting.mover a (eviction_of y x.words) On Done Failed) Unread (λ u q. Shows content z t' berths' u × (q ≡ r))
+  pub moves_on : (o : ℕ) (y : RustEviction) (r : Outcome) (t' : Tables) (berths' : List (Berth C)) (words : List ℕ) (mode : RustMode) (x' : Seat) (told : Answer → Type 0)
+      → Leads s (λ a. evicts piece_cells x.setting.mover a (eviction_of y x.words) On Done Failed) (UnreadSo told) (λ u q. Shows content z t' berths' u × (q ≡ r))
       → mode_of mode words ≡ resumes (λ d. Evicting o d) (Bringing o) (Retreating o) r → x' ≡ record x { words = words; mode = mode }
-      → TurnsTo (λ a. evicts piece_cells x.setting.mover a (eviction_of y x.words) (λ d. in_mode p (Evicting o d)) (in_mode p (Bringing o)) (in_mode p (Retreating o))) t' berths' x'
-  moves_on o y r t' berths' words mode x' l so same =
+      → TurnsToSo told (λ a. evicts piece_cells x.setting.mover a (eviction_of y x.words) (λ d. in_mode p (Evicting o d)) (in_mode p (Bringing o)) (in_mode p (Retreating o))) t' berths' x'
+  moves_on o y r t' berths' words mode x' told l so same =
       let go : Outcome → Program = resumes (λ d. in_mode p (Evicting o d)) (in_mode p (Bringing o)) (in_mode p (Retreating o)) in
-      let k = leads_on x.setting.mover s (eviction_of y x.words) (λ d. in_mode p (Evicting o d)) (in_mode p (Bringing o)) (in_mode p (Retreating o)) (Shows content z t' berths') r (go r) refl l in (
+      let k = leads_on x.setting.mover s (eviction_of y x.words) (UnreadSo told) (λ d. in_mode p (Evicting o d)) (in_mode p (Bringing o)) (in_mode p (Retreating o)) (Shows content z t' berths') r (go r) refl l in (
         k.0,
-        (λ _. subst (ReadsHonestly piece_cells s p.mode) (sym k.1) (reads_none piece_cells s p.mode)),
+        ((λ _. subst (ReadsHonestly piece_cells s p.mode) (sym k.1.0) (reads_none piece_cells s p.mode)), k.1.1),
         (
           k.2.0,
           k.2.1,

@@ -1,18 +1,20 @@
 -- the turns of an evacuator that code holds
 use Rattle.std.proofs.Common.{◌≡◌, ℕ, ◌<◌, Bool, true, false, cond, ◌&&◌, List, [], Option, Some, None, refl, sym, ap, ◌∙◌, subst}
 use Rattle.std.specs.Prelude.{option_map, nat_lt}
-use Rattle.pointer_word.specs.Machine.{State}
+use Rattle.pointer_word.specs.Machine.{Far, State}
 use Rattle.pointer_word.specs.Calls.{Marks, act}
 use Rattle.pointer_word.specs.Legal.{holds}
 use Rattle.pointer_word.proofs.Legal.{may_legal}
 use Rattle.remote_store.specs.Kept.{piece_cells}
 use Rattle.remote_store.specs.declared.berth.Berth.{Berth}
+use Rattle.remote_store.specs.declared.port.Port.{Port}
+use Rattle.world.specs.Answered.{AnswersSo, asked_idly, asked_out}
 use Rattle.world.specs.declared.evacuator.Evacuator.{Evacuator}
 use Rattle.world_events.specs.declared.event.Choice.{Choice}
 use Rattle.world_events.specs.declared.event.Choice.TheVariants as choice
 use Rattle.world_events.specs.declared.event.Step.{Step}
 use Rattle.world.specs.declared.program.Eviction.{Eviction as RustEviction}
-use Rattle.world.specs.Acting.{Evacuates, Goes, Leads, Moves, Shows, Unread, eviction_in}
+use Rattle.world.specs.Acting.{Evacuates, Goes, Leads, Moves, Shows, Unread, UnreadSo, eviction_in}
 use Rattle.world_events.specs.InHand.{FitsEvacuator}
 use Rattle.world_events.specs.Programs.{Eviction, Copying}
 use Rattle.world.specs.Seats.{eviction_of}
@@ -65,3 +67,16 @@ pub turn_on : (x : Evacuator) (s : State) (c : Choice) (e : RustEviction) (hones
 turn_on x s c e honest Q q k l =
     subst (λ (y : Choice). Leads s (λ a. evacuator_turn piece_cells x.mover (eviction_in x) y a) honest Q) (sym q)
     (subst (λ (d : Option RustEviction). Leads s (λ a. evacuator_turn piece_cells x.mover (option_map (λ y. eviction_of y x.words) d) choice.Next a) honest Q) k l)
+
+-- what it asks of the store: an evacuator that is idle nothing, else what its moving out asks
+module _ {S C : Type 0} (reliable : Type 0) (failures : S → ℕ) (gives : S → C → List ℕ → S → Type 0) (berths : List (Berth C)) where
+  pub told_idle : (p : Port S C) (far : ℕ → Far) (a : Answer) (x : Evacuator) → None ≡ x.eviction → AnswersSo reliable failures gives berths p p far (asked_idly piece_cells (eviction_in x)) a
+  told_idle p far a x e = subst (λ (d : Option RustEviction). AnswersSo reliable failures gives berths p p far (asked_idly piece_cells (option_map (λ y. eviction_of y x.words) d)) a) e refl
+
+  pub told_on : (p q : Port S C) (far : ℕ → Far) (a : Answer) (x : Evacuator) (e : RustEviction) → Some e ≡ x.eviction → AnswersSo reliable failures gives berths p q far (asked_out piece_cells (eviction_of e x.words)) a
+      → AnswersSo reliable failures gives berths p q far (asked_idly piece_cells (eviction_in x)) a
+  told_on p q far a x e k told = subst (λ (d : Option RustEviction). AnswersSo reliable failures gives berths p q far (asked_idly piece_cells (option_map (λ y. eviction_of y x.words) d)) a) k told
+
+  pub told_all : (p q : Port S C) (far : ℕ → Far) (x : Evacuator) (e : RustEviction) → Some e ≡ x.eviction → (a : Answer)
+      → UnreadSo (AnswersSo reliable failures gives berths p q far (asked_out piece_cells (eviction_of e x.words))) a → UnreadSo (AnswersSo reliable failures gives berths p q far (asked_idly piece_cells (eviction_in x))) a
+  told_all p q far x e k a so = (so.0, told_on p q far a x e k so.1)

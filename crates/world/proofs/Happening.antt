@@ -13,13 +13,15 @@ use Rattle.pointer_word.specs.Sound.{Inv}
 use Rattle.pointer_word.proofs.Upd.{same_or, upd-same, upd-other}
 use Rattle.remote_store.specs.Kept.{piece_cells}
 use Rattle.remote_store.specs.declared.berth.Berth.{Berth}
+use Rattle.remote_store.specs.declared.port.Port.{Port}
+use Rattle.world.specs.Answered.{AnswersSo, Asked, StoreTold, asked_idly, asked_in}
 use Rattle.world.specs.declared.evacuator.Evacuator.{Evacuator}
 use Rattle.world_events.specs.declared.event.Actor.{Actor}
 use Rattle.world_events.specs.declared.event.Actor.TheVariants as actor
 use Rattle.world_events.specs.declared.event.Choice.{Choice}
 use Rattle.world_events.specs.declared.event.Step.{Step}
 use Rattle.world_events.specs.declared.event.Step.TheVariants as step
-use Rattle.world.specs.Acting.{Evacuates, Goes, IsProgram, IsWorld, Seated, Shows, Stepped, Unread, eviction_in}
+use Rattle.world.specs.Acting.{Evacuates, Goes, IsProgram, IsWorld, Seated, Shows, Stepped, UnreadSo, eviction_in}
 use Rattle.world_events.specs.InHand.{FitsEvacuator, FitsMode}
 use Rattle.world_events.specs.Programs.{Eviction, Setting}
 use Rattle.world.specs.Seats.{Seat}
@@ -98,11 +100,11 @@ module _ {C P : Type 0} (content : C → Option (List ℕ)) (h : Type 0) (z : Si
         ap (λ b. cond b (acts z.cells (suc (z.programs + k)) (w.evacuators k)) None) (true_and (nat_lt k z.evacuators) (in_range z c) evacuator_there inside) ∙
         (ap (λ n. acts n (suc (z.programs + k)) (w.evacuators k)) is.cells ∙ (ap (λ m. acts piece_cells m (w.evacuators k)) (sym own.1) ∙ ap (acts piece_cells x.0.mover) own.0))
 
-    pub evacuator_stepped : (c : Choice) (t' : Tables) (berths' : List (Berth C)) (x' : Evacuator) (p' : P) (same same' : Type 0) (r : Step) → in_range z c ≡ true → x'.mover ≡ x.0.mover → (same → same')
-        → Goes w.lock (λ a. evacuator_turn piece_cells x.0.mover (eviction_in x.0) c a) Unread (λ u d. Shows content z t' berths' u × (d ≡ eviction_in x')) same r
-        → Stepped content h z images t' berths' seats (set movers k (x', p')) w (actor.Evacuator k) c same' r
-    evacuator_stepped c t' berths' x' p' same same' step.NotEnabled inside mover told g = ((λ a. event_is c a inside ∙ ap (with_evacuator w k) (g.0 a)), told g.1)
-    evacuator_stepped c t' berths' x' p' same same' step.Took inside mover told g =
+    pub evacuator_stepped : (c : Choice) (t' : Tables) (berths' : List (Berth C)) (x' : Evacuator) (p' : P) (honest told : Answer → Type 0) (same same' : Type 0) (r : Step) → in_range z c ≡ true → x'.mover ≡ x.0.mover → ((a : Answer) → honest a → told a) → (same → same')
+        → Goes w.lock (λ a. evacuator_turn piece_cells x.0.mover (eviction_in x.0) c a) honest (λ u d. Shows content z t' berths' u × (d ≡ eviction_in x')) same r
+        → Stepped content h z images t' berths' seats (set movers k (x', p')) w (actor.Evacuator k) c told same' r
+    evacuator_stepped c t' berths' x' p' honest told same same' step.NotEnabled inside mover tells back g = ((λ a. event_is c a inside ∙ ap (with_evacuator w k) (g.0 a)), back g.1)
+    evacuator_stepped c t' berths' x' p' honest told same same' step.Took inside mover tells back g =
         let a : Answer = g.0 in
         let r = g.2.0 in
         let e : Event = record { actor = actor.Evacuator k; choice = c; answer = a } in
@@ -110,6 +112,7 @@ module _ {C P : Type 0} (content : C → Option (List ℕ)) (h : Type 0) (z : Si
         let happens : event z images w e ≡ Some u = event_is c a inside ∙ ap (with_evacuator w k) g.2.1 in (
           a,
           (λ _. tt),
+          tells a g.1,
           (
             u,
             happens,
@@ -167,20 +170,21 @@ module _ {C P : Type 0} (content : C → Option (List ℕ)) (h : Type 0) (z : Si
         ap (λ b. cond b (acts z.cells (setting z images k)) None) (true_and (nat_lt k z.programs) (in_range z c) program_there inside) ∙
         (ap (λ n. acts n (setting z images k)) is.cells ∙ ap (acts piece_cells) (sym set_so))
 
-    pub program_stepped : (c : Choice) (t' : Tables) (berths' : List (Berth C)) (x' : Seat) (p' : P) (same same' : Type 0) (r : Step) → in_range z c ≡ true → (same → same')
-        → Goes w.lock (λ a. program_turn x.0.setting w.lock (w.programs k) c a) (λ a. h → ReadsHonestly piece_cells w.lock (w.programs k).mode a.read)
+    pub program_stepped : (c : Choice) (t' : Tables) (berths' : List (Berth C)) (x' : Seat) (p' : P) (honest told : Answer → Type 0) (same same' : Type 0) (r : Step) → in_range z c ≡ true → ((a : Answer) → honest a → told a) → (same → same')
+        → Goes w.lock (λ a. program_turn x.0.setting w.lock (w.programs k) c a) (λ a. (h → ReadsHonestly piece_cells w.lock (w.programs k).mode a.read) × honest a)
         (λ u q. Shows content z t' berths' u × IsProgram x' q × (x'.setting ≡ x.0.setting)) same r
-        → Stepped content h z images t' berths' (set seats k (x', p')) movers w (actor.Program k) c same' r
-    program_stepped c t' berths' x' p' same same' step.NotEnabled inside told g = ((λ a. turn_event c a inside ∙ ap (with_program w k) (g.0 a)), told g.1)
-    program_stepped c t' berths' x' p' same same' step.Took inside told g =
+        → Stepped content h z images t' berths' (set seats k (x', p')) movers w (actor.Program k) c told same' r
+    program_stepped c t' berths' x' p' honest told same same' step.NotEnabled inside tells back g = ((λ a. turn_event c a inside ∙ ap (with_program w k) (g.0 a)), back g.1)
+    program_stepped c t' berths' x' p' honest told same same' step.Took inside tells back g =
         let a : Answer = g.0 in
         let r = g.2.0 in
         let e : Event = record { actor = actor.Program k; choice = c; answer = a } in
         let u : World = record w { lock = r.0; programs = upd w.programs k r.1 } in
         let happens : event z images w e ≡ Some u = turn_event c a inside ∙ ap (with_program w k) g.2.1 in
-        let honest : h → IsHonest z w (actor.Program k) a = λ y. subst (λ n. ReadsHonestly n w.lock (w.programs k).mode a.read) (sym is.cells) (g.1 y) in (
+        let reads : h → IsHonest z w (actor.Program k) a = λ y. subst (λ n. ReadsHonestly n w.lock (w.programs k).mode a.read) (sym is.cells) (g.1.0 y) in (
           a,
-          honest,
+          reads,
+          tells a g.1.1,
           (
             u,
             happens,
@@ -192,7 +196,7 @@ module _ {C P : Type 0} (content : C → Option (List ℕ)) (h : Type 0) (z : Si
                 | inr s ↦ (subst (IsProgram y.0) (sym (upd-other w.programs k r.1 j s.0)) (is.programs j y s.1).0, (is.programs j y s.1).1)
               ];
               evacuators = is.evacuators;
-              reached = (is.reached.0 ++ e ∷ [], follows_push h z images (start images) w u is.reached.0 e is.reached.1 happens honest);
+              reached = (is.reached.0 ++ e ∷ [], follows_push h z images (start images) w u is.reached.0 e is.reached.1 happens reads);
               cells = is.cells;
               programs_many = length-set seats k (x', p') ∙ is.programs_many;
               evacuators_many = is.evacuators_many;
@@ -209,3 +213,32 @@ pub set_back : {A P : Type 0} (xs : List (A × P)) (k : ℕ) (x : A × P) (a : A
 set_back {A} {P} xs k x a p e f g =
     let pair : (a, p) ≡ x = ap (λ (y : A). (y, p)) f ∙ ap (λ (y : P). (x.0, y)) g in
     ap (set xs k) (pair ∙ e) ∙ set-get_or xs k x
+
+-- the way to the store that stands at an index
+port_at : {A P : Type 0} (xs : List (A × P)) (k : ℕ) (x : A × P) (y : A) (p : P) → slice_get xs k ≡ Some x → slice_get xs k ≡ Some (y, p) → p ≡ x.1
+port_at {A} {P} xs k x y p e f =
+    let both : Some x ≡ Some (y, p) = sym e ∙ f in
+    let same : (y, p) ≡ x = cc in
+    ap (λ (i : A × P). i.1) same
+
+-- and behind a write of it
+port_set : {A P : Type 0} (xs : List (A × P)) (k : ℕ) (x' : A) (p' : P) (y : A) (q : P) → slice_get (set xs k (x', p')) k ≡ Some (y, q) → q ≡ p'
+port_set {A} {P} xs k x' p' y q e = elim (got_set xs k (x', p') k (y, q) e) [ inl r ↦ ap (λ (i : A × P). i.1) r.1 | inr r ↦ absurd (r.0 refl) ]
+
+module _ {S C : Type 0} (reliable : Type 0) (failures : S → ℕ) (gives : S → C → List ℕ → S → Type 0) (berths : List (Berth C)) (z : Sizes) (w : World) (seats : List (Seat × Port S C)) (movers : List (Evacuator × Port S C)) (k : ℕ) where
+  -- the same answer by the same ways, to the same question
+  so_told : (p q p' q' : Port S C) (x y : Asked) (a : Answer) → p' ≡ p → q' ≡ q → y ≡ x → AnswersSo reliable failures gives berths p q w.lock.far x a → AnswersSo reliable failures gives berths p' q' w.lock.far y a
+  so_told p q p' q' x y a e f d told =
+      subst (λ (i : Port S C). AnswersSo reliable failures gives berths i q' w.lock.far y a) (sym e)
+      (subst (λ (i : Port S C). AnswersSo reliable failures gives berths p i w.lock.far y a) (sym f) (subst (λ (i : Asked). AnswersSo reliable failures gives berths p q w.lock.far i a) (sym d) told))
+
+  pub program_told : (x : Seat × Port S C) (x' : Seat) (p' : Port S C) → z.cells ≡ piece_cells → slice_get seats k ≡ Some x → (a : Answer) → AnswersSo reliable failures gives berths x.1 p' w.lock.far (asked_in piece_cells (w.programs k).mode) a
+      → StoreTold reliable failures gives z w berths seats movers (set seats k (x', p')) movers (actor.Program k) a
+  program_told x x' p' cells here a told = λ p q from to.
+      so_told x.1 p' p q (asked_in piece_cells (w.programs k).mode) (asked_in z.cells (w.programs k).mode) a (port_at seats k x from.0 p here from.1) (port_set seats k x' p' to.0 q to.1) (ap (λ n. asked_in n (w.programs k).mode) cells) told
+
+  pub evacuator_told : (x : Evacuator × Port S C) (x' : Evacuator) (p' : Port S C) → z.cells ≡ piece_cells → slice_get movers k ≡ Some x → w.evacuators k ≡ eviction_in x.0 → (a : Answer)
+      → UnreadSo (AnswersSo reliable failures gives berths x.1 p' w.lock.far (asked_idly piece_cells (eviction_in x.0))) a → StoreTold reliable failures gives z w berths seats movers seats (set movers k (x', p')) (actor.Evacuator k) a
+  evacuator_told x x' p' cells here is a told = λ p q from to.
+      so_told x.1 p' p q (asked_idly piece_cells (eviction_in x.0)) (asked_idly z.cells (w.evacuators k)) a (port_at movers k x from.0 p here from.1) (port_set movers k x' p' to.0 q to.1)
+      (ap (λ n. asked_idly n (w.evacuators k)) cells ∙ ap (asked_idly piece_cells) is) told.1

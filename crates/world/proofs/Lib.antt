@@ -7,6 +7,7 @@ pub mod Happening
 pub mod Evacuating
 pub mod MovedOut
 pub mod Acting
+pub mod Answered
 pub mod Placing
 pub mod Showing
 pub mod Replaying

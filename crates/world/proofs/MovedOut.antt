@@ -17,7 +17,8 @@ use Rattle.remote_store.specs.declared.berth.Berth.{Berth}
 use Rattle.world.specs.declared.machine.Object.{Object}
 use Rattle.world.specs.declared.machine.Place.{Place as RustPlace}
 use Rattle.world.specs.declared.machine.Place.TheVariants as p
-use Rattle.world.specs.Acting.{Leads, Moves, Outcome, On, Done, Failed, Shows, Unread, resumes}
+use Rattle.world.specs.Acting.{Leads, Moves, Outcome, On, Done, Failed, Shows, Unread, UnreadSo, resumes}
+use Rattle.world.specs.Answered.{storing}
 use Rattle.world_events.specs.InHand.{FitsEviction, MovesOut}
 use Rattle.world_events.specs.Programs.{Eviction, Copying, Stored, NotStored, Refused, Freed}
 use Rattle.world.specs.Shown.{AreFar, AreTables, Shown}
@@ -44,6 +45,18 @@ module _ {C : Type 0} (content : C → Option (List ℕ)) (h : Type 0) (z : Size
   -- a turn leads to a state that the tables and berths show, and to this
   abbrev pub LeadsTo : Eviction → Tables → List (Berth C) → Outcome → Type 0
   LeadsTo e t' berths' r = Leads s (λ a. evicts piece_cells m a e On Done Failed) Unread (λ u q. Shows content z t' berths' u × (q ≡ r))
+
+  -- the same, where the store answered so
+  abbrev pub LeadsSo : (Answer → Type 0) → Eviction → Tables → List (Berth C) → Outcome → Type 0
+  LeadsSo told e t' berths' r = Leads s (λ a. evicts piece_cells m a e On Done Failed) (UnreadSo told) (λ u q. Shows content z t' berths' u × (q ≡ r))
+
+  -- what the store answered, said otherwise
+  pub told_as : (told told' : Answer → Type 0) (e : Eviction) (t' : Tables) (berths' : List (Berth C)) (r : Outcome) → ((a : Answer) → told a → told' a) → LeadsSo told e t' berths' r → LeadsSo told' e t' berths' r
+  told_as told told' e t' berths' r f l = (l.0, (l.1.0, f l.0 l.1.1), l.2)
+
+  -- and where it can say nothing else
+  pub told_so : (told : Answer → Type 0) (e : Eviction) (t' : Tables) (berths' : List (Berth C)) (r : Outcome) → ((a : Answer) → told a) → LeadsTo e t' berths' r → LeadsSo told e t' berths' r
+  told_so told e t' berths' r f l = (l.0, (l.1, f l.0), l.2)
 
   pub not_stored : (o f : ℕ) (t' : Tables) (berths' : List (Berth C)) → Moves content h z t berths m (NotStored o f) s → Shows content z t' berths' (act s (Aborts m o f)) → LeadsTo (NotStored o f) t' berths' Failed
   not_stored o f t' berths' is after =
@@ -118,17 +131,16 @@ module _ {C : Type 0} (content : C → Option (List ℕ)) (h : Type 0) (z : Size
   can_put true words l = l
   can_put false words l = tt
 
-  pub put_out : (o f k : ℕ) (words : List ℕ) (b : Bool) (berths' : List (Berth C)) → Moves content h z t berths m (Copying o f (take k words)) s → length words ≡ piece_cells → piece_cells ≤ k
-      → (o < length berths → AreFar content berths' (upd s.far o (put_of b words))) → length berths' ≡ length berths → LeadsTo (Copying o f (take k words)) t berths' (On (put_so b o f))
-  put_out o f k words b berths' is l full kept same =
+  pub put_out : (o f k : ℕ) (words : List ℕ) (b : Bool) (told : Answer → Type 0) (berths' : List (Berth C)) → Moves content h z t berths m (Copying o f (take k words)) s → length words ≡ piece_cells → piece_cells ≤ k
+      → (o < length berths → told (storing b)) → (o < length berths → AreFar content berths' (upd s.far o (put_of b words))) → length berths' ≡ length berths → LeadsSo told (Copying o f (take k words)) t berths' (On (put_so b o f))
+  put_out o f k words b told berths' is l full answered kept same =
       let ws : List ℕ = take k words in
       let all : ws ≡ words = take_all k words (omega arith) in
       let shows = is.shows in
       let many = shows.many in
       let inside = leaving_inside h z t s m o is.inv shows.tables is.fits.0.0 in
       let size : length ws ≡ piece_cells = ap length all ∙ l in
-      let a : Answer = record { stored = b; read = None; grew = true } in
-      leads_call s (λ a. evicts piece_cells m a (Copying o f ws) On Done Failed) Unread (λ u q. Shows content z t berths' u × (q ≡ On (put_so b o f))) a (Puts m o (put_of b ws)) (λ _. On (put_so b o f)) refl
+      leads_call s (λ a. evicts piece_cells m a (Copying o f ws) On Done Failed) (UnreadSo told) (λ u q. Shows content z t berths' u × (q ≡ On (put_so b o f))) (storing b) (Puts m o (put_of b ws)) (λ _. On (put_so b o f)) (refl, answered (omega arith))
       (ap (λ y. cond y (Calls (Copies m f (length ws)) (λ (u : State). On (Copying o f (ws ++ u.cell f (length ws) ∷ [])))) (Calls (Puts m o (put_of b ws)) (λ (u : State). On (put_so b o f)))) (below_false (length ws) piece_cells (omega arith)))
       (may_legal h piece_cells s (Puts m o (put_of b ws)) (is.fits.0.0, can_put b ws size))
       (record { tables = shows.tables; far = subst (λ y. AreFar content berths' (upd s.far o (put_of b y))) (sym all) (kept (omega arith)); many = same ∙ shows.many; objects_few = shows.objects_few; frames_few = shows.frames_few }, refl)
@@ -199,8 +211,8 @@ evicts_maps n m s a (Refused o f) go done failed r e = call_maps (acts n s (Abor
 evicts_maps n m s a (Freed f) go done failed r e = call_maps (acts n s (Releases m f)) (resumes go done failed) (λ t. Done) r e
 
 -- a turn of whoever moves out
-pub leads_on : {A : Type 0} (m : ℕ) (s : State) (e : Eviction) (go : Eviction → A) (done failed : A) (P : State → Type 0) (o : Outcome) (q : A) → resumes go done failed o ≡ q
-    → Leads s (λ a. evicts piece_cells m a e On Done Failed) Unread (λ u r. P u × (r ≡ o)) → Leads s (λ a. evicts piece_cells m a e go done failed) Unread (λ u r. P u × (r ≡ q))
-leads_on m s e go done failed P o q so l =
+pub leads_on : {A : Type 0} (m : ℕ) (s : State) (e : Eviction) (honest : Answer → Type 0) (go : Eviction → A) (done failed : A) (P : State → Type 0) (o : Outcome) (q : A) → resumes go done failed o ≡ q
+    → Leads s (λ a. evicts piece_cells m a e On Done Failed) honest (λ u r. P u × (r ≡ o)) → Leads s (λ a. evicts piece_cells m a e go done failed) honest (λ u r. P u × (r ≡ q))
+leads_on m s e honest go done failed P o q so l =
     let r = l.2.0 in
     (l.0, l.1, ((r.0, resumes go done failed r.1), evicts_maps piece_cells m s l.0 e go done failed r l.2.1, (l.2.2.0, ap (resumes go done failed) l.2.2.1 ∙ so)))

@@ -1,7 +1,7 @@
 -- What a turn comes to where code takes it.
 use Rattle.std.specs.Prelude.{◌≡◌, ℕ, suc, ◌+◌, ◌%◌, ◌≤◌, List, length, Option, Some, None, option_map, slice_get}
 use Rattle.code_form.specs.Form.{Image}
-use Rattle.pointer_word.specs.Machine.{State}
+use Rattle.pointer_word.specs.Machine.{Far, State}
 use Rattle.pointer_word.specs.Sound.{Inv}
 use Rattle.remote_store.specs.Kept.{piece_cells}
 use Rattle.remote_store.specs.declared.berth.Berth.{Berth}
@@ -9,6 +9,7 @@ use Rattle.world_events.specs.declared.event.Actor.{Actor}
 use Rattle.world_events.specs.declared.event.Choice.{Choice}
 use Rattle.world_events.specs.declared.event.Step.{Step}
 use Rattle.world_events.specs.declared.event.Step.TheVariants as step
+use Rattle.world.specs.Answered.{Asked, asked_in}
 use Rattle.world.specs.declared.evacuator.Evacuator.{Evacuator}
 use Rattle.world.specs.declared.evict.Evicted.{Evicted}
 use Rattle.world.specs.declared.evict.Evicted.TheVariants as e
@@ -32,6 +33,10 @@ Goes s turn honest Q same step.NotEnabled = ((a : Answer) → taken piece_cells 
 -- nothing was read
 abbrev pub Unread : Answer → Type 0
 Unread a = a.read ≡ None
+
+-- nothing was read, and so the store answered
+abbrev pub UnreadSo : (Answer → Type 0) → Answer → Type 0
+UnreadSo told a = (a.read ≡ None) × told a
 
 -- what an event of moving out leads to: it goes on, or it ends well, or the store failed
 pub data Outcome : Type 0 where
@@ -94,12 +99,12 @@ module _ {C : Type 0} (content : C → Option (List ℕ)) where
     pub programs_many : length seats ≡ z.programs
     pub evacuators_many : length movers ≡ z.evacuators
 
-  -- An actor has done what it chose exactly where the definition has that event, for an answer that an honest store may give; else no answer makes it an
-  -- event, and all is the same
-  abbrev pub Stepped : {P : Type 0} → (h : Type 0) → Sizes → (ℕ → Image) → Tables → List (Berth C) → List (Seat × P) → List (Evacuator × P) → World → Actor → Choice → Type 0 → Step → Type 0
-  Stepped h z images t berths seats movers w actor choice same step.Took =
-      (a : Answer) × (h → IsHonest z w actor a) × ((u : World) × (event z images w (record { actor = actor; choice = choice; answer = a }) ≡ Some u) × IsWorld h z images t berths seats movers u)
-  Stepped h z images t berths seats movers w actor choice same step.NotEnabled =
+  -- An actor has done what it chose exactly where the definition has that event, for the answer that the store told, which an honest store may give; else no
+  -- answer makes it an event, and all is the same
+  abbrev pub Stepped : {P : Type 0} → (h : Type 0) → Sizes → (ℕ → Image) → Tables → List (Berth C) → List (Seat × P) → List (Evacuator × P) → World → Actor → Choice → (Answer → Type 0) → Type 0 → Step → Type 0
+  Stepped h z images t berths seats movers w actor choice told same step.Took =
+      (a : Answer) × (h → IsHonest z w actor a) × told a × ((u : World) × (event z images w (record { actor = actor; choice = choice; answer = a }) ≡ Some u) × IsWorld h z images t berths seats movers u)
+  Stepped h z images t berths seats movers w actor choice told same step.NotEnabled =
       ((a : Answer) → event z images w (record { actor = actor; choice = choice; answer = a }) ≡ None) × same
 
   -- A program that code holds, with what it has in hand: its objects are there
@@ -121,3 +126,8 @@ module _ {C : Type 0} (content : C → Option (List ℕ)) where
   abbrev pub Turns : (h : Type 0) → (t t' : Tables) → (berths berths' : List (Berth C)) → (x x' : Seat) → (State → Program → Answer → Turn Program) → Type 0 → Step → Type 0
   Turns h t t' berths berths' x x' turn same r = (z : Sizes) (s : State) (p : Program) → Seated h z t berths x s p
       → Goes s (turn s p) (λ a. h → ReadsHonestly piece_cells s p.mode a.read) (λ u q. Shows z t' berths' u × IsProgram x' q × (x'.setting ≡ x.setting)) same r
+
+  -- the same where the store is asked, and so answers
+  abbrev pub TurnsTold : (Sizes → Type 0) → (h : Type 0) → (t t' : Tables) → (berths berths' : List (Berth C)) → (x x' : Seat) → ((ℕ → Far) → Asked → Answer → Type 0) → (State → Program → Answer → Turn Program) → Type 0 → Step → Type 0
+  TurnsTold given h t t' berths berths' x x' told turn same r = (z : Sizes) (s : State) (p : Program) → given z → Seated h z t berths x s p
+      → Goes s (turn s p) (λ a. (h → ReadsHonestly piece_cells s p.mode a.read) × told s.far (asked_in piece_cells p.mode) a) (λ u q. Shows z t' berths' u × IsProgram x' q × (x'.setting ≡ x.setting)) same r

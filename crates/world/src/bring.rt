@@ -4,7 +4,8 @@ ghost use Rattle.pointer_word.specs.Calls.{Arrives, Begins, Claims, Fills, Marks
 ghost use Rattle.pointer_word.specs.Hands.{known, listed};
 ghost use Rattle.pointer_word.specs.Machine.{Far};
 ghost use Rattle.remote_store.specs.Kept.{piece_cells};
-ghost use Rattle.world.specs.Acting.{IsProgram, Turns, TurnsIn};
+ghost use Rattle.world.specs.Acting.{IsProgram, Turns, TurnsIn, TurnsTold};
+ghost use Rattle.world.specs.Answered.{AnswersSo};
 ghost use Rattle.world_events.specs.Programs.{Program as Defined, Bringing, Closing, Evicting, Filling, Missing, Retreating, finished as finished_as, in_mode};
 ghost use Rattle.world.specs.Seats.{IsSteady, Waits, eviction_of, mode_of, next_touch};
 ghost use Rattle.world.specs.Shown.{IsNew};
@@ -137,8 +138,8 @@ impl<'a> Program<'a> {
     )
         requires mode { self.old.mode ≡ Mode.Reading object frame }
         requires steady { IsSteady (next_touch self.old) }
-        ensures { Turns S.content S.honest lock.now.machine lock.now.machine lock.now.berths.items lock.now.berths.items self.old self.new
-            (λ s p a. Alone (in_mode p (read_so object frame a.read))) (Unit {0}) Step.Took }
+        ensures { TurnsTold S.content (λ z. Unit {0}) S.honest lock.now.machine lock.now.machine lock.now.berths.items lock.now.berths.items self.old self.new
+            (AnswersSo S.reliable S.failures S.read_gives lock.now.berths.items port.old port.new) (λ s p a. Alone (in_mode p (read_so object frame a.read))) (Unit {0}) Step.Took }
     {
         if self.get(lock, port, object) {
             self.set_mode(Mode::Filling(object, frame, 0));
@@ -199,7 +200,8 @@ impl<'a> Program<'a> {
     )
         requires mode { self.old.mode ≡ Mode.Evicting object eviction }
         requires steady { IsSteady (next_touch self.old) }
-        ensures { Turns S.content S.honest lock.old.machine lock.new.machine lock.old.berths.items lock.new.berths.items self.old self.new
+        ensures { TurnsTold S.content (λ z. Unit {0}) S.honest lock.old.machine lock.new.machine lock.old.berths.items lock.new.berths.items self.old self.new
+            (AnswersSo S.reliable S.failures S.read_gives lock.old.berths.items port.old port.new)
             (λ s p a. evicts piece_cells self.old.setting.mover a (eviction_of eviction self.old.words) (λ d. in_mode p (Evicting object d)) (in_mode p (Bringing object)) (in_mode p (Retreating object))) (Unit {0}) Step.Took }
     {
         let mode = self.evict(lock, port, eviction).mode(object);

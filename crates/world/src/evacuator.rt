@@ -2,7 +2,8 @@
 ghost use Rattle.std.specs.Prelude.{◌≡◌, None, Some, true};
 ghost use Rattle.pointer_word.specs.Machine.{State};
 ghost use Rattle.remote_store.specs.Kept.{piece_cells};
-ghost use Rattle.world.specs.Acting.{Evacuates, Goes, Leads, Shows, Unread, eviction_in};
+ghost use Rattle.world.specs.Acting.{Evacuates, Goes, Leads, Shows, Unread, UnreadSo, eviction_in};
+ghost use Rattle.world.specs.Answered.{AnswersSo, asked_idly, asked_out};
 ghost use Rattle.world.specs.Seats.{eviction_of};
 ghost use Rattle.world_events.specs.Turns.{evacuator_idle, evacuator_turn, evicts};
 ghost use Rattle.world_events.specs.Worlds.{Sizes, in_range};
@@ -67,7 +68,8 @@ impl Evacuator {
         requires { self.old.eviction ≡ Some eviction }
         ensures mover { self.new.mover ≡ self.old.mover }
         ensures leads { (z : Sizes) (s : State) → Evacuates S.content S.honest z lock.old.machine lock.old.berths.items self.old s
-            → Leads s (λ a. evicts piece_cells self.old.mover a (eviction_of eviction self.old.words) Some None None) Unread (λ u d. Shows S.content z lock.new.machine lock.new.berths.items u × (d ≡ eviction_in self.new)) }
+            → Leads s (λ a. evicts piece_cells self.old.mover a (eviction_of eviction self.old.words) Some None None)
+            (UnreadSo (AnswersSo S.reliable S.failures S.read_gives lock.old.berths.items port.old port.new s.far (asked_out piece_cells (eviction_of eviction self.old.words)))) (λ u d. Shows S.content z lock.new.machine lock.new.berths.items u × (d ≡ eviction_in self.new)) }
     {
         self.eviction = evict(lock, port, self.mover, eviction, &mut self.words).eviction();
     }
@@ -81,7 +83,8 @@ impl Evacuator {
     ) -> Step
         ensures mover { self.new.mover ≡ self.old.mover }
         ensures goes { (z : Sizes) (s : State) → in_range z choice ≡ true → Evacuates S.content S.honest z lock.old.machine lock.old.berths.items self.old s
-            → Goes s (λ a. evacuator_turn piece_cells self.old.mover (eviction_in self.old) choice a) Unread (λ u d. Shows S.content z lock.new.machine lock.new.berths.items u × (d ≡ eviction_in self.new))
+            → Goes s (λ a. evacuator_turn piece_cells self.old.mover (eviction_in self.old) choice a)
+            (UnreadSo (AnswersSo S.reliable S.failures S.read_gives lock.old.berths.items port.old port.new s.far (asked_idly piece_cells (eviction_in self.old)))) (λ u d. Shows S.content z lock.new.machine lock.new.berths.items u × (d ≡ eviction_in self.new))
             ((lock.new ≡ lock.old) × (port.new ≡ port.old) × (self.new ≡ self.old)) result }
     {
         match self.eviction() {

@@ -5,7 +5,8 @@ ghost use Rattle.pointer_word.specs.Legal.{holds};
 ghost use Rattle.pointer_word.specs.Machine.{State};
 ghost use Rattle.pointer_word.specs.Sound.{Inv};
 ghost use Rattle.remote_store.specs.Kept.{piece_cells};
-ghost use Rattle.world.specs.Acting.{Done, Failed, Leads, Moves, On, Shows, Unread, outcome_of, resumes};
+ghost use Rattle.world.specs.Acting.{Done, Failed, Leads, Moves, On, Shows, Unread, UnreadSo, outcome_of, resumes};
+ghost use Rattle.world.specs.Answered.{AnswersSo, Puts, asked_out};
 ghost use Rattle.world_events.specs.InHand.{MovesOut};
 ghost use Rattle.world.specs.Seats.{IsSteady, Waits, eviction_of, mode_of};
 ghost use Rattle.world_events.specs.Programs.{Bringing, Evicting, Retreating};
@@ -99,7 +100,8 @@ fn put<S: RawStore>(
 ) -> Evicted
     requires { (length words.now ≡ piece_cells) × (piece_cells ≤ copied) }
     ensures { (m : ℕ) (z : Sizes) (s : State) → let e = eviction_of (Eviction.Copying object frame copied) words.now in
-        Moves S.content S.honest z lock.old.machine lock.old.berths.items m e s → Leads s (λ a. evicts piece_cells m a e On Done Failed) Unread
+        Moves S.content S.honest z lock.old.machine lock.old.berths.items m e s → Leads s (λ a. evicts piece_cells m a e On Done Failed)
+        (UnreadSo (AnswersSo S.reliable S.failures S.read_gives lock.old.berths.items port.old port.new s.far (Puts object)))
         (λ u r. Shows S.content z lock.new.machine lock.new.berths.items u × (r ≡ outcome_of result words.now)) }
 {
     if lock.put(port, object, words) {
@@ -150,7 +152,8 @@ pub(crate) fn evict<S: RawStore>(
     requires { length words.old ≡ piece_cells }
     ensures length { length words.new ≡ piece_cells }
     ensures leads { (z : Sizes) (s : State) → let e = eviction_of eviction words.old in
-        Moves S.content S.honest z lock.old.machine lock.old.berths.items mover e s → Leads s (λ a. evicts piece_cells mover a e On Done Failed) Unread
+        Moves S.content S.honest z lock.old.machine lock.old.berths.items mover e s → Leads s (λ a. evicts piece_cells mover a e On Done Failed)
+        (UnreadSo (AnswersSo S.reliable S.failures S.read_gives lock.old.berths.items port.old port.new s.far (asked_out piece_cells e)))
         (λ u r. Shows S.content z lock.new.machine lock.new.berths.items u × (r ≡ outcome_of result words.new)) }
 {
     match eviction {

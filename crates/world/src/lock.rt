@@ -3,7 +3,9 @@ ghost use Rattle.std.specs.Prelude.{◌≡◌, ◌≢◌, ◌<◌, ℕ, IfOk, Li
 ghost use Rattle.pointer_word.specs.Hands.{upd};
 ghost use Rattle.pointer_word.specs.Machine.{Far};
 ghost use Rattle.remote_store.specs.Kept.{piece_cells};
+ghost use Rattle.world.specs.Answered.{AnswersSo, Gets, Puts, reading, storing};
 ghost use Rattle.world.specs.Shown.{AreFar, IsNew};
+ghost use Rattle.world_events.specs.InHand.{WasPut};
 ghost use Rattle.world_events.specs.Turns.{put_of};
 ghost use Rattle.world_events.specs.Worlds.{IsHonestRead};
 
@@ -25,6 +27,8 @@ impl<S: RawStore> Lock<S> {
         ensures many { length self.new.berths.items ≡ length self.old.berths.items }
         ensures far { (far : ℕ → Far) → AreFar S.content self.old.berths.items far → object < length self.old.berths.items
             → AreFar S.content self.new.berths.items (upd far object (put_of result words.now)) }
+        ensures answered { (far : ℕ → Far) → object < length self.old.berths.items
+            → AnswersSo S.reliable S.failures S.read_gives self.old.berths.items port.old port.new far (Puts object) (storing result) }
     {
         if object < self.berths.len() {
             let berth = &mut self.berths[object];
@@ -50,6 +54,8 @@ impl<S: RawStore> Lock<S> {
         requires { length words.old ≡ piece_cells }
         ensures length { length words.new ≡ piece_cells }
         ensures got { result ≡ true → (far : ℕ → Far) → AreFar S.content self.now.berths.items far → S.honest → IsHonestRead piece_cells (far object) (Some words.new) }
+        ensures answered { (far : ℕ → Far) → AreFar S.content self.now.berths.items far → WasPut (far object)
+            → AnswersSo S.reliable S.failures S.read_gives self.now.berths.items port.old port.new far (Gets object) (reading result words.new) }
     {
         if object < self.berths.len() && self.berths[object].version > 0 {
             self.berths[object].get(port, object, words).is_ok()

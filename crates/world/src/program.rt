@@ -9,10 +9,12 @@ ghost use Rattle.code_form.specs.declared.touch.Touch.TheVariants.{Allocs, Plain
 ghost use Rattle.pointer_word.specs.Machine.{Far, State};
 ghost use Rattle.remote_store.specs.Kept.{piece_cells};
 ghost use Rattle.std.specs.Prelude.{◌≡◌, ◌+◌, ◌-◌, ◌/◌, ◌<◌, ◌≤◌, ◌^◌, ℕ, IfOk, MatchResult, None, Some, length, option_map, slice_index, slice_set, true};
-ghost use Rattle.world.specs.Acting.{Done, Failed, Leads, Moves, On, Shows, Unread, outcome_of};
+ghost use Rattle.world.specs.Acting.{Done, Failed, Leads, Moves, On, Shows, UnreadSo, outcome_of};
+ghost use Rattle.world.specs.Answered.{AnswersSo, Gets, asked_out, reading};
 ghost use Rattle.world_events.specs.Programs.{first_hold, hold_at};
 ghost use Rattle.world.specs.Seats.{IsSteady, Waits, begin, eviction_of, finished, next_touch};
 ghost use Rattle.world.specs.Shown.{AreFar};
+ghost use Rattle.world_events.specs.InHand.{WasPut};
 ghost use Rattle.world_events.specs.Turns.{evicts};
 ghost use Rattle.world_events.specs.Worlds.{IsHonestRead, Sizes};
 
@@ -167,6 +169,8 @@ impl<'a> Program<'a> {
     ) -> bool
         ensures after { self.new ≡ record self.old { words = self.new.words } }
         ensures got { result ≡ true → (far : ℕ → Far) → AreFar S.content lock.now.berths.items far → S.honest → IsHonestRead piece_cells (far object) (Some self.new.words) }
+        ensures answered { (far : ℕ → Far) → AreFar S.content lock.now.berths.items far → WasPut (far object)
+            → AnswersSo S.reliable S.failures S.read_gives lock.now.berths.items port.old port.new far (Gets object) (reading result self.new.words) }
     {
         lock.get(port, object, &mut self.words)
     }
@@ -180,7 +184,8 @@ impl<'a> Program<'a> {
     ) -> Evicted
         ensures after { self.new ≡ record self.old { words = self.new.words } }
         ensures leads { (z : Sizes) (s : State) → let e = eviction_of eviction self.old.words in
-            Moves S.content S.honest z lock.old.machine lock.old.berths.items self.old.setting.mover e s → Leads s (λ a. evicts piece_cells self.old.setting.mover a e On Done Failed) Unread
+            Moves S.content S.honest z lock.old.machine lock.old.berths.items self.old.setting.mover e s → Leads s (λ a. evicts piece_cells self.old.setting.mover a e On Done Failed)
+            (UnreadSo (AnswersSo S.reliable S.failures S.read_gives lock.old.berths.items port.old port.new s.far (asked_out piece_cells e)))
             (λ u r. Shows S.content z lock.new.machine lock.new.berths.items u × (r ≡ outcome_of result self.new.words)) }
     {
         evict(lock, port, self.mover, eviction, &mut self.words)

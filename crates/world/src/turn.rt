@@ -1,7 +1,8 @@
 //! A program's turn, by its mode.
 ghost use Rattle.remote_store.specs.Kept.{piece_cells};
 ghost use Rattle.std.specs.Prelude.{◌≡◌, [], true};
-ghost use Rattle.world.specs.Acting.{Turns, TurnsIn};
+ghost use Rattle.world.specs.Acting.{Turns, TurnsTold};
+ghost use Rattle.world.specs.Answered.{AnswersSo};
 ghost use Rattle.world.specs.Seats.{IsSteady, Waits, mode_of, next_touch};
 ghost use Rattle.world_events.specs.Turns.{by_mode, fills, program_turn};
 ghost use Rattle.world_events.specs.Worlds.{in_range};
@@ -61,7 +62,8 @@ impl<'a> Program<'a> {
     fn advance<S: RawStore>(&mut self, lock: &mut Lock<S>, port: &mut Port<S>, mode: Mode) -> Step
         requires mode { self.old.mode ≡ mode }
         requires waits { Waits mode (next_touch self.old) }
-        ensures { Turns S.content S.honest lock.old.machine lock.new.machine lock.old.berths.items lock.new.berths.items self.old self.new
+        ensures { TurnsTold S.content (λ z. Unit {0}) S.honest lock.old.machine lock.new.machine lock.old.berths.items lock.new.berths.items self.old self.new
+            (AnswersSo S.reliable S.failures S.read_gives lock.old.berths.items port.old port.new)
             (λ s p a. by_mode self.old.setting s p (mode_of mode self.old.words) Choice.Next a) ((lock.new ≡ lock.old) × (port.new ≡ port.old) × (self.new ≡ self.old)) result }
     {
         match mode {
@@ -97,7 +99,8 @@ impl<'a> Program<'a> {
         port: &mut Port<S>,
         choice: Choice,
     ) -> Step
-        ensures { TurnsIn S.content (λ z. in_range z choice ≡ true) S.honest lock.old.machine lock.new.machine lock.old.berths.items lock.new.berths.items self.old self.new
+        ensures { TurnsTold S.content (λ z. in_range z choice ≡ true) S.honest lock.old.machine lock.new.machine lock.old.berths.items lock.new.berths.items self.old self.new
+            (AnswersSo S.reliable S.failures S.read_gives lock.old.berths.items port.old port.new)
             (λ s p a. program_turn self.old.setting s p choice a) ((lock.new ≡ lock.old) × (port.new ≡ port.old) × (self.new ≡ self.old)) result }
     {
         match self.mode() {

@@ -5,6 +5,7 @@ ghost use Rattle.remote_store.specs.Kept.{piece_cells};
 ghost use Rattle.world.specs.Opened.{cell_of, images_of, sizes_of};
 ghost use Rattle.pointer_word.specs.Words.{pack};
 ghost use Rattle.world.specs.Acting.{IsWorld, Stepped};
+ghost use Rattle.world.specs.Answered.{StoreTold};
 ghost use Rattle.world_events.specs.Worlds.{Sizes, World as Defined, in_range, start};
 
 use crate::evacuator::Evacuator;
@@ -100,7 +101,9 @@ impl<'a, S: RawStore> World<'a, S> {
     /// An evacuator does what it chooses, where that is in range.
     fn step_evacuator(&mut self, number: usize, choice: Choice) -> Step
         ensures { (z : Sizes) (images : ℕ → ImageOf) (w : Defined) → in_range z choice ≡ true → IsWorld S.content S.honest z images self.old.lock.machine self.old.lock.berths.items self.old.programs.items self.old.evacuators.items w
-            → Stepped S.content S.honest z images self.new.lock.machine self.new.lock.berths.items self.new.programs.items self.new.evacuators.items w (Actor.Evacuator number) choice ((self.new.lock ≡ self.old.lock) × (self.new.programs.items ≡ self.old.programs.items) × (self.new.evacuators.items ≡ self.old.evacuators.items)) result }
+            → Stepped S.content S.honest z images self.new.lock.machine self.new.lock.berths.items self.new.programs.items self.new.evacuators.items w (Actor.Evacuator number) choice
+            (StoreTold S.reliable S.failures S.read_gives z w self.old.lock.berths.items self.old.programs.items self.old.evacuators.items self.new.programs.items self.new.evacuators.items (Actor.Evacuator number))
+            ((self.new.lock ≡ self.old.lock) × (self.new.programs.items ≡ self.old.programs.items) × (self.new.evacuators.items ≡ self.old.evacuators.items)) result }
     {
         if number < self.evacuators.len() {
             let (evacuator, port) = &mut self.evacuators[number];
@@ -113,7 +116,9 @@ impl<'a, S: RawStore> World<'a, S> {
     /// A program does what it chooses, where that is in range.
     fn step_program(&mut self, number: usize, choice: Choice) -> Step
         ensures { (z : Sizes) (images : ℕ → ImageOf) (w : Defined) → in_range z choice ≡ true → IsWorld S.content S.honest z images self.old.lock.machine self.old.lock.berths.items self.old.programs.items self.old.evacuators.items w
-            → Stepped S.content S.honest z images self.new.lock.machine self.new.lock.berths.items self.new.programs.items self.new.evacuators.items w (Actor.Program number) choice ((self.new.lock ≡ self.old.lock) × (self.new.programs.items ≡ self.old.programs.items) × (self.new.evacuators.items ≡ self.old.evacuators.items)) result }
+            → Stepped S.content S.honest z images self.new.lock.machine self.new.lock.berths.items self.new.programs.items self.new.evacuators.items w (Actor.Program number) choice
+            (StoreTold S.reliable S.failures S.read_gives z w self.old.lock.berths.items self.old.programs.items self.old.evacuators.items self.new.programs.items self.new.evacuators.items (Actor.Program number))
+            ((self.new.lock ≡ self.old.lock) × (self.new.programs.items ≡ self.old.programs.items) × (self.new.evacuators.items ≡ self.old.evacuators.items)) result }
     {
         if number < self.programs.len() {
             let (program, port) = &mut self.programs[number];
@@ -126,7 +131,9 @@ impl<'a, S: RawStore> World<'a, S> {
     /// An actor does what it chooses. Took exactly where the world has that step, which is then made; else nothing changes.
     pub fn step(&mut self, actor: Actor, choice: Choice) -> Step
         ensures { (z : Sizes) (images : ℕ → ImageOf) (w : Defined) → IsWorld S.content S.honest z images self.old.lock.machine self.old.lock.berths.items self.old.programs.items self.old.evacuators.items w
-            → Stepped S.content S.honest z images self.new.lock.machine self.new.lock.berths.items self.new.programs.items self.new.evacuators.items w actor choice ((self.new.lock ≡ self.old.lock) × (self.new.programs.items ≡ self.old.programs.items) × (self.new.evacuators.items ≡ self.old.evacuators.items)) result }
+            → Stepped S.content S.honest z images self.new.lock.machine self.new.lock.berths.items self.new.programs.items self.new.evacuators.items w actor choice
+            (StoreTold S.reliable S.failures S.read_gives z w self.old.lock.berths.items self.old.programs.items self.old.evacuators.items self.new.programs.items self.new.evacuators.items actor)
+            ((self.new.lock ≡ self.old.lock) × (self.new.programs.items ≡ self.old.programs.items) × (self.new.evacuators.items ≡ self.old.evacuators.items)) result }
     {
         if !self.is_in_range(choice) {
             return Step::NotEnabled;

@@ -1,8 +1,10 @@
-use Rattle.std.proofs.Common.{true, false, subst, sym, take}
+use Rattle.std.proofs.Common.{ℕ, Bool, true, false, ◌<◌, length, subst, sym, take}
 use Rattle.world.specs.Acting.{On}
+use Rattle.world.specs.Answered.{AnswersSo, Puts}
 use Rattle.world_events.specs.Programs.{Copying, Stored, NotStored}
+use Rattle.world_events.specs.Turns.{Answer}
 use Rattle.world.specs.Tables.{Tables}
-use Rattle.world.proofs.MovedOut.{LeadsTo, put_out}
+use Rattle.world.proofs.MovedOut.{LeadsSo, put_out}
 use Rattle.world.proofs.evict.put.Goals as goal
 
 pub returns-then-put : goal.returns-then-put
@@ -13,8 +15,9 @@ returns-then-put g c m z s is =
     let f = c.args.frame in
     let words = c.args.words.now in
     let now = c.put.new.self in
-    subst (λ (t : Tables). LeadsTo g.S.RawStore.content h z old.machine old.berths.items m s (Copying o f (take c.args.copied words)) t now.berths.items (On (Stored o f))) (sym c.put.ensures.machine)
-    (put_out g.S.RawStore.content h z old.machine old.berths.items m s o f c.args.copied words true now.berths.items is c.requires.0 c.requires.1 (c.if-put.ensures.far s.far is.shows.far) c.put.ensures.many)
+    let told : Answer → Type 0 = AnswersSo g.S.RawStore.reliable g.S.RawStore.failures g.S.RawStore.read_gives old.berths.items c.args.port.now c.put.new.port s.far (Puts o) in
+    subst (λ (t : Tables). LeadsSo g.S.RawStore.content h z old.machine old.berths.items m s told (Copying o f (take c.args.copied words)) t now.berths.items (On (Stored o f))) (sym c.put.ensures.machine)
+    (put_out g.S.RawStore.content h z old.machine old.berths.items m s o f c.args.copied words true told now.berths.items is c.requires.0 c.requires.1 (c.if-put.ensures.answered s.far) (c.if-put.ensures.far s.far is.shows.far) c.put.ensures.many)
 
 pub returns-else-put : goal.returns-else-put
 returns-else-put g c m z s is =
@@ -24,5 +27,6 @@ returns-else-put g c m z s is =
     let f = c.args.frame in
     let words = c.args.words.now in
     let now = c.put.new.self in
-    subst (λ (t : Tables). LeadsTo g.S.RawStore.content h z old.machine old.berths.items m s (Copying o f (take c.args.copied words)) t now.berths.items (On (NotStored o f))) (sym c.put.ensures.machine)
-    (put_out g.S.RawStore.content h z old.machine old.berths.items m s o f c.args.copied words false now.berths.items is c.requires.0 c.requires.1 (c.if-put.ensures.far s.far is.shows.far) c.put.ensures.many)
+    let told : Answer → Type 0 = AnswersSo g.S.RawStore.reliable g.S.RawStore.failures g.S.RawStore.read_gives old.berths.items c.args.port.now c.put.new.port s.far (Puts o) in
+    subst (λ (t : Tables). LeadsSo g.S.RawStore.content h z old.machine old.berths.items m s told (Copying o f (take c.args.copied words)) t now.berths.items (On (NotStored o f))) (sym c.put.ensures.machine)
+    (put_out g.S.RawStore.content h z old.machine old.berths.items m s o f c.args.copied words false told now.berths.items is c.requires.0 c.requires.1 (c.if-put.ensures.answered s.far) (c.if-put.ensures.far s.far is.shows.far) c.put.ensures.many)

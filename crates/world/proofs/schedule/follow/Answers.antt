@@ -13,9 +13,9 @@ loop-rest-preserved g c =
       λ z images w is.
           let at = c.loop-rest.invariant.1 z images w is in
           let took = c.in-Took.ensures z images at.0 at.2 in (
-            took.2.0,
-            come_more g.S.RawStore.honest z images w at.0 took.2.0 c.args.schedule.now c.loop-rest.rest.now c.in-Some.others.now c.loop-rest.line x took.0 at.1 line took.2.1 took.1,
-            took.2.2,
+            took.3.0,
+            come_more g.S.RawStore.honest z images w at.0 took.3.0 c.args.schedule.now c.loop-rest.rest.now c.in-Some.others.now c.loop-rest.line x took.0 at.1 line took.3.1 took.1,
+            took.3.2,
           ),
     )
 
