@@ -1,6 +1,6 @@
 // Tokens that are still to be read.
 
-ghost use Rattle.std.specs.Prelude.{◌≡◌, ◌<◌, false, drop, length, map, option_map, All, MatchResult};
+ghost use Rattle.std.specs.Prelude.{◌≡◌, ◌<◌, false, drop, length, map, option_map, All, IfErr, MatchResult};
 ghost use Rattle.c0_source.specs.declared.kind.Kind.TheVariants as k;
 ghost use Rattle.std.specs.String.{string_bytes};
 ghost use Rattle.c0_source.specs.Terminals.{or_empty, terminals};
@@ -147,7 +147,9 @@ impl<'a> Cursor<'a> {
     }
 
     /// The place from `start` up to the end of the token before.
-    pub fn span_from(&self, start: usize) -> Span {
+    pub fn span_from(&self, start: usize) -> Span
+        ensures { result.start ≡ start }
+    {
         Span {
             start,
             end: self.end,
@@ -156,7 +158,8 @@ impl<'a> Cursor<'a> {
 
     /// Goes behind a `(`; any other token is a syntax fault, and nothing changes.
     pub fn lparen(&mut self) -> Result<(), ReadError>
-        ensures { Gives (λ _. self.new) result (lparen self.old) }
+        ensures given { Gives (λ _. self.new) result (lparen self.old) }
+        ensures unchanged { IfErr result (λ _. self.new ≡ self.old) }
     {
         match self.peek() {
             Kind::LParen => {
@@ -169,7 +172,8 @@ impl<'a> Cursor<'a> {
 
     /// Goes behind a `]`; any other token is a syntax fault, and nothing changes.
     pub fn rbracket(&mut self) -> Result<(), ReadError>
-        ensures { Gives (λ _. self.new) result (rbracket self.old) }
+        ensures given { Gives (λ _. self.new) result (rbracket self.old) }
+        ensures unchanged { IfErr result (λ _. self.new ≡ self.old) }
     {
         match self.peek() {
             Kind::RBracket => {
@@ -182,7 +186,8 @@ impl<'a> Cursor<'a> {
 
     /// Goes behind a `)`; any other token is a syntax fault, and nothing changes.
     pub fn rparen(&mut self) -> Result<(), ReadError>
-        ensures { Gives (λ _. self.new) result (rparen self.old) }
+        ensures given { Gives (λ _. self.new) result (rparen self.old) }
+        ensures unchanged { IfErr result (λ _. self.new ≡ self.old) }
     {
         match self.peek() {
             Kind::RParen => {
@@ -195,7 +200,8 @@ impl<'a> Cursor<'a> {
 
     /// Goes behind a `,`; any other token is a syntax fault, and nothing changes.
     pub fn comma(&mut self) -> Result<(), ReadError>
-        ensures { Gives (λ _. self.new) result (comma self.old) }
+        ensures given { Gives (λ _. self.new) result (comma self.old) }
+        ensures unchanged { IfErr result (λ _. self.new ≡ self.old) }
     {
         match self.peek() {
             Kind::Comma => {
@@ -208,7 +214,8 @@ impl<'a> Cursor<'a> {
 
     /// Goes behind a `:`; any other token is a syntax fault, and nothing changes.
     pub fn colon(&mut self) -> Result<(), ReadError>
-        ensures { Gives (λ _. self.new) result (colon self.old) }
+        ensures given { Gives (λ _. self.new) result (colon self.old) }
+        ensures unchanged { IfErr result (λ _. self.new ≡ self.old) }
     {
         match self.peek() {
             Kind::Colon => {
@@ -221,7 +228,8 @@ impl<'a> Cursor<'a> {
 
     /// Goes behind a `;`; any other token is a syntax fault, and nothing changes.
     pub fn semi(&mut self) -> Result<(), ReadError>
-        ensures { Gives (λ _. self.new) result (semi self.old) }
+        ensures given { Gives (λ _. self.new) result (semi self.old) }
+        ensures unchanged { IfErr result (λ _. self.new ≡ self.old) }
     {
         match self.peek() {
             Kind::Semi => {
@@ -232,10 +240,11 @@ impl<'a> Cursor<'a> {
         }
     }
 
-    /// The name that the next token is.
+    /// The name that the next token is. Where memory is refused, nothing changes.
     pub fn take_name(&mut self) -> Result<Name, ReadError>
         requires { plain_at self.old ≡ k.Name }
-        ensures { Gives (λ x. record { value = name_of x; rest = self.new }) result (any_name self.old) }
+        ensures given { Gives (λ x. record { value = name_of x; rest = self.new }) result (any_name self.old) }
+        ensures unchanged { IfErr result (λ _. self.new ≡ self.old) }
     {
         let start = self.start();
         let text = letters(self.alloc, self.letters())?;
@@ -246,9 +255,10 @@ impl<'a> Cursor<'a> {
         })
     }
 
-    /// A name, which may be a type's.
+    /// A name, which may be a type's; where none is read, nothing changes.
     pub fn name(&mut self) -> Result<Name, ReadError>
-        ensures { Gives (λ x. record { value = name_of x; rest = self.new }) result (any_name self.old) }
+        ensures given { Gives (λ x. record { value = name_of x; rest = self.new }) result (any_name self.old) }
+        ensures unchanged { IfErr result (λ _. self.new ≡ self.old) }
     {
         match self.peek() {
             Kind::Name => self.take_name(),
@@ -256,9 +266,10 @@ impl<'a> Cursor<'a> {
         }
     }
 
-    /// A name, which may be none of these names of types.
+    /// A name, which may be none of these names of types; where none is read, nothing changes.
     pub fn new_name(&mut self, types: &TypeNames<'_>) -> Result<Name, ReadError>
-        ensures { Gives (λ x. record { value = name_of x; rest = self.new }) result (new_name types.now self.old) }
+        ensures given { Gives (λ x. record { value = name_of x; rest = self.new }) result (new_name types.now self.old) }
+        ensures unchanged { IfErr result (λ _. self.new ≡ self.old) }
     {
         match self.peek_among(types) {
             Kind::Name => self.take_name(),

@@ -1,6 +1,6 @@
 // The static rules of a whole program.
 
-ghost use Rattle.std.specs.Prelude.{◌≡◌, ◌⊎◌, ◌&&◌, [], ◌∷◌, IfErr, IfOk, IfSome, is_ok, is_some, map, true};
+ghost use Rattle.std.specs.Prelude.{◌≡◌, ◌≤◌, ◌⊎◌, ◌&&◌, [], ◌∷◌, IfErr, IfOk, IfSome, is_ok, is_some, map, true};
 ghost use Rattle.std.specs.List.{list_all};
 ghost use Rattle.c0_source.specs.declared.fault.Fault as g;
 ghost use Rattle.c0_source.specs.declared.fault.FaultKind.TheVariants.{BadMain as MainIsBad, OutOfMemory};
@@ -100,6 +100,7 @@ fn check_main(environment: &Environment, program: &Program) -> Result<(), Fault>
 fn earlier(first: Result<(), Fault>, second: Result<(), Fault>) -> Result<(), Fault>
     ensures both { is_ok result ≡ is_ok first && is_ok second }
     ensures one { (result ≡ first) ⊎ (result ≡ second) }
+    ensures first { IfErr result (λ f. IfErr first (λ g. f.span.start ≤ g.span.start) × IfErr second (λ g. f.span.start ≤ g.span.start)) }
 {
     match (&first, &second) {
         (Err(one), Err(other)) if other.span.start < one.span.start => second,

@@ -261,3 +261,69 @@ fn one_fault_of_a_loop(rt: HostRuntime) -> Result<(), Fail> {
     )?;
     Ok(())
 }
+
+#[test]
+fn the_first_of_two_calls(rt: HostRuntime) -> Result<(), Fail> {
+    let alloc = rt.alloc();
+    expect(
+        &rt,
+        alloc,
+        "int f(int x); int g(); int main() { return f(g()); }",
+        "1:44: fault 40 NotDefined",
+    )?;
+    expect(
+        &rt,
+        alloc,
+        "int f(); int g(); int main() { return f() + g(); }",
+        "1:39: fault 40 NotDefined",
+    )?;
+    expect(
+        &rt,
+        alloc,
+        "int f(); int g(); int main() { if (true) { return f(); } else { return g(); } }",
+        "1:51: fault 40 NotDefined",
+    )?;
+    expect(
+        &rt,
+        alloc,
+        "bool f(); int g(); int main() { int x; for (x = 0; f(); x = g()) { } return x; }",
+        "1:52: fault 40 NotDefined",
+    )?;
+    expect(
+        &rt,
+        alloc,
+        "int f(); bool g(); int main() { int x; for (x = 0; true; x = f()) /*@loop_invariant g();@*/ { } return x; }",
+        "1:62: fault 40 NotDefined",
+    )?;
+    Ok(())
+}
+
+#[test]
+fn the_first_name_of_two_in_a_path(rt: HostRuntime) -> Result<(), Fail> {
+    let alloc = rt.alloc();
+    expect(
+        &rt,
+        alloc,
+        "int main() { int x; int y; return x + y; }",
+        "1:35: fault 38 NotAssigned",
+    )?;
+    expect(
+        &rt,
+        alloc,
+        "int main() { int x; int y; return true ? x : y; }",
+        "1:42: fault 38 NotAssigned",
+    )?;
+    expect(
+        &rt,
+        alloc,
+        "int f(int x) /*@ensures x == 0;@*/ { int y; x = y; return x; } int main() { return 0; }",
+        "1:25: fault 44 BadContract",
+    )?;
+    expect(
+        &rt,
+        alloc,
+        "int main() { int x; int y = x; }",
+        "1:29: fault 38 NotAssigned",
+    )?;
+    Ok(())
+}
