@@ -9,10 +9,12 @@ use Rattle.cells.specs.declared.ending.Want.TheVariants.{OutOfMemory, NoObjects,
 use Rattle.code_form.specs.Form.{Block, Function, Image}
 use Rattle.code_form.specs.Effects.{code_run}
 use Rattle.code_form.specs.Code.{Core, Covered, effect, IsCovered, IsStuck, Running, Shut, Stopped, Stuck, allocations_of, begins, cells_of, code, entered, held, held_by, is_blocked, most_scopes, sizes, stop_of}
+use Rattle.code_form.specs.Placed.{next_object}
 use Rattle.code_form.specs.Touches.{cell_option, loaded, resumed}
 use Rattle.code_form.specs.Tracked.{WaitsShut, is_running}
 use Rattle.code_form.specs.declared.touch.Touch.TheVariants as touch
 use Rattle.pointer_word.specs.Hands.{Note, blank, latest_of}
+use Rattle.remote_store.specs.Kept.{piece_cells}
 use Rattle.object_lock.specs.Fresh.{IsFresh}
 use Rattle.object_lock.specs.SeatViews.{SeatView, TableView}
 use Rattle.object_lock.specs.Seats.{View}
@@ -88,6 +90,8 @@ opened_run honest C v n f few =
       };
       at = λ q. record {
         core = refl;
+        going = λ j less. absurd (omega arith);
+        fits = subst (λ ns. next_object piece_cells v.low ns ≤ v.high) (sym b.none) f.low;
         heap = record {
           cell = λ r x l. let z : x < cells_of [] r = subst (λ ns. x < cells_of ns r) b.none l in absurd (omega arith);
           fresh = λ o i l m. ap (λ (n : Note). latest_of n.history i) (f.notes o);

@@ -221,7 +221,7 @@ Went reliable s t (Wanted w) = SameProgram s t × (t.completed ≡ s.completed) 
 -- why an allocation of n cells wants something
 abbrev pub AllocCause : State → ℕ → Want → Type 0
 AllocCause s n NoObjects = s.view.high < s.next + pieces piece_cells n
-AllocCause s n OutOfMemory = Unit {0}
+AllocCause s n OutOfMemory = s.next + pieces piece_cells n ≤ s.view.high
 AllocCause s n StoreFailed = ⊥
 
 -- an allocation of n cells was made, or something is wanted and nothing changed

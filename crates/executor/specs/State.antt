@@ -69,9 +69,12 @@ Matches s (Some a) (Some h) = h.object ≡ object_of s a
 abbrev pub ScopesHold : State → Type 0
 ScopesHold s = (k : ℕ) → Matches s (cell_option (held s.core k)) (hold_at s.holds k)
 
--- the session's program is where the run of its code is, and its cells are the latest stores
+-- The session's program is where the run of its code is, its objects fit in its share, and its cells are the latest stores. Before each instruction
+-- that it completed the code had not stopped
 pub record IsAt (s : State) : Type 0 where
   pub core : s.core ≡ (code_run (code s.image) s.completed).0
+  pub going : (n : ℕ) → n < s.completed → stop_of (code_run (code s.image) n).0 ≡ None
+  pub fits : next_object piece_cells s.view.low (cells_in s) ≤ s.view.high
   pub heap : SameHeap piece_cells s.view.low s.view.high (cells_in s) (latest_in s.view) (code_run (code s.image) s.completed).1
 
 -- the program has not stopped, and wants nothing
@@ -82,12 +85,17 @@ IsGoing s = (stop_of s.core ≡ None) × (s.want ≡ None)
 abbrev pub IsHalted : State → Type 0
 IsHalted s = (next_touch s ≡ touch.Wrong) ⊎ ((next_touch s ≡ touch.Nothing) ⊎ (is_blocked s.core ≡ true))
 
+-- the pieces of an allocation that is touched fit in what is left of the share
+abbrev pub HasRoom : State → Touch → Type 0
+HasRoom s (touch.Allocs n) = next_object piece_cells s.view.low (cells_in s) + pieces piece_cells n ≤ s.view.high
+HasRoom s _ = Unit {0}
+
 -- Why a want is answered, where so many calls had been refused before. NoObjects: the pieces of the allocation that is next don't fit in
--- what is left of the share. OutOfMemory: memory was refused to an instruction for which it may have to grow. StoreFailed: one call was refused through the session's own port;
+-- what is left of the share. OutOfMemory: memory was refused to an instruction for which it may have to grow, and an allocation's pieces would fit. StoreFailed: one call was refused through the session's own port;
 -- or none was, and the code is halted
 abbrev pub Caused : Type 0 → ℕ → State → Want → Type 0
 Caused reliable before s NoObjects = (s.refusals ≡ before) × ((n : ℕ) × (next_touch s ≡ touch.Allocs n) × (s.view.high < next_object piece_cells s.view.low (cells_in s) + pieces piece_cells n))
-Caused reliable before s OutOfMemory = (s.refusals ≡ before) × (may_grow (next_touch s) (rest_of s.core) ≡ true)
+Caused reliable before s OutOfMemory = (s.refusals ≡ before) × (may_grow (next_touch s) (rest_of s.core) ≡ true) × HasRoom s (next_touch s)
 Caused reliable before s StoreFailed = Refused reliable before s.refusals ⊎ ((s.refusals ≡ before) × IsHalted s)
 
 -- the program and its share of the objects are the same

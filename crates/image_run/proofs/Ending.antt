@@ -1,5 +1,5 @@
 -- The end of a run.
-use Rattle.std.proofs.Common.{◌≡◌, ◌≢◌, None, refl, ◌<◌, ◌+◌, ℕ, List, [], ◌∷◌, ◌++◌, length, get_or, sym, ap, ◌∙◌, subst, arith}
+use Rattle.std.proofs.Common.{◌≡◌, ◌≢◌, None, refl, ◌<◌, ◌≤◌, ◌+◌, ℕ, List, [], ◌∷◌, ◌++◌, length, get_or, sym, ap, ◌∙◌, subst, arith}
 use Rattle.std.proofs.lemmas.List.{length-append}
 use Rattle.std.proofs.Math.Seq.{get_or-append_seam}
 use Rattle.std.specs.declared.vec.Vec.{Vec}
@@ -10,11 +10,11 @@ use Rattle.cells.specs.declared.ending.Want.{Want}
 use Rattle.cells.specs.declared.ending.Want.TheVariants.{OutOfMemory, NoObjects, StoreFailed}
 use Rattle.code_form.specs.Form.{Image}
 use Rattle.code_form.specs.Effects.{code_run}
-use Rattle.code_form.specs.Code.{Core, code, output_of}
-use Rattle.code_form.specs.Placed.{next_object}
+use Rattle.code_form.specs.Code.{Core, allocations_of, code, output_of, sizes, stop_of}
+use Rattle.code_form.specs.Placed.{next_object, pieces}
 use Rattle.remote_store.specs.Kept.{piece_cells}
-use Rattle.executor.specs.State.{Caused, IsAt, State, cells_in}
-use Rattle.image_run.specs.Executed.{EndsAs, IsExecuted, IsOver, WantsFor}
+use Rattle.executor.specs.State.{Caused, HasRoom as HasRoomFor, IsAt, State, cells_in}
+use Rattle.image_run.specs.Executed.{EndsAs, IsExecuted, IsOver, WantsFor, objects_of}
 
 -- what holds of all elements holds of the last
 pub last_of_all : {X : Type 0} (P : X → Type 0) (xs front : List X) (x : X) → xs ≡ front ++ x ∷ [] → ((k : ℕ) (d : X) → k < length xs → P (get_or xs k d)) → P x
@@ -34,7 +34,9 @@ wants_for reliable before t NoObjects other share c =
     let from = from_zero piece_cells t.view.low (cells_in t) in
     let full = c.1.2 in
     (c.1.0, c.1.1, omega arith)
-wants_for reliable before t OutOfMemory other share c = c.1
+wants_for reliable before t OutOfMemory other share c =
+    let from = from_zero piece_cells t.view.low (cells_in t) in
+    (c.1, λ n next. let room : next_object piece_cells t.view.low (cells_in t) + pieces piece_cells n ≤ t.view.high = subst (HasRoomFor t) next c.2 in omega arith)
 wants_for reliable before t StoreFailed other share c = absurd (other refl)
 
 ends_as : (reliable : Type 0) (before : ℕ) (t : State) (r : Run) → r ≢ Wanted StoreFailed → t.view.high ≡ t.view.low + 65536 → IsOver reliable before t r → EndsAs t.image t.core r
@@ -49,4 +51,9 @@ executed reliable before C t out r n image share at printed count over other =
     let reached : t.core ≡ (code_run (code C) n).0 = at.core ∙ ap (λ D. (code_run (code D) t.completed).0) image ∙ ap (λ k. (code_run (code C) k).0) (sym count) in
     let OfImage : Image → Type 0 = λ D. EndsAs D t.core r in
     let OfCore : Core → Type 0 = λ c. EndsAs C c r in
-    record { output = printed ∙ ap output_of reached; ends = subst OfCore reached (subst OfImage image (ends_as reliable before t r other share over)) }
+    record {
+      going = λ k less. ap (λ D. stop_of (code_run (code D) k).0) (sym image) ∙ at.going k (subst (λ j. k < j) count less);
+      few = subst (λ (c : Core). objects_of (sizes (allocations_of c)) ≤ 65536) reached (let from = from_zero piece_cells t.view.low (cells_in t) in let fits = at.fits in omega arith);
+      output = printed ∙ ap output_of reached;
+      ends = subst OfCore reached (subst OfImage image (ends_as reliable before t r other share over));
+    }

@@ -1,5 +1,5 @@
 -- How the run of an image ends.
-use Rattle.std.specs.Prelude.{◌≡◌, ◌<◌, ◌+◌, ℕ, true, List, Some, None}
+use Rattle.std.specs.Prelude.{◌≡◌, ◌<◌, ◌≤◌, ◌+◌, ℕ, true, List, Some, None}
 use Rattle.cells.specs.declared.ending.Run.{Run}
 use Rattle.cells.specs.declared.ending.Run.TheVariants.{Running, Stopped, Wanted}
 use Rattle.cells.specs.declared.ending.Ended.{Ended}
@@ -24,11 +24,15 @@ AllocatesNext C c n = touch_of (effect C c) ≡ Allocs n
 abbrev pub objects_of : List ℕ → ℕ
 objects_of cells = next_object piece_cells 0 cells
 
+-- an allocation that is next takes no more than 65,536 objects in all
+abbrev pub HasRoom : Image → Core → Type 0
+HasRoom C c = (n : ℕ) → AllocatesNext C c n → objects_of (sizes (allocations_of c)) + pieces piece_cells n ≤ 65536
+
 -- why a program wants something: its next instruction is an allocation, which would take more than 65,536 objects in all; or memory
--- may have to grow for its next instruction, and a growth was refused
+-- may have to grow for its next instruction, which takes no more objects than there are, and a growth was refused
 abbrev pub WantsFor : Image → Core → Want → Type 0
 WantsFor C c NoObjects = (n : ℕ) × AllocatesNext C c n × (65536 < objects_of (sizes (allocations_of c)) + pieces piece_cells n)
-WantsFor C c OutOfMemory = may_grow (touch_of (effect C c)) (rest_of c) ≡ true
+WantsFor C c OutOfMemory = (may_grow (touch_of (effect C c)) (rest_of c) ≡ true) × HasRoom C c
 WantsFor C c StoreFailed = ⊥
 
 -- the program has stopped so, or has not stopped and wants this
@@ -43,7 +47,10 @@ IsOver reliable before t Running = ⊥
 IsOver reliable before t (Stopped x) = stop_of t.core ≡ Some (stop_read x)
 IsOver reliable before t (Wanted w) = (stop_of t.core ≡ None) × Caused reliable before t w
 
--- what was printed, and how the program ended, are those of the code's run after the instructions that were completed
+-- What was printed, and how the program ended, are those of the code's run after the instructions that were completed, before each of which it had
+-- not stopped, and which took no more than 65,536 objects
 pub record IsExecuted (C : Image) (e : Ended) : Type 0 where
+  pub going : (n : ℕ) → n < e.completed → stop_of (code_run (code C) n).0 ≡ None
+  pub few : objects_of (sizes (allocations_of (code_run (code C) e.completed).0)) ≤ 65536
   pub output : e.output.items ≡ output_of (code_run (code C) e.completed).0
   pub ends : EndsAs C (code_run (code C) e.completed).0 e.run

@@ -1,9 +1,9 @@
-use Rattle.std.proofs.Common.{◌≡◌, ◌∙◌, ◌⊎◌, inl, inr, refl, subst, sym, true}
+use Rattle.std.proofs.Common.{◌≡◌, ◌∙◌, inl, inr, refl, subst, sym, true}
 use Rattle.cells.specs.declared.ending.Run.TheVariants.{Wanted}
 use Rattle.cells.specs.declared.ending.Want.TheVariants.{OutOfMemory, StoreFailed}
 use Rattle.code_form.specs.Code.{Covered, stop_of}
 use Rattle.code_form.specs.Growth.{has_text}
-use Rattle.executor.specs.State.{IsGoing, IsUntold, Ran, State}
+use Rattle.executor.specs.State.{IsGoing, Ran, State}
 use Rattle.executor.specs.Taken.{Refused}
 use Rattle.executor.proofs.Laws.{Laws}
 use Rattle.executor.proofs.Opening.{never_failed, stopped_shut}
