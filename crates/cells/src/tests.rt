@@ -86,6 +86,8 @@ fn endings(rt: HostRuntime) -> Result<(), Fail> {
     assert_eq!(rt; format!(in rt.alloc(); "{run}")?.as_str(), "error: bad");
     let run = Run::Wanted(Want::NoObjects);
     assert_eq!(rt; format!(in rt.alloc(); "{run}")?.as_str(), "no objects");
+    assert_eq!(rt; Want::OutOfMemory as u8, 1);
+    assert_eq!(rt; Want::NoObjects as u8, 2);
     assert_eq!(rt; Want::StoreFailed as u8, 3);
     Ok(())
 }

@@ -10,6 +10,8 @@ ghost use Rattle.pointer_word.specs.Ordered.{IsFilled, IsCopied};
 ghost use Rattle.pointer_word.specs.Legal.{legal, Agrees};
 ghost use Rattle.pointer_word.specs.Rows.{words_after, start, written_meanwhile, moved_out_and_in};
 
+use crate::word::{KEEP_COMING, KEEP_HERE, KEEP_PLAIN};
+
 /// Whatever calls whichever seats make in whichever order: each keeps the machine sound and makes exactly its change, each state
 /// that is reached is safe, over a store that is honest and over one that isn't, and an object's history is the list of
 /// what was stored in it. What an owner finds in the frame where its object is, is the latest store.
@@ -44,8 +46,9 @@ pub fn in_order()
     ensures copied { (n : ℕ) (x : Hand) (ws : List ℕ) → IsCopied x ws n → Copied n x (Kept ws) }
 {}
 
-/// Each operation on a word's bits is the change of its fields.
+/// Each operation on a word's bits is the change of its fields, and the masks are those of the definitions.
 pub fn bits_and_fields()
+    ensures masks { (KEEP_PLAIN ≡ keep_plain) × (KEEP_HERE ≡ keep_here) × (KEEP_COMING ≡ keep_coming) }
     ensures opens { (p : Place) (c n : ℕ) → PlaceFits p → c < 65535 → n ≡ face p c → (n + 1) % 18446744073709551616 ≡ face p (c + 1) }
     ensures closes { (p : Place) (c n : ℕ) → PlaceFits p → c < 65535 → 0 < c → n ≡ face p c → (n + 18446744073709551615) % 18446744073709551616 ≡ face p (c - 1) }
     ensures clears { (p : Place) (c n : ℕ) → PlaceFits p → c < 65536 → n ≡ face p c → bit_and n keep_plain ≡ face (cleared p) c }
