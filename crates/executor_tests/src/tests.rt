@@ -42,6 +42,19 @@ fn image_with(alloc: Global, code: Vec<Instruction>) -> Result<Image, AllocError
 fn image_over(alloc: Global, kinds: Vec<Kind>, code: Vec<Instruction>) -> Result<Image, AllocError>
     ensures { IfOk result (λ image. most_scopes (image_of image).functions ≤ 4) }
 {
+    image_by(alloc, kinds, 1, code)
+}
+
+/// One block with these instructions, over registers of these kinds and so many scopes.
+fn image_by(
+    alloc: Global,
+    kinds: Vec<Kind>,
+    scopes: u8,
+    code: Vec<Instruction>,
+) -> Result<Image, AllocError>
+    requires scopes { scopes ≤ 4 }
+    ensures { IfOk result (λ image. most_scopes (image_of image).functions ≤ 4) }
+{
     let mut blocks = Vec::new(alloc);
     blocks.push(Block {
         facts: vec![in alloc; Fact::Shut(0)]?,
@@ -52,7 +65,7 @@ fn image_over(alloc: Global, kinds: Vec<Kind>, code: Vec<Instruction>) -> Result
         result: Some(Kind::Int),
         parameters: 0,
         kinds,
-        scopes: 1,
+        scopes,
         blocks,
     })?;
     let mut layouts = Vec::new(alloc);
@@ -112,10 +125,41 @@ fn writes_three_and_reads_the_first(alloc: Global) -> Result<Image, AllocError>
     image_over(alloc, kinds, code)
 }
 
-/// Aims at the struct that the register points to.
+/// With the first struct aimed at by scope 0 all the while, scope 1 writes 7 into the second, aims at the third, and reads the second.
+fn reads_two_beside_a_hold(alloc: Global) -> Result<Image, AllocError>
+    ensures { IfOk result (λ image. most_scopes (image_of image).functions ≤ 4) }
+{
+    let code = vec![in alloc;
+        Instruction::Simple(Operation::Alloc { to: 0, layout: 0 }),
+        Instruction::Simple(Operation::Alloc { to: 1, layout: 0 }),
+        Instruction::Simple(Operation::Alloc { to: 2, layout: 0 }),
+        aim_at(0),
+        Instruction::Simple(Operation::Const { to: 3, value: 7 }),
+        aim_by(1, 1),
+        Instruction::Store { scope: 1, from: 3 },
+        Instruction::Leave { scope: 1 },
+        aim_by(1, 2),
+        Instruction::Load { to: 3, scope: 1 },
+        Instruction::Leave { scope: 1 },
+        aim_by(1, 1),
+        Instruction::Load { to: 3, scope: 1 },
+        Instruction::Leave { scope: 1 },
+        Instruction::Leave { scope: 0 },
+        Instruction::Return { from: 3 },
+    ]?;
+    let kinds = vec![in alloc; Kind::Ptr(0), Kind::Ptr(0), Kind::Ptr(0), Kind::Int]?;
+    image_by(alloc, kinds, 2, code)
+}
+
+/// Aims scope 0 at the struct that the register points to.
 fn aim_at(register: u32) -> Instruction {
+    aim_by(0, register)
+}
+
+/// Aims this scope at the struct that the register points to.
+fn aim_by(scope: u8, register: u32) -> Instruction {
     Instruction::Aim {
-        scope: 0,
+        scope,
         register,
         offset: None,
         displacement: 0,
@@ -267,6 +311,32 @@ fn three_objects_in_one_frame(rt: HostRuntime) -> Result<(), Fail> {
     let ran = ran_over_a_failing_store(&rt, rt.alloc(), &image, FaultPlan::Never)?;
     let plain = Run::Stopped(Stop::Ended(1));
     assert!(rt; ran == (plain, Run::Stopped(Stop::Ended(1))));
+    Ok(())
+}
+
+// The first object keeps its frame while a scope holds it, so the two others have one frame in turn.
+#[test]
+fn two_objects_beside_a_hold(rt: HostRuntime) -> Result<(), Fail> {
+    let alloc = rt.alloc();
+    let image = reads_two_beside_a_hold(alloc)?;
+    let config = Config {
+        frames: 2,
+        objects: 3,
+        evacuators: 0,
+        fetchers: 0,
+        stores: FarHeap,
+    };
+    let Ok((table, mut owners, _movers)) = ObjectTable::<FarHeap>::new(alloc, 1, &config) else {
+        return Err(Fail::from(AllocError));
+    };
+    let Some(seat) = owners.pop() else {
+        return Err(Fail::from(AllocError));
+    };
+    let Ok(mut session) = Session::new(alloc, &table, &image, seat) else {
+        return Err(Fail::from(AllocError));
+    };
+    assert!(rt; session.run(&rt, 100) == Run::Stopped(Stop::Ended(7)));
+    assert!(rt; session.completed() == 16);
     Ok(())
 }
 
