@@ -11,8 +11,6 @@ mod kinds;
 mod laws;
 mod operations;
 mod output;
-#[cfg(test)]
-mod tests;
 mod touch;
 mod values;
 

@@ -1,6 +1,6 @@
 //! Programs that are run to their end over a heap of cells. What they print and how they end is by the rules of C0.
-use crate::{Block, Cell, Execution, Function, Image, Instruction, Kind, Operation, Touch};
 use cells::Stop;
+use code_form::{Block, Cell, Execution, Function, Image, Instruction, Kind, Operation, Touch};
 use std::alloc::{AllocError, Global};
 
 /// What a program printed, and how it ended.

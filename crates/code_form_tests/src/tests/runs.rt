@@ -1,7 +1,7 @@
 //! One program for each kind of operation.
 use super::programs::{block, come, function, image, number, run, value};
-use crate::{Instruction, Kind, Operation, Relation, UnaryOperator};
 use cells::{Int32Op, Stop};
+use code_form::{Function, Instruction, Kind, Operation, Relation, UnaryOperator};
 use std::alloc::{AllocError, Global};
 use std::test::Fail;
 
@@ -220,7 +220,7 @@ fn times_the_factorial_before(alloc: Global) -> Result<Vec<Instruction>, AllocEr
 }
 
 /// The factorial of its parameter: 1 where that is 0, else the parameter times the factorial of the number before it.
-fn factorial(alloc: Global) -> Result<crate::Function, AllocError> {
+fn factorial(alloc: Global) -> Result<Function, AllocError> {
     let kinds = vec![in alloc; Kind::Int, Kind::Int, Kind::Bool]?;
     let begin = vec![in alloc;
         number(1, 0),

@@ -2,11 +2,11 @@
 mod programs;
 mod runs;
 
-use crate::{
+use cells::Stop;
+use code_form::{
     Block, Cell, Execution, Fact, Function, Image, Instruction, Kind, Operation, Touch, computed,
     effect_laws, heap_laws, run_laws, stuck,
 };
-use cells::Stop;
 use std::alloc::{AllocError, Global};
 use std::test::Fail;
 
