@@ -2,8 +2,13 @@
 use Rattle.std.specs.Prelude.{◌≡◌, ℕ, Bool, false, List}
 use Rattle.c0_front.specs.Texts.{IsTypedAs}
 use Rattle.c0_typed.specs.Trees.{Program}
+use Rattle.c0_typed.specs.Views.{program_of}
+use Rattle.c0_typed.specs.declared.tree.Typed.{Typed}
 use Rattle.code_form.specs.Form.{Image}
 use Rattle.code_form.specs.Code.{Covered}
+use Rattle.lower.specs.Gathered.{singles_of}
+use Rattle.lower.specs.Lowered.{lowered}
+use Rattle.codegen.specs.Generated.{generated}
 use Rattle.c0_image.specs.Correct.{Behaves}
 
 -- the image is that of the one program that the text is the text of: it does what that means, both ways
@@ -12,6 +17,10 @@ pub record IsCompiled (text : List ℕ) (checks : Bool) (C : Image) : Type 0 whe
   pub typed : IsTypedAs false text program
   -- and of no other program
   pub only : (other : Program) → IsTypedAs false text other → other ≡ program
+  -- it is the image that the definitions give of a typed tree of that program
+  pub tree : Typed
+  pub same : program_of tree ≡ program
+  pub made : C ≡ generated (lowered (singles_of tree) checks tree)
   pub behaves : Behaves program checks C
   -- no function has more than four scopes, none of its runs gets stuck or allocates, calls or returns with a scope open
   pub covered : Covered C

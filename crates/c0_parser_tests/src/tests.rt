@@ -338,6 +338,25 @@ fn places_of_expressions(rt: HostRuntime) -> Result<(), Fail> {
 }
 
 #[test]
+fn places_of_an_annotation_and_its_word(rt: HostRuntime) -> Result<(), Fail> {
+    let text = b"int main() { //@assert 1 < 2;\nreturn 0; }";
+    let program = expect_read(rt.alloc(), text)?;
+    let [first, ..] = body_of(&rt, &program) else {
+        panic!(rt; "there is no statement");
+    };
+    let StatementKind::Annotated(annotation) = &first.kind else {
+        panic!(rt; "the statement is something else");
+    };
+    let [spec, ..] = annotation.specs.as_slice() else {
+        panic!(rt; "there is no condition");
+    };
+    assert_eq!(rt; spec.word, Span { start: 16, end: 22 });
+    assert_eq!(rt; spec.condition.span, Span { start: 23, end: 28 });
+    assert_eq!(rt; spec.span, Span { start: 16, end: 29 });
+    Ok(())
+}
+
+#[test]
 fn what_is_printed_reads_back(rt: HostRuntime) -> Result<(), Fail> {
     let alloc = rt.alloc();
     let text = b"#use <conio>\nstruct s { int a; struct s* next; }; typedef struct s* list; \

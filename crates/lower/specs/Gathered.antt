@@ -6,6 +6,7 @@ use Rattle.c0_typed.specs.declared.tree.Expression.{Expression, Row_of-Expressio
 use Rattle.c0_typed.specs.declared.tree.Place.{Place, Deref', Index', Field'}
 use Rattle.c0_typed.specs.declared.tree.Statement.{Statement, Row_of-Statement, end_of-Statement, more_of-Statement, Block', Set, Update, Store, StoreUpdate, Do, If', Loop', Return, ReturnValue, Assert, Error, Check}
 use Rattle.c0_typed.specs.declared.tree.Function.{Function}
+use Rattle.c0_typed.specs.declared.tree.Typed.{Typed}
 use Rattle.code_form.specs.declared.form.Kind.{Kind}
 use Rattle.code_form.specs.declared.form.Kind.TheVariants as kind
 use Rattle.lower.specs.Kinds.{layout_number, position}
@@ -100,3 +101,7 @@ types_of_function f = types_in_all f.preconditions.items ++ (types_of_all f.body
 abbrev pub types_of_functions : List Function → List t.Ty
 types_of_functions [] = []
 types_of_functions (f ∷ rest) = types_of_function f ++ types_of_functions rest
+
+-- the kinds of single cells that a program allocates or looks at, in the order in which its functions tell of them
+abbrev pub singles_of : Typed → List Kind
+singles_of p = all_learned (length p.structs.items) [] (types_of_functions p.functions.items)

@@ -1,6 +1,6 @@
 //! The kinds of single cells that a program needs.
 ghost use Rattle.c0_typed.specs.Views.{type_of};
-ghost use Rattle.lower.specs.Gathered.{all_learned, learned, types_at, types_in, types_in_all, types_of, types_of_all, types_of_function, types_of_functions, with_kind};
+ghost use Rattle.lower.specs.Gathered.{all_learned, learned, singles_of, types_at, types_in, types_in_all, types_of, types_of_all, types_of_function, types_of_functions, with_kind};
 ghost use Rattle.lower.specs.Known.{KnowsProgram};
 ghost use Rattle.lower.specs.Tables.{structs_of};
 ghost use Rattle.std.specs.Prelude.{◌≡◌, ◌++◌, ◌+◌, ◌<◌, ◌^◌, IfOk, OnOk, length, map};
@@ -221,6 +221,7 @@ fn from_function(
 
 /// The kinds of single cells that a program allocates or looks at. More than have numbers of 32 bits can't be had.
 pub(crate) fn gathered(alloc: Global, typed: &Typed) -> Result<Vec<Kind>, AllocError>
+    ensures exact { IfOk result (λ v. v.items ≡ singles_of typed.now) }
     ensures known { IfOk result (λ v. KnowsProgram v.items typed.now) }
     ensures numbered { IfOk result (λ v. length (structs_of typed.now) + length v.items + 1 < 2 ^ 32) }
 {

@@ -1,13 +1,13 @@
 //! Structured code of functions and of whole programs.
 ghost use Rattle.c0_typed.specs.Views.{type_of};
-ghost use Rattle.code_form.specs.declared.form.Kind.{Kind};
 ghost use Rattle.lower.specs.Building.{function_code, kind_at, locals_of, structs_in};
+ghost use Rattle.lower.specs.Gathered.{singles_of};
 ghost use Rattle.lower.specs.Kinds.{layouts_of};
 ghost use Rattle.lower.specs.Known.{KnowsProgram};
 ghost use Rattle.lower.specs.Lowered.{lowered as lowered_with, result_kind as result_with, with_main_first};
 ghost use Rattle.lower.specs.Tables.{structs_of};
 ghost use Rattle.middle_form.specs.Views.{function_of, program_of};
-ghost use Rattle.std.specs.Prelude.{◌≡◌, ◌++◌, ◌∷◌, ◌+◌, ◌<◌, ◌^◌, [], List, IfOk, OnOk, length, map, string_bytes};
+ghost use Rattle.std.specs.Prelude.{◌≡◌, ◌++◌, ◌∷◌, ◌+◌, ◌<◌, ◌^◌, [], IfOk, OnOk, length, map, string_bytes};
 
 use crate::building::{fresh, sequence};
 use crate::context::Context;
@@ -168,7 +168,7 @@ fn lowered_over(
 /// The structured code of a program, with the checks of its contracts or without them. What numbers of 32 bits can't tell
 /// apart can't be had, as with memory that runs out.
 pub(crate) fn lowered(alloc: Global, typed: &Typed, checks: bool) -> Result<Middle, AllocError>
-    ensures { IfOk result (λ m. (singles : List Kind) × KnowsProgram singles typed.now × (program_of m ≡ lowered_with singles checks typed.now)) }
+    ensures { IfOk result (λ m. KnowsProgram (singles_of typed.now) typed.now × (program_of m ≡ lowered_with (singles_of typed.now) checks typed.now)) }
 {
     let singles = gathered(alloc, typed)?;
     let made = lowered_over(alloc, typed, &singles, checks)?;

@@ -1,4 +1,4 @@
-use Rattle.std.proofs.Common.{◌≡◌, ℕ, Some, sym, subst}
+use Rattle.std.proofs.Common.{◌≡◌, ℕ, Some, refl, ap, sym, ◌∙◌, subst}
 use Rattle.std.proofs.lemmas.Result.{err_from_is_err_and}
 use Rattle.c0_typed.specs.Trees.{Program}
 use Rattle.c0_typed.specs.Meaning.{mean}
@@ -9,6 +9,7 @@ use Rattle.code_form.specs.Form.{image_of}
 use Rattle.middle_form.specs.Meaning.{means}
 use Rattle.middle_form.specs.Views.{program_of as code_of}
 use Rattle.codegen.specs.Correct.{IsSafe, Keeps}
+use Rattle.codegen.specs.Generated.{generated}
 use Rattle.c0_front.specs.Texts.{IsTypedAs}
 use Rattle.c0_image.specs.Compiled.{IsCompiled}
 use Rattle.c0_image.specs.Correct.{Behaves}
@@ -35,6 +36,9 @@ returns-clause-compiled c =
       program = program;
       typed = c.in_ok-typed.ensures.typed;
       only = λ other w. sym (c.in_ok-typed.ensures.every other w);
+      tree = c.in_ok-typed.typed;
+      same = refl;
+      made = c.in_ok-generate.ensures ∙ ap generated c.in_ok-middle.ensures.exact;
       behaves = behaves program c.args.checks code image c.in_ok-middle.ensures.same
           (subst (Keeps code) (sym c.in_ok-generate.ensures) (c.generated_keeps_the_meaning.ensures code is_safe));
       covered = subst Covered (sym c.in_ok-generate.ensures) (c.generated_is_covered.ensures code is_safe);
