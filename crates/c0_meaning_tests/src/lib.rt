@@ -1,4 +1,4 @@
-//! Programs and what they mean: the tests of `c0_meaning`.
+//! What no text of the language says of `c0_meaning`, told of a tree that is built by hand.
 #![tactic(auto)]
 
 #[cfg(test)]

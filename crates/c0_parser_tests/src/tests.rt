@@ -16,8 +16,10 @@ use std::alloc::{AllocError, Global};
 use std::process::Abort;
 use std::test::Fail;
 
+mod printed;
+
 /// What the text reads as.
-fn read(alloc: Global, text: &[u8], level: Level) -> Result<Program, Fault> {
+pub(crate) fn read(alloc: Global, text: &[u8], level: Level) -> Result<Program, Fault> {
     let source = Source::new(alloc, text)?;
     let _limits = source.bytes();
     let tokens = lex(alloc, &source)?;
