@@ -68,7 +68,10 @@ fn no_place(value: Result<Typing, Fault>, span: Span) -> Fault
     ensures value { IfOk value (λ _. Told TypeMismatch span result) }
 {
     match value {
-        Ok(_) => fault_at(FaultKind::TypeMismatch, span),
+        Ok(typing) => {
+            drop(typing);
+            fault_at(FaultKind::TypeMismatch, span)
+        }
         Err(fault) => fault,
     }
 }

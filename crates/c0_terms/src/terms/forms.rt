@@ -39,6 +39,7 @@ impl<'a> Terms<'a> {
         ensures cause { IfErr result (λ f. (f.kind ≡ OutOfMemory) ⊎ InExpression (env_of self.now) (context_of self.now) f AsValue e.now.kind e.now.span ⊎ Mistyped (env_of self.now) (context_of self.now) f (resolved_of want.now) e.now.kind e.now.span) }
     {
         if !self.has_value(&typing) && !is_void(want) {
+            drop(typing);
             return Err(self.void_use(&e.kind, e.span));
         }
         self.as_wanted(want, typing, e.span)
@@ -61,9 +62,25 @@ impl<'a> Terms<'a> {
                 return Err(fault);
             }
         };
-        let value_type = self.numbered(&element)?;
-        let length = Box::new(self.alloc, length)?;
+        match Box::new(self.alloc, length) {
+            Ok(length) => Ok(self.array_made(element, length)?),
+            Err(refused) => {
+                drop(element);
+                Err(refused.into())
+            }
+        }
+    }
+
+    // A new array of this many elements of this type.
+    fn array_made(
+        &self,
+        element: ResolvedType,
+        length: Box<TypedExpression>,
+    ) -> Result<Typing, AllocError>
+        ensures { IfOk result (λ r. typing_of self.now.texts.now r ≡ x.Has (t.ArrayOf (resolved_of element)) (y.AllocArray (x.num (env_of self.now) (resolved_of element)) (exp_of self.now.texts.now length.value))) }
+    {
         let element = Box::new(self.alloc, element)?;
+        let value_type = self.numbered(&element)?;
         Ok(Typing::Has(
             ResolvedType::Array(element),
             TypedExpression::AllocArray(value_type, length),
@@ -143,9 +160,12 @@ impl<'a> Terms<'a> {
     {
         match typing {
             Typing::Has(resolved, e) => {
-                if resolved.is_small() || is_void(&resolved) {
+                let is_taken = resolved.is_small() || is_void(&resolved);
+                drop(resolved);
+                if is_taken {
                     Ok(e)
                 } else {
+                    drop(e);
                     // Nothing that is declared has such a type.
                     Err(Fault::out_of_memory())
                 }

@@ -150,7 +150,10 @@ impl<'a> Terms<'a> {
         let resolved = self.environment.typedefs.resolve(self.alloc, written)?;
         match self.environment.structs.cells(&resolved) {
             Some(_) => Ok(resolved),
-            None => Err(fault_at(FaultKind::StructNotComplete, written.span)),
+            None => {
+                drop(resolved);
+                Err(fault_at(FaultKind::StructNotComplete, written.span))
+            }
         }
     }
 
@@ -160,8 +163,8 @@ impl<'a> Terms<'a> {
         ensures cause { IfErr result (λ f. (f.kind ≡ OutOfMemory) ⊎ HeldTypeCause (env_of self.now) f written.now) }
     {
         let resolved = self.held(written)?;
-        let value_type = self.numbered(&resolved)?;
         let target = Box::new(self.alloc, resolved)?;
+        let value_type = self.numbered(&target)?;
         Ok(Typing::Has(ResolvedType::Pointer(target), Expression::Alloc(value_type)))
     }
 

@@ -3,6 +3,7 @@
 ghost use Rattle.std.specs.Prelude.{◌≡◌, ◌⊎◌, None, Some, false, true, IfErr, IfOk, IfSome};
 ghost use Rattle.c0_source.specs.declared.fault.FaultKind.TheVariants.{NotSmall, NullDereference, OutOfMemory, StructNotComplete, TypeMismatch, UnknownField};
 ghost use Rattle.c0_syntax.specs.Views.{name_of};
+ghost use Rattle.c0_typed.specs.Trees as y;
 ghost use Rattle.c0_typed.specs.Views.{exp_of, place_of as at_of};
 ghost use Rattle.c0_rules.specs.Expressions as x;
 ghost use Rattle.c0_rules.specs.FaultExpressions.{FieldCause, Told, element_of, is_null};
@@ -11,7 +12,7 @@ ghost use Rattle.c0_rules.specs.Types as t;
 ghost use Rattle.c0_rules.specs.Answers.{Answers};
 ghost use Rattle.c0_tables.specs.Views.{field_entry_of, resolved_of, struct_entry_of};
 
-use super::steps::fault_at;
+use super::steps::{boxed, fault_at};
 use crate::typing::{Place, Terms, Typing};
 use c0_source::fault::{Fault, FaultKind, Span};
 use c0_syntax::name::Name;
@@ -28,18 +29,30 @@ impl<'a> Terms<'a> {
     {
         match pointer {
             Typing::Has(resolved, e) => match resolved {
-                ResolvedType::Pointer(target) => {
-                    let value_type = self.numbered(&target)?;
-                    let pointer = Box::new(self.alloc, e)?;
-                    Ok(Place {
-                        resolved: Box::into_inner(target),
-                        place: TypedPlace::Deref(value_type, pointer),
-                    })
+                ResolvedType::Pointer(target) => Ok(self.target_of(target, e)?),
+                other => {
+                    drop(other);
+                    drop(e);
+                    Err(fault_at(FaultKind::TypeMismatch, span))
                 }
-                _ => Err(fault_at(FaultKind::TypeMismatch, span)),
             },
-            Typing::Null(_) => Err(fault_at(FaultKind::NullDereference, sign)),
+            Typing::Null(e) => {
+                drop(e);
+                Err(fault_at(FaultKind::NullDereference, sign))
+            }
         }
+    }
+
+    // What this pointer points to, of this type.
+    fn target_of(&self, target: Box<ResolvedType>, e: Expression) -> Result<Place, AllocError>
+        ensures { IfOk result (λ r. x.pointed (env_of self.now) (x.Has (t.PointerTo (resolved_of target.value)) (exp_of self.now.texts.now e)) ≡ Some (place_of self.now.texts.now r)) }
+    {
+        let pointer = Box::new(self.alloc, e)?;
+        let value_type = self.numbered(&target)?;
+        Ok(Place {
+            resolved: Box::into_inner(target),
+            place: TypedPlace::Deref(value_type, pointer),
+        })
     }
 
     /// An element of an array; a struct must be complete.
@@ -55,22 +68,44 @@ impl<'a> Terms<'a> {
     {
         match array {
             Typing::Has(resolved, e) => match resolved {
-                ResolvedType::Array(element) => {
-                    if self.environment.structs.cells(&element).is_none() {
-                        return Err(fault_at(FaultKind::StructNotComplete, span));
-                    }
-                    let value_type = self.numbered(&element)?;
-                    let array = Box::new(self.alloc, e)?;
-                    let index = Box::new(self.alloc, index)?;
-                    Ok(Place {
-                        resolved: Box::into_inner(element),
-                        place: TypedPlace::Index(value_type, array, index),
-                    })
+                ResolvedType::Array(element) => self.element_at(element, e, index, span),
+                other => {
+                    drop(other);
+                    drop(e);
+                    drop(index);
+                    Err(fault_at(FaultKind::TypeMismatch, here))
                 }
-                _ => Err(fault_at(FaultKind::TypeMismatch, here)),
             },
-            Typing::Null(_) => Err(fault_at(FaultKind::TypeMismatch, here)),
+            Typing::Null(e) => {
+                drop(e);
+                drop(index);
+                Err(fault_at(FaultKind::TypeMismatch, here))
+            }
         }
+    }
+
+    // An element of this array, of this type.
+    fn element_at(
+        &self,
+        element: Box<ResolvedType>,
+        array: Expression,
+        index: Expression,
+        span: Span,
+    ) -> Result<Place, Fault>
+        ensures answers { Answers (place_of self.now.texts.now) result (x.indexed (env_of self.now) (x.Has (t.ArrayOf (resolved_of element.value)) (exp_of self.now.texts.now array)) (exp_of self.now.texts.now index)) }
+        ensures cause { IfErr result (λ f. (f.kind ≡ OutOfMemory) ⊎ ((t.cells_of (env_of self.now).structs (resolved_of element.value) ≡ None) × Told StructNotComplete span f)) }
+    {
+        if self.environment.structs.cells(&element).is_none() {
+            drop(array);
+            drop(index);
+            return Err(fault_at(FaultKind::StructNotComplete, span));
+        }
+        let (array, index) = boxed(self.alloc, array, index)?;
+        let value_type = self.numbered(&element)?;
+        Ok(Place {
+            resolved: Box::into_inner(element),
+            place: TypedPlace::Index(value_type, array, index),
+        })
     }
 
     /// The array of an element at this place; it is refused where it has none, whatever the index is, so that a fault in that isn't
@@ -120,8 +155,13 @@ impl<'a> Terms<'a> {
         ensures answers { Answers (place_of self.now.texts.now) result (t.and_so (x.as_wanted (env_of self.now) t.IntType (typing_of self.now.texts.now index)) (x.indexed (env_of self.now) (typing_of self.now.texts.now array))) }
         ensures cause { IfErr result (λ f. (f.kind ≡ OutOfMemory) ⊎ ((element_of (typing_of self.now.texts.now array) ≡ None) × Told TypeMismatch spans.0 f) ⊎ ((x.as_wanted (env_of self.now) t.IntType (typing_of self.now.texts.now index) ≡ None) × Told TypeMismatch spans.1 f) ⊎ ((r : t.ResolvedType) × (element_of (typing_of self.now.texts.now array) ≡ Some r) × (t.cells_of (env_of self.now).structs r ≡ None) × Told StructNotComplete span f)) }
     {
-        let index = self.as_wanted(&ResolvedType::Int, index, spans.1)?;
-        self.indexed(array, index, spans.0, span)
+        match self.as_wanted(&ResolvedType::Int, index, spans.1) {
+            Ok(index) => self.indexed(array, index, spans.0, span),
+            Err(fault) => {
+                drop(array);
+                Err(fault)
+            }
+        }
     }
 
     // This field of a struct at a place.
@@ -133,12 +173,12 @@ impl<'a> Terms<'a> {
     ) -> Result<Place, AllocError>
         ensures { IfOk result (λ r. place_of self.now.texts.now r ≡ field_place (env_of self.now) name.now (at_of self.now.texts.now place) (field_entry_of field.now)) }
     {
+        let place = Box::new(self.alloc, place)?;
         if field.number > u32::MAX as usize {
             return Err(AllocError);
         }
         let number = self.environment.struct_names.number(name);
         let resolved = field.resolved.duplicate(self.alloc)?;
-        let place = Box::new(self.alloc, place)?;
         Ok(Place {
             resolved,
             place: TypedPlace::Field(number, place, field.number as u32),
@@ -158,12 +198,18 @@ impl<'a> Terms<'a> {
     {
         let Place { resolved, place } = of;
         let ResolvedType::Struct(struct_name) = &resolved else {
+            drop(resolved);
+            drop(place);
             return Err(fault_at(FaultKind::TypeMismatch, here));
         };
         let Some(entry) = self.environment.structs.get(struct_name) else {
+            drop(resolved);
+            drop(place);
             return Err(fault_at(FaultKind::StructNotComplete, span));
         };
-        self.field_of(struct_name, entry, place, name)
+        let field = self.field_of(struct_name, entry, place, name);
+        drop(resolved);
+        field
     }
 
     // A field of a struct with these fields.
@@ -179,7 +225,10 @@ impl<'a> Terms<'a> {
     {
         match entry.fields.get(&name.text) {
             Some(field) => Ok(self.field_at(struct_name, place, field)?),
-            None => Err(fault_at(FaultKind::UnknownField, name.span)),
+            None => {
+                drop(place);
+                Err(fault_at(FaultKind::UnknownField, name.span))
+            }
         }
     }
 
@@ -190,10 +239,29 @@ impl<'a> Terms<'a> {
     {
         let Place { resolved, place } = place;
         if !resolved.is_small() {
+            drop(resolved);
+            drop(place);
             return Err(fault_at(FaultKind::NotSmall, span));
         }
-        let value_type = self.numbered(&resolved)?;
-        let place = Box::new(self.alloc, place)?;
-        Ok(Typing::Has(resolved, Expression::Read(value_type, place)))
+        match Box::new(self.alloc, place) {
+            Ok(place) => Ok(self.reading(resolved, place)?),
+            Err(refused) => {
+                drop(resolved);
+                Err(refused.into())
+            }
+        }
+    }
+
+    // What stands at this place, of this type.
+    fn reading(&self, resolved: ResolvedType, place: Box<TypedPlace>) -> Result<Typing, AllocError>
+        ensures { IfOk result (λ r. typing_of self.now.texts.now r ≡ x.Has (resolved_of resolved) (y.Read (x.num (env_of self.now) (resolved_of resolved)) (at_of self.now.texts.now place.value))) }
+    {
+        match self.numbered(&resolved) {
+            Ok(value_type) => Ok(Typing::Has(resolved, Expression::Read(value_type, place))),
+            Err(refused) => {
+                drop(resolved);
+                Err(refused)
+            }
+        }
     }
 }

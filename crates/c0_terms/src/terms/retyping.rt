@@ -39,15 +39,19 @@ pub(crate) fn retype(
     ensures { (texts : List Name) → IfOk result (λ r. exp_of texts r ≡ retyped (type_of target.now) (exp_of texts e)) }
 {
     match e {
-        Expression::Null(_) => Ok(Expression::Null(duplicate(alloc, target)?)),
-        Expression::Choose(_, condition, first, second) => {
+        Expression::Null(old) => {
+            drop(old);
+            Ok(Expression::Null(duplicate(alloc, target)?))
+        }
+        Expression::Choose(old, condition, first, second) => {
+            drop(old);
             let first = retype(alloc, target, Box::into_inner(first))?;
-            let second = retype(alloc, target, Box::into_inner(second))?;
             let first = Box::new(alloc, first)?;
+            let second = retype(alloc, target, Box::into_inner(second))?;
             let second = Box::new(alloc, second)?;
             let pointed = duplicate(alloc, target)?;
-            let pointer = ValueType::Pointer(Box::new(alloc, pointed)?);
-            Ok(Expression::Choose(pointer, condition, first, second))
+            let pointed = Box::new(alloc, pointed)?;
+            Ok(Expression::Choose(ValueType::Pointer(pointed), condition, first, second))
         }
         other => Ok(other),
     }

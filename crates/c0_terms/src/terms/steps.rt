@@ -9,7 +9,7 @@ ghost use Rattle.c0_rules.specs.FaultExpressions.{Told, has_common};
 ghost use Rattle.c0_syntax.specs.declared.operator.PrefixOperator.TheVariants.{Dereference};
 ghost use Rattle.c0_terms.specs.Terms.{LeftCause, OperatedCause, env_of, pair_of, rule_of, typing_of};
 ghost use Rattle.c0_terms.specs.Forms.{takes_left};
-ghost use Rattle.c0_rules.specs.Types.{BoolType, Environment, Name, and_so};
+ghost use Rattle.c0_rules.specs.Types.{BoolType, Environment, IntType, Name, and_so, provided};
 ghost use Rattle.c0_rules.specs.Answers.{Answers};
 ghost use Rattle.c0_tables.specs.Views.{resolved_of};
 
@@ -20,7 +20,7 @@ use c0_source::fault::{Fault, FaultKind, Span};
 use c0_syntax::operator::PrefixOperator;
 use c0_tables::resolved::ResolvedType;
 use c0_typed::{Expression, Relation, UnaryOperator, ValueType};
-use std::alloc::AllocError;
+use std::alloc::{AllocError, Global};
 
 /// A fault at a place.
 pub(crate) fn fault_at(kind: FaultKind, span: Span) -> Fault
@@ -63,6 +63,34 @@ pub(crate) fn left_operand(rule: OperatorRule, first: Typing, here: Span) -> Res
     }
 }
 
+/// Two operands on the heap. A tree that stands in a box is dropped by one step, and one that does not is dropped variant by variant.
+pub(crate) fn boxed(
+    alloc: Global,
+    first: Expression,
+    second: Expression,
+) -> Result<(Box<Expression>, Box<Expression>), AllocError>
+    ensures { IfOk result (λ r. (r.0.value ≡ first) × (r.1.value ≡ second)) }
+{
+    match Box::new(alloc, first) {
+        Ok(first) => {
+            let second = Box::new(alloc, second)?;
+            Ok((first, second))
+        }
+        Err(refused) => {
+            drop(second);
+            Err(refused.into())
+        }
+    }
+}
+
+// An operand that is NULL, as a pointer to numbers.
+fn null_boxed(alloc: Global, e: Expression) -> Result<Box<Expression>, AllocError>
+    ensures { (texts : List Name) → IfOk result (λ r. exp_of texts r.value ≡ x.retyped t.IntTy (exp_of texts e)) }
+{
+    let e = retype(alloc, &ValueType::Int, e)?;
+    Ok(Box::new(alloc, e)?)
+}
+
 impl<'a> Terms<'a> {
     /// A type as typed trees have it.
     pub(crate) fn numbered(&self, resolved: &ResolvedType) -> Result<ValueType, AllocError>
@@ -82,11 +110,21 @@ impl<'a> Terms<'a> {
         ensures cause { IfErr result (λ f. (f.kind ≡ OutOfMemory) ⊎ Told TypeMismatch span f) }
     {
         match want {
-            ResolvedType::Pointer(target) => {
-                let target = self.numbered(target)?;
-                Ok(retype(self.alloc, &target, e)?)
+            ResolvedType::Pointer(target) => match self.numbered(target) {
+                Ok(target) => {
+                    let pointer = retype(self.alloc, &target, e);
+                    drop(target);
+                    Ok(pointer?)
+                }
+                Err(refused) => {
+                    drop(e);
+                    Err(refused.into())
+                }
+            },
+            _ => {
+                drop(e);
+                Err(fault_at(FaultKind::TypeMismatch, span))
             }
-            _ => Err(fault_at(FaultKind::TypeMismatch, span)),
         }
     }
 
@@ -102,9 +140,12 @@ impl<'a> Terms<'a> {
     {
         match typing {
             Typing::Has(resolved, e) => {
-                if resolved.same_as(want) {
+                let is_wanted = resolved.same_as(want);
+                drop(resolved);
+                if is_wanted {
                     Ok(e)
                 } else {
+                    drop(e);
                     Err(fault_at(FaultKind::TypeMismatch, span))
                 }
             }
@@ -122,9 +163,8 @@ impl<'a> Terms<'a> {
     ) -> Result<Typing, AllocError>
         ensures { IfOk result (λ r. typing_of self.now.texts.now r ≡ x.Has BoolType (t.Compare (x.num (env_of self.now) (resolved_of resolved.now)) (relation_of relation) (exp_of self.now.texts.now first) (exp_of self.now.texts.now second))) }
     {
+        let (first, second) = boxed(self.alloc, first, second)?;
         let value_type = self.numbered(resolved)?;
-        let first = Box::new(self.alloc, first)?;
-        let second = Box::new(self.alloc, second)?;
         Ok(Typing::Has(
             ResolvedType::Bool,
             Expression::Compare(value_type, relation, first, second),
@@ -144,32 +184,104 @@ impl<'a> Terms<'a> {
     {
         match (first, second) {
             (Typing::Has(a, x), Typing::Has(b, y)) => {
-                if a.same_as(&b) && is_compared(relation, &a) {
-                    Ok(self.comparison(&a, relation, x, y)?)
-                } else {
-                    Err(fault_at(FaultKind::TypeMismatch, span))
-                }
+                let are_compared = a.same_as(&b) && is_compared(relation, &a);
+                drop(b);
+                let found = self.comparison_where(are_compared, &a, relation, (x, y), span);
+                drop(a);
+                found
             }
             (Typing::Has(a, x), Typing::Null(y)) => {
-                if !is_equality(relation) {
-                    return Err(fault_at(FaultKind::TypeMismatch, span));
-                }
-                let y = self.null_as(&a, y, span)?;
-                Ok(self.comparison(&a, relation, x, y)?)
+                let found = self.null_on_right(relation, &a, x, y, span);
+                drop(a);
+                found
             }
             (Typing::Null(x), Typing::Has(b, y)) => {
-                if !is_equality(relation) {
-                    return Err(fault_at(FaultKind::TypeMismatch, span));
-                }
-                let x = self.null_as(&b, x, span)?;
-                Ok(self.comparison(&b, relation, x, y)?)
+                let found = self.null_on_left(relation, x, &b, y, span);
+                drop(b);
+                found
             }
             (Typing::Null(x), Typing::Null(y)) => {
                 if is_equality(relation) {
                     Ok(self.comparison_of_nulls(relation, x, y)?)
                 } else {
+                    drop(x);
+                    drop(y);
                     Err(fault_at(FaultKind::TypeMismatch, span))
                 }
+            }
+        }
+    }
+
+    // A comparison of values of this type, where they may be compared so.
+    fn comparison_where(
+        &self,
+        are_compared: bool,
+        resolved: &ResolvedType,
+        relation: Relation,
+        operands: (Expression, Expression),
+        span: Span,
+    ) -> Result<Typing, Fault>
+        ensures answers { Answers (typing_of self.now.texts.now) result (provided are_compared (Some (x.Has BoolType (t.Compare (x.num (env_of self.now) (resolved_of resolved.now)) (relation_of relation) (exp_of self.now.texts.now operands.0) (exp_of self.now.texts.now operands.1))))) }
+        ensures cause { IfErr result (λ f. (f.kind ≡ OutOfMemory) ⊎ Told TypeMismatch span f) }
+    {
+        let (first, second) = operands;
+        if are_compared {
+            Ok(self.comparison(resolved, relation, first, second)?)
+        } else {
+            drop(first);
+            drop(second);
+            Err(fault_at(FaultKind::TypeMismatch, span))
+        }
+    }
+
+    // A comparison of a value of this type with NULL.
+    fn null_on_right(
+        &self,
+        relation: Relation,
+        resolved: &ResolvedType,
+        first: Expression,
+        null: Expression,
+        span: Span,
+    ) -> Result<Typing, Fault>
+        ensures answers { Answers (typing_of self.now.texts.now) result (x.compared (env_of self.now) (relation_of relation) (x.Has (resolved_of resolved.now) (exp_of self.now.texts.now first)) (x.IsNull (exp_of self.now.texts.now null))) }
+        ensures cause { IfErr result (λ f. (f.kind ≡ OutOfMemory) ⊎ Told TypeMismatch span f) }
+    {
+        if !is_equality(relation) {
+            drop(first);
+            drop(null);
+            return Err(fault_at(FaultKind::TypeMismatch, span));
+        }
+        match self.null_as(resolved, null, span) {
+            Ok(second) => Ok(self.comparison(resolved, relation, first, second)?),
+            Err(fault) => {
+                drop(first);
+                Err(fault)
+            }
+        }
+    }
+
+    // A comparison of NULL with a value of this type.
+    fn null_on_left(
+        &self,
+        relation: Relation,
+        null: Expression,
+        resolved: &ResolvedType,
+        second: Expression,
+        span: Span,
+    ) -> Result<Typing, Fault>
+        ensures answers { Answers (typing_of self.now.texts.now) result (x.compared (env_of self.now) (relation_of relation) (x.IsNull (exp_of self.now.texts.now null)) (x.Has (resolved_of resolved.now) (exp_of self.now.texts.now second))) }
+        ensures cause { IfErr result (λ f. (f.kind ≡ OutOfMemory) ⊎ Told TypeMismatch span f) }
+    {
+        if !is_equality(relation) {
+            drop(null);
+            drop(second);
+            return Err(fault_at(FaultKind::TypeMismatch, span));
+        }
+        match self.null_as(resolved, null, span) {
+            Ok(first) => Ok(self.comparison(resolved, relation, first, second)?),
+            Err(fault) => {
+                drop(second);
+                Err(fault)
             }
         }
     }
@@ -183,51 +295,63 @@ impl<'a> Terms<'a> {
     ) -> Result<Typing, AllocError>
         ensures { IfOk result (λ r. typing_of self.now.texts.now r ≡ x.Has BoolType (t.Compare (t.PointerTy t.IntTy) (relation_of relation) (x.retyped t.IntTy (exp_of self.now.texts.now first)) (x.retyped t.IntTy (exp_of self.now.texts.now second)))) }
     {
-        let first = retype(self.alloc, &ValueType::Int, first)?;
-        let second = retype(self.alloc, &ValueType::Int, second)?;
-        let first = Box::new(self.alloc, first)?;
-        let second = Box::new(self.alloc, second)?;
-        let pointer = ValueType::Pointer(Box::new(self.alloc, ValueType::Int)?);
-        Ok(Typing::Has(
-            ResolvedType::Bool,
-            Expression::Compare(pointer, relation, first, second),
-        ))
+        match null_boxed(self.alloc, first) {
+            Ok(first) => {
+                let second = null_boxed(self.alloc, second)?;
+                let number = Box::new(self.alloc, ValueType::Int)?;
+                Ok(Typing::Has(
+                    ResolvedType::Bool,
+                    Expression::Compare(ValueType::Pointer(number), relation, first, second),
+                ))
+            }
+            Err(refused) => {
+                drop(second);
+                Err(refused)
+            }
+        }
     }
 
     // One of two arms of this type.
     fn choice(
         &self,
         resolved: ResolvedType,
-        condition: Expression,
+        condition: Box<Expression>,
         first: Expression,
         second: Expression,
     ) -> Result<Typing, AllocError>
-        ensures { IfOk result (λ r. typing_of self.now.texts.now r ≡ x.Has (resolved_of resolved) (t.Choose (x.num (env_of self.now) (resolved_of resolved)) (exp_of self.now.texts.now condition) (exp_of self.now.texts.now first) (exp_of self.now.texts.now second))) }
+        ensures { IfOk result (λ r. typing_of self.now.texts.now r ≡ x.Has (resolved_of resolved) (t.Choose (x.num (env_of self.now) (resolved_of resolved)) (exp_of self.now.texts.now condition.value) (exp_of self.now.texts.now first) (exp_of self.now.texts.now second))) }
     {
-        let value_type = self.numbered(&resolved)?;
-        let condition = Box::new(self.alloc, condition)?;
-        let first = Box::new(self.alloc, first)?;
-        let second = Box::new(self.alloc, second)?;
-        Ok(Typing::Has(
-            resolved,
-            Expression::Choose(value_type, condition, first, second),
-        ))
+        let (first, second) = match boxed(self.alloc, first, second) {
+            Ok(operands) => operands,
+            Err(refused) => {
+                drop(resolved);
+                return Err(refused);
+            }
+        };
+        match self.numbered(&resolved) {
+            Ok(value_type) => Ok(Typing::Has(
+                resolved,
+                Expression::Choose(value_type, condition, first, second),
+            )),
+            Err(refused) => {
+                drop(resolved);
+                Err(refused)
+            }
+        }
     }
 
     // One of two arms that are NULL.
     fn choice_of_nulls(
         &self,
-        condition: Expression,
+        condition: Box<Expression>,
         first: Expression,
         second: Expression,
     ) -> Result<Typing, AllocError>
-        ensures { IfOk result (λ r. typing_of self.now.texts.now r ≡ x.IsNull (t.Choose (t.PointerTy t.IntTy) (exp_of self.now.texts.now condition) (exp_of self.now.texts.now first) (exp_of self.now.texts.now second))) }
+        ensures { IfOk result (λ r. typing_of self.now.texts.now r ≡ x.IsNull (t.Choose (t.PointerTy t.IntTy) (exp_of self.now.texts.now condition.value) (exp_of self.now.texts.now first) (exp_of self.now.texts.now second))) }
     {
-        let condition = Box::new(self.alloc, condition)?;
-        let first = Box::new(self.alloc, first)?;
-        let second = Box::new(self.alloc, second)?;
-        let pointer = ValueType::Pointer(Box::new(self.alloc, ValueType::Int)?);
-        Ok(Typing::Null(Expression::Choose(pointer, condition, first, second)))
+        let (first, second) = boxed(self.alloc, first, second)?;
+        let number = Box::new(self.alloc, ValueType::Int)?;
+        Ok(Typing::Null(Expression::Choose(ValueType::Pointer(number), condition, first, second)))
     }
 
     /// One of two arms of one small type; of two that are NULL it has NULL's own type.
@@ -241,22 +365,56 @@ impl<'a> Terms<'a> {
         ensures answers { Answers (typing_of self.now.texts.now) result (x.chosen (env_of self.now) (exp_of self.now.texts.now condition) (typing_of self.now.texts.now first) (typing_of self.now.texts.now second)) }
         ensures cause { IfErr result (λ f. (f.kind ≡ OutOfMemory) ⊎ ((has_common (typing_of self.now.texts.now first) (typing_of self.now.texts.now second) ≡ false) × Told TypeMismatch span f)) }
     {
+        match Box::new(self.alloc, condition) {
+            Ok(condition) => self.chosen_by(condition, first, second, span),
+            Err(refused) => {
+                drop(first);
+                drop(second);
+                Err(refused.into())
+            }
+        }
+    }
+
+    // The same, of a condition that stands in a box.
+    fn chosen_by(
+        &self,
+        condition: Box<Expression>,
+        first: Typing,
+        second: Typing,
+        span: Span,
+    ) -> Result<Typing, Fault>
+        ensures answers { Answers (typing_of self.now.texts.now) result (x.chosen (env_of self.now) (exp_of self.now.texts.now condition.value) (typing_of self.now.texts.now first) (typing_of self.now.texts.now second)) }
+        ensures cause { IfErr result (λ f. (f.kind ≡ OutOfMemory) ⊎ ((has_common (typing_of self.now.texts.now first) (typing_of self.now.texts.now second) ≡ false) × Told TypeMismatch span f)) }
+    {
         match (first, second) {
             (Typing::Has(a, x), Typing::Has(b, y)) => {
-                if a.same_as(&b) && a.is_small() {
+                let is_common = a.same_as(&b) && a.is_small();
+                drop(b);
+                if is_common {
                     Ok(self.choice(a, condition, x, y)?)
                 } else {
+                    drop(a);
+                    drop(x);
+                    drop(y);
                     Err(fault_at(FaultKind::TypeMismatch, span))
                 }
             }
-            (Typing::Has(a, x), Typing::Null(y)) => {
-                let y = self.null_as(&a, y, span)?;
-                Ok(self.choice(a, condition, x, y)?)
-            }
-            (Typing::Null(x), Typing::Has(b, y)) => {
-                let x = self.null_as(&b, x, span)?;
-                Ok(self.choice(b, condition, x, y)?)
-            }
+            (Typing::Has(a, x), Typing::Null(y)) => match self.null_as(&a, y, span) {
+                Ok(y) => Ok(self.choice(a, condition, x, y)?),
+                Err(fault) => {
+                    drop(a);
+                    drop(x);
+                    Err(fault)
+                }
+            },
+            (Typing::Null(x), Typing::Has(b, y)) => match self.null_as(&b, x, span) {
+                Ok(x) => Ok(self.choice(b, condition, x, y)?),
+                Err(fault) => {
+                    drop(b);
+                    drop(y);
+                    Err(fault)
+                }
+            },
             (Typing::Null(x), Typing::Null(y)) => Ok(self.choice_of_nulls(condition, x, y)?),
         }
     }
@@ -308,15 +466,27 @@ impl<'a> Terms<'a> {
     {
         match array {
             Typing::Has(resolved, e) => match resolved {
-                ResolvedType::Array(element) => {
-                    let value_type = self.numbered(&element)?;
-                    let array = Box::new(self.alloc, e)?;
-                    Ok(Typing::Has(ResolvedType::Int, Expression::Length(value_type, array)))
+                ResolvedType::Array(element) => Ok(self.length_of(element, e)?),
+                other => {
+                    drop(other);
+                    drop(e);
+                    Err(fault_at(FaultKind::TypeMismatch, span))
                 }
-                _ => Err(fault_at(FaultKind::TypeMismatch, span)),
             },
-            Typing::Null(_) => Err(fault_at(FaultKind::TypeMismatch, span)),
+            Typing::Null(e) => {
+                drop(e);
+                Err(fault_at(FaultKind::TypeMismatch, span))
+            }
         }
+    }
+
+    // The length of this array, of elements of this type.
+    fn length_of(&self, element: Box<ResolvedType>, array: Expression) -> Result<Typing, AllocError>
+        ensures { IfOk result (λ r. typing_of self.now.texts.now r ≡ x.Has IntType (t.Length (x.num (env_of self.now) (resolved_of element.value)) (exp_of self.now.texts.now array))) }
+    {
+        let array = Box::new(self.alloc, array)?;
+        let value_type = self.numbered(&element)?;
+        Ok(Typing::Has(ResolvedType::Int, Expression::Length(value_type, array)))
     }
 
     // Two operands of this type.
@@ -330,9 +500,20 @@ impl<'a> Terms<'a> {
         ensures answers { Answers (pair_of self.now.texts.now) result (and_so (x.as_wanted (env_of self.now) (resolved_of want.now) (typing_of self.now.texts.now first)) (λ a. and_so (x.as_wanted (env_of self.now) (resolved_of want.now) (typing_of self.now.texts.now second)) (λ b. Some (a, b)))) }
         ensures cause { IfErr result (λ f. (f.kind ≡ OutOfMemory) ⊎ ((x.as_wanted (env_of self.now) (resolved_of want.now) (typing_of self.now.texts.now first) ≡ None) × Told TypeMismatch spans.0 f) ⊎ ((x.as_wanted (env_of self.now) (resolved_of want.now) (typing_of self.now.texts.now second) ≡ None) × Told TypeMismatch spans.1 f)) }
     {
-        let first = self.as_wanted(want, first, spans.0)?;
-        let second = self.as_wanted(want, second, spans.1)?;
-        Ok((first, second))
+        let first = match self.as_wanted(want, first, spans.0) {
+            Ok(first) => first,
+            Err(fault) => {
+                drop(second);
+                return Err(fault);
+            }
+        };
+        match self.as_wanted(want, second, spans.1) {
+            Ok(second) => Ok((first, second)),
+            Err(fault) => {
+                drop(first);
+                Err(fault)
+            }
+        }
     }
 
     /// An operator between two operands, which stand at these places.
@@ -349,18 +530,18 @@ impl<'a> Terms<'a> {
         match rule {
             OperatorRule::OnNumbers(operator) => {
                 let (a, b) = self.operands(&ResolvedType::Int, first, second, spans)?;
-                let (a, b) = (Box::new(self.alloc, a)?, Box::new(self.alloc, b)?);
+                let (a, b) = boxed(self.alloc, a, b)?;
                 Ok(Typing::Has(ResolvedType::Int, Expression::Binary(operator, a, b)))
             }
             OperatorRule::Compares(relation) => self.compared(relation, first, second, spans.1),
             OperatorRule::Conjunction => {
                 let (a, b) = self.operands(&ResolvedType::Bool, first, second, spans)?;
-                let (a, b) = (Box::new(self.alloc, a)?, Box::new(self.alloc, b)?);
+                let (a, b) = boxed(self.alloc, a, b)?;
                 Ok(Typing::Has(ResolvedType::Bool, Expression::And(a, b)))
             }
             OperatorRule::Disjunction => {
                 let (a, b) = self.operands(&ResolvedType::Bool, first, second, spans)?;
-                let (a, b) = (Box::new(self.alloc, a)?, Box::new(self.alloc, b)?);
+                let (a, b) = boxed(self.alloc, a, b)?;
                 Ok(Typing::Has(ResolvedType::Bool, Expression::Or(a, b)))
             }
         }
