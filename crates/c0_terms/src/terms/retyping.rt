@@ -49,8 +49,7 @@ pub(crate) fn retype(
             let first = Box::new(alloc, first)?;
             let second = retype(alloc, target, Box::into_inner(second))?;
             let second = Box::new(alloc, second)?;
-            let pointed = duplicate(alloc, target)?;
-            let pointed = Box::new(alloc, pointed)?;
+            let pointed = Box::new(alloc, duplicate(alloc, target)?)?;
             Ok(Expression::Choose(ValueType::Pointer(pointed), condition, first, second))
         }
         other => Ok(other),

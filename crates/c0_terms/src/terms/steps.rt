@@ -9,7 +9,7 @@ ghost use Rattle.c0_rules.specs.FaultExpressions.{Told, has_common};
 ghost use Rattle.c0_syntax.specs.declared.operator.PrefixOperator.TheVariants.{Dereference};
 ghost use Rattle.c0_terms.specs.Terms.{LeftCause, OperatedCause, env_of, pair_of, rule_of, typing_of};
 ghost use Rattle.c0_terms.specs.Forms.{takes_left};
-ghost use Rattle.c0_rules.specs.Types.{BoolType, Environment, IntType, Name, and_so, provided};
+ghost use Rattle.c0_rules.specs.Types.{BoolType, Environment, IntType, Name, and_so};
 ghost use Rattle.c0_rules.specs.Answers.{Answers};
 ghost use Rattle.c0_tables.specs.Views.{resolved_of};
 
@@ -72,10 +72,7 @@ pub(crate) fn boxed(
     ensures { IfOk result (λ r. (r.0.value ≡ first) × (r.1.value ≡ second)) }
 {
     match Box::new(alloc, first) {
-        Ok(first) => {
-            let second = Box::new(alloc, second)?;
-            Ok((first, second))
-        }
+        Ok(first) => Ok((first, Box::new(alloc, second)?)),
         Err(refused) => {
             drop(second);
             Err(refused.into())
@@ -87,8 +84,7 @@ pub(crate) fn boxed(
 fn null_boxed(alloc: Global, e: Expression) -> Result<Box<Expression>, AllocError>
     ensures { (texts : List Name) → IfOk result (λ r. exp_of texts r.value ≡ x.retyped t.IntTy (exp_of texts e)) }
 {
-    let e = retype(alloc, &ValueType::Int, e)?;
-    Ok(Box::new(alloc, e)?)
+    Ok(Box::new(alloc, retype(alloc, &ValueType::Int, e)?)?)
 }
 
 impl<'a> Terms<'a> {
@@ -186,9 +182,16 @@ impl<'a> Terms<'a> {
             (Typing::Has(a, x), Typing::Has(b, y)) => {
                 let are_compared = a.same_as(&b) && is_compared(relation, &a);
                 drop(b);
-                let found = self.comparison_where(are_compared, &a, relation, (x, y), span);
-                drop(a);
-                found
+                if are_compared {
+                    let found = self.comparison(&a, relation, x, y);
+                    drop(a);
+                    Ok(found?)
+                } else {
+                    drop(a);
+                    drop(x);
+                    drop(y);
+                    Err(fault_at(FaultKind::TypeMismatch, span))
+                }
             }
             (Typing::Has(a, x), Typing::Null(y)) => {
                 let found = self.null_on_right(relation, &a, x, y, span);
@@ -209,28 +212,6 @@ impl<'a> Terms<'a> {
                     Err(fault_at(FaultKind::TypeMismatch, span))
                 }
             }
-        }
-    }
-
-    // A comparison of values of this type, where they may be compared so.
-    fn comparison_where(
-        &self,
-        are_compared: bool,
-        resolved: &ResolvedType,
-        relation: Relation,
-        operands: (Expression, Expression),
-        span: Span,
-    ) -> Result<Typing, Fault>
-        ensures answers { Answers (typing_of self.now.texts.now) result (provided are_compared (Some (x.Has BoolType (t.Compare (x.num (env_of self.now) (resolved_of resolved.now)) (relation_of relation) (exp_of self.now.texts.now operands.0) (exp_of self.now.texts.now operands.1))))) }
-        ensures cause { IfErr result (λ f. (f.kind ≡ OutOfMemory) ⊎ Told TypeMismatch span f) }
-    {
-        let (first, second) = operands;
-        if are_compared {
-            Ok(self.comparison(resolved, relation, first, second)?)
-        } else {
-            drop(first);
-            drop(second);
-            Err(fault_at(FaultKind::TypeMismatch, span))
         }
     }
 
@@ -432,28 +413,21 @@ impl<'a> Terms<'a> {
     {
         match operator {
             PrefixOperator::Not => {
-                let operand = self.as_wanted(&ResolvedType::Bool, operand, span)?;
-                let operand = Box::new(self.alloc, operand)?;
-                Ok(Typing::Has(
-                    ResolvedType::Bool,
-                    Expression::Unary(UnaryOperator::Not, operand),
-                ))
+                let a = self.as_wanted(&ResolvedType::Bool, operand, span)?;
+                let a = Box::new(self.alloc, a)?;
+                Ok(Typing::Has(ResolvedType::Bool, Expression::Unary(UnaryOperator::Not, a)))
             }
             PrefixOperator::Complement => {
-                let operand = self.as_wanted(&ResolvedType::Int, operand, span)?;
-                let operand = Box::new(self.alloc, operand)?;
-                Ok(Typing::Has(
-                    ResolvedType::Int,
-                    Expression::Unary(UnaryOperator::Complement, operand),
-                ))
+                let a = self.as_wanted(&ResolvedType::Int, operand, span)?;
+                let a = Box::new(self.alloc, a)?;
+                let e = Expression::Unary(UnaryOperator::Complement, a);
+                Ok(Typing::Has(ResolvedType::Int, e))
             }
             PrefixOperator::Negate => {
-                let operand = self.as_wanted(&ResolvedType::Int, operand, span)?;
-                let operand = Box::new(self.alloc, operand)?;
-                Ok(Typing::Has(
-                    ResolvedType::Int,
-                    Expression::Unary(UnaryOperator::Negate, operand),
-                ))
+                let a = self.as_wanted(&ResolvedType::Int, operand, span)?;
+                let a = Box::new(self.alloc, a)?;
+                let e = Expression::Unary(UnaryOperator::Negate, a);
+                Ok(Typing::Has(ResolvedType::Int, e))
             }
             PrefixOperator::Dereference => unreachable!(),
         }
