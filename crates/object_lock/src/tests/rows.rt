@@ -3,12 +3,14 @@ ghost use Rattle.std.specs.Prelude.{◌≡◌, ◌<◌, Some, IfSome};
 ghost use Rattle.pointer_word.specs.Asked.{HasNothing};
 ghost use Rattle.object_lock.specs.Seats.{Owns, note};
 ghost use Rattle.object_lock.specs.SeatViews.{IsSeat};
+ghost use Rattle.object_lock.specs.Fresh.{sizes_of};
 
 use crate::tests::fixtures::{
     begin_once, bring_back, bring_in_with, copy_and_put, owner_and_mover, read_once, word_of,
 };
-use crate::{Held, ObjectTable, OwnerSeat};
+use crate::{Held, MoverSeat, ObjectTable, OwnerSeat};
 use remote_store::FarHeap;
+use std::process::Abort;
 
 // Opens the object, writes to its cell 0, and closes it: what the open told, and the object's word after the open, after the
 // begin of the write and after the close.
@@ -65,6 +67,32 @@ fn written_meanwhile(rt: HostRuntime) {
     assert_eq!(rt; read_once(&table, &mut owner, 0), Some(9));
 }
 
+// The mover moves object 0 out of frame 2, while the owner reads it.
+fn moves_out<A: Abort>(
+    rt: &A,
+    table: &ObjectTable<FarHeap>,
+    owner: &mut OwnerSeat<FarHeap>,
+    mover: &mut MoverSeat<FarHeap>,
+)
+    requires table { (table.now.sizes ≡ sizes_of 1 4) × IsSeat table.now owner.old × IsSeat table.now mover.old }
+    requires owns { Owns owner.old.view 0 × ((note owner.old.view 0).count ≡ 0) × HasNothing owner.old.view.hand }
+    requires empty { HasNothing mover.old.view.hand }
+    ensures table { IsSeat table.now owner.new }
+    ensures closed { Owns owner.new.view 0 × ((note owner.new.view 0).count ≡ 0) × HasNothing owner.new.view.hand }
+{
+    assert!(rt; table.try_mark(mover, 0, 2));
+    assert_eq!(rt; word_of(table, 0), 0x2000_002b_0000);
+    let read = read_once(table, owner, 0);
+    assert_eq!(rt; read, Some(5));
+    assert_eq!(rt; word_of(table, 0), 0x2000_002b_0000);
+    assert!(rt; copy_and_put(table, mover, 0, 2));
+    assert!(rt; table.try_commit(mover, 0));
+    assert_eq!(rt; word_of(table, 0), 0);
+    assert_eq!(rt; table.look(mover, 2), Some(0));
+    table.release(mover, 2);
+    assert_eq!(rt; table.look(mover, 2), None);
+}
+
 #[test]
 fn moved_out_and_in(rt: HostRuntime) {
     let made = owner_and_mover(rt.alloc(), 1, FarHeap);
@@ -75,16 +103,7 @@ fn moved_out_and_in(rt: HostRuntime) {
     assert_eq!(rt; (owner.low(), owner.high()), (0, 1));
     assert!(rt; bring_in_with(&table, &mut owner, 0, 2, 5));
     assert_eq!(rt; word_of(&table, 0), 0x28_0000);
-    assert!(rt; table.try_mark(&mut mover, 0, 2));
-    assert_eq!(rt; word_of(&table, 0), 0x2000_002b_0000);
-    assert_eq!(rt; read_once(&table, &mut owner, 0), Some(5));
-    assert_eq!(rt; word_of(&table, 0), 0x2000_002b_0000);
-    assert!(rt; copy_and_put(&table, &mut mover, 0, 2));
-    assert!(rt; table.try_commit(&mut mover, 0));
-    assert_eq!(rt; word_of(&table, 0), 0);
-    assert_eq!(rt; table.look(&mut mover, 2), Some(0));
-    table.release(&mut mover, 2);
-    assert_eq!(rt; table.look(&mut mover, 2), None);
+    moves_out(&rt, &table, &mut owner, &mut mover);
     let begun = begin_once(&table, &mut owner, 0);
     assert_eq!(rt; begun, Some((1, 0x1000_0004_0001)));
     assert_eq!(rt; bring_back(&table, &mut owner, 0, 2), Some(5));
