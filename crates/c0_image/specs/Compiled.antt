@@ -19,7 +19,7 @@ pub record IsCompiled (text : List ℕ) (checks : Bool) (C : Image) : Type 0 whe
   pub only : (other : Program) → IsTypedAs false text other → other ≡ program
   -- it is the image that the definitions give of a typed tree of that program
   pub tree : Typed
-  pub same : program_of tree ≡ program
+  pub read_as : program_of tree ≡ program
   pub made : C ≡ generated (lowered (singles_of tree) checks tree)
   pub behaves : Behaves program checks C
   -- no function has more than four scopes, none of its runs gets stuck or allocates, calls or returns with a scope open

@@ -37,7 +37,7 @@ returns-clause-compiled c =
       typed = c.in_ok-typed.ensures.typed;
       only = λ other w. sym (c.in_ok-typed.ensures.every other w);
       tree = c.in_ok-typed.typed;
-      same = refl;
+      read_as = refl;
       made = c.in_ok-generate.ensures ∙ ap generated c.in_ok-middle.ensures.exact;
       behaves = behaves program c.args.checks code image c.in_ok-middle.ensures.same
           (subst (Keeps code) (sym c.in_ok-generate.ensures) (c.generated_keeps_the_meaning.ensures code is_safe));
