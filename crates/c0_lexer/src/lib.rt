@@ -9,7 +9,5 @@ mod longest;
 mod number;
 mod piece;
 mod table;
-#[cfg(test)]
-mod tests;
 pub mod token;
 mod word;

@@ -6,5 +6,3 @@ pub mod kind;
 pub mod laws;
 pub mod position;
 pub mod source;
-#[cfg(test)]
-mod tests;

@@ -7,7 +7,7 @@ use c0_source::fault::Span;
 use c0_source::kind::Operator;
 
 /// An expression, with the place of all its tokens.
-#[derive(Debug, PartialEq, Drop)]
+#[derive(Debug, Drop)]
 #[cycle(expression)]
 pub struct Expression {
     pub kind: ExpressionKind,
@@ -15,7 +15,7 @@ pub struct Expression {
 }
 
 /// What an expression is.
-#[derive(Debug, PartialEq, Drop)]
+#[derive(Debug, Drop)]
 #[cycle(expression)]
 pub enum ExpressionKind {
     /// A number by its value, modulo 2^32.

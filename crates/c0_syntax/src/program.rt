@@ -6,14 +6,14 @@ use crate::value_type::ValueType;
 use c0_source::fault::Span;
 
 /// A parameter or a field.
-#[derive(Debug, PartialEq, Drop)]
+#[derive(Debug, Drop)]
 pub struct TypedName {
     pub value_type: ValueType,
     pub name: Name,
 }
 
 /// A function up to its body, with the place from its result to the closing parenthesis, and the annotations behind that.
-#[derive(Debug, PartialEq, Drop)]
+#[derive(Debug, Drop)]
 pub struct Header {
     pub result: ValueType,
     pub name: Name,
@@ -23,14 +23,14 @@ pub struct Header {
 }
 
 /// A declaration, with the place of all its tokens.
-#[derive(Debug, PartialEq, Drop)]
+#[derive(Debug, Drop)]
 pub struct Declaration {
     pub kind: DeclarationKind,
     pub span: Span,
 }
 
 /// What a declaration is.
-#[derive(Debug, PartialEq, Drop)]
+#[derive(Debug, Drop)]
 pub enum DeclarationKind {
     /// `#use <name>`.
     UseName(String),
@@ -48,7 +48,7 @@ pub enum DeclarationKind {
 }
 
 /// A program, with the place in bytes where its text ends.
-#[derive(Debug, PartialEq, Drop)]
+#[derive(Debug, Drop)]
 pub struct Program {
     pub declarations: Vec<Declaration>,
     pub end: usize,

@@ -17,7 +17,7 @@ pub enum SpecKind {
 }
 
 /// A spec of an annotation, with the places of its word and of all its tokens.
-#[derive(Debug, PartialEq, Drop)]
+#[derive(Debug, Drop)]
 pub struct Spec {
     pub kind: SpecKind,
     pub word: Span,
@@ -26,21 +26,21 @@ pub struct Spec {
 }
 
 /// An annotation, with the place of all its tokens.
-#[derive(Debug, PartialEq, Drop)]
+#[derive(Debug, Drop)]
 pub struct Annotation {
     pub specs: Vec<Spec>,
     pub span: Span,
 }
 
 /// A simple statement, with the place of all its tokens; a semicolon isn't among them.
-#[derive(Debug, PartialEq, Drop)]
+#[derive(Debug, Drop)]
 pub struct SimpleStatement {
     pub kind: SimpleKind,
     pub span: Span,
 }
 
 /// What a simple statement is.
-#[derive(Debug, PartialEq, Drop)]
+#[derive(Debug, Drop)]
 pub enum SimpleKind {
     /// Declares a local.
     Declare(ValueType, Name),
@@ -57,7 +57,7 @@ pub enum SimpleKind {
 }
 
 /// A statement, with the place of all its tokens.
-#[derive(Debug, PartialEq, Drop)]
+#[derive(Debug, Drop)]
 #[cycle(statement)]
 pub struct Statement {
     pub kind: StatementKind,
@@ -65,7 +65,7 @@ pub struct Statement {
 }
 
 /// What a statement is. A loop has the annotations that stand behind its header.
-#[derive(Debug, PartialEq, Drop)]
+#[derive(Debug, Drop)]
 #[cycle(statement)]
 pub enum StatementKind {
     Simple(SimpleStatement),

@@ -5,7 +5,7 @@ use c0_source::fault::Span;
 use c0_source::kind::Base;
 
 /// A type, with the place of all its tokens.
-#[derive(Debug, PartialEq, Drop)]
+#[derive(Debug, Drop)]
 #[cycle(value_type)]
 pub struct ValueType {
     pub kind: TypeKind,
@@ -13,7 +13,7 @@ pub struct ValueType {
 }
 
 /// What a type is.
-#[derive(Debug, PartialEq, Drop)]
+#[derive(Debug, Drop)]
 #[cycle(value_type)]
 pub enum TypeKind {
     /// A type with a keyword of its own.

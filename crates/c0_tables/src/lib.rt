@@ -6,6 +6,4 @@ pub mod names;
 pub mod resolved;
 pub mod signatures;
 pub mod structs;
-#[cfg(test)]
-mod tests;
 pub mod typedefs;

@@ -1,7 +1,6 @@
 //! Typed programs, their bounded meaning, and the types of what they do.
 #![tactic(auto)]
 
-mod tests;
 mod tree;
 
 ghost use Rattle.c0_typed.specs.Laws.{OffsetTold, CellThere};

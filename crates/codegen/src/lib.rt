@@ -4,8 +4,6 @@
 mod emit;
 mod image;
 mod laws;
-#[cfg(test)]
-mod tests;
 
 pub use image::generate;
 pub use laws::{

@@ -7,7 +7,6 @@ mod fault;
 mod heap;
 mod port;
 mod raw;
-mod tests;
 
 pub use berth::Berth;
 pub use config::{Config, Stores};

@@ -2,5 +2,3 @@
 #![tactic(auto)]
 
 pub mod line;
-#[cfg(test)]
-mod tests;

@@ -1,15 +1,15 @@
 // Each call once; what they compute is in their contracts.
 
-use crate::environment::Environment;
-use crate::names::Names;
-use crate::resolved::ResolvedType;
-use crate::signatures::{Functions, Signature};
-use crate::structs::{FieldEntry, Fields, StructEntry, Structs};
-use crate::typedefs::Typedefs;
 use c0_source::fault::{FaultKind, Span};
 use c0_source::kind::Base;
 use c0_syntax::name::Name;
 use c0_syntax::value_type::{TypeKind, ValueType as WrittenType};
+use c0_tables::environment::Environment;
+use c0_tables::names::Names;
+use c0_tables::resolved::ResolvedType;
+use c0_tables::signatures::{Functions, Signature};
+use c0_tables::structs::{FieldEntry, Fields, StructEntry, Structs};
+use c0_tables::typedefs::Typedefs;
 use c0_typed::ValueType;
 use std::alloc::{AllocError, Global};
 use std::test::Fail;

@@ -1,5 +1,5 @@
 //! What is read as a line of a schedule.
-use crate::line::read_line;
+use schedule_lines::line::read_line;
 use world_events::event::{Actor, Choice};
 
 // The actor and the choice of a line, and how many bytes stand behind it.

@@ -4,7 +4,7 @@ ghost use Rattle.std.specs.Prelude.{◌≡◌, ◌++◌, codes, string_bytes, If
 ghost use Rattle.std.specs.Io.KnownBytes.{Appends};
 ghost use Rattle.cells.specs.Lines.{run_line};
 
-use crate::{Arith, Ended, Int32Op, Run, Stop, Want};
+use cells::{Arith, Ended, Int32Op, Run, Stop, Want};
 use std::alloc::{AllocError, Global};
 use std::io;
 use std::test::Fail;

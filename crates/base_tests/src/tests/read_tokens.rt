@@ -1,6 +1,6 @@
 // Tokens and faults of small texts.
 
-use crate::lex::lex;
+use c0_lexer::lex::lex;
 use c0_source::fault::{Fault, FaultKind};
 use c0_source::kind::{Base, Clause, Kind, Operator};
 use c0_source::position::{Position, line_column};

@@ -1,6 +1,6 @@
 //! The blocks of a loop, and of a function without loads and stores.
-use crate::generate;
 use code_form::{Image, Kind, Operation, Relation};
+use codegen::generate;
 use middle_form::{Code, Function, Middle};
 use std::alloc::{AllocError, Global};
 use std::test::Fail;

@@ -4,9 +4,9 @@ ghost use Rattle.std.specs.Prelude.{◌≡◌, ◌++◌, codes, string_bytes, If
 ghost use Rattle.std.specs.Io.KnownBytes.{Appends};
 ghost use Rattle.c0_source.specs.FaultLines.{fault_line};
 
-use crate::fault::{Fault, FaultKind, Span};
-use crate::position::{Position, line_column};
-use crate::source::{MOST_BYTES, Source};
+use c0_source::fault::{Fault, FaultKind, Span};
+use c0_source::position::{Position, line_column};
+use c0_source::source::{MOST_BYTES, Source};
 use std::alloc::{AllocError, AllocFailed, Global};
 use std::io;
 use std::test::Fail;
