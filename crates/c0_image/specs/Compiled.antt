@@ -24,3 +24,7 @@ pub record IsCompiled (text : List ℕ) (checks : Bool) (C : Image) : Type 0 whe
   pub behaves : Behaves program checks C
   -- no function has more than four scopes, none of its runs gets stuck or allocates, calls or returns with a scope open
   pub covered : Covered C
+
+-- a text has one image: any two are the same, whichever typed trees of its program they were made of
+abbrev pub OneImage : Type 0
+OneImage = (text : List ℕ) (checks : Bool) (C D : Image) → IsCompiled text checks C → IsCompiled text checks D → C ≡ D

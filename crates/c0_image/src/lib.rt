@@ -1,6 +1,8 @@
 //! From a text to the image of its program.
 #![tactic(auto)]
 
+mod laws;
 mod texts;
 
+pub use laws::one_image;
 pub use texts::compile;

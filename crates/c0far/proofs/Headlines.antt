@@ -15,11 +15,13 @@ use Rattle.world_events.specs.Causes.{HasCause}
 use Rattle.world_events.specs.Following.{IsAt}
 use Rattle.world_events.specs.Programs.{Wanted}
 use Rattle.world_events.specs.Worlds.{Event, Follows, Sizes, World, start}
+use Rattle.c0_image.specs.Compiled.{OneImage}
 use Rattle.c0_image.specs.Correct.{Behaves}
 use Rattle.c0far.specs.Headline.{EndsSo, IsRun, Promised, Settles, Headline}
 
--- what the meaning, the code's run and the world promise
+-- what the compiler, the meaning, the code's run and the world promise
 pub record Laws : Type 0 where
+  pub one : OneImage
   pub more : MoreTurnsExtend
   pub add : StepsAdd
   pub stays : StoppedStays
@@ -80,6 +82,16 @@ stopped_is (Running f st al o) e = absurd (cc e)
 stopped_is (Stopped s al o) e = (s, al, o, refl)
 stopped_is (Stuck al o) e = absurd (cc e)
 
+-- the code of this image has not stopped before so many completed instructions, which leave each program of it stopped so
+abbrev SettledAt : ℕ → Image → Stop → List ℕ → Type 0
+SettledAt j C s o = ((i : ℕ) → i < j → stop_of (code_run (code C) i).0 ≡ None)
+    × ((z : Sizes) (images : ℕ → Image) (events : List Event) (v : World) (k : ℕ) → IsRun z images events v → images k ≡ C
+    → j ≤ (v.programs k).completed → (al : List Allocation) × ((v.programs k).core ≡ Stopped s al o))
+
+-- where the meaning ends, some number of completed instructions leaves each program of this image stopped so
+abbrev SettlesAs : Typed → Bool → Image → Type 0
+SettlesAs P checks C = (s : Stop) (o : List ℕ) → EndsSo P checks s o → (j : ℕ) × SettledAt j C s o
+
 module _ (laws : Laws) where
   -- once stopped, the code's run is stopped at every later number
   stays_stopped : (C : Image) (j k : ℕ) (s : Stop) (al : List Allocation) (o : List ℕ) → j ≤ k → (code_run (code C) j).0 ≡ Stopped s al o → (code_run (code C) k).0 ≡ Stopped s al o
@@ -124,20 +136,25 @@ module _ (laws : Laws) where
           wanting = λ want m. laws.wanted z images events v k want run.1 m;
         }
 
-    settles : Settles P checks C
+    settles : SettlesAs P checks C
     settles s o ends =
         let b = behaves.means ends.0 in
         let meant = ends.1 ends.0 (omega arith) in
         let there = b.2 s (ap (λ (m : Meant). m.stop) meant) in
         let first = first_stop C b.0 s there.0 o (there.1 ∙ ap (λ (m : Meant). Stopped s there.0 m.output) meant) in (
           first.0,
-          first.2,
-          λ z images events v k run is le.
-              (there.0, run_of z images events v k run is ∙ stays_stopped C first.0 (v.programs k).completed s there.0 o le first.1),
+          (
+            first.2,
+            λ z images events v k run is le.
+                (there.0, run_of z images events v k run is ∙ stays_stopped C first.0 (v.programs k).completed s there.0 o le first.1),
+          ),
         )
 
   pub composed : Headline
   composed text checks C compiled meant means =
       let same : compiled.program ≡ meant = sym (compiled.only meant means) in
       let behaves : Behaves meant checks C = subst (λ (p : Typed). Behaves p checks C) same compiled.behaves in
-      (promised meant checks C behaves, settles meant checks C behaves)
+      let settled : SettlesAs meant checks C = settles meant checks C behaves in (
+        promised meant checks C behaves,
+        λ s o ends. ((settled s o ends).0, λ D compiled_too. subst (λ (E : Image). SettledAt (settled s o ends).0 E s o) (laws.one text checks C D compiled compiled_too) (settled s o ends).1),
+      )

@@ -32,18 +32,21 @@ pub record Promised (P : Typed) (checks : Bool) (p : Program) (HasCauseOf : Want
   -- where it wants something the cause is among the events
   pub wanting : (want : Want) → p.mode ≡ Wanted want → HasCauseOf want
 
--- Where the meaning ends, some number of completed instructions, before which the code has not stopped, leaves the program stopped
--- so: the same number in every run of whatever world, beside whatever other programs
-abbrev pub Settles : Typed → Bool → Image → Type 0
-Settles P checks C = (s : Stop) (o : List ℕ) → EndsSo P checks s o
-    → (j : ℕ) × ((i : ℕ) → i < j → stop_of (code_run (code C) i).0 ≡ None)
-    × ((z : Sizes) (images : ℕ → Image) (events : List Event) (v : World) (k : ℕ) → IsRun z images events v → images k ≡ C
-    → j ≤ (v.programs k).completed → (al : List Allocation) × ((v.programs k).core ≡ Stopped s al o))
+-- Where the meaning ends, some number of completed instructions, before which the code of the text has not stopped, leaves the program
+-- stopped so. The number is that of the text and of `checks`: the same whatever image the text was compiled to, and in every run of
+-- whatever world, beside whatever other programs.
+abbrev pub Settles : List ℕ → Bool → Typed → Type 0
+Settles text checks P = (s : Stop) (o : List ℕ) → EndsSo P checks s o
+    → (j : ℕ) × ((D : Image) → IsCompiled text checks D
+    → ((i : ℕ) → i < j → stop_of (code_run (code D) i).0 ≡ None)
+    × ((z : Sizes) (images : ℕ → Image) (events : List Event) (v : World) (k : ℕ) → IsRun z images events v → images k ≡ D
+    → j ≤ (v.programs k).completed → (al : List Allocation) × ((v.programs k).core ≡ Stopped s al o)))
 
 -- Of every text that is accepted, the image that it was compiled to, and the program that it means: in every run of whatever world,
--- beside whatever other programs and evacuators, with pieces, frames and objects of whatever number, each program with that image is as promised
+-- beside whatever other programs and evacuators, with pieces, frames and objects of whatever number, each program with that image is as promised,
+-- and where the meaning ends it is settled, by a number of instructions that is the text's
 abbrev pub Headline : Type 0
 Headline = (text : List ℕ) (checks : Bool) (C : Image) → IsCompiled text checks C → (meant : Typed) → IsTypedAs false text meant
     → ((z : Sizes) (images : ℕ → Image) (events : List Event) (v : World) (k : ℕ) → IsRun z images events v → images k ≡ C
     → Promised meant checks (v.programs k) (λ want. HasCause (Unit {0}) z images k want (start images) events))
-    × Settles meant checks C
+    × Settles text checks meant

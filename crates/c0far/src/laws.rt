@@ -1,6 +1,7 @@
 //! What is proved of each program beside whatever others.
 ghost use Rattle.c0far.specs.Headline.{Headline};
 
+use c0_image::one_image;
 use c0_typed::more_turns;
 use code_form::run_laws;
 use world_events::{programs_follow, wants};
@@ -8,10 +9,11 @@ use world_events::{programs_follow, wants};
 /// Whatever events programs and evacuators make in whichever order, over an honest store: of every text that is accepted, a program
 /// that runs its image has printed a beginning of what the text means; where it has stopped, the text means just that output
 /// and that stop; where it wants something, the cause is among the events; and where the meaning ends, some number of its own completed
-/// instructions, the same in every run, leaves it stopped so.
+/// instructions, which is the text's and the same in every run, leaves it stopped so.
 pub fn headline()
     ensures { Headline }
 {
+    one_image();
     more_turns();
     run_laws();
     programs_follow();

@@ -44,7 +44,7 @@ module _ (typed : Typed) (singles : List Kind) (checks : Bool) where
 
   -- the code of a function of the text
   abbrev pub its_code : Function → f.Function
-  its_code h = function_code p.structs singles (length typed.texts.items) typed.functions.items typed.main checks h
+  its_code h = function_code p.structs singles (texts_of typed) typed.functions.items typed.main checks h
 
   -- a function of the text, and its code
   abbrev pub FunctionAt : ℕ → t.Function → Type 0
@@ -60,7 +60,7 @@ module _ (typed : Typed) (singles : List Kind) (checks : Bool) where
 
   module _ (types : List Ty) (locals : ℕ) (ks : List Kind) where
     args_ok : (ts : List ValueType) (rest : List Kind) (regs : List ℕ) → AreOf typed singles types locals ks (map type_of ts) regs
-        → args_fit ks (map (kind_at p.structs singles (length typed.texts.items) typed.functions.items typed.main) ts ++ rest) (length ts) regs ≡ true
+        → args_fit ks (map (kind_at p.structs singles (texts_of typed) typed.functions.items typed.main) ts ++ rest) (length ts) regs ≡ true
     args_ok [] rest [] h = refl
     args_ok [] rest (a ∷ regs) h = absurd h
     args_ok (x ∷ ts) rest [] h = absurd h
@@ -90,7 +90,7 @@ module _ (typed : Typed) (singles : List Kind) (checks : Bool) where
     -- a call of a function with these arguments
     pub called_ok : (call : ℕ → List Value → State → Outcome Value) (call' : ℕ → List ℕ → m.State → m.Outcome ℕ) → CallsOk typed singles checks call call' → (main : t.Function) → slice_get p.functions p.main ≡ Some main → (k : ℕ) (g : t.Function) (regs : List ℕ) (d : ℕ) (vs : List Value) (made : List Kept) (s : State) (rs xs : List ℕ) (w : m.State)
         → suc locals ≤ d → d < length rs → slice_get p.functions k ≡ Some g → slice_get ks d ≡ Some (kind_of n singles g.result) → AreOf typed singles types locals ks g.parameters regs → Rowed typed singles checks types locals ks g.parameters regs (suc d) rs made vs s (0, xs) w
-        → Joint made (Valued p H types locals d g.result d rs) (call k vs s) (m.run P call' ks (f.Invoke (result_register (type_given p.structs singles (length typed.texts.items) typed.functions.items typed.main typed.functions.items k) d) (swapped typed.main k) regs) xs w)
+        → Joint made (Valued p H types locals d g.result d rs) (call k vs s) (m.run P call' ks (f.Invoke (result_register (type_given p.structs singles (texts_of typed) typed.functions.items typed.main typed.functions.items k) d) (swapped typed.main k) regs) xs w)
     called_ok call call' calls_ok main ism k g regs d vs made s rs xs w low sh e kd are h =
         subst (λ z. Joint made (Valued p H types locals d g.result d rs) (call k vs s) (m.run P call' ks (f.Invoke (result_register z d) (swapped typed.main k) regs) xs w)) (sym (given_type typed singles types locals ks typed.functions.items k g e))
         (subst (λ z. Joint made (Valued p H types locals d g.result d rs) (call k vs s) z) (sym runs)

@@ -5,7 +5,7 @@ use Rattle.std.specs.List.{swap}
 use Rattle.std.proofs.lemmas.List.{get_or-map, map-set, length-map}
 use Rattle.std.specs.declared.vec.Vec.{Vec}
 use Rattle.std.specs.declared.alloc.Global.{Global}
-use Rattle.c0_typed.specs.Views.{type_of}
+use Rattle.c0_typed.specs.Views.{texts_of, type_of}
 use Rattle.c0_typed.specs.declared.tree.Function.{Function}
 use Rattle.code_form.specs.declared.form.Kind.{Kind}
 use Rattle.middle_form.specs.Form as m
@@ -39,9 +39,9 @@ built c n f = record {
   result = l.result_kind (length (structs_in c)) c.singles.now (type_of f.result);
   parameters = length f.parameters.items;
   kinds = map (kind_at c) f.parameters.items ++ (map (kind_at c) f.locals.items ++ (kind_at c f.result ∷ (conditions_kinds c f.preconditions.items ++ (body_kinds c f.body.items ++ conditions_kinds c f.postconditions.items))));
-  body = l.sequence (l.conditions_code (structs_in c) c.singles.now (length c.typed.now.texts.items) c.typed.now.functions.items c.typed.now.main n (l.checked c.checks f.preconditions.items) (suc n)
-      ++ (m.Block (l.sequence (l.body_code (structs_in c) c.singles.now (length c.typed.now.texts.items) c.typed.now.functions.items c.typed.now.main n c.checks f.body.items (suc n + length (conditions_kinds c f.preconditions.items))))
-      ∷ l.conditions_code (structs_in c) c.singles.now (length c.typed.now.texts.items) c.typed.now.functions.items c.typed.now.main n (l.checked c.checks f.postconditions.items) (suc n + length (conditions_kinds c f.preconditions.items) + length (body_kinds c f.body.items))));
+  body = l.sequence (l.conditions_code (structs_in c) c.singles.now (texts_of c.typed.now) c.typed.now.functions.items c.typed.now.main n (l.checked c.checks f.preconditions.items) (suc n)
+      ++ (m.Block (l.sequence (l.body_code (structs_in c) c.singles.now (texts_of c.typed.now) c.typed.now.functions.items c.typed.now.main n c.checks f.body.items (suc n + length (conditions_kinds c f.preconditions.items))))
+      ∷ l.conditions_code (structs_in c) c.singles.now (texts_of c.typed.now) c.typed.now.functions.items c.typed.now.main n (l.checked c.checks f.postconditions.items) (suc n + length (conditions_kinds c f.preconditions.items) + length (body_kinds c f.body.items))));
   value = n;
 }
 

@@ -3,7 +3,7 @@ use Rattle.std.proofs.Common.{◌≡◌, refl, ap, ◌∙◌, sym, arith, rules,
 use Rattle.std.specs.declared.vec.Vec.{Vec}
 use Rattle.std.specs.declared.alloc.Global.{Global}
 use Rattle.c0_typed.specs.Trees as t
-use Rattle.c0_typed.specs.Views.{type_of}
+use Rattle.c0_typed.specs.Views.{texts_of, type_of}
 use Rattle.c0_typed.specs.declared.tree.Output.{Output}
 use Rattle.c0_typed.specs.declared.tree.Function.{Function}
 use Rattle.c0_typed.specs.declared.tree.Expression.{Expression, Row_of-Expression, end_of-Expression, more_of-Expression, items-the_row-Expression, the_lemmas as expression_lemmas}
@@ -36,15 +36,15 @@ size_in (a ∷ rest) zero e h is = omega (arith, ap size is)
 size_in (a ∷ rest) (suc i) e h is = let p : i < length rest = omega arith in omega (arith, size_in rest i e p is)
 
 module _ (c : Context) where
-  row_kinds_is : {n : _} (k : Row_of-Expression n) → l.row_kinds (b.structs_in c) c.singles.now (length c.typed.now.texts.items) c.typed.now.functions.items c.typed.now.main k ≡ b.list_kinds c (items-the_row-Expression n k)
+  row_kinds_is : {n : _} (k : Row_of-Expression n) → l.row_kinds (b.structs_in c) c.singles.now (texts_of c.typed.now) c.typed.now.functions.items c.typed.now.main k ≡ b.list_kinds c (items-the_row-Expression n k)
   row_kinds_is end_of-Expression = refl
   row_kinds_is (more_of-Expression e rest) = ap (λ ks. b.exp_kinds c e ++ ks) (row_kinds_is rest)
 
-  row_code_is : {n : _} (k : Row_of-Expression n) (d : ℕ) → l.row_code (b.structs_in c) c.singles.now (length c.typed.now.texts.items) c.typed.now.functions.items c.typed.now.main c.locals k d ≡ b.list_code c (items-the_row-Expression n k) d
+  row_code_is : {n : _} (k : Row_of-Expression n) (d : ℕ) → l.row_code (b.structs_in c) c.singles.now (texts_of c.typed.now) c.typed.now.functions.items c.typed.now.main c.locals k d ≡ b.list_code c (items-the_row-Expression n k) d
   row_code_is end_of-Expression d = refl
   row_code_is (more_of-Expression e rest) d = ap (λ cs. b.exp_code c e d ++ cs) (row_code_is rest (d + length (b.exp_kinds c e)))
 
-  row_at_is : {n : _} (k : Row_of-Expression n) (d : ℕ) → l.row_at (b.structs_in c) c.singles.now (length c.typed.now.texts.items) c.typed.now.functions.items c.typed.now.main c.locals k d ≡ b.list_at c (items-the_row-Expression n k) d
+  row_at_is : {n : _} (k : Row_of-Expression n) (d : ℕ) → l.row_at (b.structs_in c) c.singles.now (texts_of c.typed.now) c.typed.now.functions.items c.typed.now.main c.locals k d ≡ b.list_at c (items-the_row-Expression n k) d
   row_at_is end_of-Expression d = refl
   row_at_is (more_of-Expression e rest) d = ap (λ rs. l.value_at c.locals e d ∷ rs) (row_at_is rest (d + length (b.exp_kinds c e)))
 
@@ -74,11 +74,11 @@ size_in_body (a ∷ rest) zero e h is = omega (arith, ap size_statement is)
 size_in_body (a ∷ rest) (suc i) e h is = let p : i < length rest = omega arith in omega (arith, size_in_body rest i e p is)
 
 module _ (c : Context) where
-  block_kinds_is : {n : _} (k : Row_of-Statement n) → l.block_kinds (b.structs_in c) c.singles.now (length c.typed.now.texts.items) c.typed.now.functions.items c.typed.now.main c.checks k ≡ b.body_kinds c (items-the_row-Statement n k)
+  block_kinds_is : {n : _} (k : Row_of-Statement n) → l.block_kinds (b.structs_in c) c.singles.now (texts_of c.typed.now) c.typed.now.functions.items c.typed.now.main c.checks k ≡ b.body_kinds c (items-the_row-Statement n k)
   block_kinds_is end_of-Statement = refl
   block_kinds_is (more_of-Statement e rest) = ap (λ ks. b.stmt_kinds c e ++ ks) (block_kinds_is rest)
 
-  block_code_is : {n : _} (k : Row_of-Statement n) (d out : ℕ) → l.block_code (b.structs_in c) c.singles.now (length c.typed.now.texts.items) c.typed.now.functions.items c.typed.now.main c.locals c.checks k d out ≡ b.block_code c (items-the_row-Statement n k) d out
+  block_code_is : {n : _} (k : Row_of-Statement n) (d out : ℕ) → l.block_code (b.structs_in c) c.singles.now (texts_of c.typed.now) c.typed.now.functions.items c.typed.now.main c.locals c.checks k d out ≡ b.block_code c (items-the_row-Statement n k) d out
   block_code_is end_of-Statement d out = refl
   block_code_is (more_of-Statement e rest) d out = ap (λ cs. b.stmt_code c e d out ++ cs) (block_code_is rest (d + length (b.stmt_kinds c e)) out)
 
@@ -89,12 +89,12 @@ module _ (c : Context) where
   code_of_block all d out = search (rules, statement_lemmas, block_code_is)
 
   -- a body is left by leaving the block round it
-  pub body_code_is : (all : List Statement) (d : ℕ) → l.body_code (b.structs_in c) c.singles.now (length c.typed.now.texts.items) c.typed.now.functions.items c.typed.now.main c.locals c.checks all d ≡ b.block_code c all d 0
+  pub body_code_is : (all : List Statement) (d : ℕ) → l.body_code (b.structs_in c) c.singles.now (texts_of c.typed.now) c.typed.now.functions.items c.typed.now.main c.locals c.checks all d ≡ b.block_code c all d 0
   body_code_is [] d = refl
   body_code_is (e ∷ rest) d = ap (λ cs. b.stmt_code c e d 0 ++ cs) (body_code_is rest (d + length (b.stmt_kinds c e)))
 
 -- the type that a function gives
-module _ (structs : List (List t.Ty)) (singles : List Kind) (texts : ℕ) (functions : List Function) (main : ℕ) where
+module _ (structs : List (List t.Ty)) (singles : List Kind) (texts : List (List ℕ)) (functions : List Function) (main : ℕ) where
   pub given_at : (gs : List Function) (k : ℕ) (g : Function) → k < length gs → g ≡ get_or gs k g → l.type_given structs singles texts functions main gs k ≡ type_of g.result
   given_at [] k g h is = absurd (let q : ⊥ = omega arith in q)
   given_at (f ∷ gs) zero g h is = ap (λ (x : Function). type_of x.result) (sym is)

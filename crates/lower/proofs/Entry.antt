@@ -75,7 +75,7 @@ module _ (typed : Typed) (singles : List Kind) where
   n = length p.structs
 
   abbrev kind_here : ValueType → Kind
-  kind_here ty = kind_at p.structs singles (length typed.texts.items) typed.functions.items typed.main ty
+  kind_here ty = kind_at p.structs singles (texts_of typed) typed.functions.items typed.main ty
 
   -- a parameter or another local
   kind_of_local : (ps qs : List ValueType) (rest : List Kind) (i : ℕ) (u : Ty) → slice_get (map type_of ps ++ map type_of qs) i ≡ Some u → slice_get (map kind_here ps ++ (map kind_here qs ++ rest)) i ≡ Some (kind_of n singles u)

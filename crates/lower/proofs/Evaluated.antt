@@ -70,22 +70,22 @@ module _ (typed : Typed) (singles : List Kind) (checks : Bool) (call : ℕ → L
   kinds a = e.kinds typed singles checks call call' types locals ks a
 
   abbrev kinds_row : {i : _} → Row_of-Expression i → List Kind
-  kinds_row es = row_kinds p.structs singles (length typed.texts.items) typed.functions.items typed.main es
+  kinds_row es = row_kinds p.structs singles (texts_of typed) typed.functions.items typed.main es
 
   abbrev pub kinds_place : Place → List Kind
-  kinds_place q = place_kinds p.structs singles (length typed.texts.items) typed.functions.items typed.main q
+  kinds_place q = place_kinds p.structs singles (texts_of typed) typed.functions.items typed.main q
 
   abbrev code : Expression → ℕ → List Code
   code a d = e.code typed singles checks call call' types locals ks a d
 
   abbrev code_row : {i : _} → Row_of-Expression i → ℕ → List Code
-  code_row es d = row_code p.structs singles (length typed.texts.items) typed.functions.items typed.main locals es d
+  code_row es d = row_code p.structs singles (texts_of typed) typed.functions.items typed.main locals es d
 
   abbrev pub code_place : Place → ℕ → List Code
-  code_place q d = place_code p.structs singles (length typed.texts.items) typed.functions.items typed.main locals q d
+  code_place q d = place_code p.structs singles (texts_of typed) typed.functions.items typed.main locals q d
 
   abbrev at_row : {i : _} → Row_of-Expression i → ℕ → List ℕ
-  at_row es d = row_at p.structs singles (length typed.texts.items) typed.functions.items typed.main locals es d
+  at_row es d = row_at p.structs singles (texts_of typed) typed.functions.items typed.main locals es d
 
   abbrev Runs : List Code → List ℕ → m.State → m.Outcome m.Left
   Runs cs rs w = m.run P call' ks (sequence cs) rs w
@@ -258,7 +258,7 @@ module _ (typed : Typed) (singles : List Kind) (checks : Bool) (call : ℕ → L
       let after = at_tail ks d _ (kinds_row es) at in
       as_type made t h.0.result d d rs _ _ h.2
       (then_row es h.0.parameters (suc d) made s rs w _ _ (Gives d h.0.result d rs) (ok h.0.parameters (suc d) made s rs w (omega arith) after long kn h.3 (start d (suc d) rs rs made s w g)) (λ new x y xs z ex r.
-      one_last new (Gives d h.0.result d rs) (call i x y) (f.Invoke (result_register (type_given p.structs singles (length typed.texts.items) typed.functions.items typed.main typed.functions.items i) d) (swapped typed.main i) (at_row es (suc d))) xs z
+      one_last new (Gives d h.0.result d rs) (call i x y) (f.Invoke (result_register (type_given p.structs singles (texts_of typed) typed.functions.items typed.main typed.functions.items i) d) (swapped typed.main i) (at_row es (suc d))) xs z
       (called_ok typed singles checks types locals ks call call' calls_ok fp.main.0 fp.main.1 i h.0 (at_row es (suc d)) d x new y rs xs z low (short d _ (kinds_row es) rs at long) h.1
       (kind_at (Call' i shape es) h.0.result d at (h.0, h.1, refl, h.3)) (row_of_kinds typed singles types locals ks locals_at es h.0.parameters (suc d) after h.3) r)))
 

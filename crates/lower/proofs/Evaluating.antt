@@ -37,9 +37,10 @@ use Rattle.middle_form.specs.Meaning as m
 use Rattle.lower.specs.Coded.{Coded}
 use Rattle.lower.specs.Kinds.{kind_of}
 use Rattle.lower.specs.Known.{Knows, KnowsPlace, KnowsRow}
-use Rattle.lower.specs.Lowered.{lowered, code_relation, constant_code, moved, row_at, row_code, row_kinds, sequence, text_number, unary_kind, unary_operator, value_at}
+use Rattle.lower.specs.Lowered.{lowered, code_relation, constant_code, moved, row_at, row_code, row_kinds, number_among, sequence, unary_kind, unary_operator, value_at}
 use Rattle.lower.proofs.Joint.{Joint, Lands, joint_done, joint_if, joint_on, joint_then, run_append, run_one}
-use Rattle.lower.proofs.Leaves.{text_coded, text_in, unary_cell}
+use Rattle.lower.proofs.Leaves.{unary_cell}
+use Rattle.lower.proofs.TextNumbers.{text_in, text_there}
 use Rattle.lower.proofs.Operators.{coded_truth, compared}
 use Rattle.lower.proofs.Registers.{At, and_true, at_head, at_left, at_right, at_tail, has_it, put_same}
 use Rattle.lower.proofs.Running.{going_less, going_set, going_start, going_then, set_valued, sets_then}
@@ -102,10 +103,11 @@ module _ (typed : Typed) (singles : List Kind) (checks : Bool) (call : ℕ → L
       at (c.Truth b) a h = last (op.BoolOf d b) (Truth b) kind.Bool (of_bool b) a h refl (has_it ks d kind.Bool (at_head ks d kind.Bool [] a)) refl
       at (c.Letter l) a h = last (op.CharOf d l) (Letter l) kind.Char l a h refl (has_it ks d kind.Char (at_head ks d kind.Char [] a)) refl
       at (c.Text k) a h =
-          let many : length typed.texts.items ≡ length H.texts = sym (length-map typed.texts.items string_bytes) in
-          let number : ℕ = text_number (length typed.texts.items) k in
-          last (op.TextOf d number) (Text (view.text_at (texts_of typed) k)) kind.Text number a h (text_coded H (length typed.texts.items) k many)
-          (and_true _ _ (has_it ks d kind.Text (at_head ks d kind.Text [] a)) (lt-ltb number (suc (length H.texts)) (let l = text_in H (length typed.texts.items) k many in omega (arith, l)))) refl
+          let bytes : List ℕ = view.text_at (texts_of typed) k in
+          let number : ℕ = number_among (texts_of typed) bytes in
+          let l : number ≤ length H.texts = text_in (texts_of typed) bytes in
+          last (op.TextOf d number) (Text bytes) kind.Text number a h (text_there H k)
+          (and_true _ _ (has_it ks d kind.Text (at_head ks d kind.Text [] a)) (lt-ltb number (suc (length H.texts)) (omega (arith, l)))) refl
 
   -- an operator on one value
   pub unary_last : (o : UnaryOperator) (a : Expression) (d : ℕ) (v : Value) (made : List Kept) (s : State) (rs xs : List ℕ) (w : m.State) → suc locals ≤ d → At ks d (unary_kind o ∷ kinds a) → length rs ≡ length ks → Has p types (exp_of (texts_of typed) a) (unary_type (unary_of o))

@@ -69,10 +69,10 @@ module _ (typed : Typed) (singles : List Kind) (checks : Bool) (call : ℕ → L
   kinds_all es = loops.kinds_all typed singles checks call call' types locals ks locals_at long_types fp fresh facts calls_ok es
 
   abbrev pub kinds_stmt : Statement → List Kind
-  kinds_stmt b = stmt_kinds p.structs singles (length typed.texts.items) typed.functions.items typed.main checks b
+  kinds_stmt b = stmt_kinds p.structs singles (texts_of typed) typed.functions.items typed.main checks b
 
   abbrev pub kinds_block : {i : _} → Row_of-Statement i → List Kind
-  kinds_block bs = block_kinds p.structs singles (length typed.texts.items) typed.functions.items typed.main checks bs
+  kinds_block bs = block_kinds p.structs singles (texts_of typed) typed.functions.items typed.main checks bs
 
   abbrev code : Expression → ℕ → List Code
   code a d = e.code typed singles checks call call' types locals ks a d
@@ -81,10 +81,10 @@ module _ (typed : Typed) (singles : List Kind) (checks : Bool) (call : ℕ → L
   code_all es d = loops.code_all typed singles checks call call' types locals ks locals_at long_types fp fresh facts calls_ok es d
 
   abbrev pub code_stmt : Statement → ℕ → ℕ → List Code
-  code_stmt b d out = stmt_code p.structs singles (length typed.texts.items) typed.functions.items typed.main locals checks b d out
+  code_stmt b d out = stmt_code p.structs singles (texts_of typed) typed.functions.items typed.main locals checks b d out
 
   abbrev pub code_block : {i : _} → Row_of-Statement i → ℕ → ℕ → List Code
-  code_block bs d out = block_code p.structs singles (length typed.texts.items) typed.functions.items typed.main locals checks bs d out
+  code_block bs d out = block_code p.structs singles (texts_of typed) typed.functions.items typed.main locals checks bs d out
 
   abbrev Runs : List Code → List ℕ → m.State → m.Outcome m.Left
   Runs cs rs w = m.run P call' ks (sequence cs) rs w

@@ -55,10 +55,10 @@ module _ (typed : Typed) (singles : List Kind) (checks : Bool) (call : ℕ → L
   ds = struct_defaults [] p.structs
 
   abbrev pub kinds : Expression → List Kind
-  kinds e = exp_kinds p.structs singles (length typed.texts.items) typed.functions.items typed.main e
+  kinds e = exp_kinds p.structs singles (texts_of typed) typed.functions.items typed.main e
 
   abbrev pub code : Expression → ℕ → List Code
-  code e d = exp_code p.structs singles (length typed.texts.items) typed.functions.items typed.main locals e d
+  code e d = exp_code p.structs singles (texts_of typed) typed.functions.items typed.main locals e d
 
   abbrev pub Runs : List Code → List ℕ → m.State → m.Outcome m.Left
   Runs cs rs w = m.run P call' ks (sequence cs) rs w

@@ -108,16 +108,16 @@ module _ (typed : Typed) (singles : List Kind) (checks : Bool) (call : ℕ → L
   ks = (its_code typed singles checks h).kinds
 
   abbrev kinds_all : List Expression → List Kind
-  kinds_all es = l.conditions_kinds p.structs singles (length typed.texts.items) typed.functions.items typed.main es
+  kinds_all es = l.conditions_kinds p.structs singles (texts_of typed) typed.functions.items typed.main es
 
   abbrev code_all : List Expression → ℕ → List Code
-  code_all es d = l.conditions_code p.structs singles (length typed.texts.items) typed.functions.items typed.main locals es d
+  code_all es d = l.conditions_code p.structs singles (texts_of typed) typed.functions.items typed.main locals es d
 
   abbrev kinds_body : List Statement → List Kind
-  kinds_body bs = body_kinds p.structs singles (length typed.texts.items) typed.functions.items typed.main checks bs
+  kinds_body bs = body_kinds p.structs singles (texts_of typed) typed.functions.items typed.main checks bs
 
   abbrev code_body : List Statement → ℕ → List Code
-  code_body bs d = body_code p.structs singles (length typed.texts.items) typed.functions.items typed.main locals checks bs d
+  code_body bs d = body_code p.structs singles (texts_of typed) typed.functions.items typed.main locals checks bs d
 
   abbrev before : List Kind
   before = kinds_all (l.checked checks h.preconditions.items)
@@ -144,16 +144,16 @@ module _ (typed : Typed) (singles : List Kind) (checks : Bool) (call : ℕ → L
   long_types = types_long typed singles h
 
   at_rest : At ks (suc locals) (before ++ (inside ++ behind))
-  at_rest = at_tail ks locals (l.kind_at p.structs singles (length typed.texts.items) typed.functions.items typed.main h.result) (before ++ (inside ++ behind)) (at_behind typed singles h.parameters.items h.locals.items (l.kind_at p.structs singles (length typed.texts.items) typed.functions.items typed.main h.result ∷ (before ++ (inside ++ behind))))
+  at_rest = at_tail ks locals (l.kind_at p.structs singles (texts_of typed) typed.functions.items typed.main h.result) (before ++ (inside ++ behind)) (at_behind typed singles h.parameters.items h.locals.items (l.kind_at p.structs singles (texts_of typed) typed.functions.items typed.main h.result ∷ (before ++ (inside ++ behind))))
 
   -- the statements of a body
   body_ok : (bs : List Statement) (d : ℕ) (made : List Kept) (s : State) (rs : List ℕ) (w : m.State) → suc locals ≤ d → At ks d (kinds_body bs) → length rs ≡ length ks → KnowsBody n singles bs → Fits p types (block_of texts bs) → Goes 0 rs made s rs w
       → Joint made (Meets 0 rs) (exec checks ds call (block_of texts bs) s) (Runs (code_body bs d) rs w)
   body_ok [] d made s rs w low at long kn fit go = joint_done made (Meets 0 rs) Next s (0, rs) w (record { flow = refl; going = go })
   body_ok (b ∷ bs) d made s rs w low at long kn fit go =
-      let kinds_b : List Kind = l.stmt_kinds p.structs singles (length typed.texts.items) typed.functions.items typed.main checks b in
+      let kinds_b : List Kind = l.stmt_kinds p.structs singles (texts_of typed) typed.functions.items typed.main checks b in
       let next : ℕ = d + length kinds_b in
-      seq_ok typed singles checks call call' types locals ks locals_at long_types 0 rs w made (exec checks ds call (stmt_of texts b) s) (l.stmt_code p.structs singles (length typed.texts.items) typed.functions.items typed.main locals checks b d 0) (code_body bs next) (exec checks ds call (block_of texts bs))
+      seq_ok typed singles checks call call' types locals ks locals_at long_types 0 rs w made (exec checks ds call (stmt_of texts b) s) (l.stmt_code p.structs singles (texts_of typed) typed.functions.items typed.main locals checks b d 0) (code_body bs next) (exec checks ds call (block_of texts bs))
       (x.stmt_ok typed singles checks call call' types locals ks locals_at long_types fp fresh facts calls_ok b 0 d made s rs w low (at_left ks d kinds_b (kinds_body bs) at) long kn.0 fit.0 go) (λ new y xs z ex g1.
       met_from p H types locals 0 rs xs new (exec checks ds call (block_of texts bs) y) (Runs (code_body bs next) xs z) g1.long
       (body_ok bs next new y xs z (omega arith) (at_right ks d kinds_b (kinds_body bs) at) (g1.long ∙ long) kn.1 fit.1 (going_start p H types locals 0 0 rs xs new y z g1)))

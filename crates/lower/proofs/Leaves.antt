@@ -20,7 +20,7 @@ use Rattle.code_form.specs.declared.allocation.Allocation.{Allocation}
 use Rattle.code_form.specs.declared.form.Operation.TheVariants as op
 use Rattle.code_form.specs.Form.{Head}
 use Rattle.lower.specs.Coded.{Coded}
-use Rattle.lower.specs.Lowered.{text_number, unary_operator}
+use Rattle.lower.specs.Lowered.{unary_operator}
 use Rattle.lower.proofs.Operators.{coded_number, coded_truth}
 use Rattle.std.specs.Prelude.{slice_index}
 
@@ -57,28 +57,3 @@ module _ (H : Head) where
       (of_int (int_bit_not w32 (int_of (slice_index xs a))), refl, ap (λ z. of_int (int_bit_not w32 z)) (coded_number H p made v (slice_index xs a) i c))
   unary_cell p made u.Not v al xs d a i c =
       (if_zero (slice_index xs a) 1 0, refl, ap (λ z. if_zero z 1 0) (coded_truth H p made v (slice_index xs a) i c) ∙ not_cell (as_truth v))
-
-  -- the number of a text is that of a text
-  pub text_coded : (many number : ℕ) → many ≡ length H.texts → Coded H (Text (text_at H.texts number)) (text_number many number)
-  text_coded many zero e = at (nat_le 0 many)
-    where
-      at : (b : Bool) → k.text_at H (cond b 0 0) ≡ Some []
-      at true = refl
-      at false = refl
-  text_coded many (suc j) e = at (nat_le (suc j) many) refl
-    where
-      at : (b : Bool) → nat_le (suc j) many ≡ b → k.text_at H (cond b (suc j) 0) ≡ Some (get_or H.texts j [])
-      at true q = let l = leb-true (suc j) many q in let m : j < length H.texts = omega (arith, e) in slice_get-get_or H.texts j [] m
-      at false q = let past = leb-false (suc j) many q in let m : length H.texts ≤ j = omega (arith, e) in ap Some (sym (get_past H.texts j m))
-        where
-          get_past : (ts : List (List ℕ)) (j : ℕ) → length ts ≤ j → get_or ts j [] ≡ []
-          get_past [] j l = refl
-          get_past (t ∷ ts) zero l = absurd (let q : ⊥ = omega (arith, l) in q)
-          get_past (t ∷ ts) (suc j) l = get_past ts j (omega arith)
-
-  pub text_in : (many number : ℕ) → many ≡ length H.texts → text_number many number ≤ length H.texts
-  text_in many number e = at (nat_le number many) refl
-    where
-      at : (b : Bool) → nat_le number many ≡ b → cond b number 0 ≤ length H.texts
-      at true q = let l = leb-true number many q in omega (arith, e)
-      at false q = omega arith

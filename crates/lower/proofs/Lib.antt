@@ -33,4 +33,8 @@ pub mod Running
 pub mod Sides
 pub mod Steps
 pub mod Storing
+pub mod TextNumbers
 pub mod Values
+pub mod ViewCode
+pub mod ViewPrograms
+pub mod ViewTypes

@@ -58,13 +58,13 @@ module _ (typed : Typed) (singles : List Kind) (checks : Bool) (call : ℕ → L
   kinds a = e.kinds typed singles checks call call' types locals ks a
 
   abbrev pub kinds_all : List Expression → List Kind
-  kinds_all es = conditions_kinds p.structs singles (length typed.texts.items) typed.functions.items typed.main es
+  kinds_all es = conditions_kinds p.structs singles (texts_of typed) typed.functions.items typed.main es
 
   abbrev code : Expression → ℕ → List Code
   code a d = e.code typed singles checks call call' types locals ks a d
 
   abbrev pub code_all : List Expression → ℕ → List Code
-  code_all es d = conditions_code p.structs singles (length typed.texts.items) typed.functions.items typed.main locals es d
+  code_all es d = conditions_code p.structs singles (texts_of typed) typed.functions.items typed.main locals es d
 
   abbrev Runs : List Code → List ℕ → m.State → m.Outcome m.Left
   Runs cs rs w = m.run P call' ks (sequence cs) rs w

@@ -58,13 +58,13 @@ module _ (typed : Typed) (singles : List Kind) (checks : Bool) (call : ℕ → L
   Going_on d rs made s xs w = Going p H types locals d rs made s xs w
 
   abbrev pub base : Place → ℕ → ℕ
-  base q d = base_at p.structs singles (length typed.texts.items) typed.functions.items typed.main locals q d
+  base q d = base_at p.structs singles (texts_of typed) typed.functions.items typed.main locals q d
 
   abbrev pub off : Place → ℕ → Option ℕ
-  off q d = offset_at p.structs singles (length typed.texts.items) typed.functions.items typed.main locals q d
+  off q d = offset_at p.structs singles (texts_of typed) typed.functions.items typed.main locals q d
 
   abbrev pub shift : Place → ℕ
-  shift q = displacement p.structs singles (length typed.texts.items) typed.functions.items typed.main locals q
+  shift q = displacement p.structs singles (texts_of typed) typed.functions.items typed.main locals q
 
   -- a place was found, and its registers lead to its cell
   pub record Placed (q : Place) (u : Ty) (d : ℕ) (rs : List ℕ) (made : List Kept) (at : Spot) (s : State) (x : m.Left) (w : m.State) : Type 0 where

@@ -91,7 +91,7 @@ module _ (typed : Typed) (singles : List Kind) (checks : Bool) (fp : FitsProgram
       rs = m.first_registers (its_code typed singles checks h) ns
 
       kind_here : ValueType → Kind
-      kind_here ty = kind_at p.structs singles (length typed.texts.items) typed.functions.items typed.main ty
+      kind_here ty = kind_at p.structs singles (texts_of typed) typed.functions.items typed.main ty
 
       many : length ns ≡ length h.parameters.items
       many = coded_long H vs ns co ∙ are_long p made (map type_of h.parameters.items) vs are ∙ length-map h.parameters.items type_of

@@ -34,15 +34,15 @@ module _ (typed : Typed) (singles : List Kind) (types : List Ty) (locals : ℕ) 
   n = length p.structs
 
   abbrev kinds : Expression → List Kind
-  kinds e = exp_kinds p.structs singles (length typed.texts.items) typed.functions.items typed.main e
+  kinds e = exp_kinds p.structs singles (texts_of typed) typed.functions.items typed.main e
 
   abbrev kinds_row : {k : _} → Row_of-Expression k → List Kind
-  kinds_row es = row_kinds p.structs singles (length typed.texts.items) typed.functions.items typed.main es
+  kinds_row es = row_kinds p.structs singles (texts_of typed) typed.functions.items typed.main es
 
   abbrev at_row : {k : _} → Row_of-Expression k → ℕ → List ℕ
-  at_row es d = row_at p.structs singles (length typed.texts.items) typed.functions.items typed.main locals es d
+  at_row es d = row_at p.structs singles (texts_of typed) typed.functions.items typed.main locals es d
 
-  pub given_type : (fs : List Function) (k : ℕ) (g : t.Function) → slice_get (map (function_of (texts_of typed)) fs) k ≡ Some g → type_given p.structs singles (length typed.texts.items) typed.functions.items typed.main fs k ≡ g.result
+  pub given_type : (fs : List Function) (k : ℕ) (g : t.Function) → slice_get (map (function_of (texts_of typed)) fs) k ≡ Some g → type_given p.structs singles (texts_of typed) typed.functions.items typed.main fs k ≡ g.result
   given_type [] k g e = absurd (cc e)
   given_type (h ∷ fs) zero g e = let q : function_of (texts_of typed) h ≡ g = cc e in ap (λ (z : t.Function). z.result) q
   given_type (h ∷ fs) (suc k) g e = given_type fs k g e

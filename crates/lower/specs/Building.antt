@@ -1,6 +1,7 @@
 -- Structured code and its registers under construction, in the words of the definitions.
 use Rattle.std.specs.Prelude.{ℕ, zero, suc, ◌+◌, List, [], ◌∷◌, ◌++◌, length, map, Option}
 use Rattle.c0_typed.specs.Trees as t
+use Rattle.c0_typed.specs.Views.{texts_of}
 use Rattle.c0_typed.specs.declared.tree.Expression.{Expression}
 use Rattle.c0_typed.specs.declared.tree.Place.{Place}
 use Rattle.c0_typed.specs.declared.tree.Statement.{Statement}
@@ -26,35 +27,35 @@ structs_in c = structs_of c.typed.now
 module _ (c : Context) where
   -- the type that a function of the text gives
   abbrev pub type_given : ℕ → t.Ty
-  type_given f = l.type_given (structs_in c) c.singles.now (length c.typed.now.texts.items) c.typed.now.functions.items c.typed.now.main c.typed.now.functions.items f
+  type_given f = l.type_given (structs_in c) c.singles.now (texts_of c.typed.now) c.typed.now.functions.items c.typed.now.main c.typed.now.functions.items f
 
   -- the kind of a value of a type
   abbrev pub kind_at : ValueType → Kind
-  kind_at ty = l.kind_at (structs_in c) c.singles.now (length c.typed.now.texts.items) c.typed.now.functions.items c.typed.now.main ty
+  kind_at ty = l.kind_at (structs_in c) c.singles.now (texts_of c.typed.now) c.typed.now.functions.items c.typed.now.main ty
 
   -- the registers of an expression beside the locals, by their kinds
   abbrev pub exp_kinds : Expression → List Kind
-  exp_kinds e = l.exp_kinds (structs_in c) c.singles.now (length c.typed.now.texts.items) c.typed.now.functions.items c.typed.now.main e
+  exp_kinds e = l.exp_kinds (structs_in c) c.singles.now (texts_of c.typed.now) c.typed.now.functions.items c.typed.now.main e
 
   -- those of a place
   abbrev pub place_kinds : Place → List Kind
-  place_kinds q = l.place_kinds (structs_in c) c.singles.now (length c.typed.now.texts.items) c.typed.now.functions.items c.typed.now.main q
+  place_kinds q = l.place_kinds (structs_in c) c.singles.now (texts_of c.typed.now) c.typed.now.functions.items c.typed.now.main q
 
   -- those of conditions that must hold
   abbrev pub conditions_kinds : List Expression → List Kind
-  conditions_kinds es = l.conditions_kinds (structs_in c) c.singles.now (length c.typed.now.texts.items) c.typed.now.functions.items c.typed.now.main (l.checked c.checks es)
+  conditions_kinds es = l.conditions_kinds (structs_in c) c.singles.now (texts_of c.typed.now) c.typed.now.functions.items c.typed.now.main (l.checked c.checks es)
 
   -- those of a statement
   abbrev pub stmt_kinds : Statement → List Kind
-  stmt_kinds s = l.stmt_kinds (structs_in c) c.singles.now (length c.typed.now.texts.items) c.typed.now.functions.items c.typed.now.main c.checks s
+  stmt_kinds s = l.stmt_kinds (structs_in c) c.singles.now (texts_of c.typed.now) c.typed.now.functions.items c.typed.now.main c.checks s
 
   -- those of statements in order
   abbrev pub body_kinds : List Statement → List Kind
-  body_kinds ss = l.body_kinds (structs_in c) c.singles.now (length c.typed.now.texts.items) c.typed.now.functions.items c.typed.now.main c.checks ss
+  body_kinds ss = l.body_kinds (structs_in c) c.singles.now (texts_of c.typed.now) c.typed.now.functions.items c.typed.now.main c.checks ss
 
   -- the code of an expression, with its registers from d on
   abbrev pub exp_code : Expression → ℕ → List m.Code
-  exp_code e d = l.exp_code (structs_in c) c.singles.now (length c.typed.now.texts.items) c.typed.now.functions.items c.typed.now.main c.locals e d
+  exp_code e d = l.exp_code (structs_in c) c.singles.now (texts_of c.typed.now) c.typed.now.functions.items c.typed.now.main c.locals e d
 
   -- and then its value moved to a register
   abbrev pub moved : Expression → ℕ → ℕ → m.Code
@@ -62,27 +63,27 @@ module _ (c : Context) where
 
   -- that of a place
   abbrev pub place_code : Place → ℕ → List m.Code
-  place_code q d = l.place_code (structs_in c) c.singles.now (length c.typed.now.texts.items) c.typed.now.functions.items c.typed.now.main c.locals q d
+  place_code q d = l.place_code (structs_in c) c.singles.now (texts_of c.typed.now) c.typed.now.functions.items c.typed.now.main c.locals q d
 
   -- the register of the reference that a place begins with
   abbrev pub base_at : Place → ℕ → ℕ
-  base_at q d = l.base_at (structs_in c) c.singles.now (length c.typed.now.texts.items) c.typed.now.functions.items c.typed.now.main c.locals q d
+  base_at q d = l.base_at (structs_in c) c.singles.now (texts_of c.typed.now) c.typed.now.functions.items c.typed.now.main c.locals q d
 
   -- the register of a place's offset
   abbrev pub offset_at : Place → ℕ → Option ℕ
-  offset_at q d = l.offset_at (structs_in c) c.singles.now (length c.typed.now.texts.items) c.typed.now.functions.items c.typed.now.main c.locals q d
+  offset_at q d = l.offset_at (structs_in c) c.singles.now (texts_of c.typed.now) c.typed.now.functions.items c.typed.now.main c.locals q d
 
   -- how far behind that a place's cell stands
   abbrev pub displacement : Place → ℕ
-  displacement q = l.displacement (structs_in c) c.singles.now (length c.typed.now.texts.items) c.typed.now.functions.items c.typed.now.main c.locals q
+  displacement q = l.displacement (structs_in c) c.singles.now (texts_of c.typed.now) c.typed.now.functions.items c.typed.now.main c.locals q
 
   -- that of conditions that must hold
   abbrev pub conditions_code : List Expression → ℕ → List m.Code
-  conditions_code es d = l.conditions_code (structs_in c) c.singles.now (length c.typed.now.texts.items) c.typed.now.functions.items c.typed.now.main c.locals (l.checked c.checks es) d
+  conditions_code es d = l.conditions_code (structs_in c) c.singles.now (texts_of c.typed.now) c.typed.now.functions.items c.typed.now.main c.locals (l.checked c.checks es) d
 
   -- that of a statement, in so many loops and blocks
   abbrev pub stmt_code : Statement → ℕ → ℕ → List m.Code
-  stmt_code s d out = l.stmt_code (structs_in c) c.singles.now (length c.typed.now.texts.items) c.typed.now.functions.items c.typed.now.main c.locals c.checks s d out
+  stmt_code s d out = l.stmt_code (structs_in c) c.singles.now (texts_of c.typed.now) c.typed.now.functions.items c.typed.now.main c.locals c.checks s d out
 
   -- the registers of arguments, by their kinds
   abbrev pub list_kinds : List Expression → List Kind
@@ -106,7 +107,7 @@ module _ (c : Context) where
 
   -- the code of a function
   abbrev pub function_code : Function → m.Function
-  function_code f = l.function_code (structs_in c) c.singles.now (length c.typed.now.texts.items) c.typed.now.functions.items c.typed.now.main c.checks f
+  function_code f = l.function_code (structs_in c) c.singles.now (texts_of c.typed.now) c.typed.now.functions.items c.typed.now.main c.checks f
 
 -- how many locals a function has beside its result
 abbrev pub locals_of : Function → ℕ

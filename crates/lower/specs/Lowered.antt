@@ -1,8 +1,8 @@
 -- The structured code of typed programs. Each part of an expression that is no local has a register of its own; the value of a local is taken from its register.
-use Rattle.std.specs.Prelude.{ℕ, zero, suc, ◌+◌, ◌==◌, nat_le, Bool, cond, List, [], ◌∷◌, ◌++◌, length, map, set, slice_get, Option, Some, None}
+use Rattle.std.specs.Prelude.{ℕ, zero, suc, ◌+◌, ◌==◌, Bool, true, false, cond, bytes_eq, List, [], ◌∷◌, ◌++◌, length, map, set, slice_get, unwrap_or, Option, Some, None}
 use Rattle.cells.specs.declared.int32.Int32Op.{Int32Op}
 use Rattle.c0_typed.specs.Trees as t
-use Rattle.c0_typed.specs.Views.{type_of, struct_of, texts_of}
+use Rattle.c0_typed.specs.Views.{type_of, struct_of, text_at, texts_of}
 use Rattle.c0_typed.specs.declared.tree.ValueType.{ValueType}
 use Rattle.c0_typed.specs.declared.tree.UnaryOperator.{UnaryOperator}
 use Rattle.c0_typed.specs.declared.tree.UnaryOperator.TheVariants as u
@@ -52,16 +52,22 @@ code_relation r.AtMost = relation.LessOrEqual
 code_relation r.Above = relation.Greater
 code_relation r.AtLeast = relation.GreaterOrEqual
 
--- the number of a text where there are so many; what is none of them is the empty one
-abbrev pub text_number : ℕ → ℕ → ℕ
-text_number many k = cond (nat_le k many) k 0
+-- the number of the first of these texts that has these bytes, counted from k
+abbrev pub number_from : ℕ → List (List ℕ) → List ℕ → Option ℕ
+number_from k [] bytes = None
+number_from k (text ∷ rest) bytes = elim (bytes_eq bytes text) [ true ↦ Some k | false ↦ number_from (suc k) rest bytes ]
 
--- a constant into a register
-abbrev pub constant_code : ℕ → ConstantValue → ℕ → Operation
+-- The number that code has for a text of these bytes: that of the first one, and 0, which is the empty text, where none has them. So code does not
+-- depend on how a tree numbers its texts.
+abbrev pub number_among : List (List ℕ) → List ℕ → ℕ
+number_among texts bytes = unwrap_or (number_from 1 texts bytes) 0
+
+-- a constant into a register, in a program of these texts
+abbrev pub constant_code : List (List ℕ) → ConstantValue → ℕ → Operation
 constant_code texts (c.Number z) d = op.Const d z
 constant_code texts (c.Truth b) d = op.BoolOf d b
 constant_code texts (c.Letter x) d = op.CharOf d x
-constant_code texts (c.Text k) d = op.TextOf d (text_number texts k)
+constant_code texts (c.Text k) d = op.TextOf d (number_among texts (text_at texts k))
 
 -- the kind of a constant
 abbrev pub constant_kind : ConstantValue → Kind
@@ -120,8 +126,8 @@ moved locals e code d r = code ++ (m.Do (op.Move r (value_at locals e d)) ∷ []
 abbrev pub checked : Bool → List Expression → List Expression
 checked checks es = cond checks es []
 
--- Over a program: its structs, how many texts it has, its functions and the number of `main`, and the kinds of single cells that have a layout
-module _ (structs : List (List t.Ty)) (singles : List Kind) (texts : ℕ) (functions : List Function) (main : ℕ) where
+-- Over a program: its structs, its texts, its functions and the number of `main`, and the kinds of single cells that have a layout
+module _ (structs : List (List t.Ty)) (singles : List Kind) (texts : List (List ℕ)) (functions : List Function) (main : ℕ) where
   -- the kind of a value of a type
   abbrev pub kind_at : ValueType → Kind
   kind_at ty = kind_of (length structs) singles (type_of ty)
@@ -343,5 +349,5 @@ with_main_first (suc k) (f ∷ rest) = elim (slice_get rest k) [ None ↦ f ∷ 
 abbrev pub lowered : List Kind → Bool → Typed → m.Program
 lowered singles checks p = record {
   head = record { texts = texts_of p; layouts = layouts_of (map struct_of p.structs.items) singles };
-  functions = map (function_code (map struct_of p.structs.items) singles (length p.texts.items) p.functions.items p.main checks) (with_main_first p.main p.functions.items);
+  functions = map (function_code (map struct_of p.structs.items) singles (texts_of p) p.functions.items p.main checks) (with_main_first p.main p.functions.items);
 }

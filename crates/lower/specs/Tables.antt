@@ -1,5 +1,6 @@
 -- Tables of a program's layouts, in the words of the definitions.
-use Rattle.std.specs.Prelude.{ℕ, ◌+◌, List, [], ◌∷◌, length, map}
+use Rattle.std.specs.Prelude.{◌≡◌, ℕ, ◌+◌, String, List, [], ◌∷◌, length, map}
+use Rattle.std.specs.BTreeMap.{BTreeMap, get_by_text}
 use Rattle.std.specs.declared.vec.Vec.{Vec}
 use Rattle.std.specs.declared.alloc.Global.{Global}
 use Rattle.c0_typed.specs.Trees as t
@@ -7,6 +8,7 @@ use Rattle.c0_typed.specs.Views.{struct_of}
 use Rattle.c0_typed.specs.declared.tree.Typed.{Typed}
 use Rattle.code_form.specs.declared.form.Kind.{Kind}
 use Rattle.lower.specs.Kinds.{cell_kinds}
+use Rattle.lower.specs.Lowered.{number_from}
 
 -- layouts in order
 abbrev pub layouts_read : List (Vec Kind Global) → List (List Kind)
@@ -24,3 +26,7 @@ structs_of p = map struct_of p.structs.items
 abbrev pub starts : ℕ → List Kind → List (List Kind) → ℕ → List t.Ty → List ℕ
 starts n singles layouts at [] = at ∷ []
 starts n singles layouts at (ty ∷ rest) = at ∷ starts n singles layouts (at + length (cell_kinds n singles layouts ty)) rest
+
+-- the map has the number of each of these texts by its bytes, and no other bytes
+abbrev pub AreNumbered : List (List ℕ) → BTreeMap (String Global) ℕ → Type 0
+AreNumbered texts numbers = (bytes : List ℕ) → get_by_text numbers bytes ≡ number_from 1 texts bytes

@@ -1,11 +1,14 @@
 //! Constants and operators.
 ghost use Rattle.lower.specs.Lowered.{code_relation as relation_of, constant_code as constant_with, constant_kind as kind_of_constant, print_code as print_with, result_register as register_for, swapped as number_of, unary_kind as kind_of_unary, unary_operator as operator_of};
 ghost use Rattle.c0_typed.specs.Views.{type_of};
-ghost use Rattle.std.specs.Prelude.{◌≡◌, IfOk, length};
+ghost use Rattle.lower.specs.Tables.{AreNumbered};
+ghost use Rattle.std.specs.Prelude.{◌≡◌, IfOk, map, string_bytes};
 
+use crate::texts::text_number;
 use c0_typed::{Constant, Output, Relation, UnaryOperator, ValueType};
 use code_form::{Kind, Operation};
 use std::alloc::AllocError;
+use std::collections::BTreeMap;
 
 /// The kind of a constant.
 pub(crate) fn constant_kind(constant: Constant) -> Kind
@@ -19,20 +22,22 @@ pub(crate) fn constant_kind(constant: Constant) -> Kind
     }
 }
 
-/// A constant into a register, in a program with these texts.
-pub(crate) fn constant_code(texts: &[String], constant: Constant, to: u32) -> Operation
-    ensures { result ≡ constant_with (length texts.now) constant to }
+/// A constant into a register, in a program with these texts and their numbers.
+pub(crate) fn constant_code(
+    texts: &[String],
+    numbers: &BTreeMap<String, u32>,
+    constant: Constant,
+    to: u32,
+) -> Operation
+    requires { AreNumbered (map string_bytes texts.now) numbers.now }
+    ensures { result ≡ constant_with (map string_bytes texts.now) constant to }
 {
     match constant {
         Constant::Number(value) => Operation::Const { to, value },
         Constant::Truth(value) => Operation::BoolOf { to, value },
         Constant::Letter(code) => Operation::CharOf { to, code },
         Constant::Text(text) => {
-            let number = if text as usize <= texts.len() {
-                text
-            } else {
-                0
-            };
+            let number = text_number(texts, numbers, text);
             Operation::TextOf { to, number }
         }
     }

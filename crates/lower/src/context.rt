@@ -1,14 +1,16 @@
 //! What code is made over.
-ghost use Rattle.lower.specs.Tables.{layouts_read, offsets_read, starts, structs_of};
+ghost use Rattle.lower.specs.Tables.{AreNumbered, layouts_read, offsets_read, starts, structs_of};
 ghost use Rattle.lower.specs.Kinds.{struct_layouts};
+ghost use Rattle.c0_typed.specs.Views.{texts_of};
 ghost use Rattle.std.specs.Prelude.{◌≡◌, ◌+◌, ◌<◌, ◌^◌, [], length, map};
 
 use c0_typed::Typed;
 use code_form::Kind;
 use std::alloc::Global;
+use std::collections::BTreeMap;
 
 /// The program, the kinds of single cells that have a layout, the layouts of its structs and where their fields begin,
-/// and how many locals a function has beside its result.
+/// the numbers of its texts, and how many locals a function has beside its result.
 #[derive(Clone, Copy)]
 pub(crate) struct Context<'p> {
     pub(crate) alloc: Global,
@@ -16,11 +18,13 @@ pub(crate) struct Context<'p> {
     pub(crate) singles: &'p [Kind],
     pub(crate) layouts: &'p [Vec<Kind>],
     pub(crate) offsets: &'p [Vec<u32>],
+    pub(crate) numbers: &'p BTreeMap<String, u32>,
     pub(crate) structs: u32,
     pub(crate) locals: u32,
     pub(crate) checks: bool,
     ghost all_structs: { structs ≡ length (structs_of typed.now) },
     ghost numbered: { structs + length singles.now + 1 < 2 ^ 32 },
     ghost laid_out: { layouts_read layouts.now ≡ struct_layouts (length (structs_of typed.now)) singles.now [] (structs_of typed.now) },
+    ghost first_texts: { AreNumbered (texts_of typed.now) numbers.now },
     ghost placed: { offsets_read offsets.now ≡ map (starts (length (structs_of typed.now)) singles.now (layouts_read layouts.now) 0) (structs_of typed.now) },
 }

@@ -71,7 +71,11 @@ fn constant(
     ensures added { OnOk result (codes code.new.items ≡ codes code.old.items ++ exp_code context.now (Constant value) (length kinds.old.items)) }
 {
     let to = fresh(kinds, constant_kind(value))?;
-    put(code, to, constant_code(&context.typed.texts, value, to))
+    put(
+        code,
+        to,
+        constant_code(&context.typed.texts, context.numbers, value, to),
+    )
 }
 
 /// NULL.

@@ -13,6 +13,7 @@ mod place_code;
 mod program;
 mod statement_code;
 mod struct_layouts;
+mod texts;
 
-pub use laws::lowered_means_the_same;
+pub use laws::{lowered_means_the_same, same_program_same_code};
 pub use lowering::lower;

@@ -15,6 +15,7 @@ use crate::gathering::gathered;
 use crate::kinds::kind_of;
 use crate::statement_code::{conditions, statements};
 use crate::struct_layouts::{add_single_layouts, all_starts, struct_layouts};
+use crate::texts::text_numbers;
 use c0_typed::{Function, Typed, ValueType};
 use code_form::Kind;
 use middle_form::{Code, Middle};
@@ -99,6 +100,7 @@ fn function(context: &Context, function: &Function) -> Result<middle_form::Funct
         singles: context.singles,
         layouts: context.layouts,
         offsets: context.offsets,
+        numbers: context.numbers,
         structs: context.structs,
         locals,
         checks: context.checks,
@@ -146,12 +148,14 @@ fn lowered_over(
     let structs = typed.structs.len() as u32;
     let mut layouts = struct_layouts(alloc, structs, singles, &typed.structs)?;
     let offsets = all_starts(alloc, &layouts, &typed.structs)?;
+    let numbers = text_numbers(alloc, &typed.texts)?;
     let functions = functions(&Context {
         alloc,
         typed,
         singles,
         layouts: &layouts,
         offsets: &offsets,
+        numbers: &numbers,
         structs,
         locals: 0,
         checks,

@@ -3,6 +3,7 @@ use Rattle.c0far.proofs.laws.headline.Goals as goal
 
 pub returns : goal.returns
 returns c = composed (record {
+  one = c.one_image.ensures;
   more = c.more_turns.ensures;
   add = c.run_laws.ensures.add;
   stays = c.run_laws.ensures.stopped;
