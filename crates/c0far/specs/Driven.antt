@@ -1,6 +1,5 @@
 -- What a command writes, and its exit status.
 use Rattle.std.specs.Prelude.{◌≡◌, ◌⊎◌, ℕ, ◌+◌, ◌-◌, ◌==◌, min, Bool, false, not, List, [], ◌∷◌, ◌++◌, length, take, count_by, Option, Some, None, slice_get, codes, cond, decimal}
-use Rattle.std.specs.Io.KnownBytes.{Appends}
 use Rattle.cells.specs.declared.ending.Ended.{Ended}
 use Rattle.cells.specs.Lines.{run_line}
 use Rattle.cells.specs.Outcomes.{Meant}
@@ -22,6 +21,7 @@ use Rattle.c0far.specs.declared.words.Usage.TheVariants as refusal
 use Rattle.c0far.specs.MeantLines.{last_line}
 use Rattle.c0far.specs.Shell.{Check, Command, Mean, Names, Run}
 use Rattle.c0far.specs.Statuses.{ended_status, run_status}
+use Rattle.c0far.specs.Streams.{IsQuiet, Says, Writes}
 
 -- ---- what is shown
 
@@ -56,23 +56,6 @@ StandsAt text at line column = (line ≡ count_by (λ b. b == 10) (take at text)
     × ((start : ℕ) × BeginsLine text (min at (length text)) start × (column ≡ min at (length text) - start + 1))
 
 -- ---- what is done
-
--- what a writer holds before and after, where it tells
-pub record Writes : Type 0 where
-  pub before : Option (List ℕ)
-  pub after : Option (List ℕ)
-
--- what a writer held, and holds
-abbrev pub writes : Option (List ℕ) → Option (List ℕ) → Writes
-writes old new = record { before = old; after = new }
-
--- these bytes were written, and the command answers so; or a write failed, and it answers 2
-abbrev pub Says : Writes → List ℕ → ℕ → ℕ → Type 0
-Says w bytes status result = (result ≡ 2) ⊎ ((result ≡ status) × Appends w.before w.after bytes)
-
--- nothing was written
-abbrev pub IsQuiet : Writes → Type 0
-IsQuiet w = w.after ≡ w.before
 
 -- the program of the file's text ran, with contracts checked or not: what it printed and its end are shown
 pub record HasRun (checks : Bool) (held : Known) (out err : Writes) (result : ℕ) : Type 0 where

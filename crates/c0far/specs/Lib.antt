@@ -5,3 +5,4 @@ pub mod MeantLines
 pub mod MemTexts
 pub mod Shell
 pub mod Statuses
+pub mod Streams

@@ -1,15 +1,17 @@
-//! The commands, over files and two writers.
+//! The commands, over files and two streams.
 ghost use Rattle.std.specs.Prelude.{◌≡◌, ◌++◌, ℕ, List, codes, map};
-ghost use Rattle.c0far.specs.Driven.{Checks, IsDriven, Runs, Says, newline, shown_end, usage, writes};
+ghost use Rattle.c0far.specs.Driven.{Checks, IsDriven, Runs, newline, shown_end, usage};
 ghost use Rattle.c0far.specs.FileTexts.{HasText, Known};
 ghost use Rattle.c0far.specs.Statuses.{run_status};
+ghost use Rattle.c0far.specs.Streams.{Says, writes};
 
 use crate::files::{FileError, Files};
 use crate::line::line;
 use crate::plain::{Bound, mean};
 use crate::say::{
-    REFUSED, STOPPED, WANTED, after, say_fault, say_memory, say_unread, write_output,
+    REFUSED, STOPPED, WANTED, after, say_memory, say_refused, say_unread, write_output,
 };
+use crate::stream::Stream;
 use crate::words::{Line, Usage};
 use c0_front::check_text;
 use c0_image::compile;
@@ -18,20 +20,19 @@ use c0_syntax::level::Level;
 use cells::{Ended, Run, Stop};
 use image_run::execute;
 use std::alloc::Global;
-use std::io::Write;
 use std::sync::Wait;
 use std::thread::Threads;
 
 /// Says that a text keeps the static rules.
-fn say_ok<O: Write>(out: &mut O) -> u8
-    ensures { Says (writes (O.contents out.old) (O.contents out.new)) (codes "ok" ++ newline) 0 result }
+fn say_ok<O: Stream>(out: &mut O) -> u8
+    ensures { Says (writes O.contents O.failures out.old out.new) (codes "ok" ++ newline) 0 result }
 {
     after(writeln!(out, "ok"), 0)
 }
 
 /// Says how the words are to be.
-pub fn say_usage<E: Write>(err: &mut E) -> u8
-    ensures { Says (writes (E.contents err.old) (E.contents err.new)) (usage ++ newline) 2 result }
+pub fn say_usage<E: Stream>(err: &mut E) -> u8
+    ensures { Says (writes E.contents E.failures err.old err.new) (usage ++ newline) 2 result }
 {
     let usage = Usage::Refused;
     after(writeln!(err, "{usage}"), REFUSED)
@@ -49,11 +50,11 @@ fn status_of(run: &Run) -> u8
 }
 
 /// Says what a program printed and how it ended: a newline stands between them where the output doesn't end in one.
-fn say_end<O: Write>(out: &mut O, ended: &Ended) -> u8
-    ensures { Says (writes (O.contents out.old) (O.contents out.new)) (shown_end ended.now) (run_status ended.now.run) result }
+fn say_end<O: Stream>(out: &mut O, ended: &Ended) -> u8
+    ensures { Says (writes O.contents O.failures out.old out.new) (shown_end ended.now) (run_status ended.now.run) result }
 {
     let status = status_of(&ended.run);
-    if !write_output(out, &ended.output) {
+    if write_output(out, &ended.output).is_err() {
         return REFUSED;
     }
     let run = &ended.run;
@@ -61,7 +62,7 @@ fn say_end<O: Write>(out: &mut O, ended: &Ended) -> u8
 }
 
 /// Runs the program of a text, which stands in this file.
-fn run_text<W: Wait, O: Write, E: Write>(
+fn run_text<W: Wait, O: Stream, E: Stream>(
     alloc: Global,
     rt: &W,
     checks: bool,
@@ -70,12 +71,12 @@ fn run_text<W: Wait, O: Write, E: Write>(
     out: &mut O,
     err: &mut E,
 ) -> u8
-    ensures { (held : Known) → HasText held text.now → Runs file.now checks held (writes (O.contents out.old) (O.contents out.new)) (writes (E.contents err.old) (E.contents err.new)) result }
+    ensures { (held : Known) → HasText held text.now → Runs file.now checks held (writes O.contents O.failures out.old out.new) (writes E.contents E.failures err.old err.new) result }
 {
     let image = match compile(alloc, text, checks) {
         Ok(image) => image,
         Err(fault) if fault.kind == FaultKind::OutOfMemory => return say_memory(err),
-        Err(fault) => return say_fault(err, file, text, fault),
+        Err(fault) => return say_refused(err, file, text, fault),
     };
     match execute(alloc, rt, &image) {
         Ok(ended) => say_end(out, &ended),
@@ -84,7 +85,7 @@ fn run_text<W: Wait, O: Write, E: Write>(
 }
 
 /// Runs the program of a file's text.
-fn run<W: Wait, F: Files, O: Write, E: Write>(
+fn run<W: Wait, F: Files, O: Stream, E: Stream>(
     alloc: Global,
     rt: &W,
     checks: bool,
@@ -94,7 +95,7 @@ fn run<W: Wait, F: Files, O: Write, E: Write>(
     err: &mut E,
 ) -> u8
     ensures files { (name : List ℕ) → F.holds files.new name ≡ F.holds files.old name }
-    ensures done { Runs file.now checks (F.holds files.old file.now) (writes (O.contents out.old) (O.contents out.new)) (writes (E.contents err.old) (E.contents err.new)) result }
+    ensures done { Runs file.now checks (F.holds files.old file.now) (writes O.contents O.failures out.old out.new) (writes E.contents E.failures err.old err.new) result }
 {
     match files.read(alloc, file) {
         Ok(text) => run_text(alloc, rt, checks, file, &text, out, err),
@@ -104,24 +105,24 @@ fn run<W: Wait, F: Files, O: Write, E: Write>(
 }
 
 /// Tells whether a text, which stands in this file, keeps the static rules.
-fn check_named<O: Write, E: Write>(
+fn check_named<O: Stream, E: Stream>(
     alloc: Global,
     file: &str,
     text: &[u8],
     out: &mut O,
     err: &mut E,
 ) -> u8
-    ensures { (held : Known) → HasText held text.now → Checks file.now held (writes (O.contents out.old) (O.contents out.new)) (writes (E.contents err.old) (E.contents err.new)) result }
+    ensures { (held : Known) → HasText held text.now → Checks file.now held (writes O.contents O.failures out.old out.new) (writes E.contents E.failures err.old err.new) result }
 {
     match check_text(alloc, text, Level::Core) {
         Ok(_typed) => say_ok(out),
         Err(fault) if fault.kind == FaultKind::OutOfMemory => say_memory(err),
-        Err(fault) => say_fault(err, file, text, fault),
+        Err(fault) => say_refused(err, file, text, fault),
     }
 }
 
 /// Tells whether a file's text keeps the static rules.
-fn check<F: Files, O: Write, E: Write>(
+fn check<F: Files, O: Stream, E: Stream>(
     alloc: Global,
     file: &str,
     files: &mut F,
@@ -129,7 +130,7 @@ fn check<F: Files, O: Write, E: Write>(
     err: &mut E,
 ) -> u8
     ensures files { (name : List ℕ) → F.holds files.new name ≡ F.holds files.old name }
-    ensures done { Checks file.now (F.holds files.old file.now) (writes (O.contents out.old) (O.contents out.new)) (writes (E.contents err.old) (E.contents err.new)) result }
+    ensures done { Checks file.now (F.holds files.old file.now) (writes O.contents O.failures out.old out.new) (writes E.contents E.failures err.old err.new) result }
 {
     match files.read(alloc, file) {
         Ok(text) => check_named(alloc, file, &text, out, err),
@@ -141,7 +142,7 @@ fn check<F: Files, O: Write, E: Write>(
 /// Does the command that the words name, of which the first is the program's name, and gives the exit status: 3 where there
 /// was a want of memory, objects or store; else 2 where a text, a file or the words are refused, or a write failed;
 /// else 1 where the program stopped otherwise than by a result; else 0.
-pub fn drive<W: Wait + Threads, F: Files, O: Write, E: Write>(
+pub fn drive<W: Wait + Threads, F: Files, O: Stream, E: Stream>(
     alloc: Global,
     rt: &W,
     words: &[&str],
@@ -150,7 +151,7 @@ pub fn drive<W: Wait + Threads, F: Files, O: Write, E: Write>(
     err: &mut E,
 ) -> u8
     ensures files { (name : List ℕ) → F.holds files.new name ≡ F.holds files.old name }
-    ensures done { IsDriven (F.holds files.old) (map (λ w. w.now) words.now) (writes (O.contents out.old) (O.contents out.new)) (writes (E.contents err.old) (E.contents err.new)) result }
+    ensures done { IsDriven (F.holds files.old) (map (λ w. w.now) words.now) (writes O.contents O.failures out.old out.new) (writes E.contents E.failures err.old err.new) result }
 {
     match line(alloc, words) {
         Ok(Line::Check { file }) => check(alloc, file, files, out, err),

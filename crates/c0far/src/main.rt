@@ -7,12 +7,14 @@ mod laws;
 mod line;
 mod plain;
 mod say;
+mod stream;
 mod tests;
 mod words;
 
 use crate::drive::{drive, say_usage};
 use crate::files::FolderFiles;
 use crate::say::say_memory;
+use crate::stream::CountedWriter;
 use std::alloc::{AllocError, Global};
 use std::process::ExitCode;
 use std::{env, io};
@@ -27,7 +29,7 @@ fn slices<'a>(alloc: Global, words: &'a [String]) -> Result<Vec<&'a str>, AllocE
 }
 
 fn main(rt: HostRuntime) -> io::Result<ExitCode> {
-    let mut err = rt.stderr();
+    let mut err = CountedWriter::new(rt.stderr());
     let words: Vec<String> = match env::args(&rt) {
         Ok(words) => match words.collect(rt.alloc()) {
             Ok(words) => words,
@@ -41,7 +43,7 @@ fn main(rt: HostRuntime) -> io::Result<ExitCode> {
     let Ok(names) = slices(rt.alloc(), &words) else {
         return Ok(ExitCode::from(say_memory(&mut err)));
     };
-    let mut out = io::writer(&rt);
+    let mut out = CountedWriter::new(io::writer(&rt));
     let mut files = FolderFiles::new(&rt);
     let status = drive(rt.alloc(), &rt, &names, &mut files, &mut out, &mut err);
     Ok(ExitCode::from(status))

@@ -1,18 +1,19 @@
 //! The command `mean`: what the program of a text means within some turns.
 ghost use Rattle.std.specs.Prelude.{◌≡◌, ℕ, List};
 ghost use Rattle.c0_meaning.specs.Run.{ended_of, meant_of};
-ghost use Rattle.c0far.specs.Driven.{Means, Says, shown_meaning, writes};
+ghost use Rattle.c0far.specs.Driven.{Means, shown_meaning};
 ghost use Rattle.c0far.specs.FileTexts.{HasText, Known};
 ghost use Rattle.c0far.specs.Statuses.{ended_status};
+ghost use Rattle.c0far.specs.Streams.{Says, writes};
 
 use crate::files::{FileError, Files};
-use crate::say::{REFUSED, STOPPED, after, say_fault, say_memory, say_unread, write_output};
+use crate::say::{REFUSED, STOPPED, after, say_memory, say_refused, say_unread, write_output};
+use crate::stream::Stream;
 use c0_meaning::Meant;
 use c0_plain::mean_text;
 use c0_source::fault::FaultKind;
 use cells::Stop;
 use std::alloc::Global;
-use std::io::Write;
 use std::thread::Threads;
 
 /// How far a program is run, and whether its contracts are checked.
@@ -33,11 +34,11 @@ fn status_of(stop: &Option<Stop>) -> u8
 }
 
 /// Says what a program printed, and how it stopped or that it was cut: a newline stands between them where the output doesn't end in one.
-fn say_meaning<O: Write>(out: &mut O, meant: &Meant) -> u8
-    ensures { Says (writes (O.contents out.old) (O.contents out.new)) (shown_meaning (meant_of meant.now)) (ended_status (ended_of meant.now.stop)) result }
+fn say_meaning<O: Stream>(out: &mut O, meant: &Meant) -> u8
+    ensures { Says (writes O.contents O.failures out.old out.new) (shown_meaning (meant_of meant.now)) (ended_status (ended_of meant.now.stop)) result }
 {
     let status = status_of(&meant.stop);
-    if !write_output(out, &meant.output) {
+    if write_output(out, &meant.output).is_err() {
         return REFUSED;
     }
     match &meant.stop {
@@ -47,7 +48,7 @@ fn say_meaning<O: Write>(out: &mut O, meant: &Meant) -> u8
 }
 
 /// The plain run of a text, which stands in this file.
-fn mean_named<R: Threads, O: Write, E: Write>(
+fn mean_named<R: Threads, O: Stream, E: Stream>(
     alloc: Global,
     rt: &R,
     bound: Bound,
@@ -56,17 +57,17 @@ fn mean_named<R: Threads, O: Write, E: Write>(
     out: &mut O,
     err: &mut E,
 ) -> u8
-    ensures { (held : Known) → HasText held text.now → Means file.now bound.checks bound.turns held (writes (O.contents out.old) (O.contents out.new)) (writes (E.contents err.old) (E.contents err.new)) result }
+    ensures { (held : Known) → HasText held text.now → Means file.now bound.checks bound.turns held (writes O.contents O.failures out.old out.new) (writes E.contents E.failures err.old err.new) result }
 {
     match mean_text(alloc, rt, text, bound.checks, bound.turns) {
         Ok(meant) => say_meaning(out, &meant),
         Err(fault) if fault.kind == FaultKind::OutOfMemory => say_memory(err),
-        Err(fault) => say_fault(err, file, text, fault),
+        Err(fault) => say_refused(err, file, text, fault),
     }
 }
 
 /// The plain run of a file's text.
-pub fn mean<R: Threads, F: Files, O: Write, E: Write>(
+pub fn mean<R: Threads, F: Files, O: Stream, E: Stream>(
     alloc: Global,
     rt: &R,
     bound: Bound,
@@ -76,7 +77,7 @@ pub fn mean<R: Threads, F: Files, O: Write, E: Write>(
     err: &mut E,
 ) -> u8
     ensures files { (name : List ℕ) → F.holds files.new name ≡ F.holds files.old name }
-    ensures done { Means file.now bound.checks bound.turns (F.holds files.old file.now) (writes (O.contents out.old) (O.contents out.new)) (writes (E.contents err.old) (E.contents err.new)) result }
+    ensures done { Means file.now bound.checks bound.turns (F.holds files.old file.now) (writes O.contents O.failures out.old out.new) (writes E.contents E.failures err.old err.new) result }
 {
     match files.read(alloc, file) {
         Ok(text) => mean_named(alloc, rt, bound, file, &text, out, err),

@@ -1,11 +1,14 @@
 //! What commands say on their two streams, with the exit status.
-ghost use Rattle.std.specs.Prelude.{◌≡◌, ◌++◌, ℕ, [], IsTrue, MatchResult, codes, cond};
-ghost use Rattle.std.specs.Io.KnownBytes.{Appends};
-ghost use Rattle.c0far.specs.Driven.{Says, StandsAt, is_open, newline, shown_fault, writes};
+ghost use Rattle.std.specs.Prelude.{◌≡◌, ◌++◌, ℕ, [], MatchResult, codes, cond, false};
+ghost use Rattle.c0_front.specs.Texts.{IsRefusedText, IsTypedAs};
+ghost use Rattle.c0_typed.specs.Trees as y;
+ghost use Rattle.c0far.specs.Driven.{HasFailed, StandsAt, is_open, newline, shown_fault};
+ghost use Rattle.c0far.specs.FileTexts.{HasText, Known};
+ghost use Rattle.c0far.specs.Streams.{IsQuiet, IsWritten, Says, Writes, writes};
 
+use crate::stream::{Failed, Stream};
 use c0_source::fault::Fault;
 use c0_source::position::{Position, line_column};
-use std::io::Write;
 
 /// Some program has stopped otherwise than by a result.
 pub const STOPPED: u8 = 1;
@@ -15,25 +18,25 @@ pub const REFUSED: u8 = 2;
 pub const WANTED: u8 = 3;
 
 /// The status where a write succeeded, else that of a failed write.
-pub fn after<T: Drop, E: Drop>(written: Result<T, E>, status: u8) -> u8
+pub fn after(written: Result<(), Failed>, status: u8) -> u8
     ensures { MatchResult written (λ _. result ≡ status) (λ _. result ≡ 2) }
 {
     match written {
-        Ok(_) => status,
-        Err(_) => REFUSED,
+        Ok(()) => status,
+        Err(Failed) => REFUSED,
     }
 }
 
 /// Says that a growth was refused.
-pub fn say_memory<E: Write>(err: &mut E) -> u8
-    ensures { Says (writes (E.contents err.old) (E.contents err.new)) (codes "out of memory" ++ newline) 3 result }
+pub fn say_memory<E: Stream>(err: &mut E) -> u8
+    ensures { Says (writes E.contents E.failures err.old err.new) (codes "out of memory" ++ newline) 3 result }
 {
     after(writeln!(err, "out of memory"), WANTED)
 }
 
 /// Says why a text is refused, and where.
-fn say_at<E: Write>(err: &mut E, file: &str, position: Position, fault: Fault) -> u8
-    ensures { Says (writes (E.contents err.old) (E.contents err.new)) (shown_fault file.now position.line position.column fault) 2 result }
+fn say_at<E: Stream>(err: &mut E, file: &str, position: Position, fault: Fault) -> u8
+    ensures { Says (writes E.contents E.failures err.old err.new) (shown_fault file.now position.line position.column fault) 2 result }
 {
     let line = position.line;
     let column = position.column;
@@ -41,17 +44,26 @@ fn say_at<E: Write>(err: &mut E, file: &str, position: Position, fault: Fault) -
 }
 
 /// Says why a text is refused, at the line and column of the fault.
-pub fn say_fault<E: Write>(err: &mut E, file: &str, text: &[u8], fault: Fault) -> u8
+pub fn say_fault<E: Stream>(err: &mut E, file: &str, text: &[u8], fault: Fault) -> u8
     ensures { (line : ℕ) × (column : ℕ) × StandsAt text.now fault.span.start line column
-        × Says (writes (E.contents err.old) (E.contents err.new)) (shown_fault file.now line column fault) 2 result }
+        × Says (writes E.contents E.failures err.old err.new) (shown_fault file.now line column fault) 2 result }
 {
     let position = line_column(text, fault.span.start);
     say_at(err, file, position, fault)
 }
 
+/// Says why a text that is the text of no well-typed program is refused, at the line and column of the fault.
+pub fn say_refused<E: Stream>(err: &mut E, file: &str, text: &[u8], fault: Fault) -> u8
+    requires cause { IsRefusedText false text.now fault }
+    requires none { (p : y.Program) → IsTypedAs false text.now p → ⊥ }
+    ensures { (held : Known) (out : Writes) → HasText held text.now → IsQuiet out → HasFailed file.now held out (writes E.contents E.failures err.old err.new) result }
+{
+    say_fault(err, file, text, fault)
+}
+
 /// Says that a file was not read.
-pub fn say_unread<E: Write>(err: &mut E, file: &str) -> u8
-    ensures { Says (writes (E.contents err.old) (E.contents err.new)) (file.now ++ (codes ": cannot be read" ++ newline)) 2 result }
+pub fn say_unread<E: Stream>(err: &mut E, file: &str) -> u8
+    ensures { Says (writes E.contents E.failures err.old err.new) (file.now ++ (codes ": cannot be read" ++ newline)) 2 result }
 {
     after(writeln!(err, "{file}: cannot be read"), REFUSED)
 }
@@ -66,15 +78,13 @@ fn ends_open(bytes: &[u8]) -> bool
     }
 }
 
-/// Writes what a program printed, with its last line finished, and tells whether that was written.
-pub fn write_output<O: Write>(out: &mut O, output: &[u8]) -> bool
-    ensures { IsTrue result → Appends (O.contents out.old) (O.contents out.new) (output.now ++ cond (is_open output.now) newline []) }
+/// Writes what a program printed, with its last line finished.
+pub fn write_output<O: Stream>(out: &mut O, output: &[u8]) -> Result<(), Failed>
+    ensures { IsWritten (writes O.contents O.failures out.old out.new) (output.now ++ cond (is_open output.now) newline []) result }
 {
-    if out.write_all(output).is_err() {
-        return false;
-    }
+    out.write_all(output)?;
     if !ends_open(output) {
-        return true;
+        return Ok(());
     }
-    writeln!(out).is_ok()
+    writeln!(out)
 }

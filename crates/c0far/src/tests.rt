@@ -7,6 +7,7 @@ mod tests {
     use crate::drive::drive;
     use crate::files::{FileError, Files, MemFiles};
     use crate::line::line;
+    use crate::stream::CountedWriter;
     use crate::words::{Line, Usage};
     use c0_image::compile;
     use cells::{Run, Stop, Want};
@@ -29,13 +30,24 @@ mod tests {
         err: Vec<u8>,
     }
 
-    /// A writer that refuses each write.
+    /// A writer of which one write alone fails, after so many others, or none.
     #[derive(Drop)]
-    struct Closed;
+    struct FailsOnce {
+        left: Option<u8>,
+        held: Vec<u8>,
+    }
 
-    impl Write for Closed {
-        fn write(&mut self, _bytes: &[u8]) -> io::Result<usize> {
-            Err(io::Error::from(io::ErrorKind::BrokenPipe))
+    impl Write for FailsOnce {
+        fn write(&mut self, bytes: &[u8]) -> io::Result<usize> {
+            match self.left {
+                Some(0) => {
+                    self.left = None;
+                    return Err(io::Error::from(io::ErrorKind::BrokenPipe));
+                }
+                Some(left) => self.left = Some(left - 1),
+                None => {}
+            }
+            self.held.write(bytes)
         }
 
         fn flush(&mut self) -> io::Result<()> {
@@ -49,10 +61,14 @@ mod tests {
         words: &[&str],
         files: &mut MemFiles,
     ) -> Told {
-        let mut out = Vec::new(alloc);
-        let mut err = Vec::new(alloc);
+        let mut out = CountedWriter::new(Vec::new(alloc));
+        let mut err = CountedWriter::new(Vec::new(alloc));
         let status = drive(alloc, rt, words, files, &mut out, &mut err);
-        Told { status, out, err }
+        Told {
+            status,
+            out: out.into_writer(),
+            err: err.into_writer(),
+        }
     }
 
     /// `c0far run NAME` with this text in the file.
@@ -632,22 +648,61 @@ mod tests {
         Ok(())
     }
 
+    /// What `c0far` with these words writes, with this text in a.c0, where one write of a stream alone fails, after so many others.
+    fn told_of_failures<W: Wait + Threads>(
+        alloc: Global,
+        rt: &W,
+        words: &[&str],
+        text: &str,
+        out: Option<u8>,
+        err: Option<u8>,
+    ) -> Result<Told, Fail> {
+        let mut files = MemFiles::new(alloc);
+        files.write(alloc, "a.c0", text.as_bytes())?;
+        let mut out = CountedWriter::new(FailsOnce {
+            left: out,
+            held: Vec::new(alloc),
+        });
+        let mut err = CountedWriter::new(FailsOnce {
+            left: err,
+            held: Vec::new(alloc),
+        });
+        let status = drive(alloc, rt, words, &mut files, &mut out, &mut err);
+        let FailsOnce { left: _, held: out } = out.into_writer();
+        let FailsOnce { left: _, held: err } = err.into_writer();
+        Ok(Told { status, out, err })
+    }
+
+    const UNFINISHED: &str = "#use <conio>\nint main() { print(\"a\"); return 0; }";
+
+    // The first write fails, and the second, where a command writes twice. Nothing is written behind it.
     #[test]
-    fn closed_streams(rt: HostRuntime) -> Result<(), Fail> {
-        let mut files = MemFiles::new(rt.alloc());
-        files.write(rt.alloc(), "a.c0", b"int main() { return 0; }")?;
-        let words = ["c0far", "run", "a.c0"];
-        let mut err: Vec<u8> = Vec::new(rt.alloc());
-        assert_eq!(rt;
-            drive(rt.alloc(), &rt, &words, &mut files, &mut Closed, &mut err),
-            2
-        );
+    fn failed_writes(rt: HostRuntime) -> Result<(), Fail> {
+        let rows: [(&[&str], &str, u8, &str); 7] = [
+            (&["c0far", "check", "a.c0"], NOTHING, 0, ""),
+            (&["c0far", "run", "a.c0"], NOTHING, 0, ""),
+            (&["c0far", "run", "a.c0"], UNFINISHED, 0, ""),
+            (&["c0far", "run", "a.c0"], UNFINISHED, 1, "a"),
+            (&["c0far", "run", "a.c0"], STOPPED, 1, "a\n"),
+            (&["c0far", "mean", "--turns", "1", "a.c0"], STOPPED, 0, ""),
+            (
+                &["c0far", "mean", "--turns", "1", "a.c0"],
+                STOPPED,
+                1,
+                "a\n",
+            ),
+        ];
+        for (words, text, after, held) in rows {
+            let told = told_of_failures(rt.alloc(), &rt, words, text, Some(after), None)?;
+            assert_eq!(rt; told.status, 2);
+            assert_eq!(rt; told.out.as_slice(), held.as_bytes());
+            assert_eq!(rt; told.err.len(), 0);
+        }
         let words = ["c0far", "run", "none.c0"];
-        let mut out: Vec<u8> = Vec::new(rt.alloc());
-        assert_eq!(rt;
-            drive(rt.alloc(), &rt, &words, &mut files, &mut out, &mut Closed),
-            2
-        );
+        let told = told_of_failures(rt.alloc(), &rt, &words, NOTHING, None, Some(0))?;
+        assert_eq!(rt; told.status, 2);
+        assert_eq!(rt; told.out.len(), 0);
+        assert_eq!(rt; told.err.len(), 0);
         Ok(())
     }
 }
