@@ -1,9 +1,9 @@
 -- What a mover's view is when it has arrived, with or without a hold.
-use Rattle.std.proofs.Common.{◌≡◌, ℕ, zero, suc, List, ◌<◌, false, length, set, sym, refl, ap, ◌∙◌, subst, arith, length-set}
+use Rattle.std.proofs.Common.{◌≡◌, ℕ, zero, suc, List, false, length, set, sym, refl, ap, ◌∙◌, arith, length-set}
 use Rattle.std.specs.Prelude.{Some}
 use Rattle.atomic_table.specs.Table.{Step, Me, rest}
 use Rattle.pointer_word.specs.Hands.{Note, arriving, told}
-use Rattle.object_lock.specs.Seats.{View, note, with_hand, with_note}
+use Rattle.object_lock.specs.Seats.{View, note}
 use Rattle.object_lock.specs.Plays.{Holds, IsUnheld, told_arrive_any}
 use Rattle.object_lock.proofs.Either.{has_hold}
 use Rattle.object_lock.proofs.Exact.{arrives_exactly, brings_exactly}

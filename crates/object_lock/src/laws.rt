@@ -4,6 +4,7 @@ ghost use Rattle.pointer_word.specs.Hands.{Note};
 ghost use Rattle.object_lock.specs.Kept.{slot_keeps, slot_has};
 ghost use Rattle.object_lock.specs.Seats.{View, note, with_note};
 ghost use Rattle.object_lock.specs.EachStep.{EachStep};
+ghost use Rattle.object_lock.specs.NewTable.{NewTable};
 
 use remote_store::RawStore;
 
@@ -18,4 +19,10 @@ pub fn changed_note()
 /// the machine that the call leaves.
 pub fn each_step<S: RawStore>()
     ensures { EachStep (slot_keeps S.content) slot_has S.honest }
+{}
+
+/// While no seat has made a call of a mover, as when the table was made: each object is away, its word is the count of its holds, which is 0 for
+/// an owner that has none, nothing was put into its berth, which is at home, and each frame is free.
+pub fn new_table<S: RawStore>()
+    ensures { NewTable (slot_keeps S.content) slot_has S.honest }
 {}

@@ -1,11 +1,11 @@
-use Rattle.std.proofs.Common.{true, arith, ◌≡◌, ℕ, sym, refl, ap, ◌∙◌, subst, not}
+use Rattle.std.proofs.Common.{arith, ◌≡◌, ℕ, sym, ap, ◌∙◌, subst, not}
 use Rattle.std.specs.Prelude.{Option, ◌==◌}
 use mathlib.Core.Path.{Path}
 use Rattle.atomic_table.specs.Table.{Me}
 use Rattle.pointer_word.specs.Words.{counted}
 use Rattle.pointer_word.specs.Hands.{bringing}
 use Rattle.remote_store.specs.declared.berth.Berth.{Berth}
-use Rattle.object_lock.specs.Seats.{View, note, with_hand}
+use Rattle.object_lock.specs.Seats.{View, with_hand}
 use Rattle.object_lock.specs.SeatViews.{SeatView}
 use Rattle.object_lock.specs.declared.answers.Begin.TheVariants as B
 use Rattle.pointer_word.specs.Calls.{Begins}

@@ -1,4 +1,4 @@
-use Rattle.std.proofs.Common.{rules, true, arith, ◌≡◌, ℕ, sym, ap, ◌∙◌, subst}
+use Rattle.std.proofs.Common.{rules, sym, ap, ◌∙◌}
 use Rattle.std.specs.Prelude.{Option}
 use mathlib.Core.Path.{Path}
 use Rattle.atomic_table.specs.Table.{Me}

@@ -3,6 +3,12 @@ use Rattle.code_form.specs.declared.touch.Touch.TheVariants as touch
 use Rattle.world.proofs.Instructed.{goes_turn, leave_turn, next_turn}
 use Rattle.world.proofs.program.Program.instruct.Goals as goal
 
+pub returns-in-Plain : goal.returns-in-Plain
+returns-in-Plain g c z s p is =
+    let old = c.args.lock.now in
+    goes_turn s _ _ _ _ _ c.go_plain.result (λ a. next_turn g.S.RawStore.content g.S.RawStore.honest z old.machine old.berths.items c.args.self.now s p is touch.Plain a (sym c.is_blocked.ensures ∙ c.if-is_blocked.false)
+    c.in-Plain.ensures.value) (c.go_plain.ensures z s p is)
+
 pub returns-in-Aims : goal.returns-in-Aims
 returns-in-Aims g c z s p is =
     let old = c.args.lock.now in

@@ -1,0 +1,62 @@
+-- A table whose seats have nothing in hand: every object is away, and every frame free.
+use Rattle.std.proofs.Common.{◌≡◌, ◌⊎◌, inl, inr, ℕ, zero, suc, ◌<◌, ◌≤◌, List, [], ◌∷◌, length, Option, Some, None, sym, ap, refl, ◌∙◌, subst, arith}
+use mathlib.Core.Option.{some}
+use lib.ListN.{get_elem?}
+use Rattle.atomic_table.specs.Table.{State}
+use Rattle.pointer_word.specs.Words.{Place, Away, Coming, Here, Leaving, framed, pack}
+use Rattle.pointer_word.specs.Hands.{Hand, Note, empty_handed}
+use Rattle.pointer_word.specs.Machine.{State as Machine, Far, Never, content, Holder, Nobody, Object, Claimer, Freer}
+use Rattle.pointer_word.specs.Sound.{PlaceOk, FrameOk, IsOutside}
+use Rattle.object_lock.specs.Seats.{Sizes, View}
+use Rattle.object_lock.specs.Rule.{Berthed, Stores, Rule}
+use Rattle.object_lock.specs.NewTable.{AreEmptyHanded, NewTable}
+
+-- a place of the list is in it or behind it
+seat_or : {A : Type 0} (l : List A) (j : ℕ) → ((a : A) × (get_elem? l j ≡ some a)) ⊎ (length l ≤ j)
+seat_or [] j = inr (omega arith)
+seat_or (a ∷ l) zero = inl (a, refl)
+seat_or (a ∷ l) (suc j) = elim (seat_or l j) [ inl h ↦ inl h | inr h ↦ inr (omega arith) ]
+
+nothing_in : (x y : Option ℕ) (o : ℕ) → x ≡ y → y ≡ None → x ≡ Some o → ⊥
+nothing_in x y o e n s = let z : None ≡ Some o = sym n ∙ sym e ∙ s in cc
+
+-- where no mover has anything in hand, a place in no frame is that of an object that is away
+away_at : (h : Type 0) (n : ℕ) (m : Machine) (o : ℕ) (p : Place) → ((k : ℕ) → m.hand k ≡ empty_handed) → IsOutside p → PlaceOk h n m o p → p ≡ Away
+away_at h n m o Away idle out ok = refl
+away_at h n m o (Coming k) idle out ok = absurd (nothing_in (m.hand k).bringing empty_handed.bringing o (ap (λ (x : Hand). x.bringing) (idle k)) refl ok.1)
+away_at h n m o (Here f k) idle out ok = absurd out
+away_at h n m o (Leaving f k b) idle out ok = absurd out
+
+-- and a frame is nobody's
+free_at : (m : Machine) (f : ℕ) (x : Holder) → ((k : ℕ) → m.hand k ≡ empty_handed) → ((o : ℕ) → (m.word o).place ≡ Away) → FrameOk m f x → m.frame f ≡ 0
+free_at m f Nobody idle away ok = ok
+free_at m f (Object o) idle away ok = absurd (nothing_in (framed (m.word o).place) (framed Away) f (ap framed (away o)) refl ok.1)
+free_at m f (Claimer k) idle away ok = absurd (nothing_in (m.hand k).claimed empty_handed.claimed f (ap (λ (x : Hand). x.claimed) (idle k)) refl ok.1)
+free_at m f (Freer k) idle away ok = absurd (nothing_in (m.hand k).freed empty_handed.freed f (ap (λ (x : Hand). x.freed) (idle k)) refl ok.1)
+
+module _ {S : Type 0} (kept : S → ℕ → List ℕ → Type 0) (there : S → Type 0) (honest : Type 0) where
+  idle_all : (z : Sizes) (s : State S View) (r : Rule kept there honest z s) → AreEmptyHanded s → (k : ℕ) → r.machine.hand k ≡ empty_handed
+  idle_all z s r empty zero = r.unnumbered
+  idle_all z s r empty (suc j) = elim (seat_or s.views j)
+    [ inl h ↦ let seat = r.seats j h.0 h.1 in ap r.machine.hand (sym seat.numbered) ∙ (sym seat.shows.0 ∙ empty j h.0 h.1)
+    | inr h ↦ r.unseated j h
+    ]
+
+  never_kept : (o : ℕ) (b : S) (x : Far) → x ≡ Never → Stores kept there b o x → kept b o []
+  never_kept o b x e is = let same : Some [] ≡ Some is.0 = ap content (sym e) ∙ is.1 in subst (kept b o) (cc) is.2
+
+  pub new_table : NewTable kept there honest
+  new_table z s r empty =
+      let idle = idle_all z s r empty in
+      let none : (k : ℕ) → (r.machine.hand k).arrivals ≡ 0 = λ k. ap (λ (x : Hand). x.arrivals) (idle k) in
+      let away : (o : ℕ) → (r.machine.word o).place ≡ Away = λ o. away_at honest z.cells r.machine o (r.machine.word o).place idle (r.inv.untouched none o).0 (r.inv.object o) in
+      let bits : (o : ℕ) → pack (r.machine.word o) ≡ (r.machine.word o).count = λ o. ap (λ (p : Place). pack (record { count = (r.machine.word o).count; place = p })) (away o) ∙ omega arith in
+      record {
+        few = λ o l. let x = r.objects o l in subst (λ (n : ℕ). n ≤ 4) (sym (x.word ∙ bits o)) x.few;
+        holds = λ j v o at own. let seat = r.seats j v at in
+            let l : o < z.objects = (let a = own.1 in let b = seat.within in omega arith) in
+            (r.objects o l).word ∙ (bits o ∙ ((r.inv.owner o).counts ∙ ap (λ (y : Note). y.count) (sym (seat.shows.1 o own))));
+        berths = λ o l. let x = subst (λ (p : Place). Berthed kept there o (r.machine.far o) (get_elem? s.homes o) p) (away o) (r.objects o l).berthed in
+            (x.0, x.1, never_kept o x.0 (r.machine.far o) (r.inv.untouched none o).1 x.2);
+        frames = λ f l. (r.frames f l).word ∙ free_at r.machine f (r.machine.who f) idle away (r.inv.frame f);
+      }

@@ -1,0 +1,6 @@
+use Rattle.object_lock.specs.Kept.{slot_keeps, slot_has}
+use Rattle.object_lock.proofs.AtFirst.{new_table}
+use Rattle.object_lock.proofs.laws.new_table.Goals as goal
+
+pub returns : goal.returns
+returns g c = new_table (slot_keeps g.S.RawStore.content) slot_has g.S.RawStore.honest

@@ -1,0 +1,24 @@
+-- What the rule of a table says of its words and berths while no mover has made a call, as when it was made.
+use Rattle.std.specs.Prelude.{◌≡◌, ℕ, ◌<◌, ◌≤◌, List, [], slice_index_or}
+use mathlib.Core.Option.{some}
+use lib.ListN.{get_elem?}
+use Rattle.atomic_table.specs.Table.{State}
+use Rattle.pointer_word.specs.Hands.{empty_handed}
+use Rattle.object_lock.specs.Seats.{Sizes, View, Owns, note, frame_word}
+use Rattle.object_lock.specs.Rule.{Rule}
+
+-- no seat has anything in hand, nor has made a call of a mover
+abbrev pub AreEmptyHanded : {S : Type 0} → State S View → Type 0
+AreEmptyHanded s = (j : ℕ) (v : View) → get_elem? s.views j ≡ some v → v.hand ≡ empty_handed
+
+module _ {S : Type 0} (kept : S → ℕ → List ℕ → Type 0) where
+  -- each object is away: its word is the count of its holds, which its owner knows; its berth is at home, and nothing was put there; each frame is free
+  pub record AllAway (z : Sizes) (s : State S View) : Type 0 where
+    pub few : (o : ℕ) → o < z.objects → slice_index_or s.words o 0 ≤ 4
+    pub holds : (j : ℕ) (v : View) (o : ℕ) → get_elem? s.views j ≡ some v → Owns v o → slice_index_or s.words o 0 ≡ (note v o).count
+    pub berths : (o : ℕ) → o < z.objects → (b : S) × (get_elem? s.homes o ≡ some (some b)) × kept b o []
+    pub frames : (f : ℕ) → f < z.frames → slice_index_or s.words (frame_word z f) 0 ≡ 0
+
+  -- whatever a table is, the rule says so of it
+  abbrev pub NewTable : (S → Type 0) → Type 0 → Type 0
+  NewTable there honest = (z : Sizes) (s : State S View) → Rule kept there honest z s → AreEmptyHanded s → AllAway z s
