@@ -37,10 +37,10 @@ free_at m f (Freer k) idle away ok = absurd (nothing_in (m.hand k).freed empty_h
 module _ {S : Type 0} (kept : S → ℕ → List ℕ → Type 0) (there : S → Type 0) (honest : Type 0) where
   idle_all : (z : Sizes) (s : State S View) (r : Rule kept there honest z s) → AreEmptyHanded s → (k : ℕ) → r.machine.hand k ≡ empty_handed
   idle_all z s r empty zero = r.unnumbered
-  idle_all z s r empty (suc j) = elim (seat_or s.views j)
-    [ inl h ↦ let seat = r.seats j h.0 h.1 in ap r.machine.hand (sym seat.numbered) ∙ (sym seat.shows.0 ∙ empty j h.0 h.1)
+  idle_all z s r empty (suc j) = elim (seat_or s.views j) [
+    | inl h ↦ let seat = r.seats j h.0 h.1 in ap r.machine.hand (sym seat.numbered) ∙ (sym seat.shows.0 ∙ empty j h.0 h.1)
     | inr h ↦ r.unseated j h
-    ]
+  ]
 
   never_kept : (o : ℕ) (b : S) (x : Far) → x ≡ Never → Stores kept there b o x → kept b o []
   never_kept o b x e is = let same : Some [] ≡ Some is.0 = ap content (sym e) ∙ is.1 in subst (kept b o) (cc) is.2
