@@ -1,0 +1,9 @@
+mod Refused
+mod Expressions
+mod Specs
+mod Statements
+mod Tests
+mod Names
+mod Paths
+mod Headers
+mod Programs
