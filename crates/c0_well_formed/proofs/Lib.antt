@@ -1,0 +1,6 @@
+mod Fits
+mod Operators
+mod Expressions
+mod Statements
+mod Functions
+mod Images

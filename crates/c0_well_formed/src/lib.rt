@@ -1,0 +1,6 @@
+//! What holds of the code and of the image of every well-typed program: they name nothing but what is there, each of the right kind.
+#![tactic(auto)]
+
+mod laws;
+
+pub use laws::{images_are_well_formed, lowered_is_well_formed};
