@@ -4,3 +4,5 @@ mod Expressions
 mod Statements
 mod Functions
 mod Images
+mod CellKinds
+mod Consistent

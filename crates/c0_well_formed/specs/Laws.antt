@@ -1,9 +1,11 @@
 -- What holds of the code and of the image of every program.
-use Rattle.std.specs.Prelude.{◌≡◌, ℕ, Bool, true, List}
+use Rattle.std.specs.Prelude.{◌≡◌, ℕ, ◌<◌, ◌≤◌, nat_lt, Bool, true, false, List, All, Option, Some, None, length, take}
 use Rattle.c0_typed.specs.Typing.{FitsProgram}
 use Rattle.c0_typed.specs.Views.{program_of}
 use Rattle.c0_typed.specs.declared.tree.Typed.{Typed}
-use Rattle.code_form.specs.Form.{Image}
+use Rattle.code_form.specs.declared.form.Kind.{Kind}
+use Rattle.code_form.specs.declared.form.Kind.TheVariants as kind
+use Rattle.code_form.specs.Form.{Function, Image}
 use Rattle.middle_form.specs.WellFormed.{is_well_formed}
 use Rattle.lower.specs.Gathered.{singles_of}
 use Rattle.lower.specs.Lowered.{lowered}
@@ -17,3 +19,41 @@ LoweredIsWellFormed = (checks : Bool) (typed : Typed) → FitsProgram (program_o
 -- an image of a text is well formed
 abbrev pub ImagesAreWellFormed : Type 0
 ImagesAreWellFormed = (text : List ℕ) (checks : Bool) (C : Image) → IsCompiled text checks C → IsWellFormed C
+
+-- the layout that a kind names is one of so many
+abbrev pub names_layout : ℕ → Kind → Bool
+names_layout count (kind.Ptr l) = nat_lt l count
+names_layout count (kind.Arr l) = nat_lt l count
+names_layout count (kind.Off l) = nat_lt l count
+names_layout count _ = true
+
+-- a kind of cells, of parameters and of results: no offset
+abbrev pub is_value : Kind → Bool
+is_value (kind.Off l) = false
+is_value _ = true
+
+-- a kind of values that names one of so many layouts
+abbrev pub IsCellKind : ℕ → Kind → Type 0
+IsCellKind count k = (names_layout count k ≡ true) × (is_value k ≡ true)
+
+-- the kind of a result, where there is one
+abbrev pub IsResultKind : ℕ → Option Kind → Type 0
+IsResultKind count None = Unit {0}
+IsResultKind count (Some k) = IsCellKind count k
+
+-- the kinds of a function's registers name one of so many layouts; those of its parameters and of its result are kinds of values; it has at most four scopes
+pub record IsConsistentFunction (count : ℕ) (f : Function) : Type 0 where
+  pub kinds : All (λ k. names_layout count k ≡ true) f.kinds
+  pub parameters : All (IsCellKind count) (take f.parameters f.kinds)
+  pub result : IsResultKind count f.result
+  pub scopes : f.scopes ≤ 4
+
+-- Each kind names a layout that is there, and no cell of a layout is an offset; each byte of a text is below 128
+pub record IsConsistent (C : Image) : Type 0 where
+  pub texts : All (All (λ b. b < 128)) C.head.texts
+  pub layouts : All (All (IsCellKind (length C.head.layouts))) C.head.layouts
+  pub functions : All (IsConsistentFunction (length C.head.layouts)) C.functions
+
+-- so is an image of a text
+abbrev pub ImagesAreConsistent : Type 0
+ImagesAreConsistent = (text : List ℕ) (checks : Bool) (C : Image) → IsCompiled text checks C → IsConsistent C

@@ -1,6 +1,6 @@
 //! Functions that compute nothing, and whose contracts are the laws.
 
-ghost use Rattle.c0_well_formed.specs.Laws.{ImagesAreWellFormed, LoweredIsWellFormed};
+ghost use Rattle.c0_well_formed.specs.Laws.{ImagesAreConsistent, ImagesAreWellFormed, LoweredIsWellFormed};
 
 /// The structured code of a well-typed program is well formed.
 pub fn lowered_is_well_formed()
@@ -11,4 +11,9 @@ pub fn lowered_is_well_formed()
 /// an instruction names is there and of the right kind.
 pub fn images_are_well_formed()
     ensures { ImagesAreWellFormed }
+{}
+
+/// In the image of a text each kind names a layout that is there, offsets stand in registers alone, no function has more than four scopes, and texts are ASCII.
+pub fn images_are_consistent()
+    ensures { ImagesAreConsistent }
 {}

@@ -1,0 +1,231 @@
+-- An image of a text is consistent.
+use Rattle.std.proofs.Common.{◌≡◌, ℕ, suc, ◌+◌, ◌<◌, ◌≤◌, Bool, true, false, cond, List, [], ◌∷◌, ◌++◌, length, map, take, Some, refl, sym, subst, arith}
+use Rattle.std.specs.Prelude.{nat_lt, All, slice_get}
+use Rattle.std.proofs.lemmas.List.{length-append, length-map}
+use Rattle.c0_typed.specs.Trees.{Ty, VoidTy, IntTy, BoolTy, CharTy, TextTy, StructTy, PointerTy, ArrayTy}
+use Rattle.c0_typed.specs.Typing.{FitsProgram}
+use Rattle.c0_typed.specs.Views.{program_of, struct_of, texts_of, type_of}
+use Rattle.c0_typed.specs.declared.tree.Constant.{Constant as ConstantValue}
+use Rattle.c0_typed.specs.declared.tree.Constant.TheVariants as c
+use Rattle.c0_typed.specs.declared.tree.UnaryOperator.{UnaryOperator}
+use Rattle.c0_typed.specs.declared.tree.UnaryOperator.TheVariants as u
+use Rattle.c0_typed.specs.declared.tree.ValueType.{ValueType}
+use Rattle.c0_typed.specs.declared.tree.Expression.{Expression, Row_of-Expression, end_of-Expression, more_of-Expression, Constant, Null, Local, Unary', Binary', Compare', And', Or', Choose', Call', Print', Read', Alloc, AllocArray', Length'}
+use Rattle.c0_typed.specs.declared.tree.Place.{Place, Deref', Index', Field'}
+use Rattle.c0_typed.specs.declared.tree.Statement.{Statement, Row_of-Statement, end_of-Statement, more_of-Statement, Block', Set, Update, Store, StoreUpdate, Do, If', Loop', Return, ReturnValue, Assert, Error, Check}
+use Rattle.c0_typed.specs.declared.tree.Function.{Function}
+use Rattle.c0_typed.specs.declared.tree.Typed.{Typed}
+use Rattle.c0_rules.specs.Programs.{typed_program}
+use Rattle.c0_rules.proofs.Programs.{elaborated_fits}
+use Rattle.c0_rules.proofs.Rules.{some_has}
+use Rattle.code_form.specs.declared.form.Kind.{Kind}
+use Rattle.middle_form.specs.Form as f
+use Rattle.lower.specs.Gathered.{singles_of, types_of_functions}
+use Rattle.lower.specs.Kinds as k
+use Rattle.lower.specs.Kinds.{layouts_of}
+use Rattle.lower.specs.Lowered as l
+use Rattle.lower.specs.Lowered.{checked, constant_kind, lowered, result_kind, unary_kind, with_main_first}
+use Rattle.lower.proofs.Layouts.{layouts_length}
+use Rattle.codegen.specs.Generated.{function_of, generated, uses_cells}
+use Rattle.c0_well_formed.specs.Laws.{ImagesAreConsistent, IsCellKind, IsConsistent, IsConsistentFunction, IsResultKind, names_layout}
+use Rattle.c0_well_formed.proofs.CellKinds.{Each, all_sound, each_all, each_append, each_as, kind_good, number_named, singles_good, structs_good}
+
+module _ (structs : List (List Ty)) (singles : List Kind) (texts : List (List ℕ)) (functions : List Function) (main : ℕ) (checks : Bool) where
+  abbrev n : ℕ
+  n = length structs
+
+  abbrev count : ℕ
+  count = suc (n + length singles)
+
+  abbrev Named : Kind → Type 0
+  Named x = names_layout count x ≡ true
+
+  here : (ty : ValueType) → Named (k.kind_of n singles (type_of ty))
+  here ty = (kind_good n singles (type_of ty)).0
+
+  number : (ty : ValueType) → nat_lt (k.layout_number n singles (type_of ty)) count ≡ true
+  number ty = number_named n singles (type_of ty)
+
+  constant_named : (x : ConstantValue) → Named (constant_kind x)
+  constant_named (c.Number z) = refl
+  constant_named (c.Truth b) = refl
+  constant_named (c.Letter x) = refl
+  constant_named (c.Text i) = refl
+
+  unary_named : (o : UnaryOperator) → Named (unary_kind o)
+  unary_named u.Negate = refl
+  unary_named u.Complement = refl
+  unary_named u.Not = refl
+
+  abbrev exp_kinds : Expression → List Kind
+  exp_kinds a = l.exp_kinds structs singles texts functions main a
+
+  abbrev row_kinds : {m : _} → Row_of-Expression m → List Kind
+  row_kinds es = l.row_kinds structs singles texts functions main es
+
+  abbrev place_kinds : Place → List Kind
+  place_kinds q = l.place_kinds structs singles texts functions main q
+
+  abbrev conditions_kinds : List Expression → List Kind
+  conditions_kinds es = l.conditions_kinds structs singles texts functions main es
+
+  abbrev stmt_kinds : Statement → List Kind
+  stmt_kinds a = l.stmt_kinds structs singles texts functions main checks a
+
+  abbrev block_kinds : {m : _} → Row_of-Statement m → List Kind
+  block_kinds all = l.block_kinds structs singles texts functions main checks all
+
+  abbrev body_kinds : List Statement → List Kind
+  body_kinds all = l.body_kinds structs singles texts functions main checks all
+
+  mutual
+    exp_named : (a : Expression) → Each Named (exp_kinds a)
+    exp_named (Constant x) = (constant_named x, tt)
+    exp_named (Null ty) = (number ty, tt)
+    exp_named (Local x) = tt
+    exp_named (Unary' o w a) = (unary_named o, exp_named a)
+    exp_named (Binary' o w a s b) = (refl, each_append Named (exp_kinds a) (exp_kinds b) (exp_named a) (exp_named b))
+    exp_named (Compare' ty o w a s b) = (refl, each_append Named (exp_kinds a) (exp_kinds b) (exp_named a) (exp_named b))
+    exp_named (And' w a s b) = (refl, each_append Named (exp_kinds a) (exp_kinds b) (exp_named a) (exp_named b))
+    exp_named (Or' w a s b) = (refl, each_append Named (exp_kinds a) (exp_kinds b) (exp_named a) (exp_named b))
+    exp_named (Choose' ty w a q b s e) =
+        (here ty, each_append Named (exp_kinds a) (exp_kinds b ++ exp_kinds e) (exp_named a) (each_append Named (exp_kinds b) (exp_kinds e) (exp_named b) (exp_named e)))
+    exp_named (Call' i shape es) = ((kind_good n singles (l.type_given structs singles texts functions main functions i)).0, row_named es)
+    exp_named (Print' out shape es) = (refl, row_named es)
+    exp_named (Read' ty w q) = (here ty, place_named q)
+    exp_named (Alloc ty) = (number ty, tt)
+    exp_named (AllocArray' ty w a) = (number ty, exp_named a)
+    exp_named (Length' ty w a) = (refl, exp_named a)
+
+    row_named : {m : _} (es : Row_of-Expression m) → Each Named (row_kinds es)
+    row_named end_of-Expression = tt
+    row_named (more_of-Expression a rest) = each_append Named (exp_kinds a) (row_kinds rest) (exp_named a) (row_named rest)
+
+    place_named : (q : Place) → Each Named (place_kinds q)
+    place_named (Deref' ty w a) = exp_named a
+    place_named (Index' ty w a s i) = (number ty, each_append Named (exp_kinds a) (exp_kinds i) (exp_named a) (exp_named i))
+    place_named (Field' j w q i) = place_named q
+
+  conditions_named : (es : List Expression) → Each Named (conditions_kinds es)
+  conditions_named [] = tt
+  conditions_named (a ∷ rest) = each_append Named (exp_kinds a) (conditions_kinds rest) (exp_named a) (conditions_named rest)
+
+  mutual
+    stmt_named : (a : Statement) → Each Named (stmt_kinds a)
+    stmt_named (Block' shape all) = block_named all
+    stmt_named (Set x a) = exp_named a
+    stmt_named (Update x o a) = exp_named a
+    stmt_named (Store q a) = each_append Named (place_kinds q) (exp_kinds a) (place_named q) (exp_named a)
+    stmt_named (StoreUpdate q o a) = (refl, each_append Named (place_kinds q) (exp_kinds a) (place_named q) (exp_named a))
+    stmt_named (Do a) = exp_named a
+    stmt_named (If' a w b q s) = each_append Named (exp_kinds a) (stmt_kinds b ++ stmt_kinds s) (exp_named a) (each_append Named (stmt_kinds b) (stmt_kinds s) (stmt_named b) (stmt_named s))
+    stmt_named (Loop' invariants a w body q step) =
+        each_append Named (conditions_kinds (checked checks invariants.items)) (exp_kinds a ++ (stmt_kinds body ++ stmt_kinds step)) (conditions_named (checked checks invariants.items))
+        (each_append Named (exp_kinds a) (stmt_kinds body ++ stmt_kinds step) (exp_named a) (each_append Named (stmt_kinds body) (stmt_kinds step) (stmt_named body) (stmt_named step)))
+    stmt_named Return = tt
+    stmt_named (ReturnValue a) = exp_named a
+    stmt_named (Assert a) = exp_named a
+    stmt_named (Error a) = exp_named a
+    stmt_named (Check es) = conditions_named (checked checks es.items)
+
+    block_named : {m : _} (all : Row_of-Statement m) → Each Named (block_kinds all)
+    block_named end_of-Statement = tt
+    block_named (more_of-Statement a rest) = each_append Named (stmt_kinds a) (block_kinds rest) (stmt_named a) (block_named rest)
+
+  body_named : (all : List Statement) → Each Named (body_kinds all)
+  body_named [] = tt
+  body_named (a ∷ rest) = each_append Named (stmt_kinds a) (body_kinds rest) (stmt_named a) (body_named rest)
+
+  -- ---- functions
+
+  abbrev kind_at : ValueType → Kind
+  kind_at ty = l.kind_at structs singles texts functions main ty
+
+  locals_named : (ts : List ValueType) → Each Named (map kind_at ts)
+  locals_named [] = tt
+  locals_named (ty ∷ ts) = (here ty, locals_named ts)
+
+  first_good : (ts : List ValueType) (rest : List Kind) → Each (IsCellKind count) (take (length ts) (map kind_at ts ++ rest))
+  first_good [] rest = tt
+  first_good (ty ∷ ts) rest = (kind_good n singles (type_of ty), first_good ts rest)
+
+  result_good : (ty : Ty) → IsResultKind count (result_kind n singles ty)
+  result_good VoidTy = tt
+  result_good IntTy = kind_good n singles IntTy
+  result_good BoolTy = kind_good n singles BoolTy
+  result_good CharTy = kind_good n singles CharTy
+  result_good TextTy = kind_good n singles TextTy
+  result_good (StructTy j) = kind_good n singles (StructTy j)
+  result_good (PointerTy ty) = kind_good n singles (PointerTy ty)
+  result_good (ArrayTy ty) = kind_good n singles (ArrayTy ty)
+
+  one_scope : (b : Bool) → cond b 1 0 ≤ 4
+  one_scope true = omega arith
+  one_scope false = omega arith
+
+  abbrev code : Function → f.Function
+  code h = l.function_code structs singles texts functions main checks h
+
+  function_consistent : (h : Function) → IsConsistentFunction count (function_of (code h))
+  function_consistent h =
+      let before = conditions_kinds (checked checks h.preconditions.items) in
+      let inside = body_kinds h.body.items in
+      let behind = conditions_kinds (checked checks h.postconditions.items) in
+      let rest = before ++ (inside ++ behind) in
+      let named : Each Named rest =
+      each_append Named before (inside ++ behind) (conditions_named (checked checks h.preconditions.items))
+      (each_append Named inside behind (body_named h.body.items) (conditions_named (checked checks h.postconditions.items))) in
+      record {
+        kinds = each_all Named (code h).kinds (each_append Named (map kind_at h.parameters.items) _ (locals_named h.parameters.items)
+            (each_append Named (map kind_at h.locals.items) (kind_at h.result ∷ rest) (locals_named h.locals.items) (here h.result, named)));
+        parameters = each_all (IsCellKind count) _ (first_good h.parameters.items (map kind_at h.locals.items ++ (kind_at h.result ∷ rest)));
+        result = result_good (type_of h.result);
+        scopes = one_scope (uses_cells (code h).body);
+      }
+
+  functions_consistent : (fs : List Function) → Each (IsConsistentFunction count) (map function_of (map code fs))
+  functions_consistent [] = tt
+  functions_consistent (h ∷ rest) = (function_consistent h, functions_consistent rest)
+
+-- ---- layouts and texts
+
+layouts_count : (structs : List (List Ty)) (singles : List Kind) → length (layouts_of structs singles) ≡ suc (length structs + length singles)
+layouts_count structs singles =
+    let all : List (List Kind) = k.struct_layouts (length structs) singles [] structs in
+    let rest : List (List Kind) = map (λ x. x ∷ []) singles in
+    let first : length all ≡ 0 + length structs = layouts_length (length structs) singles [] structs in
+    let long : length (all ++ [] ∷ rest) ≡ length all + length ([] ∷ rest) = length-append all ([] ∷ rest) in
+    let same : length rest ≡ length singles = length-map singles (λ x. x ∷ []) in
+    omega (arith, first, long, same)
+
+layouts_good : (structs : List (List Ty)) (singles : List Kind) → Each (IsCellKind (suc (length structs + length singles))) singles → Each (Each (IsCellKind (suc (length structs + length singles)))) (layouts_of structs singles)
+layouts_good structs singles h =
+    each_append (Each (IsCellKind (suc (length structs + length singles)))) (k.struct_layouts (length structs) singles [] structs) _ (structs_good (length structs) singles [] structs tt) (tt, singles_good (length structs) singles singles h)
+
+each_text : (texts : List (List ℕ)) → ((i : ℕ) (text : List ℕ) → slice_get texts i ≡ Some text → All (λ b. b < 128) text) → Each (All (λ b. b < 128)) texts
+each_text [] h = tt
+each_text (x ∷ rest) h = (h 0 x refl, each_text rest (λ i text e. h (suc i) text e))
+
+image_consistent : (checks : Bool) (typed : Typed) → FitsProgram (program_of typed) → IsConsistent (generated (lowered (singles_of typed) checks typed))
+image_consistent checks typed fp =
+    let structs = (program_of typed).structs in
+    let singles = singles_of typed in
+    let count = layouts_count structs singles in
+    let same : length typed.structs.items ≡ length structs = sym (length-map typed.structs.items struct_of) in
+    let sound : Each (IsCellKind (suc (length structs + length singles))) singles =
+    subst (λ i. Each (IsCellKind (suc (i + length singles))) singles) same (all_sound (length typed.structs.items) [] (types_of_functions typed.functions.items) tt) in
+    record {
+      texts = each_all (All (λ b. b < 128)) (texts_of typed) (each_text (texts_of typed) fp.ascii);
+      layouts = subst (λ i. All (All (IsCellKind i)) (layouts_of structs singles)) (sym count)
+          (each_all (All (IsCellKind (suc (length structs + length singles)))) (layouts_of structs singles)
+          (each_as (Each (IsCellKind (suc (length structs + length singles)))) (All (IsCellKind (suc (length structs + length singles)))) (each_all (IsCellKind (suc (length structs + length singles)))) (layouts_of structs singles) (layouts_good structs singles sound)));
+      functions = subst (λ i. All (IsConsistentFunction i) (generated (lowered singles checks typed)).functions) (sym count)
+          (each_all (IsConsistentFunction (suc (length structs + length singles))) (generated (lowered singles checks typed)).functions
+          (functions_consistent structs singles (texts_of typed) typed.functions.items typed.main checks (with_main_first typed.main typed.functions.items)));
+    }
+
+pub images_consistent : ImagesAreConsistent
+images_consistent text checks C is =
+    let fits : FitsProgram is.program = some_has FitsProgram (typed_program is.typed.program) is.program (elaborated_fits is.typed.program) is.typed.rules in
+    let tree : FitsProgram (program_of is.tree) = subst FitsProgram (sym is.read_as) fits in
+    subst IsConsistent (sym is.made) (image_consistent checks is.tree tree)
