@@ -28,14 +28,14 @@ use Rattle.c0_causes.proofs.Paths.{paths_none}
 
 -- ---- names that stand twice
 
-turned : (x y : Name) → bytes_eq x y ≡ true → bytes_eq y x ≡ true
+pub turned : (x y : Name) → bytes_eq x y ≡ true → bytes_eq y x ≡ true
 turned x y h =
     let q : x ≡ y = same_name_is x y h in
     let own : bytes_eq x x ≡ true = subst (λ z. bytes_eq x z ≡ true) (sym q) h in
     subst (λ z. bytes_eq z x ≡ true) q own
 
 -- one of the names is one of the others
-abbrev meets : List Name → List Name → Bool
+abbrev pub meets : List Name → List Name → Bool
 meets seen names = list_any (λ s. is_among s names) seen
 
 meets_first : (x : Name) (names seen : List Name) → is_among x seen ≡ true → meets seen (x ∷ names) ≡ true
@@ -72,7 +72,7 @@ not_distinct fault xs h = elim (second fault [] xs h) [ inl q ↦ absurd (cc q) 
 
 -- ---- parameters as locals
 
-parameters_small : (k : ℕ) (xs : List tree.TypedName) (rs : List ResolvedType) → AllSmall rs → SmallLocals (parameters_from k xs rs)
+pub parameters_small : (k : ℕ) (xs : List tree.TypedName) (rs : List ResolvedType) → AllSmall rs → SmallLocals (parameters_from k xs rs)
 parameters_small k [] rs h = tt
 parameters_small k (x ∷ xs) [] h = tt
 parameters_small k (x ∷ xs) (r ∷ rs) h = (h.0, parameters_small (suc k) xs rs h.1)

@@ -7,3 +7,11 @@ mod Names
 mod Paths
 mod Headers
 mod Programs
+mod Causes
+mod ExpressionCauses
+mod SpecCauses
+mod StatementCauses
+mod NameCauses
+mod PathCauses
+mod HeaderCauses
+mod ProgramCauses

@@ -114,7 +114,7 @@ module _ (fault : Fault) where
   -- ---- parameters that `ensures` reads
 
   -- the variables of one spec, where it is an `ensures`
-  abbrev read_by : tree.Spec → List Name
+  abbrev pub read_by : tree.Spec → List Name
   read_by s = elim (same_role Postcondition (role_of s)) [ true ↦ variables_in (condition_of s) | false ↦ [] ]
 
   ensures_back : (names : List Name) (xs ys : List tree.Spec) → any_among (names_in_ensures ys) names ≡ true → any_among (names_in_ensures (xs ++ ys)) names ≡ true

@@ -39,7 +39,7 @@ with_small env f few small n g = by_name (bytes_eq n f.name) (env.functions n) (
     by_name true o go q = let same : f.parameters ≡ g.parameters = (let z : record f { defined = f.defined || is_defined (env.functions f.name) } ≡ g = cc q in ap (λ (x : Signature). x.parameters) z) in subst AllSmall same few
     by_name false o go q = go g q
 
-signature_small : (env : Environment) (defined : Bool) (h : tree.Header) (f : Signature) → signature env defined h ≡ Some f → AllSmall f.parameters
+pub signature_small : (env : Environment) (defined : Bool) (h : tree.Header) (f : Signature) → signature env defined h ≡ Some f → AllSmall f.parameters
 signature_small env defined h f q = (some_has (IsSignature env defined h) (signature env defined h) f (signature_ok env defined h) q).small
 
 -- behind a declaration the parameters of all functions are small still

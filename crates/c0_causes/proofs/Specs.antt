@@ -27,7 +27,7 @@ spec_condition x = by_kind x.kind (expression_of x.condition)
     by_kind k.Assert e = refl
 
 -- the conditions of a spec and of those behind it, by whether it has the role
-abbrev chained : Bool → Option t.Exp → Option t.Exps → Option t.Exps
+abbrev pub chained : Bool → Option t.Exp → Option t.Exps → Option t.Exps
 chained b o rest = elim b [ true ↦ and_so o (λ x. and_so rest (λ xs. Some (t.More x xs))) | false ↦ rest ]
 
 head_none : (b : Bool) (o : Option t.Exp) (rest : Option t.Exps) → o ≡ None → (b ≡ false) ⊎ (chained b o rest ≡ None)

@@ -77,7 +77,7 @@ module _ (env : Environment) where
   simple_keeps (tree.Step d way) s k = all_go (λ z. SmallLocals z.scope.locals) (destination env s d) _ (λ q w. updated_keeps s (step_of way) one q k)
   simple_keeps (tree.Evaluate e) s k = all_go (λ z. SmallLocals z.scope.locals) (and_so (typed_expression env (within s) e) (evaluated env e)) _ (λ x q. k)
 
-  part_keeps : (x : Option tree.SimpleStatement) (s : Scope) → SmallLocals s.locals → Keeps (typed_part env x s)
+  pub part_keeps : (x : Option tree.SimpleStatement) (s : Scope) → SmallLocals s.locals → Keeps (typed_part env x s)
   part_keeps None s k = k
   part_keeps (Some x) s k = simple_keeps x s k
 

@@ -9,3 +9,7 @@ use Rattle.c0_rules.specs.FaultPrograms.{FaultAt}
 -- a program in which a fault has its cause is not well typed
 abbrev pub CausesRefuse : Type 0
 CausesRefuse = (program : Program) (fault : Fault) → FaultAt program fault → typed_program (program_of program) ≡ None
+
+-- in a program that is not well typed some fault has its cause
+abbrev pub RefusalsAreCaused : Type 0
+RefusalsAreCaused = (program : Program) → typed_program (program_of program) ≡ None → (fault : Fault) × FaultAt program fault
