@@ -4,7 +4,7 @@ use Rattle.std.specs.Prelude.{nat_lt, All, slice_get}
 use Rattle.std.proofs.lemmas.List.{length-append, length-map}
 use Rattle.c0_typed.specs.Trees.{Ty, VoidTy, IntTy, BoolTy, CharTy, TextTy, StructTy, PointerTy, ArrayTy}
 use Rattle.c0_typed.specs.Typing.{FitsProgram}
-use Rattle.c0_typed.specs.Views.{program_of, struct_of, texts_of, type_of}
+use Rattle.c0_typed.specs.Views.{function_of as typed_function, program_of, struct_of, texts_of, type_of}
 use Rattle.c0_typed.specs.declared.tree.Constant.{Constant as ConstantValue}
 use Rattle.c0_typed.specs.declared.tree.Constant.TheVariants as c
 use Rattle.c0_typed.specs.declared.tree.UnaryOperator.{UnaryOperator}
@@ -19,6 +19,7 @@ use Rattle.c0_rules.specs.Programs.{typed_program}
 use Rattle.c0_rules.proofs.Programs.{elaborated_fits}
 use Rattle.c0_rules.proofs.Rules.{some_has}
 use Rattle.code_form.specs.declared.form.Kind.{Kind}
+use Rattle.code_form.specs.Form as image
 use Rattle.middle_form.specs.Form as f
 use Rattle.lower.specs.Gathered.{singles_of, types_of_functions}
 use Rattle.lower.specs.Kinds as k
@@ -26,8 +27,10 @@ use Rattle.lower.specs.Kinds.{layouts_of}
 use Rattle.lower.specs.Lowered as l
 use Rattle.lower.specs.Lowered.{checked, constant_kind, lowered, result_kind, unary_kind, with_main_first}
 use Rattle.lower.proofs.Layouts.{layouts_length}
-use Rattle.codegen.specs.Generated.{function_of, generated, uses_cells}
-use Rattle.c0_well_formed.specs.Laws.{ImagesAreConsistent, IsCellKind, IsConsistent, IsConsistentFunction, IsResultKind, names_layout}
+use Rattle.codegen.specs.Generated.{block_with, blocks, function_of, generated, scopes_of, uses_cells}
+use Rattle.c0_well_formed.specs.Laws.{ImagesAreConsistent, IsCellKind, IsConsistent, IsConsistentFunction, IsResultKind, NamesNumbers, names_layout}
+use Rattle.c0_well_formed.proofs.Ordered.{in_order}
+use Rattle.c0_well_formed.proofs.Numbers.{CodeNames, blocks_names, function_names}
 use Rattle.c0_well_formed.proofs.CellKinds.{Each, all_sound, each_all, each_append, each_as, kind_good, number_named, singles_good, structs_good}
 
 module _ (structs : List (List Ty)) (singles : List Kind) (texts : List (List ℕ)) (functions : List Function) (main : ℕ) (checks : Bool) where
@@ -138,6 +141,10 @@ module _ (structs : List (List Ty)) (singles : List Kind) (texts : List (List �
 
   -- ---- functions
 
+  blocks_named : (n : ℕ) (bs : List (List image.Instruction)) → Each (Each NamesNumbers) bs → Each (λ (b : image.Block). All NamesNumbers b.code) (map (block_with n) bs)
+  blocks_named n [] h = tt
+  blocks_named n (b ∷ bs) h = (each_all NamesNumbers b h.0, blocks_named n bs h.1)
+
   abbrev kind_at : ValueType → Kind
   kind_at ty = l.kind_at structs singles texts functions main ty
 
@@ -166,8 +173,8 @@ module _ (structs : List (List Ty)) (singles : List Kind) (texts : List (List �
   abbrev code : Function → f.Function
   code h = l.function_code structs singles texts functions main checks h
 
-  function_consistent : (h : Function) → IsConsistentFunction count (function_of (code h))
-  function_consistent h =
+  function_consistent : (h : Function) → CodeNames (code h).body → IsConsistentFunction count (function_of (code h))
+  function_consistent h names =
       let before = conditions_kinds (checked checks h.preconditions.items) in
       let inside = body_kinds h.body.items in
       let behind = conditions_kinds (checked checks h.postconditions.items) in
@@ -181,11 +188,12 @@ module _ (structs : List (List Ty)) (singles : List Kind) (texts : List (List �
         parameters = each_all (IsCellKind count) _ (first_good h.parameters.items (map kind_at h.locals.items ++ (kind_at h.result ∷ rest)));
         result = result_good (type_of h.result);
         scopes = one_scope (uses_cells (code h).body);
+        numbers = each_all (λ (b : image.Block). All NamesNumbers b.code) (map (block_with (scopes_of (code h).body)) (blocks (code h))) (blocks_named (scopes_of (code h).body) (blocks (code h)) (blocks_names (code h) names));
       }
 
-  functions_consistent : (fs : List Function) → Each (IsConsistentFunction count) (map function_of (map code fs))
-  functions_consistent [] = tt
-  functions_consistent (h ∷ rest) = (function_consistent h, functions_consistent rest)
+  functions_consistent : (fs : List Function) → Each (λ h. CodeNames (code h).body) fs → Each (IsConsistentFunction count) (map function_of (map code fs))
+  functions_consistent [] names = tt
+  functions_consistent (h ∷ rest) names = (function_consistent h names.0, functions_consistent rest names.1)
 
 -- ---- layouts and texts
 
@@ -206,6 +214,12 @@ each_text : (texts : List (List ℕ)) → ((i : ℕ) (text : List ℕ) → slice
 each_text [] h = tt
 each_text (x ∷ rest) h = (h 0 x refl, each_text rest (λ i text e. h (suc i) text e))
 
+-- ---- functions in the order of the code
+
+each_function : (Q : Function → Type 0) (texts : List (List ℕ)) (fs : List Function) → ((i : ℕ) (h : Function) → slice_get (map (typed_function texts) fs) i ≡ Some (typed_function texts h) → Q h) → Each Q fs
+each_function Q texts [] go = tt
+each_function Q texts (x ∷ rest) go = (go 0 x refl, each_function Q texts rest (λ i h e. go (suc i) h e))
+
 image_consistent : (checks : Bool) (typed : Typed) → FitsProgram (program_of typed) → IsConsistent (generated (lowered (singles_of typed) checks typed))
 image_consistent checks typed fp =
     let structs = (program_of typed).structs in
@@ -221,7 +235,10 @@ image_consistent checks typed fp =
           (each_as (Each (IsCellKind (suc (length structs + length singles)))) (All (IsCellKind (suc (length structs + length singles)))) (each_all (IsCellKind (suc (length structs + length singles)))) (layouts_of structs singles) (layouts_good structs singles sound)));
       functions = subst (λ i. All (IsConsistentFunction i) (generated (lowered singles checks typed)).functions) (sym count)
           (each_all (IsConsistentFunction (suc (length structs + length singles))) (generated (lowered singles checks typed)).functions
-          (functions_consistent structs singles (texts_of typed) typed.functions.items typed.main checks (with_main_first typed.main typed.functions.items)));
+          (functions_consistent structs singles (texts_of typed) typed.functions.items typed.main checks (with_main_first typed.main typed.functions.items)
+          (in_order (λ h. CodeNames (l.function_code structs singles (texts_of typed) typed.functions.items typed.main checks h).body) typed.main typed.functions.items
+          (each_function (λ h. CodeNames (l.function_code structs singles (texts_of typed) typed.functions.items typed.main checks h).body) (texts_of typed) typed.functions.items
+          (λ i h e. function_names typed singles checks h (fp.functions i (typed_function (texts_of typed) h) e))))));
     }
 
 pub images_consistent : ImagesAreConsistent

@@ -1,5 +1,5 @@
 -- The code of a function fits, and so does that of a program.
-use Rattle.std.proofs.Common.{◌≡◌, ℕ, zero, suc, ◌+◌, ◌<◌, Bool, true, List, [], ◌∷◌, ◌++◌, length, set, Option, Some, None, refl, sym, ap, ◌∙◌, subst, arith}
+use Rattle.std.proofs.Common.{◌≡◌, ℕ, suc, ◌+◌, ◌<◌, Bool, true, List, [], ◌∷◌, ◌++◌, length, Some, None, refl, sym, ap, ◌∙◌, subst, arith}
 use Rattle.std.specs.Prelude.{slice_get, map}
 use Rattle.std.proofs.lemmas.Bool.{lt-ltb}
 use Rattle.std.proofs.lemmas.List.{length-append, length-map}
@@ -27,6 +27,8 @@ use Rattle.lower.proofs.Entry.{at_behind, locals_kinds}
 use Rattle.lower.proofs.Order.{first}
 use Rattle.lower.proofs.Registers.{At, and_true, at_left, at_right, at_tail, has_it}
 use Rattle.lower.proofs.Values.{LocalsAt, function_there}
+use Rattle.c0_well_formed.proofs.CellKinds.{Each}
+use Rattle.c0_well_formed.proofs.Ordered.{in_order}
 use Rattle.c0_well_formed.proofs.Fits.{AllFit, fit_append, fit_then}
 use Rattle.c0_well_formed.proofs.Statements as s
 use Rattle.c0_well_formed.specs.Laws.{LoweredIsWellFormed}
@@ -109,35 +111,15 @@ module _ (typed : Typed) (singles : List Kind) (checks : Bool) (fp : FitsProgram
 
   -- ---- all functions
 
-  -- each function of the text has code that fits
-  abbrev EachFits : List Function → Type 0
-  EachFits [] = Unit {0}
-  EachFits (h ∷ rest) = (function_fits P (its_code typed singles checks h) ≡ true) × EachFits rest
+  -- a function of the text has code that fits
+  abbrev HasCode : Function → Type 0
+  HasCode h = function_fits P (its_code typed singles checks h) ≡ true
 
-  each_fits : (fs : List Function) → ((i : ℕ) (g : t.Function) → slice_get (map (function_of (texts_of typed)) fs) i ≡ Some g → FitsFunction p g) → KnowsFunctions n singles fs → EachFits fs
+  each_fits : (fs : List Function) → ((i : ℕ) (g : t.Function) → slice_get (map (function_of (texts_of typed)) fs) i ≡ Some g → FitsFunction p g) → KnowsFunctions n singles fs → Each HasCode fs
   each_fits [] fits known = tt
   each_fits (h ∷ rest) fits known = (function_ok h (fits 0 (function_of (texts_of typed) h) refl) known.0, each_fits rest (λ i g e. fits (suc i) g e) known.1)
 
-  at_place : (fs : List Function) (i : ℕ) (h : Function) → EachFits fs → slice_get fs i ≡ Some h → function_fits P (its_code typed singles checks h) ≡ true
-  at_place [] i h all e = absurd (cc e)
-  at_place (x ∷ rest) zero h all e = let same : x ≡ h = cc e in subst (λ z. function_fits P (its_code typed singles checks z) ≡ true) same all.0
-  at_place (x ∷ rest) (suc i) h all e = at_place rest i h all.1 e
-
-  with_one : (fs : List Function) (i : ℕ) (h : Function) → EachFits fs → function_fits P (its_code typed singles checks h) ≡ true → EachFits (set fs i h)
-  with_one [] i h all e = tt
-  with_one (x ∷ rest) zero h all e = (e, all.1)
-  with_one (x ∷ rest) (suc i) h all e = (all.0, with_one rest i h all.1 e)
-
-  in_order : (main : ℕ) (fs : List Function) → EachFits fs → EachFits (with_main_first main fs)
-  in_order zero fs all = all
-  in_order (suc i) [] all = all
-  in_order (suc i) (x ∷ rest) all = by (slice_get rest i) refl
-    where
-      by : (o : Option Function) → slice_get rest i ≡ o → EachFits (elim o [ None ↦ x ∷ rest | Some g ↦ g ∷ set rest i x ])
-      by None e = all
-      by (Some g) e = (at_place rest i g all.1 e, with_one rest i x all.1 all.0)
-
-  all_of : (fs : List Function) → EachFits fs → all_fit P (map (its_code typed singles checks) fs) ≡ true
+  all_of : (fs : List Function) → Each HasCode fs → all_fit P (map (its_code typed singles checks) fs) ≡ true
   all_of [] h = refl
   all_of (x ∷ rest) h = and_true _ _ h.0 (all_of rest h.1)
 
@@ -162,7 +144,7 @@ module _ (typed : Typed) (singles : List Kind) (checks : Bool) (fp : FitsProgram
       ∙ ap (λ z. elim z [ None ↦ None | Some x ↦ Some (its_code typed singles checks x) ]) (first typed.main typed.functions.items h.0 h.1) in
       and_true (main_fits P.functions) (all_fit P P.functions)
       (main_of P.functions (its_code typed singles checks h.0) there (main_called h.0 (ap (λ (z : t.Function). z.parameters) (sym h.2) ∙ main.2) (ap (λ (z : t.Function). z.result) (sym h.2) ∙ main.3)))
-      (all_of (with_main_first typed.main typed.functions.items) (in_order typed.main typed.functions.items (each_fits typed.functions.items fp.functions known)))
+      (all_of (with_main_first typed.main typed.functions.items) (in_order HasCode typed.main typed.functions.items (each_fits typed.functions.items fp.functions known)))
 
 pub lowered_ok : LoweredIsWellFormed
 lowered_ok checks typed fp = program_ok typed (singles_of typed) checks fp known

@@ -5,4 +5,6 @@ mod Statements
 mod Functions
 mod Images
 mod CellKinds
+mod Numbers
 mod Consistent
+mod Ordered

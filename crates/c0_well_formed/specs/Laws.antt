@@ -1,11 +1,14 @@
 -- What holds of the code and of the image of every program.
-use Rattle.std.specs.Prelude.{◌≡◌, ℕ, ◌<◌, ◌≤◌, nat_lt, Bool, true, false, List, All, Option, Some, None, length, take}
+use Rattle.std.specs.Prelude.{◌≡◌, ℕ, ◌<◌, ◌≤◌, nat_lt, Bool, true, false, List, All, Option, Some, None, FitsSigned, length, take}
+use Rattle.std.specs.Int.{w32}
 use Rattle.c0_typed.specs.Typing.{FitsProgram}
 use Rattle.c0_typed.specs.Views.{program_of}
 use Rattle.c0_typed.specs.declared.tree.Typed.{Typed}
 use Rattle.code_form.specs.declared.form.Kind.{Kind}
 use Rattle.code_form.specs.declared.form.Kind.TheVariants as kind
-use Rattle.code_form.specs.Form.{Function, Image}
+use Rattle.code_form.specs.declared.form.Operation.{Operation}
+use Rattle.code_form.specs.declared.form.Operation.TheVariants as op
+use Rattle.code_form.specs.Form.{Simple, Instruction, Block, Function, Image}
 use Rattle.middle_form.specs.WellFormed.{is_well_formed}
 use Rattle.lower.specs.Gathered.{singles_of}
 use Rattle.lower.specs.Lowered.{lowered}
@@ -41,12 +44,25 @@ abbrev pub IsResultKind : ℕ → Option Kind → Type 0
 IsResultKind count None = Unit {0}
 IsResultKind count (Some k) = IsCellKind count k
 
--- the kinds of a function's registers name one of so many layouts; those of its parameters and of its result are kinds of values; it has at most four scopes
+-- a number that a simple instruction names is one of 32 bits, and a character is below 128
+abbrev pub NamesNumber : Operation → Type 0
+NamesNumber (op.Const d z) = FitsSigned w32 z
+NamesNumber (op.CharOf d c) = c < 128
+NamesNumber _ = Unit {0}
+
+-- the same of any instruction
+abbrev pub NamesNumbers : Instruction → Type 0
+NamesNumbers (Simple o) = NamesNumber o
+NamesNumbers _ = Unit {0}
+
+-- the kinds of a function's registers name one of so many layouts; those of its parameters and of its result are kinds of values; it has at most four scopes,
+-- and its instructions name numbers of 32 bits and characters below 128
 pub record IsConsistentFunction (count : ℕ) (f : Function) : Type 0 where
   pub kinds : All (λ k. names_layout count k ≡ true) f.kinds
   pub parameters : All (IsCellKind count) (take f.parameters f.kinds)
   pub result : IsResultKind count f.result
   pub scopes : f.scopes ≤ 4
+  pub numbers : All (λ (b : Block). All NamesNumbers b.code) f.blocks
 
 -- Each kind names a layout that is there, and no cell of a layout is an offset; each byte of a text is below 128
 pub record IsConsistent (C : Image) : Type 0 where

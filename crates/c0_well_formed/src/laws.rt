@@ -13,7 +13,8 @@ pub fn images_are_well_formed()
     ensures { ImagesAreWellFormed }
 {}
 
-/// In the image of a text each kind names a layout that is there, offsets stand in registers alone, no function has more than four scopes, and texts are ASCII.
+/// In the image of a text each kind names a layout that is there, offsets stand in registers alone, no function has more than four
+/// scopes, numbers are of 32 bits, and characters and texts are ASCII.
 pub fn images_are_consistent()
     ensures { ImagesAreConsistent }
 {}
