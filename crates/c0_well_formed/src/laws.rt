@@ -1,6 +1,7 @@
 //! Functions that compute nothing, and whose contracts are the laws.
 
-ghost use Rattle.c0_well_formed.specs.Laws.{ImagesAreConsistent, ImagesAreWellFormed, LoweredIsWellFormed};
+ghost use Rattle.c0_well_formed.specs.Laws.{ImagesAreConsistent, ImagesAreWellFormed, IsConsistent, LoweredIsWellFormed};
+ghost use Rattle.c0_well_formed.specs.Worked.{consistent_image, five_scopes, large_byte, large_character, large_number, offset_as_parameter, offset_in_layout, without_layout};
 
 /// The structured code of a well-typed program is well formed.
 pub fn lowered_is_well_formed()
@@ -17,4 +18,16 @@ pub fn images_are_well_formed()
 /// scopes, numbers are of 32 bits, and characters and texts are ASCII.
 pub fn images_are_consistent()
     ensures { ImagesAreConsistent }
+{}
+
+/// Which images are consistent, and each cause why another is not.
+pub fn worked_images()
+    ensures accepted { IsConsistent consistent_image }
+    ensures layout { IsConsistent without_layout → ⊥ }
+    ensures cell { IsConsistent offset_in_layout → ⊥ }
+    ensures parameter { IsConsistent offset_as_parameter → ⊥ }
+    ensures scopes { IsConsistent five_scopes → ⊥ }
+    ensures text { IsConsistent large_byte → ⊥ }
+    ensures character { IsConsistent large_character → ⊥ }
+    ensures number { IsConsistent large_number → ⊥ }
 {}

@@ -3,4 +3,6 @@
 
 mod laws;
 
-pub use laws::{images_are_consistent, images_are_well_formed, lowered_is_well_formed};
+pub use laws::{
+    images_are_consistent, images_are_well_formed, lowered_is_well_formed, worked_images,
+};

@@ -1,0 +1,32 @@
+use Rattle.std.proofs.Common.{◌<◌, ◌≤◌, [], None, arith}
+use Rattle.code_form.specs.declared.form.Kind.TheVariants as kind
+use Rattle.code_form.specs.Form.{Block, Function, ReturnVoid}
+use Rattle.c0_well_formed.proofs.laws.worked_images.Goals as goal
+
+-- a function, a block and an instruction, for places that are there
+abbrev some : Function
+some = record { result = None; parameters = 0; kinds = []; scopes = 0; blocks = [] }
+
+abbrev one : Block
+one = record { facts = []; code = [] }
+
+pub returns-clause-layout : goal.returns-clause-layout
+returns-clause-layout c h = absurd (cc ((h.functions 0 some (omega arith)).kinds 1 kind.Int (omega arith)))
+
+pub returns-clause-cell : goal.returns-clause-cell
+returns-clause-cell c h = absurd (cc (h.layouts 0 [] (omega arith) 0 kind.Int (omega arith)).1)
+
+pub returns-clause-parameter : goal.returns-clause-parameter
+returns-clause-parameter c h = absurd (cc ((h.functions 0 some (omega arith)).parameters 0 kind.Int (omega arith)).1)
+
+pub returns-clause-scopes : goal.returns-clause-scopes
+returns-clause-scopes c h = let z : 5 ≤ 4 = (h.functions 0 some (omega arith)).scopes in omega arith
+
+pub returns-clause-text : goal.returns-clause-text
+returns-clause-text c h = let z : 128 < 128 = h.texts 0 [] (omega arith) 0 0 (omega arith) in omega arith
+
+pub returns-clause-character : goal.returns-clause-character
+returns-clause-character c h = let z : 128 < 128 = (h.functions 0 some (omega arith)).numbers 0 one (omega arith) 0 ReturnVoid (omega arith) in omega arith
+
+pub returns-clause-number : goal.returns-clause-number
+returns-clause-number c h = let z = (h.functions 0 some (omega arith)).numbers 0 one (omega arith) 0 ReturnVoid (omega arith) in omega (arith, z)

@@ -1,0 +1,46 @@
+-- Small images, of which one is consistent and each other is not for one cause.
+use Rattle.std.specs.Prelude.{ℕ, List, [], ◌∷◌, Some, codes, pos}
+use Rattle.code_form.specs.declared.form.Kind.{Kind}
+use Rattle.code_form.specs.declared.form.Kind.TheVariants as kind
+use Rattle.code_form.specs.declared.form.Operation.{Operation}
+use Rattle.code_form.specs.declared.form.Operation.TheVariants as op
+use Rattle.code_form.specs.Form.{Image, Return, Simple}
+
+-- an image of one function, which does one thing and returns its first register
+abbrev pub with_one : List (List ℕ) → List (List Kind) → ℕ → List Kind → ℕ → Operation → Image
+with_one texts layouts parameters kinds scopes o = record {
+  head = record { texts = texts; layouts = layouts };
+  functions = record { result = Some kind.Int; parameters = parameters; kinds = kinds; scopes = scopes; blocks = record { facts = []; code = Simple o ∷ Return 0 ∷ [] } ∷ [] } ∷ [];
+}
+
+-- a text, a layout, and registers that fit them
+abbrev pub consistent_image : Image
+consistent_image = with_one (codes "no" ∷ []) ((kind.Int ∷ kind.Ptr 0 ∷ []) ∷ []) 1 (kind.Int ∷ kind.Ptr 0 ∷ kind.Off 0 ∷ []) 1 (op.Const 0 (pos 7))
+
+-- a register names a layout that is not there
+abbrev pub without_layout : Image
+without_layout = with_one [] [] 0 (kind.Int ∷ kind.Ptr 0 ∷ []) 0 (op.Const 0 (pos 7))
+
+-- a cell is an offset
+abbrev pub offset_in_layout : Image
+offset_in_layout = with_one [] ((kind.Off 0 ∷ []) ∷ []) 0 (kind.Int ∷ []) 0 (op.Const 0 (pos 7))
+
+-- a parameter is an offset
+abbrev pub offset_as_parameter : Image
+offset_as_parameter = with_one [] ((kind.Int ∷ []) ∷ []) 1 (kind.Off 0 ∷ []) 0 (op.Const 0 (pos 7))
+
+-- a fifth scope
+abbrev pub five_scopes : Image
+five_scopes = with_one [] [] 0 (kind.Int ∷ []) 5 (op.Const 0 (pos 7))
+
+-- a text beyond ASCII
+abbrev pub large_byte : Image
+large_byte = with_one ((128 ∷ []) ∷ []) [] 0 (kind.Int ∷ []) 0 (op.Const 0 (pos 7))
+
+-- a character beyond ASCII
+abbrev pub large_character : Image
+large_character = with_one [] [] 0 (kind.Int ∷ kind.Char ∷ []) 0 (op.CharOf 1 128)
+
+-- a number of 33 bits
+abbrev pub large_number : Image
+large_number = with_one [] [] 0 (kind.Int ∷ []) 0 (op.Const 0 (pos 2147483648))
