@@ -1,5 +1,5 @@
 -- An image of a text is consistent.
-use Rattle.std.proofs.Common.{◌≡◌, ℕ, suc, ◌+◌, ◌<◌, ◌≤◌, Bool, true, false, cond, List, [], ◌∷◌, ◌++◌, length, map, take, Some, refl, sym, subst, arith}
+use Rattle.std.proofs.Common.{◌≡◌, ℕ, zero, suc, ◌+◌, ◌<◌, ◌≤◌, Bool, true, false, cond, List, [], ◌∷◌, ◌++◌, length, map, take, Some, refl, sym, subst, arith}
 use Rattle.std.specs.Prelude.{nat_lt, All, slice_get}
 use Rattle.std.proofs.lemmas.List.{length-append, length-map}
 use Rattle.c0_typed.specs.Trees.{Ty, VoidTy, IntTy, BoolTy, CharTy, TextTy, StructTy, PointerTy, ArrayTy}
@@ -27,8 +27,8 @@ use Rattle.lower.specs.Kinds.{layouts_of}
 use Rattle.lower.specs.Lowered as l
 use Rattle.lower.specs.Lowered.{checked, constant_kind, lowered, result_kind, unary_kind, with_main_first}
 use Rattle.lower.proofs.Layouts.{layouts_length}
-use Rattle.codegen.specs.Generated.{block_with, blocks, function_of, generated, scopes_of, uses_cells}
-use Rattle.c0_well_formed.specs.Laws.{ImagesAreConsistent, IsCellKind, IsConsistent, IsConsistentFunction, IsResultKind, NamesNumbers, names_layout}
+use Rattle.codegen.specs.Generated.{all_shut, block_with, blocks, function_of, generated, scopes_of, uses_cells}
+use Rattle.c0_well_formed.specs.Laws.{ImagesAreConsistent, IsCellKind, IsConsistent, IsConsistentFunction, IsResultKind, NamesFact, NamesNumbers, names_layout}
 use Rattle.c0_well_formed.proofs.Ordered.{in_order}
 use Rattle.c0_well_formed.proofs.Numbers.{CodeNames, blocks_names, function_names}
 use Rattle.c0_well_formed.proofs.CellKinds.{Each, all_sound, each_all, each_append, each_as, kind_good, number_named, singles_good, structs_good}
@@ -141,6 +141,14 @@ module _ (structs : List (List Ty)) (singles : List Kind) (texts : List (List �
 
   -- ---- functions
 
+  shut_named : (ks : List Kind) (n m : ℕ) → m ≤ n → Each (NamesFact ks n) (all_shut m)
+  shut_named ks n zero le = tt
+  shut_named ks n (suc m) le = ((let z : m < n = omega (arith, le) in z), shut_named ks n m (omega (arith, le)))
+
+  facts_named : (ks : List Kind) (n : ℕ) (bs : List (List image.Instruction)) → Each (λ (b : image.Block). All (NamesFact ks n) b.facts) (map (block_with n) bs)
+  facts_named ks n [] = tt
+  facts_named ks n (b ∷ bs) = (each_all (NamesFact ks n) (all_shut n) (shut_named ks n n (omega arith)), facts_named ks n bs)
+
   blocks_named : (n : ℕ) (bs : List (List image.Instruction)) → Each (Each NamesNumbers) bs → Each (λ (b : image.Block). All NamesNumbers b.code) (map (block_with n) bs)
   blocks_named n [] h = tt
   blocks_named n (b ∷ bs) h = (each_all NamesNumbers b h.0, blocks_named n bs h.1)
@@ -189,6 +197,8 @@ module _ (structs : List (List Ty)) (singles : List Kind) (texts : List (List �
         result = result_good (type_of h.result);
         scopes = one_scope (uses_cells (code h).body);
         numbers = each_all (λ (b : image.Block). All NamesNumbers b.code) (map (block_with (scopes_of (code h).body)) (blocks (code h))) (blocks_named (scopes_of (code h).body) (blocks (code h)) (blocks_names (code h) names));
+        facts = each_all (λ (b : image.Block). All (NamesFact (code h).kinds (scopes_of (code h).body)) b.facts) (map (block_with (scopes_of (code h).body)) (blocks (code h)))
+            (facts_named (code h).kinds (scopes_of (code h).body) (blocks (code h)));
       }
 
   functions_consistent : (fs : List Function) → Each (λ h. CodeNames (code h).body) fs → Each (IsConsistentFunction count) (map function_of (map code fs))

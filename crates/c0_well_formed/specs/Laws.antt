@@ -1,13 +1,16 @@
 -- What holds of the code and of the image of every program.
-use Rattle.std.specs.Prelude.{◌≡◌, ℕ, ◌<◌, ◌≤◌, nat_lt, Bool, true, false, List, All, Option, Some, None, FitsSigned, length, take}
+use Rattle.std.specs.Prelude.{◌≡◌, ℕ, ◌<◌, ◌≤◌, nat_lt, Bool, true, false, List, All, Option, Some, None, FitsSigned, length, slice_get, take}
 use Rattle.std.specs.Int.{w32}
 use Rattle.c0_typed.specs.Typing.{FitsProgram}
 use Rattle.c0_typed.specs.Views.{program_of}
 use Rattle.c0_typed.specs.declared.tree.Typed.{Typed}
 use Rattle.code_form.specs.declared.form.Kind.{Kind}
 use Rattle.code_form.specs.declared.form.Kind.TheVariants as kind
+use Rattle.code_form.specs.declared.form.Fact.{Fact}
+use Rattle.code_form.specs.declared.form.Fact.TheVariants as fact
 use Rattle.code_form.specs.declared.form.Operation.{Operation}
 use Rattle.code_form.specs.declared.form.Operation.TheVariants as op
+use Rattle.code_form.specs.Code.{is_array_of, is_pointer, on_kind, place_fits}
 use Rattle.code_form.specs.Form.{Simple, Instruction, Block, Function, Image}
 use Rattle.middle_form.specs.WellFormed.{is_well_formed}
 use Rattle.lower.specs.Gathered.{singles_of}
@@ -55,14 +58,22 @@ abbrev pub NamesNumbers : Instruction → Type 0
 NamesNumbers (Simple o) = NamesNumber o
 NamesNumbers _ = Unit {0}
 
+-- a fact at the entry of a block names registers that are there, of the right kinds, and one of so many scopes
+abbrev pub NamesFact : List Kind → ℕ → Fact → Type 0
+NamesFact ks scopes (fact.Nonnull r) = on_kind is_pointer (slice_get ks r) ≡ true
+NamesFact ks scopes (fact.Inside d r) = is_array_of (slice_get ks d) (slice_get ks r) ≡ true
+NamesFact ks scopes (fact.Aimed s r off disp) = (s < scopes) × (place_fits ks r off ≡ true)
+NamesFact ks scopes (fact.Shut s) = s < scopes
+
 -- the kinds of a function's registers name one of so many layouts; those of its parameters and of its result are kinds of values; it has at most four scopes,
--- and its instructions name numbers of 32 bits and characters below 128
+-- its instructions name numbers of 32 bits and characters below 128, and the facts at the entries of its blocks what is there
 pub record IsConsistentFunction (count : ℕ) (f : Function) : Type 0 where
   pub kinds : All (λ k. names_layout count k ≡ true) f.kinds
   pub parameters : All (IsCellKind count) (take f.parameters f.kinds)
   pub result : IsResultKind count f.result
   pub scopes : f.scopes ≤ 4
   pub numbers : All (λ (b : Block). All NamesNumbers b.code) f.blocks
+  pub facts : All (λ (b : Block). All (NamesFact f.kinds f.scopes) b.facts) f.blocks
 
 -- Each kind names a layout that is there, and no cell of a layout is an offset; each byte of a text is below 128
 pub record IsConsistent (C : Image) : Type 0 where

@@ -2,20 +2,26 @@
 use Rattle.std.specs.Prelude.{ℕ, List, [], ◌∷◌, Some, codes, pos}
 use Rattle.code_form.specs.declared.form.Kind.{Kind}
 use Rattle.code_form.specs.declared.form.Kind.TheVariants as kind
+use Rattle.code_form.specs.declared.form.Fact.{Fact}
+use Rattle.code_form.specs.declared.form.Fact.TheVariants as fact
 use Rattle.code_form.specs.declared.form.Operation.{Operation}
 use Rattle.code_form.specs.declared.form.Operation.TheVariants as op
 use Rattle.code_form.specs.Form.{Image, Return, Simple}
 
--- an image of one function, which does one thing and returns its first register
-abbrev pub with_one : List (List ℕ) → List (List Kind) → ℕ → List Kind → ℕ → Operation → Image
-with_one texts layouts parameters kinds scopes o = record {
+-- an image of one function, which does one thing and returns its first register, with these facts at its entry
+abbrev pub with_facts : List (List ℕ) → List (List Kind) → ℕ → List Kind → ℕ → Operation → List Fact → Image
+with_facts texts layouts parameters kinds scopes o facts = record {
   head = record { texts = texts; layouts = layouts };
-  functions = record { result = Some kind.Int; parameters = parameters; kinds = kinds; scopes = scopes; blocks = record { facts = []; code = Simple o ∷ Return 0 ∷ [] } ∷ [] } ∷ [];
+  functions = record { result = Some kind.Int; parameters = parameters; kinds = kinds; scopes = scopes; blocks = record { facts = facts; code = Simple o ∷ Return 0 ∷ [] } ∷ [] } ∷ [];
 }
+
+-- the same without facts
+abbrev pub with_one : List (List ℕ) → List (List Kind) → ℕ → List Kind → ℕ → Operation → Image
+with_one texts layouts parameters kinds scopes o = with_facts texts layouts parameters kinds scopes o []
 
 -- a text, a layout, and registers that fit them
 abbrev pub consistent_image : Image
-consistent_image = with_one (codes "no" ∷ []) ((kind.Int ∷ kind.Ptr 0 ∷ []) ∷ []) 1 (kind.Int ∷ kind.Ptr 0 ∷ kind.Off 0 ∷ []) 1 (op.Const 0 (pos 7))
+consistent_image = with_facts (codes "no" ∷ []) ((kind.Int ∷ kind.Ptr 0 ∷ []) ∷ []) 1 (kind.Int ∷ kind.Ptr 0 ∷ kind.Off 0 ∷ []) 1 (op.Const 0 (pos 7)) (fact.Nonnull 1 ∷ fact.Shut 0 ∷ [])
 
 -- a register names a layout that is not there
 abbrev pub without_layout : Image
@@ -44,3 +50,7 @@ large_character = with_one [] [] 0 (kind.Int ∷ kind.Char ∷ []) 0 (op.CharOf 
 -- a number of 33 bits
 abbrev pub large_number : Image
 large_number = with_one [] [] 0 (kind.Int ∷ []) 0 (op.Const 0 (pos 2147483648))
+
+-- a fact of a scope that is not there
+abbrev pub missing_scope : Image
+missing_scope = with_facts [] [] 0 (kind.Int ∷ []) 1 (op.Const 0 (pos 7)) (fact.Shut 1 ∷ [])

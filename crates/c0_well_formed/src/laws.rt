@@ -1,7 +1,7 @@
 //! Functions that compute nothing, and whose contracts are the laws.
 
 ghost use Rattle.c0_well_formed.specs.Laws.{ImagesAreConsistent, ImagesAreWellFormed, IsConsistent, LoweredIsWellFormed};
-ghost use Rattle.c0_well_formed.specs.Worked.{consistent_image, five_scopes, large_byte, large_character, large_number, offset_as_parameter, offset_in_layout, without_layout};
+ghost use Rattle.c0_well_formed.specs.Worked.{consistent_image, five_scopes, large_byte, large_character, large_number, missing_scope, offset_as_parameter, offset_in_layout, without_layout};
 
 /// The structured code of a well-typed program is well formed.
 pub fn lowered_is_well_formed()
@@ -15,7 +15,7 @@ pub fn images_are_well_formed()
 {}
 
 /// In the image of a text each kind names a layout that is there, offsets stand in registers alone, no function has more than four
-/// scopes, numbers are of 32 bits, and characters and texts are ASCII.
+/// scopes, numbers are of 32 bits, characters and texts are ASCII, and entry facts name what is there.
 pub fn images_are_consistent()
     ensures { ImagesAreConsistent }
 {}
@@ -30,4 +30,5 @@ pub fn worked_images()
     ensures text { IsConsistent large_byte → ⊥ }
     ensures character { IsConsistent large_character → ⊥ }
     ensures number { IsConsistent large_number → ⊥ }
+    ensures fact { IsConsistent missing_scope → ⊥ }
 {}

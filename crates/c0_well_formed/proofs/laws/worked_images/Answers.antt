@@ -1,5 +1,6 @@
 use Rattle.std.proofs.Common.{◌<◌, ◌≤◌, [], None, arith}
 use Rattle.code_form.specs.declared.form.Kind.TheVariants as kind
+use Rattle.code_form.specs.declared.form.Fact.TheVariants as fact
 use Rattle.code_form.specs.Form.{Block, Function, ReturnVoid}
 use Rattle.c0_well_formed.proofs.laws.worked_images.Goals as goal
 
@@ -30,3 +31,6 @@ returns-clause-character c h = let z : 128 < 128 = (h.functions 0 some (omega ar
 
 pub returns-clause-number : goal.returns-clause-number
 returns-clause-number c h = let z = (h.functions 0 some (omega arith)).numbers 0 one (omega arith) 0 ReturnVoid (omega arith) in omega (arith, z)
+
+pub returns-clause-fact : goal.returns-clause-fact
+returns-clause-fact c h = let z : 1 < 1 = (h.functions 0 some (omega arith)).facts 0 one (omega arith) 0 (fact.Shut 0) (omega arith) in omega arith
