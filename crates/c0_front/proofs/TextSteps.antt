@@ -16,9 +16,9 @@ use Rattle.c0_syntax.specs.declared.program.Program.{Program as Placed}
 use Rattle.c0_typed.specs.Trees as y
 use Rattle.c0_typed.specs.Views.{program_of as typed_of}
 use Rattle.c0_typed.specs.declared.tree.Typed.{Typed}
-use Rattle.c0_reading.proofs.CompletePrograms.{complete_program}
-use Rattle.c0_reading.proofs.SoundPrograms.{one_program}
-use Rattle.c0_reading.specs.Parsing.{IsReadFault, Meets, place_of, read_from, start_at}
+use Rattle.c0_grammar_laws.proofs.CompletePrograms.{complete_program}
+use Rattle.c0_grammar_laws.proofs.SoundPrograms.{one_program}
+use Rattle.c0_grammar_laws.specs.Parsing.{IsReadFault, Meets, place_of, read_from, start_at}
 use Rattle.c0_rules.specs.Answers.{Answers}
 use Rattle.c0_rules.specs.FaultPrograms.{FaultAt}
 use Rattle.c0_rules.specs.Programs.{typed_program}

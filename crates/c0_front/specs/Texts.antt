@@ -9,7 +9,7 @@ use Rattle.c0_syntax.specs.Trees as s
 use Rattle.c0_syntax.specs.Views.{program_of}
 use Rattle.c0_syntax.specs.declared.program.Program.{Program}
 use Rattle.c0_typed.specs.Trees as y
-use Rattle.c0_reading.specs.Parsing.{Meets, read_from}
+use Rattle.c0_grammar_laws.specs.Parsing.{Meets, read_from}
 use Rattle.c0_rules.specs.FaultPrograms.{FaultAt}
 use Rattle.c0_rules.specs.Programs.{typed_program}
 

@@ -15,7 +15,7 @@ mod whole;
 
 /// What is told of a text.
 fn told(alloc: Global, text: &str) -> Result<String, AllocError> {
-    match check_text(alloc, text.as_bytes(), Level::Core) {
+    match check_text(alloc, text.as_bytes(), Level::C0) {
         Ok(_typed) => String::from_str(alloc, "ok"),
         Err(fault) => {
             let at = line_column(text.as_bytes(), fault.span.start);

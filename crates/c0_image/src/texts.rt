@@ -28,7 +28,7 @@ pub fn compile(alloc: Global, text: &[u8], checks: bool) -> Result<Image, Fault>
     elaborated();
     generated_keeps_the_meaning();
     generated_is_covered();
-    let typed = check_text(alloc, text, Level::Core)?;
+    let typed = check_text(alloc, text, Level::C0)?;
     let middle = lower(alloc, &typed, checks)?;
     Ok(generate(alloc, &middle)?)
 }

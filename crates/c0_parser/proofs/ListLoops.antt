@@ -6,10 +6,10 @@ use Rattle.c0_source.specs.declared.kind.Kind.{Kind}
 use Rattle.c0_source.specs.declared.kind.Kind.TheVariants as k
 use Rattle.c0_source.specs.Terminals.{Terminal}
 use Rattle.c0_syntax.specs.Trees.{Spec}
-use Rattle.c0_reading.specs.declared.read_error.ReadError.{ReadError}
-use Rattle.c0_reading.specs.Outcome.{Outcome, ◌>>=◌, Read, Fails, plain_at, next, refuse, too_deep}
-use Rattle.c0_reading.specs.ReadStatements.{spec_by, specs_by, read_spec, read_specs, annotations_by, read_annotations}
-use Rattle.c0_cursor.proofs.Turned.{fails_along, fails_bind}
+use Rattle.c0_grammar_laws.specs.declared.read_error.ReadError.{ReadError}
+use Rattle.c0_grammar_laws.specs.Outcome.{Outcome, ◌>>=◌, Read, Fails, plain_at, next, refuse, too_deep}
+use Rattle.c0_grammar_laws.specs.ReadStatements.{spec_by, specs_by, read_spec, read_specs, annotations_by, read_annotations}
+use Rattle.c0_parser_cursor.proofs.Turned.{fails_along, fails_bind}
 
 -- one part before the others
 abbrev pub before_others : {A : Type 0} → A → Read (List A) → Read (List A)

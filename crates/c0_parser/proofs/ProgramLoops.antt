@@ -7,12 +7,12 @@ use Rattle.c0_source.specs.declared.kind.Kind.TheVariants as k
 use Rattle.c0_source.specs.Terminals.{Terminal}
 use Rattle.c0_syntax.specs.Trees.{TypedName, Declaration, Program}
 use Rattle.c0_syntax.specs.Programs.{type_names_after}
-use Rattle.c0_reading.specs.declared.read_error.ReadError.{ReadError}
-use Rattle.c0_reading.specs.Outcome.{Outcome, ◌>>=◌, Read, Fails, plain_at, next, refuse, any_name, new_name, semi}
-use Rattle.c0_reading.specs.ReadExpressions.{ReadType, read_type}
-use Rattle.c0_reading.specs.ReadPrograms.{ReadParameters, ReadDeclaration, fields_by, read_fields, over_by, add_parameter, less, after_parameter, read_parameters, read_declaration, read_declarations, read_program}
+use Rattle.c0_grammar_laws.specs.declared.read_error.ReadError.{ReadError}
+use Rattle.c0_grammar_laws.specs.Outcome.{Outcome, ◌>>=◌, Read, Fails, plain_at, next, refuse, any_name, new_name, semi}
+use Rattle.c0_grammar_laws.specs.ReadExpressions.{ReadType, read_type}
+use Rattle.c0_grammar_laws.specs.ReadPrograms.{ReadParameters, ReadDeclaration, fields_by, read_fields, over_by, add_parameter, less, after_parameter, read_parameters, read_declaration, read_declarations, read_program}
 use Rattle.c0_parser.specs.FoundPrograms.{ReadParameter, one_field, one_parameter, first_known}
-use Rattle.c0_cursor.proofs.Turned.{fails_along, fails_bind}
+use Rattle.c0_parser_cursor.proofs.Turned.{fails_along, fails_bind}
 use Rattle.c0_parser.proofs.ListLoops.{before_others, one_more}
 
 abbrev Names : Type 0

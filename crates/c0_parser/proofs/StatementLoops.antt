@@ -6,10 +6,10 @@ use Rattle.c0_source.specs.Terminals.{Terminal}
 use Rattle.c0_syntax.specs.declared.statement.Statement.{Statement as Node}
 use Rattle.c0_syntax.specs.Trees.{Statement, Statements, nothing, also}
 use Rattle.c0_syntax.specs.Views.{statement_of, statements_of}
-use Rattle.c0_reading.specs.declared.read_error.ReadError.{ReadError}
-use Rattle.c0_reading.specs.Outcome.{Outcome, ◌>>=◌, Fails, kind_at, plain_at, next, refuse, too_deep}
-use Rattle.c0_reading.specs.ReadStatements.{Counted, read_simple, simple_by, read_statement, statement_by, read_statements, statements_by}
-use Rattle.c0_cursor.proofs.Turned.{fails_along, fails_bind}
+use Rattle.c0_grammar_laws.specs.declared.read_error.ReadError.{ReadError}
+use Rattle.c0_grammar_laws.specs.Outcome.{Outcome, ◌>>=◌, Fails, kind_at, plain_at, next, refuse, too_deep}
+use Rattle.c0_grammar_laws.specs.ReadStatements.{Counted, read_simple, simple_by, read_statement, statement_by, read_statements, statements_by}
+use Rattle.c0_parser_cursor.proofs.Turned.{fails_along, fails_bind}
 
 pub simple_none : (types : List (List ℕ)) (d room : ℕ) (ts : List Terminal) → d ≡ 0 → read_simple types d room ts ≡ too_deep ts
 unfolding read_simple

@@ -7,9 +7,9 @@ use Rattle.c0_syntax.specs.declared.statement.SpecKind.{SpecKind}
 use Rattle.c0_parser.specs.declared.found.FoundBody.{FoundBody}
 use Rattle.c0_parser.specs.declared.found.FoundForEnd.{FoundForEnd}
 use Rattle.c0_parser.specs.declared.found.FoundForTest.{FoundForTest}
-use Rattle.c0_reading.specs.Outcome.{Outcome, ◌>>=◌, Read, next, semi}
-use Rattle.c0_reading.specs.ReadExpressions.{read_expression}
-use Rattle.c0_reading.specs.ReadStatements.{Counted, Body, ForEnd, ForTest, read_simple, with_semi}
+use Rattle.c0_grammar_laws.specs.Outcome.{Outcome, ◌>>=◌, Read, next, semi}
+use Rattle.c0_grammar_laws.specs.ReadExpressions.{read_expression}
+use Rattle.c0_grammar_laws.specs.ReadStatements.{Counted, Body, ForEnd, ForTest, read_simple, with_semi}
 
 -- a spec of this kind, whose word stands next
 abbrev pub spec_behind : List (List ℕ) → ℕ → SpecKind → List Terminal → Outcome (Read Spec)

@@ -7,9 +7,9 @@ use Rattle.c0_syntax.specs.Views.{declaration_of, header_of, typed_name_of}
 use Rattle.c0_parser.specs.declared.found.FoundParameter.{FoundParameter}
 use Rattle.c0_parser.specs.declared.found.FoundParameters.{FoundParameters}
 use Rattle.c0_parser.specs.declared.found.FoundHeader.{FoundHeader}
-use Rattle.c0_reading.specs.Outcome.{Outcome, ◌>>=◌, Read, any_name, new_name, semi}
-use Rattle.c0_reading.specs.ReadExpressions.{read_type}
-use Rattle.c0_reading.specs.ReadPrograms.{ReadDeclaration, ReadHeader, ReadParameters}
+use Rattle.c0_grammar_laws.specs.Outcome.{Outcome, ◌>>=◌, Read, any_name, new_name, semi}
+use Rattle.c0_grammar_laws.specs.ReadExpressions.{read_type}
+use Rattle.c0_grammar_laws.specs.ReadPrograms.{ReadDeclaration, ReadHeader, ReadParameters}
 
 -- a field and its semicolon
 abbrev pub one_field : List (List ℕ) → ℕ → List Terminal → Outcome (Read TypedName)

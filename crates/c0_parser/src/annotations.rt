@@ -4,14 +4,14 @@
 
 ghost use Rattle.std.specs.Prelude.{length, map, suc};
 ghost use Rattle.c0_syntax.specs.Views.{annotation_of, spec_of};
-ghost use Rattle.c0_reading.specs.Outcome.{Gives, next, plain_at};
+ghost use Rattle.c0_grammar_laws.specs.Outcome.{Gives, next, plain_at};
 ghost use Rattle.c0_parser.specs.Found.{spec_behind};
-ghost use Rattle.c0_reading.specs.ReadStatements.{read_annotations, read_spec, read_specs, spec_by};
+ghost use Rattle.c0_grammar_laws.specs.ReadStatements.{read_annotations, read_spec, read_specs, spec_by};
 
-use c0_cursor::cursor::Cursor;
-use c0_cursor::type_names::TypeNames;
-use c0_expressions::expressions::expression;
-use c0_reading::read_error::ReadError;
+use c0_grammar_laws::read_error::ReadError;
+use c0_parser_cursor::cursor::Cursor;
+use c0_parser_cursor::type_names::TypeNames;
+use c0_parser_expressions::expressions::expression;
 use c0_source::kind::Kind;
 use c0_syntax::statement::{Annotation, Spec, SpecKind};
 

@@ -4,17 +4,17 @@ ghost use Rattle.std.specs.Prelude.{◌≡◌, ℕ, Bool, List, length, map, suc
 ghost use Rattle.c0_source.specs.declared.kind.Kind.TheVariants as k;
 ghost use Rattle.c0_syntax.specs.Programs.{type_names_after};
 ghost use Rattle.c0_syntax.specs.Views.{declaration_of, header_of, typed_name_of};
-ghost use Rattle.c0_reading.specs.Outcome.{Gives, next, plain_at};
-ghost use Rattle.c0_reading.specs.ReadPrograms.{declaration_by, end_by, function as spec_function, less as spec_less, over_by, parameters_by, read_fields, read_header, read_parameters, read_program, struct_by, struct_of};
+ghost use Rattle.c0_grammar_laws.specs.Outcome.{Gives, next, plain_at};
+ghost use Rattle.c0_grammar_laws.specs.ReadPrograms.{declaration_by, end_by, function as spec_function, less as spec_less, over_by, parameters_by, read_fields, read_header, read_parameters, read_program, struct_by, struct_of};
 ghost use Rattle.c0_parser.specs.FoundPrograms.{first_known, found_declaration, found_header, found_parameter, found_parameters, one_field, one_parameter};
 
 use crate::annotations::annotations;
 use crate::found::{FoundHeader, FoundParameter, FoundParameters};
 use crate::statements::statements;
-use c0_cursor::cursor::Cursor;
-use c0_cursor::directives::Used;
-use c0_cursor::type_names::TypeNames;
-use c0_reading::read_error::ReadError;
+use c0_grammar_laws::read_error::ReadError;
+use c0_parser_cursor::cursor::Cursor;
+use c0_parser_cursor::directives::Used;
+use c0_parser_cursor::type_names::TypeNames;
 use c0_source::kind::Kind;
 use c0_syntax::program::{Declaration, DeclarationKind, Header, TypedName};
 
@@ -182,7 +182,7 @@ fn parameters(
 }
 
 /// A function up to its body.
-#[tactic(auto, unfolding(c0_reading::specs::ReadPrograms::read_header))]
+#[tactic(auto, unfolding(c0_grammar_laws::specs::ReadPrograms::read_header))]
 fn header(
     cursor: &mut Cursor<'_>,
     types: &TypeNames<'_>,
@@ -273,7 +273,7 @@ fn function_end(
 }
 
 /// A function, declared or defined.
-#[tactic(auto, unfolding(c0_reading::specs::ReadPrograms::function))]
+#[tactic(auto, unfolding(c0_grammar_laws::specs::ReadPrograms::function))]
 fn function(
     cursor: &mut Cursor<'_>,
     types: &TypeNames<'_>,

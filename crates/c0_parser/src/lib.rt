@@ -8,4 +8,4 @@ pub mod parse;
 mod simple_statements;
 mod statements;
 
-pub use c0_reading::laws;
+pub use c0_grammar_laws::laws;

@@ -7,15 +7,15 @@ ghost use Rattle.c0_syntax.specs.Levels.{has_loops};
 ghost use Rattle.c0_syntax.specs.Programs.{Reads};
 ghost use Rattle.c0_syntax.specs.Trees as t;
 ghost use Rattle.c0_syntax.specs.Views.{declaration_of, program_of};
-ghost use Rattle.c0_reading.specs.Outcome.{Gives};
-ghost use Rattle.c0_reading.specs.ReadPrograms.{read_program};
-ghost use Rattle.c0_reading.specs.Parsing.{IsReadFault, fault_by, place_of, read_from};
-ghost use Rattle.c0_reading.specs.Tokens.{AreTokens};
+ghost use Rattle.c0_grammar_laws.specs.Outcome.{Gives};
+ghost use Rattle.c0_grammar_laws.specs.ReadPrograms.{read_program};
+ghost use Rattle.c0_grammar_laws.specs.Parsing.{IsReadFault, fault_by, place_of, read_from};
+ghost use Rattle.c0_grammar_laws.specs.Tokens.{AreTokens};
 
 use crate::declarations::program;
-use c0_cursor::cursor::Cursor;
+use c0_grammar_laws::read_error::ReadError;
 use c0_lexer::token::Token;
-use c0_reading::read_error::ReadError;
+use c0_parser_cursor::cursor::Cursor;
 use c0_source::fault::{Fault, FaultKind};
 use c0_syntax::level::Level;
 use c0_syntax::program::{Declaration, Program};
@@ -51,7 +51,7 @@ fn with_loops(level: Level) -> bool
     ensures { result ≡ has_loops level }
 {
     match level {
-        Level::Core => false,
+        Level::C0 => false,
         Level::Loops => true,
     }
 }

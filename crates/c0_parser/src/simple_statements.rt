@@ -7,15 +7,15 @@ ghost use Rattle.c0_source.specs.declared.kind.Kind.TheVariants as k;
 ghost use Rattle.c0_syntax.specs.Expressions.{begins_star as spec_begins_star};
 ghost use Rattle.c0_syntax.specs.Trees as t;
 ghost use Rattle.c0_syntax.specs.Views.{expression_of, name_of, simple_of, type_of};
-ghost use Rattle.c0_reading.specs.Outcome.{Gives, kind_at, plain_at};
-ghost use Rattle.c0_reading.specs.ReadStatements.{behind_by, first_by, local_declaration as spec_local_declaration, read_simple, simple_by, step_by, third_by, value_by};
-ghost use Rattle.c0_expressions.specs.Found.{found_expression};
+ghost use Rattle.c0_grammar_laws.specs.Outcome.{Gives, kind_at, plain_at};
+ghost use Rattle.c0_grammar_laws.specs.ReadStatements.{behind_by, first_by, local_declaration as spec_local_declaration, read_simple, simple_by, step_by, third_by, value_by};
+ghost use Rattle.c0_parser_expressions.specs.Found.{found_expression};
 
-use c0_cursor::cursor::Cursor;
-use c0_cursor::type_names::TypeNames;
-use c0_expressions::expressions::expression;
-use c0_expressions::found::FoundExpression;
-use c0_reading::read_error::ReadError;
+use c0_grammar_laws::read_error::ReadError;
+use c0_parser_cursor::cursor::Cursor;
+use c0_parser_cursor::type_names::TypeNames;
+use c0_parser_expressions::expressions::expression;
+use c0_parser_expressions::found::FoundExpression;
 use c0_source::kind::{Kind, Operator};
 use c0_syntax::expression::{Expression, ExpressionKind};
 use c0_syntax::name::Name;
@@ -78,7 +78,7 @@ fn local(
 }
 
 /// The declaration of a local, one of those that there may be.
-#[tactic(auto, unfolding(c0_reading::specs::ReadStatements::local_declaration))]
+#[tactic(auto, unfolding(c0_grammar_laws::specs::ReadStatements::local_declaration))]
 fn local_declaration(
     cursor: &mut Cursor<'_>,
     types: &TypeNames<'_>,

@@ -6,17 +6,17 @@ ghost use Rattle.std.specs.Prelude.{◌≡◌, ℕ, box_value, option_map};
 ghost use Rattle.c0_source.specs.declared.kind.Kind.TheVariants as k;
 ghost use Rattle.c0_syntax.specs.Trees as t;
 ghost use Rattle.c0_syntax.specs.Views.{expression_of, simple_of, statement_of, statement_of_kind, statements_of};
-ghost use Rattle.c0_reading.specs.Outcome.{Gives, next, plain_at};
-ghost use Rattle.c0_reading.specs.ReadStatements.{call_of, else_by, for_of, for_test as spec_for_test, for_end as spec_for_end, if_of, leave_by, loop_body as spec_loop_body, read_statement, read_statements, return_by, statement_by, read_condition, while_of, with_semi as spec_with_semi};
+ghost use Rattle.c0_grammar_laws.specs.Outcome.{Gives, next, plain_at};
+ghost use Rattle.c0_grammar_laws.specs.ReadStatements.{call_of, else_by, for_of, for_test as spec_for_test, for_end as spec_for_end, if_of, leave_by, loop_body as spec_loop_body, read_statement, read_statements, return_by, statement_by, read_condition, while_of, with_semi as spec_with_semi};
 ghost use Rattle.c0_parser.specs.Found.{found_body, found_for_end, found_for_test, for_tree, simple_line as spec_simple_line};
 
 use crate::annotations::{annotation, annotations};
 use crate::found::{FoundBody, FoundForEnd, FoundForTest};
 use crate::simple_statements::{any_simple, first_part, third_part};
-use c0_cursor::cursor::Cursor;
-use c0_cursor::type_names::TypeNames;
-use c0_expressions::expressions::expression;
-use c0_reading::read_error::ReadError;
+use c0_grammar_laws::read_error::ReadError;
+use c0_parser_cursor::cursor::Cursor;
+use c0_parser_cursor::type_names::TypeNames;
+use c0_parser_expressions::expressions::expression;
 use c0_source::kind::Kind;
 use c0_syntax::expression::Expression;
 use c0_syntax::statement::{SimpleStatement, Statement, StatementKind};
@@ -67,7 +67,7 @@ fn with_semi(
 }
 
 /// An expression in parentheses.
-#[tactic(auto, unfolding(c0_reading::specs::ReadStatements::read_condition))]
+#[tactic(auto, unfolding(c0_grammar_laws::specs::ReadStatements::read_condition))]
 fn test(
     cursor: &mut Cursor<'_>,
     types: &TypeNames<'_>,
@@ -85,7 +85,7 @@ fn test(
 }
 
 /// An expression in parentheses and a semicolon.
-#[tactic(auto, unfolding(c0_reading::specs::ReadStatements::call_of))]
+#[tactic(auto, unfolding(c0_grammar_laws::specs::ReadStatements::call_of))]
 fn checked(
     cursor: &mut Cursor<'_>,
     types: &TypeNames<'_>,
@@ -102,7 +102,7 @@ fn checked(
 }
 
 /// A simple statement and its semicolon.
-#[tactic(auto, unfolding(c0_reading::specs::ReadStatements::read_simple))]
+#[tactic(auto, unfolding(c0_grammar_laws::specs::ReadStatements::read_simple))]
 fn simple_line(
     cursor: &mut Cursor<'_>,
     types: &TypeNames<'_>,
@@ -268,7 +268,7 @@ fn boxed(
 
 /// An `if`, which stands next.
 #[cycle(statement)]
-#[tactic(auto, unfolding(c0_reading::specs::ReadStatements::if_of))]
+#[tactic(auto, unfolding(c0_grammar_laws::specs::ReadStatements::if_of))]
 fn if_statement(
     cursor: &mut Cursor<'_>,
     types: &TypeNames<'_>,
@@ -325,7 +325,7 @@ fn behind_first(
 
 /// The annotations and the body of a loop.
 #[cycle(statement)]
-#[tactic(auto, unfolding(c0_reading::specs::ReadStatements::loop_body))]
+#[tactic(auto, unfolding(c0_grammar_laws::specs::ReadStatements::loop_body))]
 fn loop_body(
     cursor: &mut Cursor<'_>,
     types: &TypeNames<'_>,
@@ -342,7 +342,7 @@ fn loop_body(
 
 /// A `while`, which stands next.
 #[cycle(statement)]
-#[tactic(auto, unfolding(c0_reading::specs::ReadStatements::while_of))]
+#[tactic(auto, unfolding(c0_grammar_laws::specs::ReadStatements::while_of))]
 fn while_statement(
     cursor: &mut Cursor<'_>,
     types: &TypeNames<'_>,
@@ -369,7 +369,7 @@ fn while_statement(
 
 /// A `for` behind its second semicolon.
 #[cycle(statement)]
-#[tactic(auto, unfolding(c0_reading::specs::ReadStatements::for_end))]
+#[tactic(auto, unfolding(c0_grammar_laws::specs::ReadStatements::for_end))]
 fn for_end(
     cursor: &mut Cursor<'_>,
     types: &TypeNames<'_>,
@@ -395,7 +395,7 @@ fn for_end(
 
 /// A `for` behind its first semicolon.
 #[cycle(statement)]
-#[tactic(auto, unfolding(c0_reading::specs::ReadStatements::for_test))]
+#[tactic(auto, unfolding(c0_grammar_laws::specs::ReadStatements::for_test))]
 fn for_test(
     cursor: &mut Cursor<'_>,
     types: &TypeNames<'_>,
@@ -421,7 +421,7 @@ fn for_test(
 
 /// A `for`, which stands next.
 #[cycle(statement)]
-#[tactic(auto, unfolding(c0_reading::specs::ReadStatements::for_of))]
+#[tactic(auto, unfolding(c0_grammar_laws::specs::ReadStatements::for_of))]
 fn for_statement(
     cursor: &mut Cursor<'_>,
     types: &TypeNames<'_>,

@@ -1,8 +1,8 @@
 // What texts read as, and with which fault they are refused.
 
+use c0_grammar_laws::laws::lexed_are_tokens;
 use c0_lexer::lex::lex;
 use c0_parser::parse::parse;
-use c0_reading::laws::lexed_are_tokens;
 use c0_source::fault::{Fault, FaultKind, Span};
 use c0_source::kind::Operator;
 use c0_source::source::Source;
@@ -29,7 +29,7 @@ pub(crate) fn read(alloc: Global, text: &[u8], level: Level) -> Result<Program, 
 
 /// What a text reads as that is a program without `break` and `continue`.
 fn expect_read(alloc: Global, text: &[u8]) -> Result<Program, Fail> {
-    Ok(read(alloc, text, Level::Core)?)
+    Ok(read(alloc, text, Level::C0)?)
 }
 
 /// The text is refused with this fault, at this byte.
@@ -40,7 +40,7 @@ fn expect_fault(
     kind: FaultKind,
     at: usize,
 ) -> Result<(), Fail> {
-    let Err(fault) = read(alloc, text, Level::Core) else {
+    let Err(fault) = read(alloc, text, Level::C0) else {
         panic!(rt; "a text with a fault is read");
     };
     if fault.kind == FaultKind::OutOfMemory {

@@ -95,7 +95,7 @@ pub fn mean_text<R: Threads>(
     // A text of a well-typed program is run as that program, and as no other, unless memory runs out.
     ensures every { (p : y.Program) → IsTypedAs false text.now p → MatchResult result (λ m. meant_of m ≡ mean_of p checks turns) (λ f. f.kind ≡ OutOfMemory) }
 {
-    let program = check_text(alloc, text, Level::Core)?;
+    let program = check_text(alloc, text, Level::C0)?;
     match mean_apart(alloc, rt, program, checks, turns) {
         Ok(meant) => Ok(meant),
         Err(_) => Err(memory()),

@@ -4,7 +4,7 @@
 #[derive(Clone, Copy, Debug, PartialEq, Eq)]
 pub enum Level {
     /// All but `break` and `continue`.
-    Core,
+    C0,
     /// `break` and `continue`, too.
     Loops,
 }

@@ -25,8 +25,8 @@ use Rattle.c0_rules.specs.Mentions.{condition_of, specs_in}
 use Rattle.c0_rules.specs.Programs.{are_contracts, names_of}
 use Rattle.c0_rules.specs.Statements.{Role, Precondition, Postcondition, Invariant, Assertion, clause_role, conditions, is_function, role_of, same_role}
 use Rattle.c0_rules.specs.Types.{and_so, provided, Name, Environment, BoolType}
-use Rattle.c0_terms.specs.Terms.{HasTexts}
-use Rattle.c0_bodies.specs.Bodies.{SpecsHaveTexts}
+use Rattle.c0_types_expressions.specs.Terms.{HasTexts}
+use Rattle.c0_types_statements.specs.Bodies.{SpecsHaveTexts}
 use Rattle.c0_types.specs.ContractViews.{InContractSpec, condition_added, contract_of, specs_added, with_last}
 
 -- ---- lists

@@ -11,8 +11,8 @@ use Rattle.c0_typed.specs.Trees as t
 use Rattle.c0_rules.specs.FaultPrograms.{InDeclaration, InDeclarations}
 use Rattle.c0_rules.specs.Programs.{Elaboration, is_defined, names_agree, parameter_types, signature, typed_declaration, typed_declarations, typed_function, uses_conio, with_function}
 use Rattle.c0_rules.specs.Types.{Environment, ResolvedType, Signature, and_so, provided, result_type, same_types}
-use Rattle.c0_tables.specs.Views.{resolved_of}
-use Rattle.c0_tables.specs.declared.resolved.ResolvedType as r
+use Rattle.c0_types_tables.specs.Views.{resolved_of}
+use Rattle.c0_types_tables.specs.declared.resolved.ResolvedType as r
 use Rattle.c0_types.proofs.HeaderLists.{first_left, same_self}
 
 -- ---- functions

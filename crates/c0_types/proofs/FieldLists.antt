@@ -13,7 +13,7 @@ use Rattle.c0_rules.specs.FaultExpressions.{HeldTypeCause}
 use Rattle.c0_rules.specs.FaultPrograms.{InFields}
 use Rattle.c0_rules.specs.Programs.{cells_in, field_types, fields_of}
 use Rattle.c0_rules.specs.Types.{Environment, FieldEntry, Name, ResolvedType, StructEntry, Table, and_so, cells_of, field_of, no_names, provided, resolved_type, with_name}
-use Rattle.c0_tables.specs.Views.{resolved_of}
+use Rattle.c0_types_tables.specs.Views.{resolved_of}
 use Rattle.c0_types.proofs.HeaderLists.{first_left, one_more, same_so}
 use Rattle.c0_rules.proofs.Sizes.{length_more}
 

@@ -20,14 +20,14 @@ use Rattle.c0_syntax.specs.declared.statement.Spec.{Spec}
 use Rattle.c0_syntax.specs.Views.{annotation_of, name_of, spec_of, type_of, typed_name_of}
 use Rattle.c0_rules.specs.Types.{Name, is_among, are_distinct, and_so, ResolvedType as Resolved, Environment, small_type}
 use Rattle.c0_rules.specs.Programs.{are_none, names_of, parameter_types, parameters_from}
-use Rattle.c0_tables.specs.declared.resolved.ResolvedType.{ResolvedType}
+use Rattle.c0_types_tables.specs.declared.resolved.ResolvedType.{ResolvedType}
 use Rattle.c0_rules.specs.FaultExpressions.{SmallTypeCause, Told}
 use Rattle.c0_rules.specs.FaultPrograms.{AnySpec, AnySpecs, ParameterCause, SecondName}
 use Rattle.c0_rules.specs.Expressions.{Local}
 use Rattle.c0_rules.specs.Mentions.{specs_in}
-use Rattle.c0_tables.specs.Views.{resolved_of}
+use Rattle.c0_types_tables.specs.Views.{resolved_of}
 use Rattle.c0_rules.proofs.Rules.{same_name_is}
-use Rattle.c0_tables.proofs.Tables.{both_ways}
+use Rattle.c0_types_tables.proofs.Tables.{both_ways}
 
 -- ---- names
 

@@ -14,7 +14,7 @@ use Rattle.c0_rules.specs.FaultExpressions.{Told}
 use Rattle.c0_rules.specs.FaultPrograms.{InFields, InFunction, InHeader, LargeCause, SecondName}
 use Rattle.c0_rules.specs.Programs.{Elaboration, cell_limit, cells_in, fields_of, names_of, signature, with_function}
 use Rattle.c0_rules.specs.Types.{Name, Environment, FieldEntry, ResolvedType, Signature, and_so, are_distinct, cells_of, provided, resolved_type}
-use Rattle.c0_tables.specs.Views.{environment_of, resolved_of}
+use Rattle.c0_types_tables.specs.Views.{environment_of, resolved_of}
 use Rattle.c0_types.specs.declared.declare.Elaborated.{Elaborated}
 use Rattle.c0_types.specs.declared.definitions.Field.{Field}
 

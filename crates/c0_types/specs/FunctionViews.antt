@@ -8,9 +8,9 @@ use Rattle.c0_rules.specs.Mentions.{specs_in}
 use Rattle.c0_rules.specs.Programs as p
 use Rattle.c0_rules.specs.Statements as b
 use Rattle.c0_rules.specs.Types.{Name, Environment, Signature}
-use Rattle.c0_tables.specs.Views.{resolved_of}
-use Rattle.c0_tables.specs.declared.resolved.ResolvedType.{ResolvedType}
-use Rattle.c0_bodies.specs.Bodies.{SpecsHaveTexts, StatementsHaveTexts, scope_of}
+use Rattle.c0_types_tables.specs.Views.{resolved_of}
+use Rattle.c0_types_tables.specs.declared.resolved.ResolvedType.{ResolvedType}
+use Rattle.c0_types_statements.specs.Bodies.{SpecsHaveTexts, StatementsHaveTexts, scope_of}
 use Rattle.c0_types.specs.declared.functions.CheckedBody.{CheckedBody}
 use Rattle.c0_types.specs.declared.functions.Parts.{Parts}
 

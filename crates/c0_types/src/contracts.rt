@@ -4,25 +4,25 @@ ghost use Rattle.std.specs.Prelude.{◌≡◌, ◌⊎◌, IfErr, map, not};
 ghost use Rattle.std.specs.List.{list_all};
 ghost use Rattle.c0_source.specs.declared.fault.FaultKind.TheVariants.{OutOfMemory};
 ghost use Rattle.c0_syntax.specs.Views.{annotation_of, spec_of, typed_name_of};
-ghost use Rattle.c0_bodies.specs.Bodies.{SpecsHaveTexts};
+ghost use Rattle.c0_types_statements.specs.Bodies.{SpecsHaveTexts};
 ghost use Rattle.c0_types.specs.ContractViews.{InContractSpec, condition_added, conditions_of, contract_of, specs_added};
 ghost use Rattle.c0_types.specs.DeclareViews.{Accepts};
 ghost use Rattle.c0_rules.specs.FaultPrograms.{FunctionParameter, InContract, InContracts};
 ghost use Rattle.c0_rules.specs.Mentions.{condition_of, specs_in};
 ghost use Rattle.c0_rules.specs.Programs.{names_of};
 ghost use Rattle.c0_rules.specs.Statements.{is_function as is_called, role_of};
-ghost use Rattle.c0_terms.specs.Terms.{HasTexts, context_of, env_of};
+ghost use Rattle.c0_types_expressions.specs.Terms.{HasTexts, context_of, env_of};
 ghost use Rattle.c0_rules.specs.Answers.{Answers};
-ghost use Rattle.c0_tables.specs.Views.{environment_of};
+ghost use Rattle.c0_types_tables.specs.Views.{environment_of};
 
 use c0_source::fault::{Fault, FaultKind};
 use c0_source::kind::Clause;
 use c0_syntax::program::TypedName;
 use c0_syntax::statement::{Annotation, Spec, SpecKind};
-use c0_tables::environment::Environment;
-use c0_tables::resolved::ResolvedType;
-use c0_terms::typing::Terms;
 use c0_typed::Expression as TypedExpression;
+use c0_types_expressions::typing::Terms;
+use c0_types_tables::environment::Environment;
+use c0_types_tables::resolved::ResolvedType;
 
 /// The first parameter that has the name of a function in scope or of an output call in use is an error, `DuplicateName` at its name.
 pub(crate) fn check_parameter_names(

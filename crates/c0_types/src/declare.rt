@@ -6,7 +6,7 @@ ghost use Rattle.c0_source.specs.declared.fault.FaultKind.TheVariants.{OutOfMemo
 ghost use Rattle.c0_syntax.specs.Trees.{DeclareFunction, DeclareStruct, DefineFunction, DefineStruct, Typedef as TypedefOf};
 ghost use Rattle.c0_syntax.specs.Views.{declaration_of, header_of, name_of, statements_of, type_of, typed_name_of};
 ghost use Rattle.c0_typed.specs.Views.{function_of};
-ghost use Rattle.c0_bodies.specs.Bodies.{SpecsHaveTexts, StatementsHaveTexts};
+ghost use Rattle.c0_types_statements.specs.Bodies.{SpecsHaveTexts, StatementsHaveTexts};
 ghost use Rattle.c0_types.specs.DeclareViews.{InDefinition, InStruct, elaboration_of, typed_field_of};
 ghost use Rattle.c0_types.specs.FunctionViews.{DeclarationHasTexts, DeclarationsHaveTexts};
 ghost use Rattle.c0_rules.specs.FaultExpressions.{TypeCause};
@@ -15,7 +15,7 @@ ghost use Rattle.c0_rules.specs.Mentions.{specs_in};
 ghost use Rattle.c0_rules.specs.Programs.{beginning, cells_in, function_defined as defined_function, function_names_of, is_main, main_name, struct_defined as defined_struct, struct_names_of, typed_declaration, typed_declarations, uses_conio as is_use_of_conio, with_struct};
 ghost use Rattle.c0_rules.specs.Types.{Name as Word, same_types};
 ghost use Rattle.c0_rules.specs.Answers.{Answers};
-ghost use Rattle.c0_tables.specs.Views.{environment_of, signature_of};
+ghost use Rattle.c0_types_tables.specs.Views.{environment_of, signature_of};
 
 use crate::definitions::{
     NewStruct, check_use, field_table, is_conio, new_struct, numbered_fields,
@@ -27,12 +27,12 @@ use c0_syntax::name::Name;
 use c0_syntax::program::{Declaration, DeclarationKind, Header, TypedName};
 use c0_syntax::statement::Statement;
 use c0_syntax::value_type::ValueType;
-use c0_tables::environment::Environment;
-use c0_tables::names::Names;
-use c0_tables::resolved::ResolvedType;
-use c0_tables::signatures::Signature;
-use c0_tables::structs::StructEntry;
 use c0_typed::{Function, Struct};
+use c0_types_tables::environment::Environment;
+use c0_types_tables::names::Names;
+use c0_types_tables::resolved::ResolvedType;
+use c0_types_tables::signatures::Signature;
+use c0_types_tables::structs::StructEntry;
 use std::alloc::{AllocError, Global};
 
 /// What stands before a declaration: what is declared, whether anything but `#use` stands there, and the structs and functions that are

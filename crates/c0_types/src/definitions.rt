@@ -11,17 +11,17 @@ ghost use Rattle.c0_rules.specs.FaultPrograms.{InFields};
 ghost use Rattle.c0_rules.specs.Programs.{cell_limit, cells_in, field_types as types_of_fields, fields_of, is_conio as names_conio};
 ghost use Rattle.c0_rules.specs.Types.{field_of, provided};
 ghost use Rattle.c0_rules.specs.Answers.{Answers};
-ghost use Rattle.c0_tables.specs.Views.{environment_of, field_table_of, resolved_of, structs_of};
+ghost use Rattle.c0_types_tables.specs.Views.{environment_of, field_table_of, resolved_of, structs_of};
 
 use crate::headers::{check_distinct, first_told};
 use c0_source::fault::{Fault, FaultKind, Span};
 use c0_syntax::name::Name;
 use c0_syntax::program::TypedName;
 use c0_syntax::value_type::ValueType;
-use c0_tables::environment::Environment;
-use c0_tables::resolved::ResolvedType;
-use c0_tables::structs::{FieldEntry, Fields, Structs};
 use c0_typed::Struct;
+use c0_types_tables::environment::Environment;
+use c0_types_tables::resolved::ResolvedType;
+use c0_types_tables::structs::{FieldEntry, Fields, Structs};
 use std::alloc::{AllocError, Global};
 
 /// The most cells of a struct.

@@ -4,7 +4,7 @@ ghost use Rattle.std.specs.Prelude.{◌≡◌, ◌⊎◌, IfErr, IfOk, List, map
 ghost use Rattle.c0_source.specs.declared.fault.FaultKind.TheVariants.{OutOfMemory};
 ghost use Rattle.c0_syntax.specs.Views.{annotation_of, header_of, statements_of};
 ghost use Rattle.c0_typed.specs.Views.{function_of, type_of};
-ghost use Rattle.c0_bodies.specs.Bodies.{SpecsHaveTexts, StatementsHaveTexts, scope_of};
+ghost use Rattle.c0_types_statements.specs.Bodies.{SpecsHaveTexts, StatementsHaveTexts, scope_of};
 ghost use Rattle.c0_types.specs.ContractViews.{conditions_of, contract_of};
 ghost use Rattle.c0_types.specs.FunctionViews.{at_entry, at_return, checked_of, first_scope as scope_at_first, numbers_in, parts_of};
 ghost use Rattle.c0_rules.specs.FaultPrograms.{InContracts, InFunction, InTypes};
@@ -14,23 +14,23 @@ ghost use Rattle.c0_rules.specs.Programs.{function_from as function_by, result_o
 ghost use Rattle.c0_rules.specs.Statements.{typed_statements};
 ghost use Rattle.c0_rules.specs.Types.{Name, VoidType, same_type};
 ghost use Rattle.c0_rules.specs.Answers.{Answers};
-ghost use Rattle.c0_tables.specs.Views.{environment_of, resolved_of, signature_of};
-ghost use Rattle.c0_terms.specs.Terms.{local_of};
+ghost use Rattle.c0_types_tables.specs.Views.{environment_of, resolved_of, signature_of};
+ghost use Rattle.c0_types_expressions.specs.Terms.{local_of};
 
 use crate::contracts::{Conditions, check_parameter_names, contract};
 use crate::headers::parameter_locals;
-use c0_bodies::bodies::Body;
-use c0_bodies::scope::Scope;
-use c0_flow::flow::paths::check_paths;
 use c0_source::fault::Fault;
 use c0_syntax::program::Header;
 use c0_syntax::statement::{Annotation, Statement};
-use c0_tables::environment::Environment;
-use c0_tables::names::Names;
-use c0_tables::resolved::ResolvedType;
-use c0_tables::signatures::Signature;
-use c0_terms::typing::{Local, Terms};
 use c0_typed::{Function, Statement as TypedStatement, ValueType};
+use c0_types_expressions::typing::{Local, Terms};
+use c0_types_flow::flow::paths::check_paths;
+use c0_types_statements::bodies::Body;
+use c0_types_statements::scope::Scope;
+use c0_types_tables::environment::Environment;
+use c0_types_tables::names::Names;
+use c0_types_tables::resolved::ResolvedType;
+use c0_types_tables::signatures::Signature;
 use std::alloc::{AllocError, Global};
 
 /// The statements of a body, and what is in scope behind them.

@@ -7,18 +7,18 @@ ghost use Rattle.c0_types.specs.DeclareViews.{Accepts};
 ghost use Rattle.c0_rules.specs.FaultPrograms.{AgainCause, AnySpecs, InHeader, ParameterCause, SecondName};
 ghost use Rattle.c0_rules.specs.Mentions.{specs_in};
 ghost use Rattle.c0_rules.specs.Programs.{agrees, are_none, names_of, parameter_types as types_of_parameters, parameters_from, signature as header_signature, with_function};
-ghost use Rattle.c0_terms.specs.Terms.{local_of};
+ghost use Rattle.c0_types_expressions.specs.Terms.{local_of};
 ghost use Rattle.c0_rules.specs.Types.{Signature as Declared, are_distinct};
 ghost use Rattle.c0_rules.specs.Answers.{Answers};
-ghost use Rattle.c0_tables.specs.Views.{environment_of, resolved_of, signature_of};
+ghost use Rattle.c0_types_tables.specs.Views.{environment_of, resolved_of, signature_of};
 
 use c0_source::fault::{Fault, FaultKind, Span};
 use c0_syntax::program::{Header, TypedName};
 use c0_syntax::statement::Annotation;
-use c0_tables::environment::Environment;
-use c0_tables::resolved::ResolvedType;
-use c0_tables::signatures::Signature;
-use c0_terms::typing::Local;
+use c0_types_expressions::typing::Local;
+use c0_types_tables::environment::Environment;
+use c0_types_tables::resolved::ResolvedType;
+use c0_types_tables::signatures::Signature;
 use std::alloc::{AllocError, Global};
 use std::collections::BTreeSet;
 

@@ -13,16 +13,16 @@ ghost use Rattle.c0_rules.specs.FaultPrograms.{FaultAt, InDeclarations, InWhole,
 ghost use Rattle.c0_rules.specs.Mentions.{calls_of, texts_of};
 ghost use Rattle.c0_rules.specs.Programs.{beginning, function_names_of, is_callable, is_defined, is_main, main_name, typed_declarations, typed_program};
 ghost use Rattle.c0_rules.specs.Types.{is_among, is_ascii};
-ghost use Rattle.c0_tables.specs.Views.{environment_of};
+ghost use Rattle.c0_types_tables.specs.Views.{environment_of};
 
 use crate::declare::{Elaborated, has_main};
-use c0_flow::mentioned::texts::collect_texts;
-use c0_flow::mentioned::{check_calls, check_texts};
 use c0_source::fault::{Fault, FaultKind, Span};
 use c0_syntax::program::{Declaration, DeclarationKind, Program};
-use c0_tables::environment::Environment;
-use c0_tables::names::Names;
 use c0_typed::Typed;
+use c0_types_flow::mentioned::texts::collect_texts;
+use c0_types_flow::mentioned::{check_calls, check_texts};
+use c0_types_tables::environment::Environment;
+use c0_types_tables::names::Names;
 use std::alloc::Global;
 
 /// What the declarations of a program make, and the texts that they write.

@@ -11,10 +11,10 @@ use Rattle.code_form.specs.Effects.{Heap, code_run, steps}
 use Rattle.code_form.specs.declared.allocation.Allocation.{Allocation}
 use Rattle.code_form.specs.Code.{Core, Running, Stopped, Stuck, code, output_of, stop_of}
 use Rattle.code_form.specs.Laws.{StepsAdd, StoppedStays}
-use Rattle.world_events.specs.Causes.{HasCause}
-use Rattle.world_events.specs.Following.{IsAt}
-use Rattle.world_events.specs.Programs.{Wanted}
-use Rattle.world_events.specs.Worlds.{Event, Follows, Sizes, World, start}
+use Rattle.world_semantics.specs.Causes.{HasCause}
+use Rattle.world_semantics.specs.Following.{IsAt}
+use Rattle.world_semantics.specs.Programs.{Wanted}
+use Rattle.world_semantics.specs.Worlds.{Event, Follows, Sizes, World, start}
 use Rattle.c0_image.specs.Compiled.{OneImage}
 use Rattle.c0_image.specs.Correct.{Behaves}
 use Rattle.c0far.specs.Headline.{EndsSo, IsRun, Promised, Settles, Headline}

@@ -10,9 +10,9 @@ use Rattle.code_form.specs.Form.{Image}
 use Rattle.code_form.specs.Effects.{code_run}
 use Rattle.code_form.specs.declared.allocation.Allocation.{Allocation}
 use Rattle.code_form.specs.Code.{Stopped, code, output_of, stop_of}
-use Rattle.world_events.specs.Causes.{HasCause}
-use Rattle.world_events.specs.Programs.{Program, Wanted}
-use Rattle.world_events.specs.Worlds.{Event, Follows, Sizes, World, start}
+use Rattle.world_semantics.specs.Causes.{HasCause}
+use Rattle.world_semantics.specs.Programs.{Program, Wanted}
+use Rattle.world_semantics.specs.Worlds.{Event, Follows, Sizes, World, start}
 use Rattle.c0_image.specs.Compiled.{IsCompiled}
 
 -- the meaning ends so: from some number of turns on, each number gives this output and this stop

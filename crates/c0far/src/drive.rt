@@ -114,7 +114,7 @@ fn check_named<O: Stream, E: Stream>(
 ) -> u8
     ensures { (held : Known) → HasText held text.now → Checks file.now held (writes O.contents O.failures out.old out.new) (writes E.contents E.failures err.old err.new) result }
 {
-    match check_text(alloc, text, Level::Core) {
+    match check_text(alloc, text, Level::C0) {
         Ok(_typed) => say_ok(out),
         Err(fault) if fault.kind == FaultKind::OutOfMemory => say_memory(err),
         Err(fault) => say_refused(err, file, text, fault),

@@ -4,7 +4,7 @@ ghost use Rattle.c0far.specs.Headline.{Headline};
 use c0_image::one_image;
 use c0_typed::more_turns;
 use code_form::run_laws;
-use world_events::{programs_follow, wants};
+use world_semantics::{programs_follow, wants};
 
 /// Whatever events programs and evacuators make in whichever order, over an honest store: of every text that is accepted, a program
 /// that runs its image has printed a beginning of what the text means; where it has stopped, the text means just that output

@@ -8,11 +8,11 @@ use Rattle.std.proofs.lemmas.Int.Digits.{first_digits_of}
 use Rattle.std.proofs.lemmas.Fmt.{decimal-digits_of, decimal-digits_value, decimal_is_IsNumeral, decimal_digit, digits_decimal, digits_value-decimal}
 use Rattle.std.proofs.lemmas.Str.Parse.{IsDigitsTest, FoldsDigits, IsNumeralModel, numerals_by_fold}
 use Rattle.std.proofs.lemmas.Bool.Decides.{nat_tests}
-use Rattle.world_events.specs.declared.event.Actor.{Actor}
-use Rattle.world_events.specs.declared.event.Actor.TheVariants as actor
-use Rattle.world_events.specs.declared.event.Choice.{Choice}
-use Rattle.world_events.specs.declared.event.Choice.TheVariants as choice
-use Rattle.world_events.specs.declared.event.Choice.TheVariants.{Mark}
+use Rattle.world_semantics.specs.declared.event.Actor.{Actor}
+use Rattle.world_semantics.specs.declared.event.Actor.TheVariants as actor
+use Rattle.world_semantics.specs.declared.event.Choice.{Choice}
+use Rattle.world_semantics.specs.declared.event.Choice.TheVariants as choice
+use Rattle.world_semantics.specs.declared.event.Choice.TheVariants.{Mark}
 use Rattle.schedule_lines.specs.Lines.{IsActor32, IsChoice32, IsLine, IsNoDigit, IsNoLine, spell, spell_actor, spell_choice}
 use Rattle.schedule_lines.specs.Numerals.{AreDigits, value_behind, HasDigits, IsTooGreat, is_plain, IsNumber, IsNoNumber, IsNumbered, IsNotNumbered, IsLast, IsNotLast, IsChosen, IsNotChosen, IsNamed, IsNotNamed}
 

@@ -1,9 +1,9 @@
 -- How the lines of a schedule are written.
 use Rattle.std.specs.Prelude.{◌≡◌, ◌≢◌, ℕ, ◌<◌, ◌≤◌, ◌^◌, List, [], ◌∷◌, ◌++◌, codes, decimal}
-use Rattle.world_events.specs.declared.event.Actor.{Actor}
-use Rattle.world_events.specs.declared.event.Actor.TheVariants as actor
-use Rattle.world_events.specs.declared.event.Choice.{Choice}
-use Rattle.world_events.specs.declared.event.Choice.TheVariants as choice
+use Rattle.world_semantics.specs.declared.event.Actor.{Actor}
+use Rattle.world_semantics.specs.declared.event.Actor.TheVariants as actor
+use Rattle.world_semantics.specs.declared.event.Choice.{Choice}
+use Rattle.world_semantics.specs.declared.event.Choice.TheVariants as choice
 
 -- an actor: a letter and its number
 abbrev pub spell_actor : Actor → List ℕ

@@ -1,7 +1,7 @@
 -- What stands at the beginning of a line: decimal numbers, an actor, a choice.
 use Rattle.std.specs.Prelude.{◌≡◌, ◌≢◌, ℕ, ◌+◌, ◌-◌, ◌*◌, ◌<◌, ◌≤◌, ◌^◌, ◌==◌, nat_lt, Bool, cond, List, [], ◌∷◌, ◌++◌, codes, decimal}
-use Rattle.world_events.specs.declared.event.Actor.{Actor}
-use Rattle.world_events.specs.declared.event.Choice.{Choice}
+use Rattle.world_semantics.specs.declared.event.Actor.{Actor}
+use Rattle.world_semantics.specs.declared.event.Choice.{Choice}
 use Rattle.schedule_lines.specs.Lines.{IsActor32, IsChoice32, IsNoDigit, spell_actor, spell_choice}
 
 -- all of these bytes are decimal digits

@@ -2,9 +2,9 @@
 ghost use Rattle.std.specs.Prelude.{◌≡◌, ◌≢◌, ◌+◌, ◌*◌, ◌≤◌, ◌^◌, ◌++◌, ℕ, List, MatchOption, codes};
 ghost use Rattle.schedule_lines.specs.Lines.{IsChoice32, IsLine, IsNoLine, spell_choice};
 ghost use Rattle.schedule_lines.specs.Numerals.{HasDigits, IsChosen, IsLast, IsNamed, IsNoNumber, IsNotChosen, IsNotLast, IsNotNamed, IsNotNumbered, IsNumber, IsNumbered, IsTooGreat, is_plain as spec_is_plain};
-ghost use Rattle.world_events.specs.declared.event.Choice.TheVariants.{Mark};
+ghost use Rattle.world_semantics.specs.declared.event.Choice.TheVariants.{Mark};
 
-use world_events::event::{Actor, Choice};
+use world_semantics::event::{Actor, Choice};
 
 /// What stands behind the word that begins the text.
 fn skip<'a>(text: &'a [u8], word: &[u8]) -> Option<&'a [u8]>

@@ -8,13 +8,13 @@ use Rattle.pointer_word.specs.Legal.{legal}
 use Rattle.pointer_word.specs.Sound.{Inv, FrameOk, PlaceOk}
 use Rattle.pointer_word.proofs.Legal.{may_legal}
 use Rattle.remote_store.specs.Kept.{piece_cells}
-use Rattle.world_events.specs.declared.event.Step.{Step}
-use Rattle.world_events.specs.declared.event.Step.TheVariants as step
+use Rattle.world_semantics.specs.declared.event.Step.{Step}
+use Rattle.world_semantics.specs.declared.event.Step.TheVariants as step
 use Rattle.world.specs.Acting.{Goes, Leads}
 use Rattle.world.specs.Shown.{Shown}
 use Rattle.world.specs.Tables.{Tables, frame_at, object_at, place_of, resting, word_of}
-use Rattle.world_events.specs.Worlds.{Sizes}
-use Rattle.world_events.specs.Turns.{Answer, Turn, NotEnabled, Alone, Calls, after_call, taken}
+use Rattle.world_semantics.specs.Worlds.{Sizes}
+use Rattle.world_semantics.specs.Turns.{Answer, Turn, NotEnabled, Alone, Calls, after_call, taken}
 use Rattle.world.proofs.Showing.{in_frames, in_objects}
 
 -- an answer of a store that does all, where nothing is read

@@ -8,8 +8,8 @@ use Rattle.remote_store.specs.Kept.{piece_cells}
 use Rattle.remote_store.specs.declared.berth.Berth.{Berth}
 use Rattle.remote_store.specs.declared.port.Port.{Port}
 use Rattle.world.specs.Answered.{AnswersSo, Asked, Nothing, Puts, asked_out}
-use Rattle.world_events.specs.Programs.{Copying}
-use Rattle.world_events.specs.Turns.{Answer}
+use Rattle.world_semantics.specs.Programs.{Copying}
+use Rattle.world_semantics.specs.Turns.{Answer}
 
 below_true : (a b : ℕ) → a < b → nat_lt a b ≡ true
 below_true a b l = grind (arith, nat_tests)

@@ -25,13 +25,13 @@ use Rattle.world.specs.declared.program.Mode.{Mode as RustMode}
 use Rattle.world.specs.declared.program.Mode.TheVariants as m
 use Rattle.world.specs.Acting.{Done, Failed, IsProgram, Leads, Moves, On, Outcome, Seated, Shows, UnreadSo, resumes}
 use Rattle.world.specs.Answered.{AnswersSo, Nothing, asked_in, reading}
-use Rattle.world_events.specs.InHand.{BringsInto, FitsMode, OnlyBrings, WasPut}
-use Rattle.world_events.specs.Programs.{Copying, Mode, Ready, Missing, Bringing, Reading, Filling, Evicting, Releasing, Retreating, Closing, Wanted, Program, finished as finished_as, in_mode}
+use Rattle.world_semantics.specs.InHand.{BringsInto, FitsMode, OnlyBrings, WasPut}
+use Rattle.world_semantics.specs.Programs.{Copying, Mode, Ready, Missing, Bringing, Reading, Filling, Evicting, Releasing, Retreating, Closing, Wanted, Program, finished as finished_as, in_mode}
 use Rattle.world.specs.Seats.{Seat, eviction_of, finished, mode_of}
 use Rattle.world.specs.Shown.{AreTables, IsNew, Shown}
 use Rattle.world.specs.Tables.{Tables, frame_at, frame_word, is_away_at, object_at, place_of, resting, word_of}
-use Rattle.world_events.specs.Turns.{Answer, Turn, Alone, Calls, began, claimed_so, evicts, found, marked_so, read_so, taken, to_fill}
-use Rattle.world_events.specs.Worlds.{IsHonestRead, ReadsHonestly, Sizes}
+use Rattle.world_semantics.specs.Turns.{Answer, Turn, Alone, Calls, began, claimed_so, evicts, found, marked_so, read_so, taken, to_fill}
+use Rattle.world_semantics.specs.Worlds.{IsHonestRead, ReadsHonestly, Sizes}
 use Rattle.world.proofs.Acting.{bringing_inside, claimed_inside, leads_call, plain, refused_call}
 use Rattle.world.proofs.Answered.{unasked}
 use Rattle.world.proofs.MovedOut.{leads_on}

@@ -6,14 +6,14 @@ use Rattle.pointer_word.specs.Hands.{listed}
 use Rattle.pointer_word.specs.Machine.{State}
 use Rattle.pointer_word.specs.Calls.{Arrives, Fills}
 use Rattle.remote_store.specs.Kept.{piece_cells}
-use Rattle.world_events.specs.declared.event.Choice.{Choice}
-use Rattle.world_events.specs.declared.event.Choice.TheVariants as choice
+use Rattle.world_semantics.specs.declared.event.Choice.{Choice}
+use Rattle.world_semantics.specs.declared.event.Choice.TheVariants as choice
 use Rattle.world.specs.declared.program.Mode.{Mode as RustMode}
 use Rattle.world.specs.declared.program.Mode.TheVariants as m
 use Rattle.world.specs.Acting.{IsProgram}
-use Rattle.world_events.specs.Programs.{Filling, Program, Setting, finished, in_mode}
+use Rattle.world_semantics.specs.Programs.{Filling, Program, Setting, finished, in_mode}
 use Rattle.world.specs.Seats.{Seat, mode_of}
-use Rattle.world_events.specs.Turns.{Answer, Turn, NotEnabled, Calls, as_next, by_mode, fills, program_turn, taken}
+use Rattle.world_semantics.specs.Turns.{Answer, Turn, NotEnabled, Calls, as_next, by_mode, fills, program_turn, taken}
 
 below_true : (a b : ℕ) → a < b → nat_lt a b ≡ true
 below_true a b l = grind (arith, nat_tests)

@@ -10,19 +10,19 @@ use Rattle.remote_store.specs.declared.berth.Berth.{Berth}
 use Rattle.remote_store.specs.declared.port.Port.{Port}
 use Rattle.world.specs.Answered.{AnswersSo, asked_idly, asked_out}
 use Rattle.world.specs.declared.evacuator.Evacuator.{Evacuator}
-use Rattle.world_events.specs.declared.event.Choice.{Choice}
-use Rattle.world_events.specs.declared.event.Choice.TheVariants as choice
-use Rattle.world_events.specs.declared.event.Step.{Step}
+use Rattle.world_semantics.specs.declared.event.Choice.{Choice}
+use Rattle.world_semantics.specs.declared.event.Choice.TheVariants as choice
+use Rattle.world_semantics.specs.declared.event.Step.{Step}
 use Rattle.world.specs.declared.program.Eviction.{Eviction as RustEviction}
 use Rattle.world.specs.Acting.{Evacuates, Goes, Leads, Moves, Shows, Unread, UnreadSo, eviction_in}
-use Rattle.world_events.specs.InHand.{FitsEvacuator}
-use Rattle.world_events.specs.Programs.{Eviction, Copying}
+use Rattle.world_semantics.specs.InHand.{FitsEvacuator}
+use Rattle.world_semantics.specs.Programs.{Eviction, Copying}
 use Rattle.world.specs.Seats.{eviction_of}
 use Rattle.world.specs.Tables.{Tables}
-use Rattle.world_events.specs.Turns.{Answer, evacuator_idle, evacuator_turn, evicts}
-use Rattle.world_events.specs.Worlds.{Sizes, in_range}
+use Rattle.world_semantics.specs.Turns.{Answer, evacuator_idle, evacuator_turn, evicts}
+use Rattle.world_semantics.specs.Worlds.{Sizes, in_range}
 use Rattle.world.proofs.Acting.{leads_call, plain}
-use Rattle.world_events.proofs.Moving.{below}
+use Rattle.world_semantics.proofs.Moving.{below}
 use Rattle.world.proofs.MovedOut.{MarkedSo}
 
 both : (a b : Bool) → (a && b) ≡ true → (a ≡ true) × (b ≡ true)

@@ -1,7 +1,7 @@
 -- the lowest scope that holds something
 use Rattle.std.proofs.Common.{◌≡◌, ℕ, zero, suc, ◌<◌, ◌≤◌, List, [], ◌∷◌, length, Option, Some, None, refl, ap, ◌∙◌, arith}
-use Rattle.world_events.specs.declared.hold.Hold.{Hold}
-use Rattle.world_events.specs.Programs.{behind, first_hold, hold_at}
+use Rattle.world_semantics.specs.declared.hold.Hold.{Hold}
+use Rattle.world_semantics.specs.Programs.{behind, first_hold, hold_at}
 
 pub first_there : (hs : List (Option Hold)) (k : ℕ) (h : Hold) → ((j : ℕ) → j < k → hold_at hs j ≡ None) → hold_at hs k ≡ Some h → first_hold hs ≡ Some (k, h)
 first_there [] k h below e = cc

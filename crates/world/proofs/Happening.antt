@@ -16,20 +16,20 @@ use Rattle.remote_store.specs.declared.berth.Berth.{Berth}
 use Rattle.remote_store.specs.declared.port.Port.{Port}
 use Rattle.world.specs.Answered.{AnswersSo, Asked, StoreTold, asked_idly, asked_in}
 use Rattle.world.specs.declared.evacuator.Evacuator.{Evacuator}
-use Rattle.world_events.specs.declared.event.Actor.{Actor}
-use Rattle.world_events.specs.declared.event.Actor.TheVariants as actor
-use Rattle.world_events.specs.declared.event.Choice.{Choice}
-use Rattle.world_events.specs.declared.event.Step.{Step}
-use Rattle.world_events.specs.declared.event.Step.TheVariants as step
+use Rattle.world_semantics.specs.declared.event.Actor.{Actor}
+use Rattle.world_semantics.specs.declared.event.Actor.TheVariants as actor
+use Rattle.world_semantics.specs.declared.event.Choice.{Choice}
+use Rattle.world_semantics.specs.declared.event.Step.{Step}
+use Rattle.world_semantics.specs.declared.event.Step.TheVariants as step
 use Rattle.world.specs.Acting.{Evacuates, Goes, IsProgram, IsWorld, Seated, Shows, Stepped, UnreadSo, eviction_in}
-use Rattle.world_events.specs.InHand.{FitsEvacuator, FitsMode}
-use Rattle.world_events.specs.Programs.{Eviction, Setting}
+use Rattle.world_semantics.specs.InHand.{FitsEvacuator, FitsMode}
+use Rattle.world_semantics.specs.Programs.{Eviction, Setting}
 use Rattle.world.specs.Seats.{Seat}
-use Rattle.world_events.specs.Steps.{IsSound}
+use Rattle.world_semantics.specs.Steps.{IsSound}
 use Rattle.world.specs.Tables.{Tables}
-use Rattle.world_events.specs.Turns.{Answer, evacuator_turn, program_turn, taken}
-use Rattle.world_events.specs.Worlds.{Event, Follows, IsHonest, ReadsHonestly, Sizes, World, acted, event, in_range, is_actor, mover_of, setting, start, with_evacuator, with_program}
-use Rattle.world_events.proofs.Stepping.{reached}
+use Rattle.world_semantics.specs.Turns.{Answer, evacuator_turn, program_turn, taken}
+use Rattle.world_semantics.specs.Worlds.{Event, Follows, IsHonest, ReadsHonestly, Sizes, World, acted, event, in_range, is_actor, mover_of, setting, start, with_evacuator, with_program}
+use Rattle.world_semantics.proofs.Stepping.{reached}
 
 -- one more event
 pub follows_push : (h : Type 0) (z : Sizes) (images : ℕ → Image) (w v u : World) (es : List Event) (e : Event) → Follows h z images w es v → event z images v e ≡ Some u → (h → IsHonest z v e.actor e.answer)

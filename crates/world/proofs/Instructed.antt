@@ -18,17 +18,17 @@ use Rattle.pointer_word.proofs.Legal.{may_legal}
 use Rattle.pointer_word.proofs.Upd.{upd-same}
 use Rattle.remote_store.specs.Kept.{piece_cells}
 use Rattle.remote_store.specs.declared.berth.Berth.{Berth}
-use Rattle.world_events.specs.declared.event.Step.{Step}
-use Rattle.world_events.specs.declared.event.Step.TheVariants as step
+use Rattle.world_semantics.specs.declared.event.Step.{Step}
+use Rattle.world_semantics.specs.declared.event.Step.TheVariants as step
 use Rattle.world.specs.declared.program.Mode.TheVariants as m
 use Rattle.world.specs.Acting.{Goes, IsProgram, Seated, Shows}
-use Rattle.world_events.specs.declared.hold.Hold.{Hold}
-use Rattle.world_events.specs.Programs.{Missing, Wanted, Program, Setting, finished as finished_as, first_hold, hold_at, holding, in_mode, may_grow, next_free, object_of, object_or_none, rest_of, next_touch as touch_next}
+use Rattle.world_semantics.specs.declared.hold.Hold.{Hold}
+use Rattle.world_semantics.specs.Programs.{Missing, Wanted, Program, Setting, finished as finished_as, first_hold, hold_at, holding, in_mode, may_grow, next_free, object_of, object_or_none, rest_of, next_touch as touch_next}
 use Rattle.world.specs.Seats.{Seat, finished, next_touch}
 use Rattle.world.specs.Shown.{AreTables, Shown}
 use Rattle.world.specs.Tables.{Tables, cells_at, object_at, place_of}
-use Rattle.world_events.specs.Turns.{Answer, Turn, NotEnabled, Alone, Calls, aims_at, closed_so, closes, ends_by, found, gives_up, grows, leaves_by, loads_by, loads_from, ready, stores_by, stores_to, taken}
-use Rattle.world_events.specs.Worlds.{Sizes}
+use Rattle.world_semantics.specs.Turns.{Answer, Turn, NotEnabled, Alone, Calls, aims_at, closed_so, closes, ends_by, found, gives_up, grows, leaves_by, loads_by, loads_from, ready, stores_by, stores_to, taken}
+use Rattle.world_semantics.specs.Worlds.{Sizes}
 use Rattle.world.proofs.Acting.{told_inside}
 use Rattle.world.proofs.BroughtIn.{TurnsTo, alone_to, calls_to, held_inside, note_count, program_finished, program_mode, reads_none}
 use Rattle.world.proofs.Showing.{history_set}

@@ -19,12 +19,12 @@ use Rattle.world.specs.declared.machine.Place.{Place as RustPlace}
 use Rattle.world.specs.declared.machine.Place.TheVariants as p
 use Rattle.world.specs.Acting.{Leads, Moves, Outcome, On, Done, Failed, Shows, Unread, UnreadSo, resumes}
 use Rattle.world.specs.Answered.{storing}
-use Rattle.world_events.specs.InHand.{FitsEviction, MovesOut}
-use Rattle.world_events.specs.Programs.{Eviction, Copying, Stored, NotStored, Refused, Freed}
+use Rattle.world_semantics.specs.InHand.{FitsEviction, MovesOut}
+use Rattle.world_semantics.specs.Programs.{Eviction, Copying, Stored, NotStored, Refused, Freed}
 use Rattle.world.specs.Shown.{AreFar, AreTables, Shown}
 use Rattle.world.specs.Tables.{Tables, cells_at, is_at_rest_in, is_here_at, is_marked_at, is_marked_by, object_at, place_of, word_of}
-use Rattle.world_events.specs.Turns.{Answer, Turn, Calls, after_call, committed_so, evicts, put_of, put_so, taken}
-use Rattle.world_events.specs.Worlds.{Sizes}
+use Rattle.world_semantics.specs.Turns.{Answer, Turn, Calls, after_call, committed_so, evicts, put_of, put_so, taken}
+use Rattle.world_semantics.specs.Worlds.{Sizes}
 use Rattle.world.proofs.Acting.{leads_call, leaving_inside, plain}
 
 commits_yes : (s : State) (m o f c : ℕ) (x : RustPlace) → (s.word o).count ≡ c → is_marked_at x c f m ≡ true → commit_at s m o f (place_of x) ≡ after_commit s m o f

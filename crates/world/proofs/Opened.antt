@@ -18,11 +18,11 @@ use Rattle.world.specs.Acting.{IsProgram, IsWorld}
 use Rattle.cells.specs.declared.ending.Ended.{Ended}
 use Rattle.code_form.specs.Code.{output_of}
 use Rattle.world.specs.Opened.{AreBegun, AreIdle, cell_of, images_of, sizes_of}
-use Rattle.world_events.specs.Programs.{Program, begun}
+use Rattle.world_semantics.specs.Programs.{Program, begun}
 use Rattle.world.specs.Seats.{Seat, begin, eviction_of}
 use Rattle.world.specs.Shown.{AreFar, IsFar, IsObject, Shown}
 use Rattle.world.specs.Tables.{FrameFits, Tables, cells_at, frame_word, free, object_at, place_of, resting}
-use Rattle.world_events.specs.Worlds.{Sizes, World, start}
+use Rattle.world_semantics.specs.Worlds.{Sizes, World, start}
 use Rattle.world.proofs.Acting.{frame_inside}
 use Rattle.world.proofs.Happening.{sound}
 

@@ -3,13 +3,13 @@ use Rattle.std.proofs.Common.{◌≡◌, ◌≢◌, ℕ, zero, suc, ◌+◌, ◌
 use Rattle.std.specs.Prelude.{codes}
 use Rattle.cells.specs.declared.ending.Ended.{Ended}
 use Rattle.code_form.specs.Form.{Image}
-use Rattle.world_events.specs.declared.event.Actor.{Actor}
-use Rattle.world_events.specs.declared.event.Actor.TheVariants as actor
-use Rattle.world_events.specs.Programs.{Program}
+use Rattle.world_semantics.specs.declared.event.Actor.{Actor}
+use Rattle.world_semantics.specs.declared.event.Actor.TheVariants as actor
+use Rattle.world_semantics.specs.Programs.{Program}
 use Rattle.schedule_lines.specs.Lines.{Line, IsLine, IsLine32, spell, spell_actor, spell_choice}
 use Rattle.world.specs.Reports.{event_of, AreEnds, AreLines, HasCome, HasLed, IsEnded, LinesLead}
-use Rattle.world_events.specs.Turns.{Answer}
-use Rattle.world_events.specs.Worlds.{IsHonest, Sizes, World, event}
+use Rattle.world_semantics.specs.Turns.{Answer}
+use Rattle.world_semantics.specs.Worlds.{IsHonest, Sizes, World, event}
 
 -- one line more
 pub line_more : (xs : List Line) (x : Line) (text : List ℕ) → AreLines xs text → IsLine32 x → AreLines (xs ++ x ∷ []) (text ++ spell x)

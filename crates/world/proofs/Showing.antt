@@ -12,7 +12,7 @@ use Rattle.remote_store.specs.Kept.{piece_cells}
 use Rattle.world.specs.declared.machine.Object.{Object}
 use Rattle.world.specs.declared.machine.Frame.{Frame}
 use Rattle.world.specs.Tables.{Tables, cells_at, frame_at, frame_word, free, object_at, place_of, resting, with_cell, with_frame, with_object, word_of}
-use Rattle.world_events.specs.Worlds.{Sizes}
+use Rattle.world_semantics.specs.Worlds.{Sizes}
 use Rattle.world.specs.Shown.{IsObject, AreTables, Shown}
 
 -- reading behind a write

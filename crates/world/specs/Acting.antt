@@ -5,21 +5,21 @@ use Rattle.pointer_word.specs.Machine.{Far, State}
 use Rattle.pointer_word.specs.Sound.{Inv}
 use Rattle.remote_store.specs.Kept.{piece_cells}
 use Rattle.remote_store.specs.declared.berth.Berth.{Berth}
-use Rattle.world_events.specs.declared.event.Actor.{Actor}
-use Rattle.world_events.specs.declared.event.Choice.{Choice}
-use Rattle.world_events.specs.declared.event.Step.{Step}
-use Rattle.world_events.specs.declared.event.Step.TheVariants as step
+use Rattle.world_semantics.specs.declared.event.Actor.{Actor}
+use Rattle.world_semantics.specs.declared.event.Choice.{Choice}
+use Rattle.world_semantics.specs.declared.event.Step.{Step}
+use Rattle.world_semantics.specs.declared.event.Step.TheVariants as step
 use Rattle.world.specs.Answered.{Asked, asked_in}
 use Rattle.world.specs.declared.evacuator.Evacuator.{Evacuator}
 use Rattle.world.specs.declared.evict.Evicted.{Evicted}
 use Rattle.world.specs.declared.evict.Evicted.TheVariants as e
-use Rattle.world_events.specs.InHand.{FitsEvacuator, FitsEviction, FitsMode}
-use Rattle.world_events.specs.Programs.{Eviction, Program}
+use Rattle.world_semantics.specs.InHand.{FitsEvacuator, FitsEviction, FitsMode}
+use Rattle.world_semantics.specs.Programs.{Eviction, Program}
 use Rattle.world.specs.Seats.{Seat, eviction_of, mode_of}
 use Rattle.world.specs.Shown.{AreFar, Shown}
 use Rattle.world.specs.Tables.{Tables}
-use Rattle.world_events.specs.Turns.{Answer, Turn, taken}
-use Rattle.world_events.specs.Worlds.{Event, Follows, IsHonest, ReadsHonestly, Sizes, World, event, setting, start}
+use Rattle.world_semantics.specs.Turns.{Answer, Turn, taken}
+use Rattle.world_semantics.specs.Worlds.{Event, Follows, IsHonest, ReadsHonestly, Sizes, World, event, setting, start}
 
 -- for an answer of this kind a turn is enabled, and leads to what Q says
 abbrev pub Leads : {A : Type 0} → State → (Answer → Turn A) → (Answer → Type 0) → (State → A → Type 0) → Type 0

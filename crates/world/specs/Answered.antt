@@ -7,11 +7,11 @@ use Rattle.remote_store.specs.declared.port.Port.{Port}
 use Rattle.remote_store.specs.declared.port.Refusal.{Refusal}
 use Rattle.world.specs.declared.evacuator.Evacuator.{Evacuator}
 use Rattle.world.specs.Seats.{Seat}
-use Rattle.world_events.specs.declared.event.Actor.{Actor}
-use Rattle.world_events.specs.declared.event.Actor.TheVariants as actor
-use Rattle.world_events.specs.Programs.{Eviction, Copying, Stored, NotStored, Refused, Freed, Mode, Ready, Missing, Bringing, Reading, Filling, Evicting, Releasing, Retreating, Closing, Wanted}
-use Rattle.world_events.specs.Turns.{Answer}
-use Rattle.world_events.specs.Worlds.{Sizes, World}
+use Rattle.world_semantics.specs.declared.event.Actor.{Actor}
+use Rattle.world_semantics.specs.declared.event.Actor.TheVariants as actor
+use Rattle.world_semantics.specs.Programs.{Eviction, Copying, Stored, NotStored, Refused, Freed, Mode, Ready, Missing, Bringing, Reading, Filling, Evicting, Releasing, Retreating, Closing, Wanted}
+use Rattle.world_semantics.specs.Turns.{Answer}
+use Rattle.world_semantics.specs.Worlds.{Sizes, World}
 
 -- what an event asks of the store: nothing, or to put an object's words, or to get them
 pub data Asked : Type 0 where

@@ -7,7 +7,7 @@ use Rattle.pointer_word.specs.Words.{framed}
 use Rattle.remote_store.specs.Kept.{piece_cells}
 use Rattle.world.specs.declared.evacuator.Evacuator.{Evacuator}
 use Rattle.world.specs.Seats.{Seat, begin}
-use Rattle.world_events.specs.Worlds.{Sizes}
+use Rattle.world_semantics.specs.Worlds.{Sizes}
 
 -- an image without a function
 abbrev pub no_image : Image

@@ -8,11 +8,11 @@ use Rattle.cells.specs.Stops.{stop_of as stop_read}
 use Rattle.code_form.specs.Code.{output_of, stop_of}
 use Rattle.code_form.specs.Form.{Image}
 use Rattle.schedule_lines.specs.Lines.{Line, IsLine, IsLine32, IsNoLine, spell}
-use Rattle.world_events.specs.Programs.{Program, Wanted}
+use Rattle.world_semantics.specs.Programs.{Program, Wanted}
 use Rattle.world.specs.declared.schedule.Refused.{Refused}
 use Rattle.world.specs.declared.schedule.Refused.TheVariants as refused
-use Rattle.world_events.specs.Turns.{Answer}
-use Rattle.world_events.specs.Worlds.{Event, IsHonest, Sizes, World, event, start}
+use Rattle.world_semantics.specs.Turns.{Answer}
+use Rattle.world_semantics.specs.Worlds.{Event, IsHonest, Sizes, World, event, start}
 
 -- a program has stopped so, or wants this; or neither
 abbrev pub RunsAs : Program → Run → Type 0

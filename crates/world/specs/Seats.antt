@@ -11,8 +11,8 @@ use Rattle.world.specs.declared.program.Eviction.{Eviction as RustEviction}
 use Rattle.world.specs.declared.program.Eviction.TheVariants as e
 use Rattle.world.specs.declared.program.Mode.{Mode as RustMode}
 use Rattle.world.specs.declared.program.Mode.TheVariants as m
-use Rattle.world_events.specs.declared.hold.Hold.{Hold}
-use Rattle.world_events.specs.Programs.{Eviction, Copying, Stored, NotStored, Refused, Freed, Mode, Ready, Missing, Bringing, Reading, Filling, Evicting, Releasing, Retreating, Closing, Wanted, Program, Setting}
+use Rattle.world_semantics.specs.declared.hold.Hold.{Hold}
+use Rattle.world_semantics.specs.Programs.{Eviction, Copying, Stored, NotStored, Refused, Freed, Mode, Ready, Missing, Bringing, Reading, Filling, Evicting, Releasing, Retreating, Closing, Wanted, Program, Setting}
 
 -- what a program runs on, where its code is, what its scopes hold, where it is within its next instruction, the words that it copies or fills
 -- with, and how many instructions it has completed, modulo 2^64

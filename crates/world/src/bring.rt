@@ -6,18 +6,18 @@ ghost use Rattle.pointer_word.specs.Machine.{Far};
 ghost use Rattle.remote_store.specs.Kept.{piece_cells};
 ghost use Rattle.world.specs.Acting.{IsProgram, Turns, TurnsIn, TurnsTold};
 ghost use Rattle.world.specs.Answered.{AnswersSo};
-ghost use Rattle.world_events.specs.Programs.{Program as Defined, Bringing, Closing, Evicting, Filling, Missing, Retreating, finished as finished_as, in_mode};
+ghost use Rattle.world_semantics.specs.Programs.{Program as Defined, Bringing, Closing, Evicting, Filling, Missing, Retreating, finished as finished_as, in_mode};
 ghost use Rattle.world.specs.Seats.{IsSteady, Waits, eviction_of, mode_of, next_touch};
 ghost use Rattle.world.specs.Shown.{IsNew};
-ghost use Rattle.world_events.specs.Turns.{Alone, Calls, began, claimed_so, evicts, marked_so, read_so, seeks, to_fill};
-ghost use Rattle.world_events.specs.Worlds.{in_range};
+ghost use Rattle.world_semantics.specs.Turns.{Alone, Calls, began, claimed_so, evicts, marked_so, read_so, seeks, to_fill};
+ghost use Rattle.world_semantics.specs.Worlds.{in_range};
 
 use crate::evict::mark;
 use crate::lock::Lock;
 use crate::machine::Place;
 use crate::program::{Eviction, Mode, Program};
 use remote_store::{Port, RawStore};
-use world_events::event::{Choice, Step};
+use world_semantics::event::{Choice, Step};
 
 impl<'a> Program<'a> {
     /// An aim whose hold is open completes where the object is in a frame.

@@ -3,10 +3,10 @@ ghost use Rattle.std.specs.Prelude.{◌≡◌, ◌≢◌, ◌<◌, ℕ, IfOk, Li
 ghost use Rattle.cells.specs.declared.ending.Want.{Want as WantOf};
 ghost use Rattle.code_form.specs.Form.{Image};
 ghost use Rattle.world.specs.Acting.{IsProgram, IsWorld};
-ghost use Rattle.world_events.specs.Programs.{Program as Defined, Wanted};
+ghost use Rattle.world_semantics.specs.Programs.{Program as Defined, Wanted};
 ghost use Rattle.world.specs.Reports.{AreEnds, IsEnded, RunsAs};
 ghost use Rattle.world.specs.Seats.{mode_of};
-ghost use Rattle.world_events.specs.Worlds.{Sizes, World as DefinedWorld};
+ghost use Rattle.world_semantics.specs.Worlds.{Sizes, World as DefinedWorld};
 
 use crate::program::{Mode, Program};
 use crate::world::World;

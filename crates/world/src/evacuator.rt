@@ -5,14 +5,14 @@ ghost use Rattle.remote_store.specs.Kept.{piece_cells};
 ghost use Rattle.world.specs.Acting.{Evacuates, Goes, Leads, Shows, Unread, UnreadSo, eviction_in};
 ghost use Rattle.world.specs.Answered.{AnswersSo, asked_idly, asked_out};
 ghost use Rattle.world.specs.Seats.{eviction_of};
-ghost use Rattle.world_events.specs.Turns.{evacuator_idle, evacuator_turn, evicts};
-ghost use Rattle.world_events.specs.Worlds.{Sizes, in_range};
+ghost use Rattle.world_semantics.specs.Turns.{evacuator_idle, evacuator_turn, evicts};
+ghost use Rattle.world_semantics.specs.Worlds.{Sizes, in_range};
 
 use crate::evict::{evict, mark};
 use crate::lock::Lock;
 use crate::program::Eviction;
 use remote_store::{PIECE_CELLS, Port, RawStore};
-use world_events::event::{Choice, Step};
+use world_semantics::event::{Choice, Step};
 
 /// Its number as a mover, how far it is with moving an object out, if it does, and the words that it has copied.
 #[derive(Drop)]

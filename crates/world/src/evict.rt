@@ -7,12 +7,12 @@ ghost use Rattle.pointer_word.specs.Sound.{Inv};
 ghost use Rattle.remote_store.specs.Kept.{piece_cells};
 ghost use Rattle.world.specs.Acting.{Done, Failed, Leads, Moves, On, Shows, Unread, UnreadSo, outcome_of, resumes};
 ghost use Rattle.world.specs.Answered.{AnswersSo, Puts, asked_out};
-ghost use Rattle.world_events.specs.InHand.{MovesOut};
+ghost use Rattle.world_semantics.specs.InHand.{MovesOut};
 ghost use Rattle.world.specs.Seats.{IsSteady, Waits, eviction_of, mode_of};
-ghost use Rattle.world_events.specs.Programs.{Bringing, Evicting, Retreating};
+ghost use Rattle.world_semantics.specs.Programs.{Bringing, Evicting, Retreating};
 ghost use Rattle.code_form.specs.declared.touch.Touch.{Touch};
-ghost use Rattle.world_events.specs.Turns.{evicts};
-ghost use Rattle.world_events.specs.Worlds.{Sizes};
+ghost use Rattle.world_semantics.specs.Turns.{evicts};
+ghost use Rattle.world_semantics.specs.Worlds.{Sizes};
 
 use crate::lock::Lock;
 use crate::machine::Place;

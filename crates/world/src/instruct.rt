@@ -7,17 +7,17 @@ ghost use Rattle.pointer_word.specs.Calls.{Clears};
 ghost use Rattle.remote_store.specs.Kept.{piece_cells};
 ghost use Rattle.std.specs.Prelude.{◌≡◌, ◌<◌, IfSome, None, Some, cond, option_map, true};
 ghost use Rattle.world.specs.Acting.{IsProgram, Turns};
-ghost use Rattle.world_events.specs.Programs.{Program as Defined, first_hold, finished as finished_as, hold_at, holding, next_touch as touch_next};
+ghost use Rattle.world_semantics.specs.Programs.{Program as Defined, first_hold, finished as finished_as, hold_at, holding, next_touch as touch_next};
 ghost use Rattle.world.specs.Seats.{IsSteady, next_touch};
-ghost use Rattle.world_events.specs.Turns.{Alone, Calls, NotEnabled, aims_at, closed_so, closes, gives_up, grows, leaves_by, loads_by, loads_from, ready, stores_by, stores_to};
+ghost use Rattle.world_semantics.specs.Turns.{Alone, Calls, NotEnabled, aims_at, closed_so, closes, gives_up, grows, leaves_by, loads_by, loads_from, ready, stores_by, stores_to};
 
 use crate::lock::Lock;
 use crate::program::{Mode, Program, pieces};
 use cells::Want;
 use code_form::{Cell, Touch};
 use remote_store::{PIECE_CELLS, RawStore};
-use world_events::event::Step;
-use world_events::hold::Hold;
+use world_semantics::event::Step;
+use world_semantics::hold::Hold;
 
 impl<'a> Program<'a> {
     /// Closes what the scope holds.

@@ -16,4 +16,4 @@ mod world;
 
 pub use schedule::{Refused, Report, replay};
 pub use world::World;
-pub use world_events::event::{Actor, Choice, Step};
+pub use world_semantics::event::{Actor, Choice, Step};

@@ -5,9 +5,9 @@ ghost use Rattle.pointer_word.specs.Machine.{Far};
 ghost use Rattle.remote_store.specs.Kept.{piece_cells};
 ghost use Rattle.world.specs.Answered.{AnswersSo, Gets, Puts, reading, storing};
 ghost use Rattle.world.specs.Shown.{AreFar, IsNew};
-ghost use Rattle.world_events.specs.InHand.{WasPut};
-ghost use Rattle.world_events.specs.Turns.{put_of};
-ghost use Rattle.world_events.specs.Worlds.{IsHonestRead};
+ghost use Rattle.world_semantics.specs.InHand.{WasPut};
+ghost use Rattle.world_semantics.specs.Turns.{put_of};
+ghost use Rattle.world_semantics.specs.Worlds.{IsHonestRead};
 
 use crate::machine::Machine;
 use remote_store::{Berth, PIECE_CELLS, Port, RawStore};

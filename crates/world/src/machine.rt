@@ -6,7 +6,7 @@ ghost use Rattle.pointer_word.specs.Words.{cleared, counted, framed, mark_bit, p
 ghost use Rattle.remote_store.specs.Kept.{piece_cells};
 ghost use Rattle.world.specs.Tables.{cells_at, frame_at, frame_word, free, is_at_rest_in, is_away_at, is_marked_by, object_at, place_of, resting, with_cell, with_frame, with_object, word_of, FrameFits};
 ghost use Rattle.world.specs.Shown.{Shown};
-ghost use Rattle.world_events.specs.Worlds.{Sizes};
+ghost use Rattle.world_semantics.specs.Worlds.{Sizes};
 
 use pointer_word::Word;
 use remote_store::PIECE_CELLS;

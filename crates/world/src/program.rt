@@ -11,12 +11,12 @@ ghost use Rattle.remote_store.specs.Kept.{piece_cells};
 ghost use Rattle.std.specs.Prelude.{◌≡◌, ◌+◌, ◌-◌, ◌/◌, ◌<◌, ◌≤◌, ◌^◌, ℕ, IfOk, MatchResult, None, Some, length, option_map, slice_index, slice_set, true};
 ghost use Rattle.world.specs.Acting.{Done, Failed, Leads, Moves, On, Shows, UnreadSo, outcome_of};
 ghost use Rattle.world.specs.Answered.{AnswersSo, Gets, asked_out, reading};
-ghost use Rattle.world_events.specs.Programs.{first_hold, hold_at};
+ghost use Rattle.world_semantics.specs.Programs.{first_hold, hold_at};
 ghost use Rattle.world.specs.Seats.{IsSteady, Waits, begin, eviction_of, finished, next_touch};
 ghost use Rattle.world.specs.Shown.{AreFar};
-ghost use Rattle.world_events.specs.InHand.{WasPut};
-ghost use Rattle.world_events.specs.Turns.{evicts};
-ghost use Rattle.world_events.specs.Worlds.{IsHonestRead, Sizes};
+ghost use Rattle.world_semantics.specs.InHand.{WasPut};
+ghost use Rattle.world_semantics.specs.Turns.{evicts};
+ghost use Rattle.world_semantics.specs.Worlds.{IsHonestRead, Sizes};
 
 use crate::evict::{Evicted, evict};
 use crate::lock::Lock;
@@ -25,7 +25,7 @@ use code_form::{Cell, Execution, Image, Touch, effect_laws, heap_laws};
 use remote_store::{PIECE_CELLS, Port, RawStore};
 use std::alloc::{AllocError, Global};
 use std::marker::Model;
-use world_events::hold::Hold;
+use world_semantics::hold::Hold;
 
 /// How far a mover is that moves an object out of a frame.
 #[derive(Clone, Copy, PartialEq, Eq, Debug)]

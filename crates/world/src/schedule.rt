@@ -4,7 +4,7 @@ ghost use Rattle.code_form.specs.Form.{Image as ImageOf};
 ghost use Rattle.world.specs.Acting.{IsWorld};
 ghost use Rattle.world.specs.Opened.{images_of, sizes_of};
 ghost use Rattle.world.specs.Reports.{HasLed, IsRefusal, IsRefusedLine, IsReport};
-ghost use Rattle.world_events.specs.Worlds.{Sizes, World as Defined};
+ghost use Rattle.world_semantics.specs.Worlds.{Sizes, World as Defined};
 
 use crate::world::World;
 use cells::Ended;
@@ -13,7 +13,7 @@ use remote_store::{Config, RawStore, Stores};
 use schedule_lines::line::read_line;
 use std::alloc::Global;
 use thiserror::Error;
-use world_events::event::Step;
+use world_semantics::event::Step;
 
 /// What each program printed, how it runs, and how many instructions it completed, after all lines of a schedule.
 #[derive(Debug, Drop)]

@@ -4,13 +4,13 @@ ghost use Rattle.std.specs.Prelude.{◌≡◌, [], true};
 ghost use Rattle.world.specs.Acting.{Turns, TurnsTold};
 ghost use Rattle.world.specs.Answered.{AnswersSo};
 ghost use Rattle.world.specs.Seats.{IsSteady, Waits, mode_of, next_touch};
-ghost use Rattle.world_events.specs.Turns.{by_mode, fills, program_turn};
-ghost use Rattle.world_events.specs.Worlds.{in_range};
+ghost use Rattle.world_semantics.specs.Turns.{by_mode, fills, program_turn};
+ghost use Rattle.world_semantics.specs.Worlds.{in_range};
 
 use crate::lock::Lock;
 use crate::program::{Mode, Program};
 use remote_store::{PIECE_CELLS, Port, RawStore};
-use world_events::event::{Choice, Step};
+use world_semantics::event::{Choice, Step};
 
 impl<'a> Program<'a> {
     /// Fills the next cell with what it has read; behind the last the object arrives.

@@ -6,7 +6,7 @@ ghost use Rattle.world.specs.Opened.{cell_of, images_of, sizes_of};
 ghost use Rattle.pointer_word.specs.Words.{pack};
 ghost use Rattle.world.specs.Acting.{IsWorld, Stepped};
 ghost use Rattle.world.specs.Answered.{StoreTold};
-ghost use Rattle.world_events.specs.Worlds.{Sizes, World as Defined, in_range, start};
+ghost use Rattle.world_semantics.specs.Worlds.{Sizes, World as Defined, in_range, start};
 
 use crate::evacuator::Evacuator;
 use crate::lock::Lock;
@@ -18,7 +18,7 @@ use code_form::Image;
 use pointer_word::Word;
 use remote_store::{Config, Port, RawStore, Stores};
 use std::alloc::Global;
-use world_events::event::{Actor, Choice, Step};
+use world_semantics::event::{Actor, Choice, Step};
 
 /// A world as code keeps it: the machine with its berths, and each actor with its way to the store.
 #[derive(Drop)]

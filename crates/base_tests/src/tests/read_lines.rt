@@ -1,6 +1,6 @@
 //! What is read as a line of a schedule.
 use schedule_lines::line::read_line;
-use world_events::event::{Actor, Choice};
+use world_semantics::event::{Actor, Choice};
 
 // The actor and the choice of a line, and how many bytes stand behind it.
 fn read(text: &str) -> Option<(Actor, Choice, usize)> {

@@ -3,8 +3,8 @@ use Rattle.std.proofs.lemmas.Result.{err_from_is_err_and}
 use Rattle.c0_source.specs.SourceTexts.{IsSourceText}
 use Rattle.c0_lexer.specs.Lexed.{IsFault, IsLexed, lexeme}
 use Rattle.c0_lexer.specs.declared.token.Token.{Token}
-use Rattle.c0_reading.proofs.ParsedTokens.{lexed}
-use Rattle.c0_reading.specs.Tokens.{AreTokens}
+use Rattle.c0_grammar_laws.proofs.ParsedTokens.{lexed}
+use Rattle.c0_grammar_laws.specs.Tokens.{AreTokens}
 use Rattle.c0_syntax.specs.Levels.{has_loops}
 use Rattle.c0_front.specs.Texts.{HasTokens}
 use Rattle.c0_front.proofs.TextSteps.{read_every, read_so, token_kind}

@@ -1,8 +1,8 @@
 use Rattle.std.proofs.Common.{sym, ◌∙◌, ◌+◌, ◌-◌, suc, length, map, arith}
 use Rattle.std.proofs.lemmas.Result.{err_from_is_err_and}
 use Rattle.c0_syntax.specs.Views.{annotation_of}
-use Rattle.c0_reading.specs.Outcome.{next}
-use Rattle.c0_reading.specs.ReadStatements.{read_annotations, read_specs}
+use Rattle.c0_grammar_laws.specs.Outcome.{next}
+use Rattle.c0_grammar_laws.specs.ReadStatements.{read_annotations, read_specs}
 use Rattle.c0_parser.proofs.ListLoops.{annotations_last, annotations_none, annotations_step, list_done, list_fails, list_more, list_refused, map_push}
 use Rattle.c0_parser.proofs.annotations.annotations.Goals as goal
 

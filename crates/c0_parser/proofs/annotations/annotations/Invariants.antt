@@ -1,6 +1,6 @@
 use Rattle.std.proofs.Common.{◌≡◌, ◌-◌, suc, length, map}
 use Rattle.c0_syntax.specs.Views.{annotation_of}
-use Rattle.c0_reading.specs.ReadStatements.{read_annotations}
+use Rattle.c0_grammar_laws.specs.ReadStatements.{read_annotations}
 use Rattle.c0_parser.proofs.ListLoops.{with_list}
 use Rattle.c0_parser.proofs.annotations.annotations.Given as goal
 

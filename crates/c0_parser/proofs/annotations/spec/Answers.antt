@@ -1,6 +1,6 @@
 use Rattle.std.proofs.Common.{arith}
 use Rattle.c0_syntax.specs.Views.{spec_of}
-use Rattle.c0_cursor.proofs.Turned.{gives_along}
+use Rattle.c0_parser_cursor.proofs.Turned.{gives_along}
 use Rattle.c0_parser.proofs.ListLoops.{spec_none, spec_some}
 use Rattle.c0_parser.proofs.annotations.spec.Goals as goal
 

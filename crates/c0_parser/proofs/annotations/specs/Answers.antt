@@ -1,7 +1,7 @@
 use Rattle.std.proofs.Common.{sym, ◌∙◌, ◌+◌, ◌-◌, map, arith}
 use Rattle.std.proofs.lemmas.Result.{err_from_is_err_and}
 use Rattle.c0_syntax.specs.Views.{spec_of}
-use Rattle.c0_reading.specs.ReadStatements.{read_spec, read_specs}
+use Rattle.c0_grammar_laws.specs.ReadStatements.{read_spec, read_specs}
 use Rattle.c0_parser.proofs.ListLoops.{list_done, list_fails, list_more, list_refused, map_push, specs_last, specs_none, specs_step}
 use Rattle.c0_parser.proofs.annotations.specs.Goals as goal
 

@@ -1,6 +1,6 @@
 use Rattle.std.proofs.Common.{◌≡◌, ◌-◌, map}
 use Rattle.c0_syntax.specs.Views.{spec_of}
-use Rattle.c0_reading.specs.ReadStatements.{read_specs}
+use Rattle.c0_grammar_laws.specs.ReadStatements.{read_specs}
 use Rattle.c0_parser.proofs.ListLoops.{with_list}
 use Rattle.c0_parser.proofs.annotations.specs.Given as goal
 

@@ -1,6 +1,6 @@
 use Rattle.std.proofs.Common.{◌≡◌, sym}
 use Rattle.c0_source.specs.declared.kind.Kind.TheVariants as k
-use Rattle.c0_reading.specs.Outcome.{plain_at}
+use Rattle.c0_grammar_laws.specs.Outcome.{plain_at}
 use Rattle.c0_parser.proofs.declarations.declaration.Goals as goal
 
 pub returns-in-Use-clause-given : goal.returns-in-Use-clause-given

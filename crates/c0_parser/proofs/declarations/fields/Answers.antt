@@ -1,7 +1,7 @@
 use Rattle.std.proofs.Common.{sym, ◌∙◌, ◌+◌, ◌-◌, map, arith}
 use Rattle.std.proofs.lemmas.Result.{err_from_is_err_and}
 use Rattle.c0_syntax.specs.Views.{typed_name_of}
-use Rattle.c0_reading.specs.ReadPrograms.{read_fields}
+use Rattle.c0_grammar_laws.specs.ReadPrograms.{read_fields}
 use Rattle.c0_parser.specs.FoundPrograms.{one_field}
 use Rattle.c0_parser.proofs.ListLoops.{list_done, list_fails, list_more, list_refused, map_push}
 use Rattle.c0_parser.proofs.ProgramLoops.{fields_last, fields_none, fields_step}

@@ -1,6 +1,6 @@
 use Rattle.std.proofs.Common.{◌≡◌, ◌-◌, map}
 use Rattle.c0_syntax.specs.Views.{typed_name_of}
-use Rattle.c0_reading.specs.ReadPrograms.{read_fields}
+use Rattle.c0_grammar_laws.specs.ReadPrograms.{read_fields}
 use Rattle.c0_parser.proofs.ListLoops.{with_list}
 use Rattle.c0_parser.proofs.declarations.fields.Given as goal
 

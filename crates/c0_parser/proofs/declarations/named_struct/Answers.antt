@@ -1,6 +1,6 @@
 use Rattle.std.proofs.Common.{◌≡◌, ap, sym, ◌∙◌}
 use Rattle.c0_source.specs.declared.kind.Kind.TheVariants as k
-use Rattle.c0_reading.specs.Outcome.{next, plain_at}
+use Rattle.c0_grammar_laws.specs.Outcome.{next, plain_at}
 use Rattle.c0_parser.proofs.declarations.named_struct.Goals as goal
 
 pub returns-in-Semi-clause-given : goal.returns-in-Semi-clause-given

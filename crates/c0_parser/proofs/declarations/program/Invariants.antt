@@ -1,6 +1,6 @@
 use Rattle.std.proofs.Common.{◌≡◌, ◌-◌, length, map}
 use Rattle.c0_syntax.specs.Views.{declaration_of}
-use Rattle.c0_reading.specs.ReadPrograms.{read_declarations, read_program}
+use Rattle.c0_grammar_laws.specs.ReadPrograms.{read_declarations, read_program}
 use Rattle.c0_parser.proofs.ProgramLoops.{with_declarations}
 use Rattle.c0_parser.proofs.declarations.program.Given as goal
 

@@ -1,6 +1,6 @@
 use Rattle.std.proofs.Common.{◌≡◌, ◌-◌, length, map}
 use Rattle.c0_syntax.specs.Views.{typed_name_of}
-use Rattle.c0_reading.specs.ReadPrograms.{read_parameters}
+use Rattle.c0_grammar_laws.specs.ReadPrograms.{read_parameters}
 use Rattle.c0_parser.proofs.ProgramLoops.{with_parameters}
 use Rattle.c0_parser.proofs.declarations.some_parameters.Given as goal
 

@@ -3,10 +3,10 @@ use Rattle.c0_lexer.specs.Lexed.{lexeme}
 use Rattle.c0_source.specs.Terminals.{terminals}
 use Rattle.c0_syntax.specs.Levels.{has_loops}
 use Rattle.c0_syntax.specs.Views.{declaration_of}
-use Rattle.c0_reading.specs.Parsing.{before_last, read_from}
-use Rattle.c0_reading.specs.ReadPrograms.{read_program}
-use Rattle.c0_cursor.proofs.Turned.{gives_along}
-use Rattle.c0_reading.proofs.ParsedTokens.{are_taken, last_left}
+use Rattle.c0_grammar_laws.specs.Parsing.{before_last, read_from}
+use Rattle.c0_grammar_laws.specs.ReadPrograms.{read_program}
+use Rattle.c0_parser_cursor.proofs.Turned.{gives_along}
+use Rattle.c0_grammar_laws.proofs.ParsedTokens.{are_taken, last_left}
 use Rattle.c0_parser.proofs.parse.declarations_of.Goals as goal
 
 pub new-cursor-requires : goal.new-cursor-requires

@@ -2,9 +2,9 @@ use Rattle.std.proofs.Common.{map}
 use Rattle.c0_lexer.specs.Lexed.{lexeme}
 use Rattle.c0_syntax.specs.Levels.{has_loops}
 use Rattle.c0_syntax.specs.Views.{program_of}
-use Rattle.c0_reading.specs.Parsing.{read_from}
-use Rattle.c0_reading.proofs.SoundPrograms.{sound_program}
-use Rattle.c0_reading.proofs.ParsedTokens.{told_fault, told_refuses}
+use Rattle.c0_grammar_laws.specs.Parsing.{read_from}
+use Rattle.c0_grammar_laws.proofs.SoundPrograms.{sound_program}
+use Rattle.c0_grammar_laws.proofs.ParsedTokens.{told_fault, told_refuses}
 use Rattle.c0_parser.proofs.parse.parse.Goals as goal
 
 pub returns-in-Ok-clause-found : goal.returns-in-Ok-clause-found

@@ -2,7 +2,7 @@ use Rattle.std.proofs.Common.{◌≡◌, ◌-◌, ap, sym, ◌∙◌, length, ma
 use Rattle.std.proofs.lemmas.List.{length-map}
 use Rattle.c0_lexer.specs.declared.token.Token.{Token}
 use Rattle.c0_lexer.specs.Lexed.{lexeme}
-use Rattle.c0_reading.proofs.ParsedTokens.{start_is, start_small}
+use Rattle.c0_grammar_laws.proofs.ParsedTokens.{start_is, start_small}
 use Rattle.c0_parser.proofs.parse.place.Goals as goal
 
 pub returns-in-Some-clause-value : goal.returns-in-Some-clause-value

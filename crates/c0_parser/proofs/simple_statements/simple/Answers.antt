@@ -1,6 +1,6 @@
 use Rattle.std.proofs.Common.{arith}
 use Rattle.c0_syntax.specs.Views.{simple_of}
-use Rattle.c0_cursor.proofs.Turned.{gives_along}
+use Rattle.c0_parser_cursor.proofs.Turned.{gives_along}
 use Rattle.c0_parser.proofs.StatementLoops.{simple_none, simple_some}
 use Rattle.c0_parser.proofs.simple_statements.simple.Goals as goal
 

@@ -1,8 +1,8 @@
 use Rattle.std.proofs.Common.{sym, ◌∙◌, ◌+◌, ◌-◌, arith}
 use Rattle.std.proofs.lemmas.Result.{err_from_is_err_and}
 use Rattle.c0_syntax.specs.Views.{statement_of, statements_of}
-use Rattle.c0_reading.specs.ReadStatements.{read_statement}
-use Rattle.c0_cursor.proofs.Turned.{gives_along}
+use Rattle.c0_grammar_laws.specs.ReadStatements.{read_statement}
+use Rattle.c0_parser_cursor.proofs.Turned.{gives_along}
 use Rattle.c0_parser.proofs.StatementLoops.{statement_none, statement_some, statements_done, statements_fail, statements_more, statements_none, statements_push}
 use Rattle.c0_parser.proofs.statements.+statement.Goals as goal
 

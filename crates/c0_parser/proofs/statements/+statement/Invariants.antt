@@ -1,6 +1,6 @@
 use Rattle.std.proofs.Common.{◌≡◌, ◌*◌, ◌+◌, ◌-◌}
 use Rattle.c0_syntax.specs.Views.{statements_of}
-use Rattle.c0_reading.specs.ReadStatements.{read_statement, read_statements}
+use Rattle.c0_grammar_laws.specs.ReadStatements.{read_statement, read_statements}
 use Rattle.c0_parser.proofs.StatementLoops.{with_statements}
 use Rattle.c0_parser.proofs.statements.+statement.Given as goal
 

@@ -1,7 +1,7 @@
 use Rattle.std.proofs.Common.{rules, ◌≡◌, inr, refl, true, false}
 use Rattle.c0_syntax.specs.Views.{name_of}
 use Rattle.c0_rules.specs.Statements.{is_function}
-use Rattle.c0_tables.specs.Views.{environment_of}
+use Rattle.c0_types_tables.specs.Views.{environment_of}
 use Rattle.c0_types.proofs.ContractSteps.{parameter_here, parameter_more, parameter_told, parameters_done}
 use Rattle.c0_types.proofs.contracts.check_parameter_names.Goals as goal
 

@@ -1,5 +1,5 @@
 use Rattle.std.proofs.Common.{◌≡◌, drop}
-use Rattle.c0_tables.specs.Views.{environment_of}
+use Rattle.c0_types_tables.specs.Views.{environment_of}
 use Rattle.c0_types.proofs.ContractSteps.{are_free}
 use Rattle.c0_types.proofs.contracts.check_parameter_names.Given as goal
 

@@ -3,7 +3,7 @@ use Rattle.std.proofs.lemmas.Result.{err_from_is_err_and}
 use Rattle.c0_syntax.specs.Views.{annotation_of}
 use Rattle.c0_typed.specs.Views.{exps_of}
 use Rattle.c0_rules.specs.Mentions.{specs_in}
-use Rattle.c0_terms.specs.Terms.{context_of, env_of}
+use Rattle.c0_types_expressions.specs.Terms.{context_of, env_of}
 use Rattle.c0_types.specs.ContractViews.{conditions_of, specs_added}
 use Rattle.c0_types.proofs.ContractSteps.{added_all, note_cause, note_has, note_more, note_none, notes_done}
 use Rattle.c0_types.proofs.contracts.contract.Goals as goal

@@ -1,7 +1,7 @@
 use Rattle.std.proofs.Common.{◌≡◌, drop, map}
 use Rattle.c0_syntax.specs.Views.{annotation_of}
 use Rattle.c0_rules.specs.Mentions.{specs_in}
-use Rattle.c0_terms.specs.Terms.{context_of, env_of}
+use Rattle.c0_types_expressions.specs.Terms.{context_of, env_of}
 use Rattle.c0_types.specs.ContractViews.{conditions_of, contract_of, specs_added}
 use Rattle.c0_types.proofs.contracts.contract.Given as goal
 

@@ -3,7 +3,7 @@ use Rattle.std.proofs.lemmas.Result.{err_from_is_err_and}
 use Rattle.c0_source.specs.declared.kind.Clause.TheVariants as k
 use Rattle.c0_syntax.specs.declared.statement.SpecKind.TheVariants as p
 use Rattle.c0_typed.specs.Views.{exps_of}
-use Rattle.c0_terms.specs.Terms.{context_of, env_of}
+use Rattle.c0_types_expressions.specs.Terms.{context_of, env_of}
 use Rattle.c0_types.specs.ContractViews.{conditions_of}
 use Rattle.c0_types.proofs.ContractSteps.{ensures_cause, ensures_more, ensures_none, requires_more}
 use Rattle.c0_types.proofs.contracts.push_spec.Goals as goal

@@ -1,5 +1,5 @@
 use Rattle.std.proofs.lemmas.Result.{err_from_is_err_and}
-use Rattle.c0_terms.specs.Terms.{context_of, env_of}
+use Rattle.c0_types_expressions.specs.Terms.{context_of, env_of}
 use Rattle.c0_types.specs.ContractViews.{conditions_of}
 use Rattle.c0_types.proofs.ContractSteps.{spec_cause, spec_has, spec_more, spec_none, specs_done}
 use Rattle.c0_types.proofs.contracts.push_specs.Goals as goal

@@ -1,6 +1,6 @@
 use Rattle.std.proofs.Common.{◌≡◌, drop, map}
 use Rattle.c0_syntax.specs.Views.{spec_of}
-use Rattle.c0_terms.specs.Terms.{context_of, env_of}
+use Rattle.c0_types_expressions.specs.Terms.{context_of, env_of}
 use Rattle.c0_types.specs.ContractViews.{conditions_of, specs_added}
 use Rattle.c0_types.proofs.contracts.push_specs.Given as goal
 

@@ -1,4 +1,4 @@
-use Rattle.c0_tables.specs.Views.{structs_of}
+use Rattle.c0_types_tables.specs.Views.{structs_of}
 use Rattle.c0_types.proofs.FieldLists.{Counts}
 use Rattle.c0_types.proofs.definitions.cells_within.Given as goal
 

@@ -1,7 +1,7 @@
 use Rattle.std.proofs.Common.{rules, ◌≡◌, ◌∷◌, ◌++◌, [], ap, sym, ◌∙◌, subst, arith, length, map, string_bytes}
 use Rattle.c0_types.specs.DeclareViews.{typed_field_of}
 use Rattle.c0_rules.specs.Types.{with_name}
-use Rattle.c0_tables.specs.Views.{field_table_of, resolved_of}
+use Rattle.c0_types_tables.specs.Views.{field_table_of, resolved_of}
 use Rattle.c0_types.proofs.FieldLists.{Tabled, table_first, table_last, table_more}
 use Rattle.c0_types.proofs.definitions.field_table.Goals as goal
 

@@ -1,6 +1,6 @@
 use Rattle.std.proofs.Common.{map, vec_len}
 use Rattle.c0_types.specs.DeclareViews.{typed_field_of}
-use Rattle.c0_tables.specs.Views.{field_table_of}
+use Rattle.c0_types_tables.specs.Views.{field_table_of}
 use Rattle.c0_types.proofs.FieldLists.{Tabled}
 use Rattle.c0_types.proofs.definitions.field_table.Given as goal
 

@@ -4,7 +4,7 @@ use Rattle.std.proofs.lemmas.Result.{err_from_is_err_and}
 use Rattle.c0_syntax.specs.Views.{name_of}
 use Rattle.c0_types.specs.declared.definitions.Field.{Field}
 use Rattle.c0_types.specs.DeclareViews.{typed_field_of}
-use Rattle.c0_tables.specs.Views.{environment_of}
+use Rattle.c0_types_tables.specs.Views.{environment_of}
 use Rattle.c0_types.proofs.FieldLists.{Holds, hold_first, hold_more, hold_none, hold_told}
 use Rattle.c0_types.proofs.definitions.fields.Goals as goal
 

@@ -1,6 +1,6 @@
 use Rattle.std.proofs.Common.{map}
 use Rattle.c0_types.specs.DeclareViews.{typed_field_of}
-use Rattle.c0_tables.specs.Views.{environment_of}
+use Rattle.c0_types_tables.specs.Views.{environment_of}
 use Rattle.c0_types.proofs.FieldLists.{Holds}
 use Rattle.c0_types.proofs.definitions.fields.Given as goal
 

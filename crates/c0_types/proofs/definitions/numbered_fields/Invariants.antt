@@ -1,6 +1,6 @@
 use Rattle.std.proofs.Common.{◌≡◌, map, take}
 use Rattle.c0_typed.specs.Views.{type_of}
-use Rattle.c0_tables.specs.Views.{environment_of}
+use Rattle.c0_types_tables.specs.Views.{environment_of}
 use Rattle.c0_types.proofs.FieldLists.{numbers_of}
 use Rattle.c0_types.proofs.definitions.numbered_fields.Given as goal
 

@@ -1,6 +1,6 @@
 use Rattle.std.proofs.Common.{◌≡◌, map, take}
 use Rattle.c0_typed.specs.Views.{type_of}
-use Rattle.c0_tables.specs.Views.{environment_of}
+use Rattle.c0_types_tables.specs.Views.{environment_of}
 use Rattle.c0_types.specs.FunctionViews.{numbers_in}
 use Rattle.c0_types.proofs.functions.numbered_types.Given as goal
 

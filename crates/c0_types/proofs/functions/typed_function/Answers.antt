@@ -1,7 +1,7 @@
 use Rattle.std.proofs.Common.{inl, inr, sym}
 use Rattle.std.proofs.lemmas.Result.{err_from_is_err_and}
 use Rattle.c0_types.specs.FunctionViews.{parts_of}
-use Rattle.c0_tables.specs.Views.{signature_of}
+use Rattle.c0_types_tables.specs.Views.{signature_of}
 use Rattle.c0_types.proofs.functions.typed_function.Goals as goal
 
 pub returns-in_err-check_paths-clause-cause : goal.returns-in_err-check_paths-clause-cause

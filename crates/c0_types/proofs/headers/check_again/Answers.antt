@@ -1,6 +1,6 @@
 use Rattle.std.proofs.Common.{rules, ◌≡◌, inl, inr, refl, sym, ap, ◌∙◌, Bool, true, false, Some, string_bytes}
 use Rattle.std.specs.Prelude.{◌&&◌}
-use Rattle.c0_tables.specs.Views.{functions_of, signature_of}
+use Rattle.c0_types_tables.specs.Views.{functions_of, signature_of}
 use Rattle.c0_types.proofs.headers.check_again.Goals as goal
 use Rattle.c0_types.proofs.headers.check_again.Goals.{else-signature-via-then-signature+else-old, else-signature-via-else-signature}
 

@@ -2,9 +2,9 @@ use Rattle.std.proofs.Common.{rules, ◌≡◌, ◌+◌, ◌++◌, ◌∷◌, []
 use Rattle.std.proofs.lemmas.List.{append-nil, map-append}
 use Rattle.c0_syntax.specs.Views.{name_of, typed_name_of}
 use Rattle.c0_rules.specs.Programs.{parameters_from}
-use Rattle.c0_terms.specs.Terms.{local_of}
-use Rattle.c0_tables.specs.Views.{resolved_of}
-use Rattle.c0_terms.specs.declared.typing.Local.{Local}
+use Rattle.c0_types_expressions.specs.Terms.{local_of}
+use Rattle.c0_types_tables.specs.Views.{resolved_of}
+use Rattle.c0_types_expressions.specs.declared.typing.Local.{Local}
 use Rattle.c0_types.proofs.HeaderLists.{locals_last, locals_push}
 use Rattle.c0_types.proofs.headers.parameter_locals.Goals as goal
 

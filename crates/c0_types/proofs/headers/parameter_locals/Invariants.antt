@@ -1,8 +1,8 @@
 use Rattle.std.proofs.Common.{◌≡◌, ◌++◌, ◌+◌, drop, map}
 use Rattle.c0_syntax.specs.Views.{typed_name_of}
 use Rattle.c0_rules.specs.Programs.{parameters_from}
-use Rattle.c0_terms.specs.Terms.{local_of}
-use Rattle.c0_tables.specs.Views.{resolved_of}
+use Rattle.c0_types_expressions.specs.Terms.{local_of}
+use Rattle.c0_types_tables.specs.Views.{resolved_of}
 use Rattle.c0_types.proofs.headers.parameter_locals.Given as goal
 
 -- the locals so far, and those of what is left

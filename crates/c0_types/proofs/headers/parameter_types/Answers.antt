@@ -1,7 +1,7 @@
 use Rattle.std.proofs.Common.{◌≡◌, ◌+◌, inl, inr, [], ◌∷◌, ◌++◌, ap, sym, ◌∙◌, subst, map}
 use Rattle.std.proofs.lemmas.List.{map-append}
 use Rattle.std.proofs.lemmas.Result.{err_from_is_err_and}
-use Rattle.c0_tables.specs.Views.{environment_of, resolved_of}
+use Rattle.c0_types_tables.specs.Views.{environment_of, resolved_of}
 use Rattle.c0_types.proofs.HeaderLists.{Takes, take_first, take_more, take_none, take_told}
 use Rattle.c0_types.proofs.headers.parameter_types.Goals as goal
 

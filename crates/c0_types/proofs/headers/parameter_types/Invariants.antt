@@ -1,5 +1,5 @@
 use Rattle.std.proofs.Common.{map}
-use Rattle.c0_tables.specs.Views.{environment_of, resolved_of}
+use Rattle.c0_types_tables.specs.Views.{environment_of, resolved_of}
 use Rattle.c0_types.proofs.HeaderLists.{Takes}
 use Rattle.c0_types.proofs.headers.parameter_types.Given as goal
 

@@ -2,7 +2,7 @@ use Rattle.std.proofs.Common.{refl, take}
 use Rattle.remote_store.specs.Kept.{piece_cells}
 use Rattle.world.specs.Acting.{Done, Failed, On, outcome_of}
 use Rattle.world.specs.Answered.{AnswersSo, Nothing, Puts, asked_out}
-use Rattle.world_events.specs.Programs.{Copying, Freed, NotStored, Refused, Stored}
+use Rattle.world_semantics.specs.Programs.{Copying, Freed, NotStored, Refused, Stored}
 use Rattle.world.proofs.Answered.{asked_as, copy_asks, put_asks, unasked}
 use Rattle.world.proofs.MovedOut.{freed, not_stored, refused, told_as, told_so}
 use Rattle.world.proofs.evict.evict.Goals as goal

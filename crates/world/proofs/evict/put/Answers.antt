@@ -1,8 +1,8 @@
 use Rattle.std.proofs.Common.{ℕ, Bool, true, false, ◌<◌, length, subst, sym, take}
 use Rattle.world.specs.Acting.{On}
 use Rattle.world.specs.Answered.{AnswersSo, Puts}
-use Rattle.world_events.specs.Programs.{Copying, Stored, NotStored}
-use Rattle.world_events.specs.Turns.{Answer}
+use Rattle.world_semantics.specs.Programs.{Copying, Stored, NotStored}
+use Rattle.world_semantics.specs.Turns.{Answer}
 use Rattle.world.specs.Tables.{Tables}
 use Rattle.world.proofs.MovedOut.{LeadsSo, put_out}
 use Rattle.world.proofs.evict.put.Goals as goal

@@ -1,5 +1,5 @@
 use Rattle.std.proofs.Common.{◌≡◌, ℕ, ◌<◌, None}
-use Rattle.world_events.specs.Programs.{hold_at}
+use Rattle.world_semantics.specs.Programs.{hold_at}
 use Rattle.world.proofs.program.first_of_holds.Given as goal
 
 abbrev pub invariant-loop-scope : goal.invariant-loop-scope

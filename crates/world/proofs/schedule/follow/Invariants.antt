@@ -2,8 +2,8 @@ use Rattle.std.proofs.Common.{◌≡◌, ℕ, suc, ◌+◌, ◌≤◌, length}
 use Rattle.code_form.specs.Form.{Image}
 use Rattle.world.specs.Acting.{IsWorld}
 use Rattle.world.specs.Reports.{HasCome}
-use Rattle.world_events.specs.Worlds.{Sizes}
-use Rattle.world_events.specs.Worlds.{World as Defined}
+use Rattle.world_semantics.specs.Worlds.{Sizes}
+use Rattle.world_semantics.specs.Worlds.{World as Defined}
 use Rattle.world.proofs.schedule.follow.Given as goal
 
 abbrev pub invariant-loop-rest : goal.invariant-loop-rest

@@ -2,7 +2,7 @@ use Rattle.std.proofs.Common.{List, length, subst}
 use Rattle.code_form.specs.declared.form.Image.{Image}
 use Rattle.world.specs.Opened.{images_of, sizes_of}
 use Rattle.world.specs.Reports.{IsReport}
-use Rattle.world_events.specs.Worlds.{start}
+use Rattle.world_semantics.specs.Worlds.{start}
 use Rattle.world.proofs.schedule.replay.Goals as goal
 
 pub returns-in-Ok-ends : goal.returns-in-Ok-ends

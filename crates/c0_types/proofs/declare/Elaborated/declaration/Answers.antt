@@ -6,7 +6,7 @@ use Rattle.c0_syntax.specs.declared.statement.Statement.{Statement}
 use Rattle.c0_types.specs.DeclareViews.{InDefinition, elaboration_of}
 use Rattle.c0_types.specs.FunctionViews.{DeclarationHasTexts}
 use Rattle.c0_rules.specs.FaultPrograms.{InDeclaration}
-use Rattle.c0_tables.specs.Views.{environment_of}
+use Rattle.c0_types_tables.specs.Views.{environment_of}
 use Rattle.c0_types.proofs.declare.Elaborated.declaration.Goals as goal
 
 pub define_function-requires : goal.define_function-requires

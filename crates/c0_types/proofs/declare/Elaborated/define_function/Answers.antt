@@ -7,7 +7,7 @@ use Rattle.c0_types.specs.DeclareViews.{elaboration_of}
 use Rattle.c0_rules.specs.FaultPrograms.{InFunction}
 use Rattle.c0_rules.specs.Programs.{typed_function}
 use Rattle.c0_rules.specs.Types as t
-use Rattle.c0_tables.specs.Views.{environment_of, functions_of, signature_of}
+use Rattle.c0_types_tables.specs.Views.{environment_of, functions_of, signature_of}
 use Rattle.c0_types.proofs.DeclarationSteps.{define_none, define_some, found_again}
 use Rattle.c0_types.proofs.declare.Elaborated.define_function.Goals as goal
 

@@ -4,8 +4,8 @@ use Rattle.remote_store.specs.Kept.{piece_cells}
 use Rattle.world.specs.Acting.{Shows, UnreadSo, eviction_in}
 use Rattle.world.specs.Answered.{AnswersSo, asked_idly, asked_out}
 use Rattle.world.specs.Seats.{eviction_of}
-use Rattle.world_events.specs.Turns.{evacuator_turn}
-use Rattle.world_events.specs.declared.event.Step.TheVariants as step
+use Rattle.world_semantics.specs.Turns.{evacuator_turn}
+use Rattle.world_semantics.specs.declared.event.Step.TheVariants as step
 use Rattle.world.proofs.Evacuating.{told_all, told_idle, turn_idle, turn_on}
 use Rattle.world.proofs.evacuator.Evacuator.turn.Goals as goal
 

@@ -1,9 +1,9 @@
 use Rattle.std.proofs.Common.{ap, refl, ◌∙◌}
-use Rattle.world_events.specs.declared.event.Choice.TheVariants as choice
-use Rattle.world_events.specs.declared.event.Step.TheVariants as step
-use Rattle.world_events.specs.Programs.{Bringing, Evicting, Retreating, in_mode}
+use Rattle.world_semantics.specs.declared.event.Choice.TheVariants as choice
+use Rattle.world_semantics.specs.declared.event.Step.TheVariants as step
+use Rattle.world_semantics.specs.Programs.{Bringing, Evicting, Retreating, in_mode}
 use Rattle.world.specs.Seats.{eviction_of, mode_of}
-use Rattle.world_events.specs.Turns.{by_mode, evicts}
+use Rattle.world_semantics.specs.Turns.{by_mode, evicts}
 use Rattle.world.proofs.Acting.{goes_same, goes_with}
 use Rattle.world.proofs.BroughtIn.{unasked_in}
 use Rattle.world.proofs.Instructed.{goes_turn}

@@ -1,5 +1,5 @@
 use Rattle.std.proofs.Common.{None, Some}
-use Rattle.world_events.specs.Programs.{hold_at}
+use Rattle.world_semantics.specs.Programs.{hold_at}
 use Rattle.world.proofs.Instructed.{aims_other, aims_same, aims_so, goes_turn}
 use Rattle.world.proofs.program.Program.aim_at.Goals as goal
 

@@ -1,6 +1,6 @@
 use Rattle.std.proofs.Common.{◌≡◌, ◌<◌, ap, refl, sym, subst, ◌∙◌, arith}
 use Rattle.world.specs.declared.machine.Object.{Object}
-use Rattle.world_events.specs.Programs.{finished}
+use Rattle.world_semantics.specs.Programs.{finished}
 use Rattle.world.specs.Tables.{object_at}
 use Rattle.world.proofs.BroughtIn.{arrives_not, arrives_there}
 use Rattle.world.proofs.program.Program.arrive.Goals as goal

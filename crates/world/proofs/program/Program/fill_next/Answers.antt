@@ -1,6 +1,6 @@
 use Rattle.std.proofs.Common.{◌≡◌, ℕ, suc, ◌+◌, ap, arith}
-use Rattle.world_events.specs.declared.event.Step.TheVariants as step
-use Rattle.world_events.specs.Programs.{Filling}
+use Rattle.world_semantics.specs.declared.event.Step.TheVariants as step
+use Rattle.world_semantics.specs.Programs.{Filling}
 use Rattle.world.specs.Seats.{mode_of}
 use Rattle.world.proofs.Dispatched.{fills_all, fills_cell}
 use Rattle.world.proofs.Instructed.{goes_turn}

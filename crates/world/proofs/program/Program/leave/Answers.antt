@@ -1,6 +1,6 @@
 use Rattle.std.proofs.Common.{◌<◌, subst, arith}
 use Rattle.world.specs.declared.machine.Object.{Object}
-use Rattle.world_events.specs.Programs.{hold_at}
+use Rattle.world_semantics.specs.Programs.{hold_at}
 use Rattle.world.specs.Tables.{object_at}
 use Rattle.world.proofs.Instructed.{goes_turn, leaves_none, left}
 use Rattle.world.proofs.program.Program.leave.Goals as goal

@@ -1,4 +1,4 @@
-use Rattle.world_events.specs.Programs.{hold_at}
+use Rattle.world_semantics.specs.Programs.{hold_at}
 use Rattle.world.proofs.Instructed.{goes_turn, loads_held}
 use Rattle.world.proofs.program.Program.load.Goals as goal
 

@@ -1,5 +1,5 @@
 use Rattle.std.proofs.Common.{true, false, [], ap, refl, sym}
-use Rattle.world_events.specs.Programs.{Copying, Evicting}
+use Rattle.world_semantics.specs.Programs.{Copying, Evicting}
 use Rattle.world.specs.Seats.{Seat}
 use Rattle.world.proofs.BroughtIn.{marks_other, only, program_mode}
 use Rattle.world.proofs.program.Program.mark_other.Goals as goal

@@ -4,7 +4,7 @@ use Rattle.world.specs.Acting.{outcome_of}
 use Rattle.world.specs.Answered.{AnswersSo, asked_in, asked_out}
 use Rattle.world.specs.Seats.{Seat, eviction_of}
 use Rattle.world.specs.declared.program.Mode.TheVariants as m
-use Rattle.world_events.specs.Turns.{Answer}
+use Rattle.world_semantics.specs.Turns.{Answer}
 use Rattle.world.proofs.Acting.{leads_with}
 use Rattle.world.proofs.Answered.{asked_as}
 use Rattle.world.proofs.BroughtIn.{asked_as_mode, moves_on, moving}

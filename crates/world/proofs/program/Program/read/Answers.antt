@@ -3,7 +3,7 @@ use Rattle.remote_store.specs.Kept.{piece_cells}
 use Rattle.world.specs.declared.program.Mode.TheVariants as m
 use Rattle.world.specs.Answered.{AnswersSo, Gets, asked_in, reading}
 use Rattle.world.specs.Seats.{Seat}
-use Rattle.world_events.specs.Turns.{Answer}
+use Rattle.world_semantics.specs.Turns.{Answer}
 use Rattle.world.proofs.Answered.{asked_as}
 use Rattle.world.proofs.BroughtIn.{asked_as_mode, reads, reads_not, was_put}
 use Rattle.world.proofs.program.Program.read.Goals as goal

@@ -1,5 +1,5 @@
 use Rattle.std.proofs.Common.{refl}
-use Rattle.world_events.specs.Turns.{Alone}
+use Rattle.world_semantics.specs.Turns.{Alone}
 use Rattle.world.proofs.BroughtIn.{alone_to}
 use Rattle.world.proofs.Evacuating.{frame_inside, mark_inside}
 use Rattle.world.proofs.program.Program.seek.Goals as goal

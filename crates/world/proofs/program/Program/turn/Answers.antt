@@ -1,7 +1,7 @@
 use Rattle.std.proofs.Common.{refl, sym, ap, ◌∙◌}
-use Rattle.world_events.specs.declared.event.Choice.TheVariants as choice
+use Rattle.world_semantics.specs.declared.event.Choice.TheVariants as choice
 use Rattle.world.specs.declared.program.Mode.TheVariants as m
-use Rattle.world_events.specs.Turns.{program_turn}
+use Rattle.world_semantics.specs.Turns.{program_turn}
 use Rattle.world.proofs.Acting.{goes_same, goes_with}
 use Rattle.world.proofs.BroughtIn.{unasked_in}
 use Rattle.world.proofs.Dispatched.{not_enabled, turn_is}

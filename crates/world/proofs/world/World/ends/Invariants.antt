@@ -2,8 +2,8 @@ use Rattle.std.proofs.Common.{◌≡◌, ℕ, length}
 use Rattle.code_form.specs.Form.{Image}
 use Rattle.world.specs.Acting.{IsWorld}
 use Rattle.world.specs.Reports.{AreEnds}
-use Rattle.world_events.specs.Worlds.{Sizes}
-use Rattle.world_events.specs.Worlds.{World as DefinedWorld}
+use Rattle.world_semantics.specs.Worlds.{Sizes}
+use Rattle.world_semantics.specs.Worlds.{World as DefinedWorld}
 use Rattle.world.proofs.world.World.ends.Given as goal
 
 abbrev pub invariant-loop-program : goal.invariant-loop-program

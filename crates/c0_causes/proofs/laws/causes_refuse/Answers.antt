@@ -1,5 +1,0 @@
-use Rattle.c0_causes.proofs.Programs.{causes_refuse}
-use Rattle.c0_causes.proofs.laws.causes_refuse.Goals as goal
-
-pub returns : goal.returns
-returns c = causes_refuse

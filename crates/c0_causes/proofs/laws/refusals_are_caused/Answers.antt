@@ -1,5 +1,0 @@
-use Rattle.c0_causes.proofs.ProgramCauses.{refusals_are_caused}
-use Rattle.c0_causes.proofs.laws.refusals_are_caused.Goals as goal
-
-pub returns : goal.returns
-returns c = refusals_are_caused

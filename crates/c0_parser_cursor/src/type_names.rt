@@ -1,0 +1,53 @@
+// The names of types.
+
+ghost use Rattle.std.specs.Prelude.{◌≡◌, [], ◌∷◌, IfOk};
+ghost use Rattle.c0_syntax.specs.Expressions.{is_type_name};
+
+use std::alloc::{AllocError, Global};
+use std::marker::Model;
+
+/// The names that `typedef`s have declared so far, the last one first.
+#[derive(Drop)]
+pub struct TypeNames<'a> {
+    names: Vec<&'a [u8]>,
+}
+
+impl<'a> Model for TypeNames<'a> {
+    ghost use Rattle.std.specs.Prelude.{List, ℕ, [], map};
+    ghost use Rattle.c0_grammar_laws.specs.Tokens.{last_first};
+
+    ghost Value = { List (List ℕ) };
+
+    ghost view = { λ t. last_first [] (map (λ x. x.now) t.names.items) };
+}
+
+impl<'a> TypeNames<'a> {
+    /// No names.
+    pub fn new(alloc: Global) -> TypeNames<'a>
+        ensures { result ≡ [] }
+    {
+        TypeNames {
+            names: Vec::new(alloc),
+        }
+    }
+
+    /// Whether one of them is this name.
+    pub fn contains(&self, name: &[u8]) -> bool
+        ensures { result ≡ is_type_name self.now name.now }
+    {
+        for known in &self.names {
+            if *known == name {
+                return true;
+            }
+        }
+        false
+    }
+
+    /// One name more. `Err` where memory is refused; what is left then is not told.
+    pub fn add(&mut self, name: &'a [u8]) -> Result<(), AllocError>
+        ensures { IfOk result (λ _. self.new ≡ name.now ∷ self.old) }
+    {
+        self.names.push(name)?;
+        Ok(())
+    }
+}

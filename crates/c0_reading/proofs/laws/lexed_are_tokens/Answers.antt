@@ -1,5 +1,0 @@
-use Rattle.c0_reading.proofs.ParsedTokens.{lexed}
-use Rattle.c0_reading.proofs.laws.lexed_are_tokens.Goals as goal
-
-pub returns : goal.returns
-returns c = λ bytes ts s a r. lexed bytes 0 ts s a r

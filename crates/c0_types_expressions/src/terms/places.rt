@@ -1,0 +1,269 @@
+// Steps to places of the heap, and what stands there.
+// A tree or a type that is held where a step may fail is boxed before, or dropped there by a call: a drop that `?` makes is
+// proved variant by variant.
+
+ghost use Rattle.std.specs.Prelude.{◌≡◌, ◌⊎◌, None, Some, false, true, IfErr, IfOk, IfSome};
+ghost use Rattle.c0_source.specs.declared.fault.FaultKind.TheVariants.{NotSmall, NullDereference, OutOfMemory, StructNotComplete, TypeMismatch, UnknownField};
+ghost use Rattle.c0_syntax.specs.Views.{name_of};
+ghost use Rattle.c0_typed.specs.Trees as y;
+ghost use Rattle.c0_typed.specs.Views.{exp_of, place_of as at_of};
+ghost use Rattle.c0_rules.specs.Expressions as x;
+ghost use Rattle.c0_rules.specs.FaultExpressions.{FieldCause, Told, element_of, is_null};
+ghost use Rattle.c0_types_expressions.specs.Terms.{ArrayCause, context_of, env_of, field_place, place_of, typing_of};
+ghost use Rattle.c0_rules.specs.Types as t;
+ghost use Rattle.c0_rules.specs.Answers.{Answers};
+ghost use Rattle.c0_types_tables.specs.Views.{field_entry_of, resolved_of, struct_entry_of};
+
+use super::steps::{boxed, fault_at};
+use crate::typing::{Place, Terms, Typing};
+use c0_source::fault::{Fault, FaultKind, Span};
+use c0_syntax::name::Name;
+use c0_typed::{Expression, Place as TypedPlace};
+use c0_types_tables::resolved::ResolvedType;
+use c0_types_tables::structs::{FieldEntry, StructEntry};
+use std::alloc::AllocError;
+
+impl<'a> Terms<'a> {
+    /// What a pointer points to. NULL itself points to nothing, which is told at the sign.
+    pub(crate) fn pointed(&self, pointer: Typing, span: Span, sign: Span) -> Result<Place, Fault>
+        ensures answers { Answers (place_of self.now.texts.now) result (x.pointed (env_of self.now) (typing_of self.now.texts.now pointer)) }
+        ensures cause { IfErr result (λ f. (f.kind ≡ OutOfMemory) ⊎ ((is_null (typing_of self.now.texts.now pointer) ≡ true) × Told NullDereference sign f) ⊎ ((is_null (typing_of self.now.texts.now pointer) ≡ false) × (x.pointed (env_of self.now) (typing_of self.now.texts.now pointer) ≡ None) × Told TypeMismatch span f)) }
+    {
+        match pointer {
+            Typing::Has(resolved, e) => match resolved {
+                ResolvedType::Pointer(target) => Ok(self.target_of(target, e)?),
+                other => {
+                    drop(other);
+                    drop(e);
+                    Err(fault_at(FaultKind::TypeMismatch, span))
+                }
+            },
+            Typing::Null(e) => {
+                drop(e);
+                Err(fault_at(FaultKind::NullDereference, sign))
+            }
+        }
+    }
+
+    // What this pointer points to, of this type.
+    fn target_of(&self, target: Box<ResolvedType>, e: Expression) -> Result<Place, AllocError>
+        ensures { IfOk result (λ r. x.pointed (env_of self.now) (x.Has (t.PointerTo (resolved_of target.value)) (exp_of self.now.texts.now e)) ≡ Some (place_of self.now.texts.now r)) }
+    {
+        let pointer = Box::new(self.alloc, e)?;
+        let value_type = self.numbered(&target)?;
+        Ok(Place {
+            resolved: Box::into_inner(target),
+            place: TypedPlace::Deref(value_type, pointer),
+        })
+    }
+
+    /// An element of an array; a struct must be complete.
+    pub(crate) fn indexed(
+        &self,
+        array: Typing,
+        index: Expression,
+        here: Span,
+        span: Span,
+    ) -> Result<Place, Fault>
+        ensures answers { Answers (place_of self.now.texts.now) result (x.indexed (env_of self.now) (typing_of self.now.texts.now array) (exp_of self.now.texts.now index)) }
+        ensures cause { IfErr result (λ f. (f.kind ≡ OutOfMemory) ⊎ ((element_of (typing_of self.now.texts.now array) ≡ None) × Told TypeMismatch here f) ⊎ ((r : t.ResolvedType) × (element_of (typing_of self.now.texts.now array) ≡ Some r) × (t.cells_of (env_of self.now).structs r ≡ None) × Told StructNotComplete span f)) }
+    {
+        match array {
+            Typing::Has(resolved, e) => match resolved {
+                ResolvedType::Array(element) => self.element_at(element, e, index, span),
+                other => {
+                    drop(other);
+                    drop(e);
+                    drop(index);
+                    Err(fault_at(FaultKind::TypeMismatch, here))
+                }
+            },
+            Typing::Null(e) => {
+                drop(e);
+                drop(index);
+                Err(fault_at(FaultKind::TypeMismatch, here))
+            }
+        }
+    }
+
+    // An element of this array, of this type.
+    fn element_at(
+        &self,
+        element: Box<ResolvedType>,
+        array: Expression,
+        index: Expression,
+        span: Span,
+    ) -> Result<Place, Fault>
+        ensures answers { Answers (place_of self.now.texts.now) result (x.indexed (env_of self.now) (x.Has (t.ArrayOf (resolved_of element.value)) (exp_of self.now.texts.now array)) (exp_of self.now.texts.now index)) }
+        ensures cause { IfErr result (λ f. (f.kind ≡ OutOfMemory) ⊎ ((t.cells_of (env_of self.now).structs (resolved_of element.value) ≡ None) × Told StructNotComplete span f)) }
+    {
+        if self.environment.structs.cells(&element).is_none() {
+            drop(array);
+            drop(index);
+            return Err(fault_at(FaultKind::StructNotComplete, span));
+        }
+        let (array, index) = boxed(self.alloc, array, index)?;
+        let value_type = self.numbered(&element)?;
+        Ok(Place {
+            resolved: Box::into_inner(element),
+            place: TypedPlace::Index(value_type, array, index),
+        })
+    }
+
+    /// The array of an element at this place; it is refused where it has none, whatever the index is, so that a fault in that isn't
+    /// told before.
+    pub(crate) fn array_operand(
+        &self,
+        array: Typing,
+        here: Span,
+        span: Span,
+    ) -> Result<Typing, Fault>
+        ensures taken { IfOk result (λ x. x ≡ array) }
+        ensures refused { IfErr result (λ f. ArrayCause (env_of self.now) f (typing_of self.now.texts.now array) here span) }
+    {
+        let found = self.array_fault(&array, here, span);
+        match found {
+            None => Ok(array),
+            Some(fault) => {
+                drop(array);
+                Err(fault)
+            }
+        }
+    }
+
+    // Why a value has no element.
+    fn array_fault(&self, array: &Typing, here: Span, span: Span) -> Option<Fault>
+        ensures { IfSome result (λ f. ArrayCause (env_of self.now) f (typing_of self.now.texts.now array.now) here span) }
+    {
+        match array {
+            Typing::Has(ResolvedType::Array(element), _) => {
+                if self.environment.structs.cells(element).is_none() {
+                    return Some(fault_at(FaultKind::StructNotComplete, span));
+                }
+                None
+            }
+            _ => Some(fault_at(FaultKind::TypeMismatch, here)),
+        }
+    }
+
+    /// An element of an array, by two operands at these places.
+    pub(crate) fn element(
+        &self,
+        array: Typing,
+        index: Typing,
+        spans: (Span, Span),
+        span: Span,
+    ) -> Result<Place, Fault>
+        ensures answers { Answers (place_of self.now.texts.now) result (t.and_so (x.as_wanted (env_of self.now) t.IntType (typing_of self.now.texts.now index)) (x.indexed (env_of self.now) (typing_of self.now.texts.now array))) }
+        ensures cause { IfErr result (λ f. (f.kind ≡ OutOfMemory) ⊎ ((element_of (typing_of self.now.texts.now array) ≡ None) × Told TypeMismatch spans.0 f) ⊎ ((x.as_wanted (env_of self.now) t.IntType (typing_of self.now.texts.now index) ≡ None) × Told TypeMismatch spans.1 f) ⊎ ((r : t.ResolvedType) × (element_of (typing_of self.now.texts.now array) ≡ Some r) × (t.cells_of (env_of self.now).structs r ≡ None) × Told StructNotComplete span f)) }
+    {
+        match self.as_wanted(&ResolvedType::Int, index, spans.1) {
+            Ok(index) => self.indexed(array, index, spans.0, span),
+            Err(fault) => {
+                drop(array);
+                Err(fault)
+            }
+        }
+    }
+
+    // This field of a struct at a place.
+    fn field_at(
+        &self,
+        name: &str,
+        place: TypedPlace,
+        field: &FieldEntry,
+    ) -> Result<Place, AllocError>
+        ensures { IfOk result (λ r. place_of self.now.texts.now r ≡ field_place (env_of self.now) name.now (at_of self.now.texts.now place) (field_entry_of field.now)) }
+    {
+        let place = Box::new(self.alloc, place)?;
+        if field.number > u32::MAX as usize {
+            return Err(AllocError);
+        }
+        let number = self.environment.struct_names.number(name);
+        let resolved = field.resolved.duplicate(self.alloc)?;
+        Ok(Place {
+            resolved,
+            place: TypedPlace::Field(number, place, field.number as u32),
+        })
+    }
+
+    /// A field of what a place holds, a complete struct.
+    pub(crate) fn fielded(
+        &self,
+        of: Place,
+        here: Span,
+        name: &Name,
+        span: Span,
+    ) -> Result<Place, Fault>
+        ensures answers { Answers (place_of self.now.texts.now) result (x.fielded (env_of self.now) (name_of name.now) (place_of self.now.texts.now of)) }
+        ensures cause { IfErr result (λ f. (f.kind ≡ OutOfMemory) ⊎ FieldCause (env_of self.now) (context_of self.now) f (resolved_of of.resolved) here name.now span) }
+    {
+        let Place { resolved, place } = of;
+        let ResolvedType::Struct(struct_name) = &resolved else {
+            drop(resolved);
+            drop(place);
+            return Err(fault_at(FaultKind::TypeMismatch, here));
+        };
+        let Some(entry) = self.environment.structs.get(struct_name) else {
+            drop(resolved);
+            drop(place);
+            return Err(fault_at(FaultKind::StructNotComplete, span));
+        };
+        let field = self.field_of(struct_name, entry, place, name);
+        drop(resolved);
+        field
+    }
+
+    // A field of a struct with these fields.
+    fn field_of(
+        &self,
+        struct_name: &str,
+        entry: &StructEntry,
+        place: TypedPlace,
+        name: &Name,
+    ) -> Result<Place, Fault>
+        ensures answers { Answers (place_of self.now.texts.now) result (t.and_so ((struct_entry_of entry.now).fields (name_of name.now)) (λ f. Some (field_place (env_of self.now) struct_name.now (at_of self.now.texts.now place) f))) }
+        ensures cause { IfErr result (λ f. (f.kind ≡ OutOfMemory) ⊎ (((struct_entry_of entry.now).fields (name_of name.now) ≡ None) × Told UnknownField name.now.span f)) }
+    {
+        match entry.fields.get(&name.text) {
+            Some(field) => Ok(self.field_at(struct_name, place, field)?),
+            None => {
+                drop(place);
+                Err(fault_at(FaultKind::UnknownField, name.span))
+            }
+        }
+    }
+
+    /// The value at a place, where it is small.
+    pub(crate) fn read_of(&self, place: Place, span: Span) -> Result<Typing, Fault>
+        ensures answers { Answers (typing_of self.now.texts.now) result (x.read_of (env_of self.now) (place_of self.now.texts.now place)) }
+        ensures cause { IfErr result (λ f. (f.kind ≡ OutOfMemory) ⊎ ((t.is_small (resolved_of place.resolved) ≡ false) × Told NotSmall span f)) }
+    {
+        let Place { resolved, place } = place;
+        if !resolved.is_small() {
+            drop(resolved);
+            drop(place);
+            return Err(fault_at(FaultKind::NotSmall, span));
+        }
+        match Box::new(self.alloc, place) {
+            Ok(place) => Ok(self.reading(resolved, place)?),
+            Err(refused) => {
+                drop(resolved);
+                Err(refused.into())
+            }
+        }
+    }
+
+    // What stands at this place, of this type.
+    fn reading(&self, resolved: ResolvedType, place: Box<TypedPlace>) -> Result<Typing, AllocError>
+        ensures { IfOk result (λ r. typing_of self.now.texts.now r ≡ x.Has (resolved_of resolved) (y.Read (x.num (env_of self.now) (resolved_of resolved)) (at_of self.now.texts.now place.value))) }
+    {
+        match self.numbered(&resolved) {
+            Ok(value_type) => Ok(Typing::Has(resolved, Expression::Read(value_type, place))),
+            Err(refused) => {
+                drop(resolved);
+                Err(refused)
+            }
+        }
+    }
+}

@@ -1,0 +1,48 @@
+-- the worked schedules, by computing
+use Rattle.std.proofs.Common.{◌≡◌, Some, None, [], ◌∷◌, ◌++◌, refl}
+use Rattle.std.specs.Prelude.{pos}
+use Rattle.cells.specs.Stops.{Ended, NullFault}
+use Rattle.cells.specs.declared.ending.Want.TheVariants.{StoreFailed}
+use Rattle.world_semantics.specs.Rows.{Reliable, NoPuts, NoReads, five, faulty, two_objects, row, times, e0, p0, e0_mark, written, brought_back, read_meanwhile, held_meanwhile, put_failed, get_failed, holding_one, moved_itself, failed_itself}
+
+pub brought : row (five Reliable) (brought_back ++ p0 ∷ []) ≡ (214, Some (record { stop = Some (Ended (pos 5)); want = None; word = 0x180000; first = 5; second = 5 }))
+brought = refl
+
+pub not_yet : row (five Reliable) brought_back ≡ (213, Some (record { stop = None; want = None; word = 0x180000; first = 5; second = 5 }))
+not_yet = refl
+
+pub read : row (five Reliable) read_meanwhile ≡ (146, Some (record { stop = Some (Ended (pos 5)); want = None; word = 0; first = 5; second = 0 }))
+read = refl
+
+pub held : row (five Reliable) held_meanwhile ≡ (146, Some (record { stop = Some (Ended (pos 5)); want = None; word = 0x80000; first = 5; second = 0 }))
+held = refl
+
+pub idle : row (five Reliable) (written ++ e0 ∷ []) ≡ (75, None)
+idle = refl
+
+pub no_frame : row (five Reliable) (written ++ e0_mark 0 2 ∷ []) ≡ (75, None)
+no_frame = refl
+
+pub elsewhere : row (five Reliable) (written ++ e0_mark 0 1 ∷ []) ≡ (75, Some (record { stop = None; want = None; word = 0x80000; first = 5; second = 0 }))
+elsewhere = refl
+
+pub no_put : row (five NoPuts) put_failed ≡ (145, Some (record { stop = Some (Ended (pos 5)); want = None; word = 0x80000; first = 5; second = 0 }))
+no_put = refl
+
+pub no_get : row (five NoReads) get_failed ≡ (149, Some (record { stop = None; want = Some StoreFailed; word = 0; first = 5; second = 0 }))
+no_get = refl
+
+pub no_more : row (five NoReads) (get_failed ++ p0 ∷ []) ≡ (150, None)
+no_more = refl
+
+pub closes : row faulty (holding_one ++ p0 ∷ []) ≡ (71, Some (record { stop = None; want = None; word = 0x80000; first = 0; second = 0 }))
+closes = refl
+
+pub stops : row faulty (holding_one ++ times 2 p0) ≡ (72, Some (record { stop = Some NullFault; want = None; word = 0x80000; first = 0; second = 0 }))
+stops = refl
+
+pub moves : row (two_objects Reliable) moved_itself ≡ (210, Some (record { stop = Some (Ended (pos 5)); want = None; word = 0; first = 0; second = 0 }))
+moves = refl
+
+pub fails : row (two_objects NoPuts) failed_itself ≡ (142, Some (record { stop = None; want = Some StoreFailed; word = 0x80000; first = 0; second = 0 }))
+fails = refl

@@ -1,0 +1,20 @@
+-- How many frames programs and evacuators may need at once.
+use Rattle.std.specs.Prelude.{◌≡◌, ◌⊎◌, ℕ, zero, suc, ◌+◌, Bool}
+use Rattle.code_form.specs.Form.{Image}
+use Rattle.code_form.specs.Code.{most_scopes}
+use Rattle.pointer_word.specs.Words.{Here, counted}
+use Rattle.pointer_word.specs.Machine.{State}
+use Rattle.world_semantics.specs.Worlds.{Sizes}
+
+-- the scopes of the programs below k, of each as many as its function with the most has
+abbrev pub scopes_below : (ℕ → Image) → ℕ → ℕ
+scopes_below images zero = 0
+scopes_below images (suc k) = scopes_below images k + most_scopes (images k).functions
+
+-- a frame for each scope of a program, and one for each evacuator
+abbrev pub need : Sizes → (ℕ → Image) → ℕ
+need z images = scopes_below images z.programs + z.evacuators
+
+-- the frame is free, or an object is in it that has no hold and is in no mover's hands
+abbrev pub IsUnheld : State → ℕ → Type 0
+IsUnheld s f = (s.frame f ≡ 0) ⊎ ((o : ℕ) × (k : Bool) × (s.word o ≡ counted 0 (Here f k)))
