@@ -1,6 +1,5 @@
 pub mod Driven
 pub mod FileTexts
-pub mod Headline
 pub mod MeantLines
 pub mod MemTexts
 pub mod Shell

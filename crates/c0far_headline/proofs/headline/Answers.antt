@@ -1,5 +1,5 @@
-use Rattle.c0far.proofs.Headlines.{composed}
-use Rattle.c0far.proofs.laws.headline.Goals as goal
+use Rattle.c0far_headline.proofs.Headlines.{composed}
+use Rattle.c0far_headline.proofs.headline.Goals as goal
 
 pub returns : goal.returns
 returns c = composed (record {

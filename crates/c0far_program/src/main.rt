@@ -1,20 +1,10 @@
 //! A compiler for C0, and a runtime whose heap may be larger than local memory.
 #![tactic(auto)]
 
-mod drive;
-mod files;
-mod laws;
-mod line;
-mod plain;
-mod say;
-mod stream;
-mod tests;
-mod words;
-
-use crate::drive::{drive, say_usage};
-use crate::files::FolderFiles;
-use crate::say::say_memory;
-use crate::stream::CountedWriter;
+use c0far::drive::{drive, say_usage};
+use c0far::files::FolderFiles;
+use c0far::say::say_memory;
+use c0far::stream::CountedWriter;
 use std::alloc::{AllocError, Global};
 use std::process::ExitCode;
 use std::{env, io};

@@ -1,5 +1,7 @@
 //! What is proved of each program beside whatever others.
-ghost use Rattle.c0far.specs.Headline.{Headline};
+#![tactic(auto)]
+
+ghost use Rattle.c0far_headline.specs.Headline.{Headline};
 
 use c0_image::one_image;
 use c0_typed::more_turns;
