@@ -3,7 +3,6 @@ mod declared_names;
 mod ends;
 mod generated_images;
 mod read_lines;
-mod read_tokens;
 mod source_texts;
 mod stored_pieces;
 mod typed_trees;

@@ -16,10 +16,9 @@ use Rattle.clap.specs.Words.{Text}
 use Rattle.c0_image.specs.Compiled.{IsCompiled}
 use Rattle.image_run.specs.Executed.{IsExecuted}
 use Rattle.c0far.specs.FileTexts.{HasText, IsMissing, Known}
-use Rattle.c0far.specs.declared.words.Usage.{Usage}
-use Rattle.c0far.specs.declared.words.Usage.TheVariants as refusal
 use Rattle.c0far.specs.MeantLines.{last_line}
-use Rattle.c0far.specs.Shell.{Check, Command, Mean, Names, Run}
+use Rattle.command_line.specs.Help.{help_text}
+use Rattle.command_line.specs.Shell.{Check, Command, Mean, Names, Run}
 use Rattle.c0far.specs.Statuses.{ended_status, run_status}
 use Rattle.c0far.specs.Streams.{IsQuiet, Says, Writes}
 
@@ -128,19 +127,10 @@ Does held (Check file) out err result = Checks file (held file) out err result
 Does held (Mean checks turns file) out err result = Means file checks turns (held file) out err result
 Does held (Run checks file) out err result = Runs file checks (held file) out err result
 
--- how the words are to be
-abbrev pub usage : List ℕ
-usage = codes "usage: c0far check FILE | c0far mean [-d] --turns N FILE | c0far run [-d] FILE"
-
--- what is said of words that are refused
-abbrev pub usage_line : Usage → List ℕ
-usage_line refusal.Refused = usage
-usage_line refusal.OutOfMemory = codes "out of memory"
-
--- the words are no command
+-- the words are no command: it is told what is refused, and a page of help is shown
 pub record IsUsage (words : List Text) (out err : Writes) (result : ℕ) : Type 0 where
   pub none : (command : Command) → Names words command → ⊥
-  pub shown : Says err (usage ++ newline) 2 result
+  pub shown : Says err (help_text words) 2 result
   pub quiet : IsQuiet out
 
 -- what the words ask for was done, where files hold this

@@ -2,6 +2,5 @@ pub mod Driven
 pub mod FileTexts
 pub mod MeantLines
 pub mod MemTexts
-pub mod Shell
 pub mod Statuses
 pub mod Streams

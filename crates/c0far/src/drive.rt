@@ -1,23 +1,25 @@
 //! The commands, over files and two streams.
 ghost use Rattle.std.specs.Prelude.{◌≡◌, ◌++◌, ℕ, List, codes, map};
-ghost use Rattle.c0far.specs.Driven.{Checks, IsDriven, Runs, newline, shown_end, usage};
+ghost use Rattle.command_line.specs.Help.{help_text};
+ghost use Rattle.c0far.specs.Driven.{Checks, IsDriven, Runs, newline, shown_end};
 ghost use Rattle.c0far.specs.FileTexts.{HasText, Known};
 ghost use Rattle.c0far.specs.Statuses.{run_status};
 ghost use Rattle.c0far.specs.Streams.{Says, writes};
 
 use crate::files::{FileError, Files};
-use crate::line::line;
 use crate::plain::{Bound, mean};
 use crate::say::{
     REFUSED, STOPPED, WANTED, after, say_memory, say_refused, say_unread, write_output,
 };
 use crate::stream::Stream;
-use crate::words::{Line, Usage};
 use c0_front::check_text;
 use c0_image::compile;
 use c0_source::fault::FaultKind;
 use c0_syntax::level::Level;
 use cells::{Ended, Run, Stop};
+use command_line::help::{complaint, page};
+use command_line::line::line;
+use command_line::words::{Line, Usage};
 use image_run::execute;
 use std::alloc::Global;
 use std::sync::Wait;
@@ -30,12 +32,13 @@ fn say_ok<O: Stream>(out: &mut O) -> u8
     after(writeln!(out, "ok"), 0)
 }
 
-/// Says how the words are to be.
-pub fn say_usage<E: Stream>(err: &mut E) -> u8
-    ensures { Says (writes E.contents E.failures err.old err.new) (usage ++ newline) 2 result }
+/// Says what is wrong with words that are no command line, and shows a page of help.
+pub fn say_help<E: Stream>(err: &mut E, words: &[&str]) -> u8
+    ensures { Says (writes E.contents E.failures err.old err.new) (help_text (map (λ w. w.now) words.now)) 2 result }
 {
-    let usage = Usage::Refused;
-    after(writeln!(err, "{usage}"), REFUSED)
+    let complaint = complaint(words);
+    let page = page(words);
+    after(writeln!(err, "{complaint}{page}"), REFUSED)
 }
 
 /// The status of a run that has ended so.
@@ -163,7 +166,7 @@ pub fn drive<W: Wait + Threads, F: Files, O: Stream, E: Stream>(
             },
         ) => mean(alloc, rt, Bound { checks, turns }, file, files, out, err),
         Ok(Line::Run { checks, file }) => run(alloc, rt, checks, file, files, out, err),
-        Err(Usage::Refused) => say_usage(err),
+        Err(Usage::Refused) => say_help(err, words),
         Err(Usage::OutOfMemory) => say_memory(err),
     }
 }

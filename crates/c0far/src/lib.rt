@@ -3,8 +3,9 @@
 
 pub mod drive;
 pub mod files;
-pub mod line;
 mod plain;
 pub mod say;
 pub mod stream;
-pub mod words;
+
+pub use command_line::line;
+pub use command_line::words;

@@ -1,7 +1,7 @@
 //! A compiler for C0, and a runtime whose heap may be larger than local memory.
 #![tactic(auto)]
 
-use c0far::drive::{drive, say_usage};
+use c0far::drive::{drive, say_help};
 use c0far::files::FolderFiles;
 use c0far::say::say_memory;
 use c0far::stream::CountedWriter;
@@ -28,7 +28,7 @@ fn main(rt: HostRuntime) -> io::Result<ExitCode> {
         Err(error) if error.kind() == io::ErrorKind::OutOfMemory => {
             return Ok(ExitCode::from(say_memory(&mut err)));
         }
-        Err(_unread) => return Ok(ExitCode::from(say_usage(&mut err))),
+        Err(_unread) => return Ok(ExitCode::from(say_help(&mut err, &[]))),
     };
     let Ok(names) = slices(rt.alloc(), &words) else {
         return Ok(ExitCode::from(say_memory(&mut err)));

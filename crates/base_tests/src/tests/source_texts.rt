@@ -5,8 +5,7 @@ ghost use Rattle.std.specs.Io.KnownBytes.{Appends};
 ghost use Rattle.c0_source.specs.FaultLines.{fault_line};
 
 use c0_source::fault::{Fault, FaultKind, Span};
-use c0_source::position::{Position, line_column};
-use c0_source::source::{MOST_BYTES, Source};
+use c0_source::source::Source;
 use std::alloc::{AllocError, AllocFailed, Global};
 use std::io;
 use std::test::Fail;
@@ -30,28 +29,6 @@ fn say<O: io::Write>(out: &mut O, fault: Fault) -> io::Result<()>
 fn a_text_is_taken_as_it_is(rt: HostRuntime) -> Result<(), Fail> {
     let source = Source::new(rt.alloc(), b"int x;\x7f\n")?;
     assert_eq!(rt; source.bytes(), b"int x;\x7f\n".as_slice());
-    Ok(())
-}
-
-#[test]
-fn bytes_over_127_are_found_first(rt: HostRuntime) -> Result<(), Fail> {
-    let Err(fault) = Source::new(rt.alloc(), b"int \x80 \xff") else {
-        panic!(rt; "a text with a byte over 127 is taken");
-    };
-    assert_eq!(rt; fault, Fault::at(FaultKind::BadByte, 4));
-    let mut long = vec![in rt.alloc(); b' '; MOST_BYTES + 1]?;
-    let Err(fault) = Source::new(rt.alloc(), &long) else {
-        panic!(rt; "a text of 1,048,577 bytes is taken");
-    };
-    assert_eq!(rt; fault, Fault::at(FaultKind::TooLarge, 1_048_576));
-    long.push(200)?;
-    let Err(fault) = Source::new(rt.alloc(), &long) else {
-        panic!(rt; "a text of 1,048,578 bytes is taken");
-    };
-    assert_eq!(rt; fault, Fault::at(FaultKind::BadByte, 1_048_577));
-    let longest = vec![in rt.alloc(); b' '; MOST_BYTES]?;
-    let source = Source::new(rt.alloc(), &longest)?;
-    assert_eq!(rt; source.bytes().len(), MOST_BYTES);
     Ok(())
 }
 
@@ -121,19 +98,4 @@ fn a_kind_is_named_as_in_the_code(rt: HostRuntime) -> Result<(), Fail> {
         assert_eq!(rt; format!(in rt.alloc(); "{kind:?}")?.as_str(), kind.name());
     }
     Ok(())
-}
-
-#[test]
-fn lines_end_at_newlines_alone(rt: HostRuntime) {
-    let text = b"int\r\n\nx = 1;";
-    for (at, line, column) in [
-        (0, 1, 1),
-        (4, 1, 5),
-        (5, 2, 1),
-        (6, 3, 1),
-        (8, 3, 3),
-        (99, 3, 7),
-    ] {
-        assert_eq!(rt; line_column(text, at), Position { line, column }, "at {at}");
-    }
 }

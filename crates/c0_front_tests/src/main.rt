@@ -1,0 +1,57 @@
+//! Goes through files of rows: what is told of each text must be what stands beside it. Before each file's name stands what is asked of its texts:
+//! `tokens`, `kinds`, `count`, `read`, `read-loops`, `print`, `print-again` or `check`. Each row of which something else is told is shown, and then how many rows there were; the
+//! status is 1 where one was shown.
+#![tactic(auto)]
+
+mod rows;
+mod tell;
+
+use crate::rows::{Row, rows};
+use crate::tell::{Question, tell};
+use std::alloc::Global;
+use std::io::Write;
+use std::process::ExitCode;
+use std::{env, fs, io};
+
+/// Shows the rows of which something else is told than what is wanted. Whether there is none.
+fn go_through<O: Write>(
+    alloc: Global,
+    question: Question,
+    rows: &[Row],
+    out: &mut O,
+) -> io::Result<bool> {
+    let mut all = true;
+    for row in rows {
+        let told = tell(alloc, question, row.given.bytes())?;
+        if told.as_slice() != row.wanted.bytes() {
+            all = false;
+            out.write_all(row.given.bytes())?;
+            writeln!(out)?;
+            writeln!(out, "told:")?;
+            out.write_all(&told)?;
+            writeln!(out)?;
+        }
+    }
+    Ok(all)
+}
+
+fn main(rt: HostRuntime) -> io::Result<ExitCode> {
+    let words: Vec<String> = env::args(&rt)?.collect(rt.alloc())?;
+    let mut out = io::writer(&rt);
+    let mut question = Question::Check;
+    let mut status = 0;
+    for word in words.iter().skip(1) {
+        if let Some(asked) = Question::of(word.as_str()) {
+            question = asked;
+            continue;
+        }
+        let text = fs::read(&rt, word.as_str())?;
+        let rows = rows(rt.alloc(), &text)?;
+        if !go_through(rt.alloc(), question, &rows, &mut out)? {
+            status = 1;
+        }
+        let count = rows.len();
+        writeln!(out, "{word}: {count} rows")?;
+    }
+    Ok(ExitCode::from(status))
+}

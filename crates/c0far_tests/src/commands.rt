@@ -1,0 +1,176 @@
+//! Command lines over files in memory, and streams of which a write may fail.
+
+use c0far::drive::drive;
+use c0far::files::{FileError, Files, MemFiles};
+use c0far::stream::CountedWriter;
+use std::alloc::Global;
+use std::io;
+use std::io::Write;
+use std::sync::Wait;
+use std::thread::Threads;
+
+/// A writer of which one write alone fails, after so many others, or none.
+#[derive(Drop)]
+struct FailsOnce {
+    left: Option<u8>,
+    held: Vec<u8>,
+}
+
+impl FailsOnce {
+    /// A writer that holds nothing.
+    fn new(alloc: Global, left: Option<u8>) -> FailsOnce {
+        FailsOnce {
+            left,
+            held: Vec::new(alloc),
+        }
+    }
+}
+
+impl Write for FailsOnce {
+    fn write(&mut self, bytes: &[u8]) -> io::Result<usize> {
+        match self.left {
+            Some(0) => {
+                self.left = None;
+                return Err(io::Error::from(io::ErrorKind::BrokenPipe));
+            }
+            Some(left) => self.left = Some(left - 1),
+            None => {}
+        }
+        self.held.write(bytes)
+    }
+
+    fn flush(&mut self) -> io::Result<()> {
+        Ok(())
+    }
+}
+
+/// What the rows so far have made: files, the text of the last one, and which writes of the next command fail.
+#[derive(Drop)]
+pub struct Bench {
+    alloc: Global,
+    files: MemFiles,
+    name: String,
+    text: Vec<u8>,
+    failing_out: Option<u8>,
+    failing_err: Option<u8>,
+}
+
+/// A file in memory is written unless a growth is refused.
+fn refusal(error: FileError) -> io::Error {
+    match error {
+        FileError::OutOfMemory => io::Error::from(io::ErrorKind::OutOfMemory),
+        FileError::Cannot => io::Error::from(io::ErrorKind::Other),
+    }
+}
+
+impl Bench {
+    /// No files.
+    pub fn new(alloc: Global) -> Bench {
+        Bench {
+            alloc,
+            files: MemFiles::new(alloc),
+            name: String::new(alloc),
+            text: Vec::new(alloc),
+            failing_out: None,
+            failing_err: None,
+        }
+    }
+
+    /// The last text is whole.
+    fn finish(&mut self) -> io::Result<()> {
+        if !self.name.is_empty() {
+            let name = self.name.as_str();
+            self.files
+                .write(self.alloc, name, &self.text)
+                .map_err(refusal)?;
+        }
+        self.name.clear();
+        self.text.clear();
+        Ok(())
+    }
+
+    /// Begins the text of a file of this name.
+    pub fn begin(&mut self, name: &str) -> io::Result<()> {
+        self.finish()?;
+        self.name.push_str(name)?;
+        Ok(())
+    }
+
+    /// A line of the text.
+    pub fn add_line(&mut self, line: &[u8]) -> io::Result<()> {
+        self.text.extend_from_slice(line)?;
+        self.text.push(b'\n')?;
+        Ok(())
+    }
+
+    /// So many times these bytes in the text.
+    pub fn add_often(&mut self, count: usize, bytes: &[u8]) -> io::Result<()> {
+        for _ in 0..count {
+            self.text.extend_from_slice(bytes)?;
+        }
+        Ok(())
+    }
+
+    /// One write to the standard output of the next command fails, after so many others.
+    pub fn fail_out(&mut self, after: u8) {
+        self.failing_out = Some(after);
+    }
+
+    /// One write to the standard error of the next command fails, after so many others.
+    pub fn fail_err(&mut self, after: u8) {
+        self.failing_err = Some(after);
+    }
+
+    /// Does the command line of these words, and tells its status and what it wrote, or the first lines of that.
+    pub fn command<R: Threads + Wait, O: Write>(
+        &mut self,
+        rt: &R,
+        words: &str,
+        first_alone: bool,
+        told: &mut O,
+    ) -> io::Result<()> {
+        self.finish()?;
+        let split: Vec<&str> = words.split(' ').collect(self.alloc)?;
+        let mut out = CountedWriter::new(FailsOnce::new(self.alloc, self.failing_out));
+        let mut err = CountedWriter::new(FailsOnce::new(self.alloc, self.failing_err));
+        self.failing_out = None;
+        self.failing_err = None;
+        let status = drive(self.alloc, rt, &split, &mut self.files, &mut out, &mut err);
+        writeln!(told, "$ {words}")?;
+        tell("", out, first_alone, told)?;
+        tell("standard error: ", err, first_alone, told)?;
+        writeln!(told, "status {status}")
+    }
+}
+
+/// The first line of these bytes, without its end.
+fn first_line(bytes: &[u8]) -> &[u8] {
+    match bytes.split(|byte| *byte == b'\n').next() {
+        Some(line) => line,
+        None => bytes,
+    }
+}
+
+/// Tells what was written to a stream, or the first line of that, behind the stream's name.
+fn tell<O: Write>(
+    name: &str,
+    stream: CountedWriter<FailsOnce>,
+    first_alone: bool,
+    told: &mut O,
+) -> io::Result<()> {
+    let FailsOnce { left: _, held } = stream.into_writer();
+    if held.is_empty() {
+        return Ok(());
+    }
+    let shown = if first_alone {
+        first_line(&held)
+    } else {
+        held.as_slice()
+    };
+    write!(told, "{name}")?;
+    told.write_all(shown)?;
+    if shown.last() == Some(&b'\n') {
+        return Ok(());
+    }
+    writeln!(told)
+}

@@ -1,0 +1,52 @@
+//! Does the command lines of the files of rows that the words name, over files in memory, and prints what each writes and its status.
+//!
+//! A row is a line of such a file:
+//! - `= NAME` begins the text of a file in memory, which is the lines behind it, up to the next row;
+//! - `* N TEXT`, in a text, stands for `N` times `TEXT`, with no newline behind it;
+//! - `! out N` and `! err N` have one write of that stream of the next command fail, after `N` others;
+//! - `$ WORDS` does the command line of these words, with one blank between two of them;
+//! - `? WORDS` does the same, and tells only the first line that is written to each stream.
+#![tactic(auto)]
+
+mod commands;
+mod rows;
+
+use crate::commands::Bench;
+use crate::rows::Row;
+use std::io::Write;
+use std::process::ExitCode;
+use std::sync::Wait;
+use std::thread::Threads;
+use std::{env, fs, io};
+
+/// Does what each line of these rows says.
+fn go_through<R: Threads + Wait, O: Write>(
+    rt: &R,
+    bench: &mut Bench,
+    rows: &[u8],
+    out: &mut O,
+) -> io::Result<()> {
+    for line in rows.split(|byte| *byte == b'\n') {
+        match Row::of(line) {
+            Row::File(name) => bench.begin(name)?,
+            Row::Repeated(count, text) => bench.add_often(count, text)?,
+            Row::FailingOut(after) => bench.fail_out(after),
+            Row::FailingErr(after) => bench.fail_err(after),
+            Row::Command(words) => bench.command(rt, words, false, out)?,
+            Row::Refused(words) => bench.command(rt, words, true, out)?,
+            Row::Text(line) => bench.add_line(line)?,
+        }
+    }
+    Ok(())
+}
+
+fn main(rt: HostRuntime) -> io::Result<ExitCode> {
+    let words: Vec<String> = env::args(&rt)?.collect(rt.alloc())?;
+    let mut out = io::writer(&rt);
+    for name in words.iter().skip(1) {
+        let rows = fs::read(&rt, name.as_str())?;
+        let mut bench = Bench::new(rt.alloc());
+        go_through(&rt, &mut bench, &rows, &mut out)?;
+    }
+    Ok(ExitCode::SUCCESS)
+}

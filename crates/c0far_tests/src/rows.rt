@@ -1,0 +1,61 @@
+//! Reading a row.
+
+use std::str::from_utf8;
+
+/// What a line says.
+#[derive(Clone, Copy)]
+pub enum Row<'a> {
+    /// The text of a file of this name follows.
+    File(&'a str),
+    /// A part of a text: so many times these bytes.
+    Repeated(usize, &'a [u8]),
+    /// After so many writes of the next command to its standard output, one fails.
+    FailingOut(u8),
+    /// The same of its standard error.
+    FailingErr(u8),
+    /// A command line.
+    Command(&'a str),
+    /// A command line, of which the first line that it writes is told.
+    Refused(&'a str),
+    /// A line of a text.
+    Text(&'a [u8]),
+}
+
+/// What stands behind these bytes, where the line begins with them, as text.
+fn behind<'a>(line: &'a [u8], mark: &[u8]) -> Option<&'a str> {
+    match line.strip_prefix(mark) {
+        Some(rest) => from_utf8(rest).ok(),
+        None => None,
+    }
+}
+
+/// The number and the text of `N TEXT`.
+fn repeated(text: &str) -> Option<(usize, &[u8])> {
+    let (number, rest) = text.split_once(' ')?;
+    Some((number.parse().ok()?, rest.as_bytes()))
+}
+
+impl<'a> Row<'a> {
+    /// What this line says: a line that is no other row is one of a text.
+    pub fn of(line: &'a [u8]) -> Row<'a> {
+        if let Some(name) = behind(line, b"= ") {
+            return Row::File(name);
+        }
+        if let Some(words) = behind(line, b"$ ") {
+            return Row::Command(words);
+        }
+        if let Some(words) = behind(line, b"? ") {
+            return Row::Refused(words);
+        }
+        if let Some((count, text)) = behind(line, b"* ").and_then(repeated) {
+            return Row::Repeated(count, text);
+        }
+        if let Some(Ok(after)) = behind(line, b"! out ").map(|number| number.parse()) {
+            return Row::FailingOut(after);
+        }
+        if let Some(Ok(after)) = behind(line, b"! err ").map(|number| number.parse()) {
+            return Row::FailingErr(after);
+        }
+        Row::Text(line)
+    }
+}

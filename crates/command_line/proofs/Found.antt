@@ -1,0 +1,114 @@
+-- What clap found, read as the words' meaning.
+use Rattle.std.proofs.Common.{◌≡◌, ◌∙◌, Bool, true, false, List, [], ◌∷◌, Option, Some, None, map, find, refl, sym, ap, ap₂, subst, inl, inr, ◌||◌, ℕ}
+use Rattle.std.specs.Prelude.{Box, codes, option_map, option_and_then, slice_get}
+use Rattle.std.specs.Option.{option_map_or}
+use Rattle.std.specs.Box.{box_value}
+use Rattle.std.specs.Str.{bytes_eq}
+use Rattle.std.specs.Borrow.{Bor}
+use Rattle.clap.specs.Walk.{Row, Text, first_of, row_of, rows_of}
+use Rattle.clap.specs.Words.{HasKind, Kinds, fault_of, is_simple_and_free, kind_of}
+use Rattle.clap.specs.Facts.{Entry}
+use Rattle.clap.specs.Matches.{first_value, found_of, subcommand_name_of}
+use Rattle.clap.specs.Simple.{App, HasMatchesOf, is_simple, subcommand_of, subcommand_rows, subcommand_rows_of}
+use Rattle.clap.specs.declared.error.kind.ErrorKind.TheVariants.{OutOfMemory}
+use Rattle.clap.specs.declared.error.Error.{Error}
+use Rattle.clap.specs.declared.parser.matches.ArgMatches.{ArgMatches}
+use Rattle.clap.specs.declared.parser.matches.ArgMatches.TheViews.{out-ArgMatches, out-SubCommand}
+use Rattle.clap.specs.declared.parser.matches.SubCommand.{SubCommand}
+use Rattle.command_line.specs.Shell.{Command, Mean, command_in, has_checks, mean_command, named_command, number_in, shell}
+use Rattle.clap.specs.declared.parser.matches.Found.{Found}
+use Rattle.clap.specs.declared.parser.matches.MatchedArg.{MatchedArg}
+
+-- the first of some texts behind references
+first_text : (xs : List (Bor Text)) → slice_get (map (λ s. s.now) xs) 0 ≡ option_map (λ s. s.now) (slice_get xs 0)
+first_text [] = refl
+first_text (x ∷ xs) = refl
+
+-- the first value of an id among entries
+abbrev value_in : List Entry → Text → Option Text
+value_in es id = option_and_then (λ (a : MatchedArg). option_map (λ s. s.now) (slice_get a.vals.items 0)) (option_map (λ (e : Entry). e.1) (find (λ (e : Entry). bytes_eq e.0.now id) es))
+
+value_is : (id : Text) (es : List Entry) → first_of id (map row_of es) ≡ value_in es id
+value_is id [] = refl
+value_is id (e ∷ es) = go (bytes_eq e.0.now id) refl (value_is id es)
+  where
+    go : (b : Bool) → bytes_eq e.0.now id ≡ b → first_of id (map row_of es) ≡ value_in es id → first_of id (map row_of (e ∷ es)) ≡ value_in (e ∷ es) id
+    go true same rest = rw same (first_text e.1.vals.items)
+    go false other rest = rw other rest
+
+-- the rows tell the first value
+pub first_is : (f : Found) (id : Text) → first_of id (rows_of f) ≡ first_value f id
+first_is f id = value_is id f.entries.items
+
+-- what was found of the flag tells whether contracts are checked
+pub checks_are : (f : Found) (o : Option Text) → o ≡ first_value f (codes "checks") → option_map_or (λ text. bytes_eq text (codes "true")) o false ≡ has_checks (rows_of f)
+checks_are f o e = ap (λ (o : Option Text). option_map_or (λ text. bytes_eq text (codes "true")) o false) (e ∙ sym (first_is f (codes "checks")))
+
+-- what was found of the turns tells the plain run
+pub run_is : (f : Found) (o : Option Text) (n : Option ℕ) (file : Text) → o ≡ first_value f (codes "turns") → n ≡ option_and_then number_in o
+    → option_map (λ turns. Mean (has_checks (rows_of f)) turns file) n ≡ mean_command (rows_of f) file
+run_is f o n file e told =
+    ap (option_map (λ turns. Mean (has_checks (rows_of f)) turns file)) (told ∙ ap (option_and_then number_in) (e ∙ sym (first_is f (codes "turns"))))
+
+-- a pair by its parts
+pair_is : (o : Option (Text × List Row)) (n : Text) (rows : List Row) → Some n ≡ option_map (λ (p : Text × List Row). p.0) o → Some rows ≡ option_map (λ (p : Text × List Row). p.1) o → o ≡ Some (n, rows)
+pair_is None n rows e f = cc
+pair_is (Some p) n rows e f = let first : n ≡ p.0 = cc in let second : rows ≡ p.1 = cc in rw (first, second) refl
+
+-- the name that was found, among the rows
+name_in : {Z : Type 0} (o : Option (Box SubCommand Z)) → option_map (λ (b : Box SubCommand Z). (out-SubCommand (box_value b)).name.now) o ≡ option_map (λ (p : Text × List Row). p.0) (subcommand_rows o)
+name_in None = refl
+name_in (Some b) = refl
+
+name_is : (m : ArgMatches) → subcommand_name_of m ≡ option_map (λ (p : Text × List Row). p.0) (subcommand_rows_of m)
+name_is m = name_in (out-ArgMatches m).subcommand
+
+-- no command was found
+pub none_found : (m : ArgMatches) → None ≡ subcommand_name_of m → command_in (subcommand_rows_of m) ≡ None
+none_found m e = go (subcommand_rows_of m) (e ∙ name_is m)
+  where
+    go : (o : Option (Text × List Row)) → None ≡ option_map (λ (p : Text × List Row). p.0) o → command_in o ≡ None
+    go None f = refl
+    go (Some p) f = absurd (let no : ⊥ = cc in no)
+
+-- a command was found, with or without its file
+pub command_found : (m inner : ArgMatches) (name : Text) → Some name ≡ subcommand_name_of m → Some (rows_of (found_of inner)) ≡ option_map (λ (p : Text × List Row). p.1) (subcommand_rows_of m)
+    → command_in (subcommand_rows_of m) ≡ option_and_then (named_command name (rows_of (found_of inner))) (first_value (found_of inner) (codes "file"))
+command_found m inner name e f =
+    ap command_in (pair_is (subcommand_rows_of m) name (rows_of (found_of inner)) (e ∙ name_is m) f)
+    ∙ ap (option_and_then (named_command name (rows_of (found_of inner)))) (first_is (found_of inner) (codes "file"))
+
+-- one more argument that is not global
+pub still_local : (new old arg : Bool) → new ≡ (old || arg) → old ≡ false → arg ≡ false → new ≡ false
+still_local new old arg n o a = n ∙ ap₂ ◌||◌ o a
+
+-- the shell is simple
+pub shell_simple : is_simple shell ≡ true
+unfolding shell
+shell_simple = refl
+
+-- no rule of the shell is on another
+shell_free : is_simple_and_free shell ≡ true
+unfolding shell
+shell_free = refl
+
+-- clap found no fault where it took the words
+pub no_fault : (a : App) (words : List Text) → a ≡ shell → (is_simple_and_free a ≡ true → fault_of a words ≡ []) → fault_of shell words ≡ []
+no_fault a words same none = subst (λ b. fault_of b words ≡ []) same (none (ap is_simple_and_free same ∙ shell_free))
+
+-- where it finds no fault, it refuses words only for want of memory
+pub only_memory : (a : App) (words : List Text) (e : Error) → a ≡ shell → (is_simple_and_free a ≡ true → HasKind (fault_of a words) e) → fault_of shell words ≡ [] → kind_of e ≡ OutOfMemory
+only_memory a words e same has none = go _ none (subst (λ b. HasKind (fault_of b words) e) same (has (ap is_simple_and_free same ∙ shell_free)))
+  where
+    go : (kinds : Kinds) → kinds ≡ [] → HasKind kinds e → kind_of e ≡ OutOfMemory
+    go [] f (inl k) = k
+    go [] f (inr among) = absurd among
+    go (k ∷ ks) f h = cc
+
+-- what clap found is what the words mean
+pub rows_are : (a : App) (words : List Text) (m : ArgMatches) → a ≡ shell → HasMatchesOf a words m → subcommand_rows_of m ≡ subcommand_of shell words
+rows_are a words m same has = (has (ap is_simple same ∙ shell_simple)).1 ∙ ap (λ b. subcommand_of b words) same
+
+-- nothing is not something
+pub none_some : {x : Command} → None ≡ Some x → ⊥
+none_some e = cc e

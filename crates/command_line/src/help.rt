@@ -1,0 +1,198 @@
+//! What is told of words that are no command line: what is refused, and a page of help.
+ghost use Rattle.std.specs.Prelude.{◌≡◌, ◌==◌, map, option_map};
+ghost use Rattle.std.specs.List.{starts_with};
+ghost use Rattle.command_line.specs.Help.{asks_help, behind, complaint_of, complaint_text, ask_help as asked_in, is_command, is_option, is_stray, page_named, page_of, stray, topic};
+
+use crate::complaint::Complaint;
+
+/// The page of all commands.
+pub const PAGE: &str = "usage: c0far COMMAND ..
+
+commands:
+  check FILE                  tells whether a text is a program, and where not
+  mean [-d] --turns N FILE    runs the text's program plainly, for at most N turns
+  run [-d] FILE               compiles the text, and runs it over a store
+  help [COMMAND]              shows this page, or that of a command
+
+status: 0 where a text is accepted, or a program ended with a result or was cut;
+  1 where it stopped otherwise; 2 where a text, a file or the words are refused,
+  or a write failed; 3 where memory or objects ran out
+
+docs/LANGUAGE.md tells what is accepted, docs/LIMITS.md the limits";
+
+/// The page of `check`.
+pub const CHECK_PAGE: &str = "usage: c0far check FILE
+
+Prints `ok` where the text in FILE is a program of C0, and else one line to the
+standard error: FILE:LINE:COLUMN: fault NUMBER NAME
+
+status: 0 where it is accepted; 2 where it is refused, or cannot be read;
+  3 where memory ran out
+
+docs/LANGUAGE.md shows each fault with a text that has it";
+
+/// The page of `mean`.
+pub const MEAN_PAGE: &str = "usage: c0far mean [-d] --turns N FILE
+
+Runs the program of the text in FILE plainly, as the language defines it, and
+prints its output and then how it ended: `result: N`, `assertion failed`,
+`error: TEXT`, `null fault`, `bounds fault`, `length fault`, `arithmetic fault`,
+or `cut` where it wanted more turns.
+
+options:
+  -d           checks contracts while it runs
+  --turns N    at most N turns, a number below 2^64: a turn is the call of a
+               function of the text, or an entry of a loop's body
+
+status: 0 where it ended with a result, or was cut; 1 where it stopped otherwise;
+  2 where the text is refused, or cannot be read; 3 where memory ran out
+
+docs/LANGUAGE.md tells what is accepted, docs/LIMITS.md how deep calls nest";
+
+/// The page of `run`.
+pub const RUN_PAGE: &str = "usage: c0far run [-d] FILE
+
+Compiles the text in FILE and runs its program, whose objects move between local
+memory and a store. When it has ended it prints its output and then how it ended:
+`result: N`, `assertion failed`, `error: TEXT`, `null fault`, `bounds fault`,
+`length fault`, `arithmetic fault`, `out of memory`, or `no objects`.
+
+options:
+  -d    checks contracts while it runs
+
+status: 0 where it ended with a result; 1 where it stopped otherwise; 2 where the
+  text is refused, or cannot be read; 3 where memory or objects ran out
+
+docs/LIMITS.md tells how many objects there are, docs/LANGUAGE.md what is accepted";
+
+/// Whether the word asks for help.
+fn asks(word: &str) -> bool
+    ensures { result ≡ asks_help word.now }
+{
+    word == "help" || word == "--help" || word == "-h"
+}
+
+/// Whether one of the words does.
+fn ask(words: &[&str]) -> bool
+    ensures { result ≡ asked_in (map (λ w. w.now) words.now) }
+{
+    match words {
+        [] => false,
+        [word, rest @ ..] => asks(word) || ask(rest),
+    }
+}
+
+/// Whether the word names a command.
+fn is_name(word: &str) -> bool
+    ensures { result ≡ is_command word.now }
+{
+    word == "check" || word == "mean" || word == "run"
+}
+
+/// The first of the words that names a command. None is the empty text.
+fn topic_of<'a>(words: &[&'a str]) -> &'a str
+    ensures { result.now ≡ topic (map (λ w. w.now) words.now) }
+{
+    match words {
+        [] => "",
+        [word, rest @ ..] => { if is_name(word) { word } else { topic_of(rest) } }
+    }
+}
+
+/// The page of the command of this name, or else that of all commands.
+fn named_page(name: &str) -> &'static str
+    ensures { result.now ≡ page_named name.now }
+{
+    match name {
+        "check" => CHECK_PAGE,
+        "mean" => MEAN_PAGE,
+        "run" => RUN_PAGE,
+        _ => PAGE,
+    }
+}
+
+/// Whether the word begins so.
+fn begins(word: &str, start: &str) -> bool
+    ensures { result ≡ starts_with (λ a b. a == b) word.now start.now }
+{
+    word.starts_with(start)
+}
+
+/// Whether the command of this name has the option that the word begins.
+fn has_option(name: &str, word: &str) -> bool
+    ensures { result ≡ is_option name.now word.now }
+{
+    match name {
+        "mean" => word == "-d" || begins(word, "--turns"),
+        "run" => word == "-d",
+        _ => false,
+    }
+}
+
+/// Whether the word begins as an option does, and is none of the command of this name.
+fn strays(name: &str, word: &str) -> bool
+    ensures { result ≡ is_stray name.now word.now }
+{
+    begins(word, "-") && !has_option(name, word)
+}
+
+/// The first of the words that does.
+fn first_stray<'a>(name: &str, words: &[&'a str]) -> Option<&'a str>
+    ensures { option_map (λ n. n.now) result ≡ stray name.now (map (λ w. w.now) words.now) }
+{
+    match words {
+        [] => None,
+        [word, rest @ ..] => {
+            if strays(name, word) {
+                Some(word)
+            } else {
+                first_stray(name, rest)
+            }
+        }
+    }
+}
+
+/// The words behind the program's name.
+fn words_behind<'a, 'b>(words: &'b [&'a str]) -> &'b [&'a str]
+    ensures { map (λ w. w.now) result.now ≡ behind (map (λ w. w.now) words.entry.now) }
+{
+    match words {
+        [] => words,
+        [_, rest @ ..] => rest,
+    }
+}
+
+/// What is wrong with the words behind the program's name.
+fn complaint_behind<'a>(words: &[&'a str]) -> Complaint<'a>
+    ensures { complaint_text result ≡ complaint_of (map (λ w. w.now) words.now) }
+{
+    if ask(words) {
+        return Complaint::Help;
+    }
+    match words {
+        [] => Complaint::NoCommand,
+        [name, rest @ ..] => {
+            if !is_name(name) {
+                return Complaint::NoSuchCommand(name);
+            }
+            match first_stray(name, rest) {
+                Some(word) => Complaint::NoSuchOption(word),
+                None => Complaint::OtherWords(name),
+            }
+        }
+    }
+}
+
+/// What is wrong with words that are no command line, of which the first is the program's name.
+pub fn complaint<'a>(words: &[&'a str]) -> Complaint<'a>
+    ensures { complaint_text result ≡ complaint_of (behind (map (λ w. w.now) words.now)) }
+{
+    complaint_behind(words_behind(words))
+}
+
+/// The page of help for words that are no command line: that of the first command that they name, or else that of all.
+pub fn page(words: &[&str]) -> &'static str
+    ensures { result.now ≡ page_of (behind (map (λ w. w.now) words.now)) }
+{
+    named_page(topic_of(words_behind(words)))
+}
