@@ -1,7 +1,6 @@
 //! From a text to what it means, over a stack that is as deep as its calls may nest.
 
 ghost use Rattle.std.specs.Prelude.{◌≡◌, ◌⊎◌, ℕ, Bool, false, IfErr, IfOk, MatchResult};
-ghost use Rattle.c0_source.specs.FaultNumbers.{memory_fault};
 ghost use Rattle.c0_source.specs.declared.fault.FaultKind.TheVariants.{OutOfMemory};
 ghost use Rattle.c0_typed.specs.Meaning.{mean as mean_of};
 ghost use Rattle.c0_typed.specs.Trees as y;
@@ -12,7 +11,7 @@ ghost use Rattle.c0_plain.specs.Plain.{IsMeant};
 
 use c0_front::check_text;
 use c0_meaning::{Meant, mean};
-use c0_source::fault::{Fault, FaultKind, Span};
+use c0_source::fault::Fault;
 use c0_syntax::level::Level;
 use c0_typed::Typed;
 use cells::Want;
@@ -71,16 +70,6 @@ fn mean_apart<R: Threads>(
     }
 }
 
-/// Want of memory, which stands at no byte.
-fn memory() -> Fault
-    ensures { result ≡ memory_fault }
-{
-    Fault {
-        kind: FaultKind::OutOfMemory,
-        span: Span { start: 0, end: 0 },
-    }
-}
-
 /// What the program of a text means within this many turns: how it ends, and what it prints. `checks` tells whether contracts are
 /// checked. The fault is of the first stage that refuses the text, or 50, where memory runs out, for the stack too.
 pub fn mean_text<R: Threads>(
@@ -98,6 +87,6 @@ pub fn mean_text<R: Threads>(
     let program = check_text(alloc, text, Level::C0)?;
     match mean_apart(alloc, rt, program, checks, turns) {
         Ok(meant) => Ok(meant),
-        Err(_) => Err(memory()),
+        Err(_) => Err(Fault::out_of_memory()),
     }
 }

@@ -87,13 +87,15 @@ pub record HasPassed (held : Known) (out err : Writes) (result : ℕ) : Type 0 w
   pub shown : Says out (codes "ok" ++ newline) 0 result
   pub quiet : IsQuiet err
 
--- the file's text is the text of no well-typed program: the fault of the first stage that finds one is shown, and where it stands
+-- the file's text is the text of no well-typed program: the fault of the first stage that finds one is shown, and where it stands;
+-- want of memory is no such fault
 pub record HasFailed (file : Text) (held : Known) (out err : Writes) (result : ℕ) : Type 0 where
   pub text : List ℕ
   pub read : HasText held text
   pub none : (typed : y.Program) → IsTypedAs false text typed → ⊥
   pub fault : Fault
   pub cause : Unchecked.IsRefusedText false text fault
+  pub other : fault.kind ≡ f.OutOfMemory → ⊥
   pub line : ℕ
   pub column : ℕ
   pub place : StandsAt text fault.span.start line column

@@ -1,6 +1,7 @@
 //! What commands say on their two streams, with the exit status.
 ghost use Rattle.std.specs.Prelude.{◌≡◌, ◌++◌, ℕ, [], MatchResult, codes, cond, false};
 ghost use Rattle.c0_front.specs.Texts.{IsRefusedText, IsTypedAs};
+ghost use Rattle.c0_source.specs.declared.fault.FaultKind.TheVariants.{OutOfMemory};
 ghost use Rattle.c0_typed.specs.Trees as y;
 ghost use Rattle.c0far.specs.Driven.{HasFailed, StandsAt, is_open, newline, shown_fault};
 ghost use Rattle.c0far.specs.FileTexts.{HasText, Known};
@@ -55,6 +56,7 @@ pub fn say_fault<E: Stream>(err: &mut E, file: &str, text: &[u8], fault: Fault) 
 /// Says why a text that is the text of no well-typed program is refused, at the line and column of the fault.
 pub fn say_refused<E: Stream>(err: &mut E, file: &str, text: &[u8], fault: Fault) -> u8
     requires cause { IsRefusedText false text.now fault }
+    requires other { fault.kind ≡ OutOfMemory → ⊥ }
     requires none { (p : y.Program) → IsTypedAs false text.now p → ⊥ }
     ensures { (held : Known) (out : Writes) → HasText held text.now → IsQuiet out → HasFailed file.now held out (writes E.contents E.failures err.old err.new) result }
 {
