@@ -22,7 +22,7 @@ impl Lines {
     }
 
     /// What they are.
-    pub fn bytes(&self) -> &[u8] {
+    pub(crate) fn bytes(&self) -> &[u8] {
         &self.held
     }
 
@@ -87,7 +87,7 @@ impl Row {
 }
 
 /// The rows of a file.
-pub fn rows(alloc: Global, text: &[u8]) -> Result<Vec<Row>, AllocError> {
+pub(crate) fn rows(alloc: Global, text: &[u8]) -> Result<Vec<Row>, AllocError> {
     let mut rows = Vec::new(alloc);
     let lines = text.strip_suffix(b"\n").unwrap_or(text);
     for line in lines.split(|byte| *byte == b'\n') {

@@ -32,7 +32,7 @@ pub enum Question {
 
 impl Question {
     /// What this word asks.
-    pub fn of(word: &str) -> Option<Question> {
+    pub(crate) fn of(word: &str) -> Option<Question> {
         match word {
             "tokens" => Some(Question::Tokens),
             "kinds" => Some(Question::Kinds),
@@ -120,7 +120,7 @@ fn answer(alloc: Global, question: Question, text: &[u8]) -> Result<Vec<u8>, Fau
 }
 
 /// The answer to what is asked of the text, or the line of the fault with which it is refused.
-pub fn tell(alloc: Global, question: Question, text: &[u8]) -> Result<Vec<u8>, AllocError> {
+pub(crate) fn tell(alloc: Global, question: Question, text: &[u8]) -> Result<Vec<u8>, AllocError> {
     match answer(alloc, question, text) {
         Ok(told) => Ok(told),
         Err(fault) => {

@@ -8,7 +8,7 @@ use Rattle.std.specs.Prelude.{slice_get}
 use Rattle.c0_typed.specs.Values as v
 use Rattle.c0_typed.specs.Meaning as m
 use Rattle.c0_typed.specs.Views.{text_at, type_of}
-use Rattle.c0_meaning.specs.Machine.{Texts, natural, value_of, tree_of, trees_of}
+use Rattle.c0_meaning.specs.PlainStates.{Texts, natural, value_of, tree_of, trees_of}
 use Rattle.c0_meaning.specs.declared.value.Value.{Value}
 use Rattle.c0_meaning.specs.declared.heap.Tree.{Tree}
 use Rattle.c0_meaning.proofs.Parts.{void_at, set_twice}

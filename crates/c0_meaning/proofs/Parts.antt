@@ -9,7 +9,7 @@ use Rattle.c0_typed.specs.Views.{struct_of}
 use Rattle.c0_typed.specs.declared.tree.Struct.{Struct}
 use Rattle.std.proofs.Math.Seq.{drop-cons}
 use Rattle.std.proofs.lemmas.List.{map-append}
-use Rattle.c0_meaning.specs.Machine.{Texts, tree_of, row_of, trees_of, parts_in_order}
+use Rattle.c0_meaning.specs.PlainStates.{Texts, tree_of, row_of, trees_of, parts_in_order}
 use Rattle.c0_meaning.specs.declared.value.Value.{Value}
 use Rattle.c0_meaning.specs.declared.heap.Tree.{Tree, Leaf, Row_of-Tree, end_of-Tree, more_of-Tree, items-the_row-Tree, the_lemmas}
 use Rattle.c0_meaning.specs.declared.heap.Tree.TheViews.{Node}

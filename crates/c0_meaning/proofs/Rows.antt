@@ -10,7 +10,7 @@ use Rattle.c0_typed.specs.declared.tree.Statement.{Statement, Row_of-Statement, 
 use Rattle.c0_typed.specs.declared.tree.Statement.TheViews.{Block}
 use Rattle.c0_typed.specs.declared.tree.Function.{Function}
 use Rattle.c0_typed.specs.Views.{exp_of, row_of, exps_of, stmt_of, block_row, block_of, function_of, output_of}
-use Rattle.c0_meaning.specs.Machine.{Texts}
+use Rattle.c0_meaning.specs.PlainStates.{Texts}
 use Rattle.c0_meaning.proofs.Sizes.{size_exp, size_exps, size_stmt, size_function, size_all}
 
 module _ (texts : Texts) where

@@ -4,9 +4,9 @@ use Rattle.cells.specs.Outcomes as o
 use Rattle.c0_typed.specs.Values as v
 use Rattle.c0_typed.specs.Trees as t
 use Rattle.c0_typed.specs.Meaning as m
-use Rattle.c0_meaning.specs.declared.machine.Halt.{Halt}
-use Rattle.c0_meaning.specs.declared.machine.Halt.TheVariants.{Stopped, Cut, Memory}
-use Rattle.c0_meaning.specs.Machine.{Agrees, opening}
+use Rattle.c0_meaning.specs.declared.plain_state.Halt.{Halt}
+use Rattle.c0_meaning.specs.declared.plain_state.Halt.TheVariants.{Stopped, Cut, Memory}
+use Rattle.c0_meaning.specs.PlainStates.{Agrees, opening}
 use Rattle.c0_meaning.specs.Run.{Calls, calls_over, runs}
 
 -- where the first part of an evaluation is done, the answer is that of the rest

@@ -12,9 +12,9 @@ use Rattle.c0_typed.specs.Meaning as m
 use Rattle.c0_typed.specs.Views.{program_of, texts_of}
 use Rattle.c0_meaning.specs.declared.value.Value.{Value}
 use Rattle.c0_meaning.specs.declared.context.Context.{Context}
-use Rattle.c0_meaning.specs.declared.machine.Halt.{Halt}
+use Rattle.c0_meaning.specs.declared.plain_state.Halt.{Halt}
 use Rattle.c0_meaning.specs.declared.run.Meant.{Meant}
-use Rattle.c0_meaning.specs.Machine.{Agrees, Texts, tree_of, value_of}
+use Rattle.c0_meaning.specs.PlainStates.{Agrees, Texts, tree_of, value_of}
 
 -- what a call of a function comes to
 abbrev pub Calls : Type 0

@@ -2,11 +2,11 @@
 ghost use Rattle.std.specs.Prelude.{◌≡◌, map, IfSome};
 ghost use Rattle.c0_typed.specs.Meaning.{locals_at_entry};
 ghost use Rattle.c0_typed.specs.Views.{function_of};
-ghost use Rattle.c0_meaning.specs.Machine.{Agrees, Texts, state_of, value_of};
+ghost use Rattle.c0_meaning.specs.PlainStates.{Agrees, Texts, state_of, value_of};
 ghost use Rattle.c0_meaning.specs.Run.{calls_in, runs, structs_in, texts_in};
 
 use crate::context::Context;
-use crate::machine::{Halt, Machine};
+use crate::plain_state::{Halt, PlainState};
 use crate::statements::{check, execute_all};
 use crate::value::{Value, blank_value};
 use c0_typed::Function;
@@ -31,29 +31,29 @@ fn entry_locals(mut given: Vec<Value>, function: &Function) -> Option<Vec<Value>
 #[cycle(run)]
 pub(crate) fn call(
     context: &Context,
-    machine: &mut Machine,
+    state: &mut PlainState,
     function: usize,
     given: Vec<Value>,
 ) -> Result<Value, Halt>
-    ensures { Agrees (value_of (texts_in context.now)) result (calls_in context.now function (map (value_of (texts_in context.now)) given.items) (state_of (texts_in context.now) machine.old)) (state_of (texts_in context.now) machine.new) }
+    ensures { Agrees (value_of (texts_in context.now)) result (calls_in context.now function (map (value_of (texts_in context.now)) given.items) (state_of (texts_in context.now) state.old)) (state_of (texts_in context.now) state.new) }
 {
     if context.depth == 0 {
         return Err(Halt::Cut);
     }
-    machine.take_turn()?;
+    state.take_turn()?;
     let Some(function) = context.program.functions.get(function) else {
         return Ok(Value::Void);
     };
     let Some(locals) = entry_locals(given, function) else {
         return Err(Halt::Memory);
     };
-    let outer = mem::replace(&mut machine.locals, locals);
+    let outer = mem::replace(&mut state.locals, locals);
     let inner = Context {
         depth: context.depth - 1,
         ..*context
     };
-    let result = run_function(&inner, machine, function)?;
-    machine.locals = outer;
+    let result = run_function(&inner, state, function)?;
+    state.locals = outer;
     Ok(result)
 }
 
@@ -61,13 +61,13 @@ pub(crate) fn call(
 #[cycle(run)]
 fn run_function(
     context: &Context,
-    machine: &mut Machine,
+    state: &mut PlainState,
     function: &Function,
 ) -> Result<Value, Halt>
-    ensures { Agrees (value_of (texts_in context.now)) result (runs context.now.checks (structs_in context.now) (calls_in context.now) (function_of (texts_in context.now) function.now) (state_of (texts_in context.now) machine.old)) (state_of (texts_in context.now) machine.new) }
+    ensures { Agrees (value_of (texts_in context.now)) result (runs context.now.checks (structs_in context.now) (calls_in context.now) (function_of (texts_in context.now) function.now) (state_of (texts_in context.now) state.old)) (state_of (texts_in context.now) state.new) }
 {
-    check(context, machine, &function.preconditions)?;
-    execute_all(context, machine, &function.body)?;
-    check(context, machine, &function.postconditions)?;
-    Ok(machine.local(0))
+    check(context, state, &function.preconditions)?;
+    execute_all(context, state, &function.body)?;
+    check(context, state, &function.postconditions)?;
+    Ok(state.local(0))
 }

@@ -3,7 +3,7 @@ ghost use Rattle.std.specs.Prelude.{◌≡◌, [], map, IfSome};
 ghost use Rattle.c0_typed.specs.Values.{Leaf, copies as copies_of, count, leaf, part_at, parts, with_part_at};
 ghost use Rattle.c0_typed.specs.Meaning.{default, fields as fields_of, struct_defaults};
 ghost use Rattle.c0_typed.specs.Views.{struct_of, type_of};
-ghost use Rattle.c0_meaning.specs.Machine.{Texts, tree_of, trees_of, value_of};
+ghost use Rattle.c0_meaning.specs.PlainStates.{Texts, tree_of, trees_of, value_of};
 
 use crate::value::{Value, blank_value};
 use c0_typed::{Struct, ValueType};

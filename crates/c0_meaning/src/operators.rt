@@ -4,9 +4,9 @@ ghost use Rattle.cells.specs.Numbers.{wrap32};
 ghost use Rattle.cells.specs.Stops.{ArithFault};
 ghost use Rattle.c0_typed.specs.Meaning.{State, binary_value as binary_of, relation_value, unary_value as unary_value_of, value_or};
 ghost use Rattle.c0_typed.specs.Views.{relation_of, unary_of};
-ghost use Rattle.c0_meaning.specs.Machine.{Agrees, Texts, value_of};
+ghost use Rattle.c0_meaning.specs.PlainStates.{Agrees, Texts, value_of};
 
-use crate::machine::Halt;
+use crate::plain_state::Halt;
 use crate::value::Value;
 use c0_typed::{Relation, UnaryOperator};
 use cells::{Int32Op, Stop};

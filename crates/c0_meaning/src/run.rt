@@ -7,7 +7,7 @@ ghost use Rattle.c0_meaning.specs.Run.{Tells, meant_of};
 use crate::calls::call;
 use crate::context::Context;
 use crate::heap::default_structs;
-use crate::machine::{Halt, Machine};
+use crate::plain_state::{Halt, PlainState};
 use crate::value::Value;
 use c0_typed::Typed;
 use cells::{Stop, Want};
@@ -56,7 +56,7 @@ pub fn mean(alloc: Global, program: &Typed, checks: bool, turns: u64) -> Result<
         checks,
         depth: turns,
     };
-    let mut machine = Machine::begin(alloc, turns);
-    let came = call(&context, &mut machine, program.main, Vec::new(alloc));
-    tell(came, machine.output)
+    let mut state = PlainState::begin(alloc, turns);
+    let came = call(&context, &mut state, program.main, Vec::new(alloc));
+    tell(came, state.output)
 }

@@ -2,57 +2,57 @@
 ghost use Rattle.c0_typed.specs.Trees.{Loop, Set, Store, StoreUpdate, Update};
 ghost use Rattle.c0_typed.specs.Meaning.{checked, exec};
 ghost use Rattle.c0_typed.specs.Views.{block_of, exp_of, exps_of, place_of, stmt_of};
-ghost use Rattle.c0_meaning.specs.Machine.{Agrees, next_of, state_of, way_of};
+ghost use Rattle.c0_meaning.specs.PlainStates.{Agrees, next_of, state_of, way_of};
 ghost use Rattle.c0_meaning.specs.Run.{calls_in, structs_in, texts_in};
 
 use crate::context::Context;
 use crate::expressions::evaluate;
-use crate::machine::{Halt, Machine, Way, asserted, error_called};
 use crate::operators::binary_value;
 use crate::places::locate;
+use crate::plain_state::{Halt, PlainState, Way, asserted, error_called};
 use c0_typed::{Expression, Place, Statement};
 use cells::Int32Op;
 
 /// What a statement does.
 #[cycle(run)]
-fn execute(context: &Context, machine: &mut Machine, statement: &Statement) -> Result<Way, Halt>
-    ensures { Agrees way_of result (exec context.now.checks (structs_in context.now) (calls_in context.now) (stmt_of (texts_in context.now) statement.now) (state_of (texts_in context.now) machine.old)) (state_of (texts_in context.now) machine.new) }
+fn execute(context: &Context, state: &mut PlainState, statement: &Statement) -> Result<Way, Halt>
+    ensures { Agrees way_of result (exec context.now.checks (structs_in context.now) (calls_in context.now) (stmt_of (texts_in context.now) statement.now) (state_of (texts_in context.now) state.old)) (state_of (texts_in context.now) state.new) }
 {
     match statement {
-        Statement::Block(all) => execute_all(context, machine, all),
-        Statement::Set(x, value) => set(context, machine, *x, value),
-        Statement::Update(x, operator, value) => update(context, machine, *x, *operator, value),
-        Statement::Store(place, value) => store(context, machine, place, value),
+        Statement::Block(all) => execute_all(context, state, all),
+        Statement::Set(x, value) => set(context, state, *x, value),
+        Statement::Update(x, operator, value) => update(context, state, *x, *operator, value),
+        Statement::Store(place, value) => store(context, state, place, value),
         Statement::StoreUpdate(place, operator, value) => {
-            store_update(context, machine, place, *operator, value)
+            store_update(context, state, place, *operator, value)
         }
         Statement::Do(value) => {
-            evaluate(context, machine, value)?;
+            evaluate(context, state, value)?;
             Ok(Way::Next)
         }
         Statement::If(condition, first, second) => {
-            let holds = evaluate(context, machine, condition)?.truth();
-            execute(context, machine, if holds { first } else { second })
+            let holds = evaluate(context, state, condition)?.truth();
+            execute(context, state, if holds { first } else { second })
         }
         Statement::Loop(invariants, condition, body, step) => {
-            run_loop(context, machine, invariants, condition, body, step)
+            run_loop(context, state, invariants, condition, body, step)
         }
         Statement::Return => Ok(Way::Returned),
         Statement::ReturnValue(value) => {
-            let value = evaluate(context, machine, value)?;
-            machine.set_local(0, value);
+            let value = evaluate(context, state, value)?;
+            state.set_local(0, value);
             Ok(Way::Returned)
         }
         Statement::Assert(condition) => {
-            asserted(evaluate(context, machine, condition)?)?;
+            asserted(evaluate(context, state, condition)?)?;
             Ok(Way::Next)
         }
         Statement::Error(text) => {
-            let text = evaluate(context, machine, text)?;
+            let text = evaluate(context, state, text)?;
             error_called(context.alloc, context.program, text)
         }
         Statement::Check(conditions) => {
-            check(context, machine, conditions)?;
+            check(context, state, conditions)?;
             Ok(Way::Next)
         }
     }
@@ -60,11 +60,11 @@ fn execute(context: &Context, machine: &mut Machine, statement: &Statement) -> R
 
 /// `local = value`.
 #[cycle(run)]
-fn set(context: &Context, machine: &mut Machine, x: u32, value: &Expression) -> Result<Way, Halt>
-    ensures { Agrees way_of result (exec context.now.checks (structs_in context.now) (calls_in context.now) (Set x (exp_of (texts_in context.now) value.now)) (state_of (texts_in context.now) machine.old)) (state_of (texts_in context.now) machine.new) }
+fn set(context: &Context, state: &mut PlainState, x: u32, value: &Expression) -> Result<Way, Halt>
+    ensures { Agrees way_of result (exec context.now.checks (structs_in context.now) (calls_in context.now) (Set x (exp_of (texts_in context.now) value.now)) (state_of (texts_in context.now) state.old)) (state_of (texts_in context.now) state.new) }
 {
-    let value = evaluate(context, machine, value)?;
-    machine.set_local(x as usize, value);
+    let value = evaluate(context, state, value)?;
+    state.set_local(x as usize, value);
     Ok(Way::Next)
 }
 
@@ -72,17 +72,17 @@ fn set(context: &Context, machine: &mut Machine, x: u32, value: &Expression) -> 
 #[cycle(run)]
 fn update(
     context: &Context,
-    machine: &mut Machine,
+    state: &mut PlainState,
     x: u32,
     operator: Int32Op,
     value: &Expression,
 ) -> Result<Way, Halt>
-    ensures { Agrees way_of result (exec context.now.checks (structs_in context.now) (calls_in context.now) (Update x operator (exp_of (texts_in context.now) value.now)) (state_of (texts_in context.now) machine.old)) (state_of (texts_in context.now) machine.new) }
+    ensures { Agrees way_of result (exec context.now.checks (structs_in context.now) (calls_in context.now) (Update x operator (exp_of (texts_in context.now) value.now)) (state_of (texts_in context.now) state.old)) (state_of (texts_in context.now) state.new) }
 {
-    let old = machine.local(x as usize);
-    let value = evaluate(context, machine, value)?;
+    let old = state.local(x as usize);
+    let value = evaluate(context, state, value)?;
     let new = binary_value(operator, old, value)?;
-    machine.set_local(x as usize, new);
+    state.set_local(x as usize, new);
     Ok(Way::Next)
 }
 
@@ -90,15 +90,15 @@ fn update(
 #[cycle(run)]
 fn store(
     context: &Context,
-    machine: &mut Machine,
+    state: &mut PlainState,
     place: &Place,
     value: &Expression,
 ) -> Result<Way, Halt>
-    ensures { Agrees way_of result (exec context.now.checks (structs_in context.now) (calls_in context.now) (Store (place_of (texts_in context.now) place.now) (exp_of (texts_in context.now) value.now)) (state_of (texts_in context.now) machine.old)) (state_of (texts_in context.now) machine.new) }
+    ensures { Agrees way_of result (exec context.now.checks (structs_in context.now) (calls_in context.now) (Store (place_of (texts_in context.now) place.now) (exp_of (texts_in context.now) value.now)) (state_of (texts_in context.now) state.old)) (state_of (texts_in context.now) state.new) }
 {
-    let spot = locate(context, machine, place)?;
-    let stored = evaluate(context, machine, value)?;
-    machine.store(&spot, stored);
+    let spot = locate(context, state, place)?;
+    let stored = evaluate(context, state, value)?;
+    state.store(&spot, stored);
     Ok(Way::Next)
 }
 
@@ -106,18 +106,18 @@ fn store(
 #[cycle(run)]
 fn store_update(
     context: &Context,
-    machine: &mut Machine,
+    state: &mut PlainState,
     place: &Place,
     operator: Int32Op,
     value: &Expression,
 ) -> Result<Way, Halt>
-    ensures { Agrees way_of result (exec context.now.checks (structs_in context.now) (calls_in context.now) (StoreUpdate (place_of (texts_in context.now) place.now) operator (exp_of (texts_in context.now) value.now)) (state_of (texts_in context.now) machine.old)) (state_of (texts_in context.now) machine.new) }
+    ensures { Agrees way_of result (exec context.now.checks (structs_in context.now) (calls_in context.now) (StoreUpdate (place_of (texts_in context.now) place.now) operator (exp_of (texts_in context.now) value.now)) (state_of (texts_in context.now) state.old)) (state_of (texts_in context.now) state.new) }
 {
-    let target = locate(context, machine, place)?;
-    let old = machine.load(&target);
-    let operand = evaluate(context, machine, value)?;
+    let target = locate(context, state, place)?;
+    let old = state.load(&target);
+    let operand = evaluate(context, state, value)?;
     let new = binary_value(operator, old, operand)?;
-    machine.store(&target, new);
+    state.store(&target, new);
     Ok(Way::Next)
 }
 
@@ -125,13 +125,13 @@ fn store_update(
 #[cycle(run)]
 pub(crate) fn execute_all(
     context: &Context,
-    machine: &mut Machine,
+    state: &mut PlainState,
     statements: &[Statement],
 ) -> Result<Way, Halt>
-    ensures { Agrees way_of result (exec context.now.checks (structs_in context.now) (calls_in context.now) (block_of (texts_in context.now) statements.now) (state_of (texts_in context.now) machine.old)) (state_of (texts_in context.now) machine.new) }
+    ensures { Agrees way_of result (exec context.now.checks (structs_in context.now) (calls_in context.now) (block_of (texts_in context.now) statements.now) (state_of (texts_in context.now) state.old)) (state_of (texts_in context.now) state.new) }
 {
     for statement in statements {
-        match execute(context, machine, statement)? {
+        match execute(context, state, statement)? {
             Way::Next => {}
             Way::Returned => return Ok(Way::Returned),
         }
@@ -143,16 +143,16 @@ pub(crate) fn execute_all(
 #[cycle(run)]
 pub(crate) fn check(
     context: &Context,
-    machine: &mut Machine,
+    state: &mut PlainState,
     conditions: &[Expression],
 ) -> Result<(), Halt>
-    ensures { Agrees next_of result (checked context.now.checks (structs_in context.now) (calls_in context.now) (exps_of (texts_in context.now) conditions.now) (state_of (texts_in context.now) machine.old)) (state_of (texts_in context.now) machine.new) }
+    ensures { Agrees next_of result (checked context.now.checks (structs_in context.now) (calls_in context.now) (exps_of (texts_in context.now) conditions.now) (state_of (texts_in context.now) state.old)) (state_of (texts_in context.now) state.new) }
 {
     if !context.checks {
         return Ok(());
     }
     for condition in conditions {
-        asserted(evaluate(context, machine, condition)?)?;
+        asserted(evaluate(context, state, condition)?)?;
     }
     Ok(())
 }
@@ -161,29 +161,29 @@ pub(crate) fn check(
 #[cycle(run)]
 fn run_loop(
     context: &Context,
-    machine: &mut Machine,
+    state: &mut PlainState,
     invariants: &[Expression],
     condition: &Expression,
     body: &Statement,
     step: &Statement,
 ) -> Result<Way, Halt>
-    ensures { Agrees way_of result (exec context.now.checks (structs_in context.now) (calls_in context.now) (Loop (exps_of (texts_in context.now) invariants.now) (exp_of (texts_in context.now) condition.now) (stmt_of (texts_in context.now) body.now) (stmt_of (texts_in context.now) step.now)) (state_of (texts_in context.now) machine.old)) (state_of (texts_in context.now) machine.new) }
+    ensures { Agrees way_of result (exec context.now.checks (structs_in context.now) (calls_in context.now) (Loop (exps_of (texts_in context.now) invariants.now) (exp_of (texts_in context.now) condition.now) (stmt_of (texts_in context.now) body.now) (stmt_of (texts_in context.now) step.now)) (state_of (texts_in context.now) state.old)) (state_of (texts_in context.now) state.new) }
 {
-    let mut left = machine.turns;
-    check(context, machine, invariants)?;
-    while evaluate(context, machine, condition)?.truth() {
+    let mut left = state.turns;
+    check(context, state, invariants)?;
+    while evaluate(context, state, condition)?.truth() {
         if left == 0 {
             return Err(Halt::Cut);
         }
         left -= 1;
-        machine.take_turn()?;
-        if execute(context, machine, body)? == Way::Returned {
+        state.take_turn()?;
+        if execute(context, state, body)? == Way::Returned {
             return Ok(Way::Returned);
         }
-        if execute(context, machine, step)? == Way::Returned {
+        if execute(context, state, step)? == Way::Returned {
             return Ok(Way::Returned);
         }
-        check(context, machine, invariants)?; // before the next condition
+        check(context, state, invariants)?; // before the next condition
     }
     Ok(Way::Next)
 }

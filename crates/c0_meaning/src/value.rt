@@ -3,7 +3,7 @@ ghost use Rattle.std.specs.Prelude.{◌≡◌};
 ghost use Rattle.c0_typed.specs.Values.{Leaf, as_letter, as_number, as_ref, as_text, as_truth, same_value, value_below};
 ghost use Rattle.c0_typed.specs.Meaning.{blank};
 ghost use Rattle.c0_typed.specs.Views.{constant_of, text_at, type_of};
-ghost use Rattle.c0_meaning.specs.Machine.{Texts, natural, value_of};
+ghost use Rattle.c0_meaning.specs.PlainStates.{Texts, natural, value_of};
 
 use c0_typed::{Constant, ValueType};
 

@@ -65,7 +65,7 @@ fn refusal(error: FileError) -> io::Error {
 
 impl Bench {
     /// No files.
-    pub fn new(alloc: Global) -> Bench {
+    pub(crate) fn new(alloc: Global) -> Bench {
         Bench {
             alloc,
             files: MemFiles::new(alloc),
@@ -90,21 +90,21 @@ impl Bench {
     }
 
     /// Begins the text of a file of this name.
-    pub fn begin(&mut self, name: &str) -> io::Result<()> {
+    pub(crate) fn begin(&mut self, name: &str) -> io::Result<()> {
         self.finish()?;
         self.name.push_str(name)?;
         Ok(())
     }
 
     /// A line of the text.
-    pub fn add_line(&mut self, line: &[u8]) -> io::Result<()> {
+    pub(crate) fn add_line(&mut self, line: &[u8]) -> io::Result<()> {
         self.text.extend_from_slice(line)?;
         self.text.push(b'\n')?;
         Ok(())
     }
 
     /// So many times these bytes in the text.
-    pub fn add_often(&mut self, count: usize, bytes: &[u8]) -> io::Result<()> {
+    pub(crate) fn add_often(&mut self, count: usize, bytes: &[u8]) -> io::Result<()> {
         for _ in 0..count {
             self.text.extend_from_slice(bytes)?;
         }
@@ -112,17 +112,17 @@ impl Bench {
     }
 
     /// One write to the standard output of the next command fails, after so many others.
-    pub fn fail_out(&mut self, after: u8) {
+    pub(crate) fn fail_out(&mut self, after: u8) {
         self.failing_out = Some(after);
     }
 
     /// One write to the standard error of the next command fails, after so many others.
-    pub fn fail_err(&mut self, after: u8) {
+    pub(crate) fn fail_err(&mut self, after: u8) {
         self.failing_err = Some(after);
     }
 
     /// Does the command line of these words, and tells its status and what it wrote, or the first lines of that.
-    pub fn command<R: Threads + Wait, O: Write>(
+    pub(crate) fn command<R: Threads + Wait, O: Write>(
         &mut self,
         rt: &R,
         words: &str,

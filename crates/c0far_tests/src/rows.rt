@@ -37,7 +37,7 @@ fn repeated(text: &str) -> Option<(usize, &[u8])> {
 
 impl<'a> Row<'a> {
     /// What this line says: a line that is no other row is one of a text.
-    pub fn of(line: &'a [u8]) -> Row<'a> {
+    pub(crate) fn of(line: &'a [u8]) -> Row<'a> {
         if let Some(name) = behind(line, b"= ") {
             return Row::File(name);
         }

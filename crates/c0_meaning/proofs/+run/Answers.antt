@@ -9,7 +9,7 @@ use Rattle.c0_typed.specs.Meaning.{no_function, State, Outcome, Way, Next, local
 use Rattle.cells.specs.Stops.{ArithFault}
 use Rattle.c0_typed.specs.Views.{exp_of, exps_of, stmt_of, block_of, function_of, output_of, program_of, type_of}
 use Rattle.c0_meaning.specs.declared.value.Value as run
-use Rattle.c0_meaning.specs.Machine.{Agrees, value_of, state_of, way_of}
+use Rattle.c0_meaning.specs.PlainStates.{Agrees, value_of, state_of, way_of}
 use Rattle.c0_meaning.specs.Run.{texts_in, structs_in, calls_in, calls_over}
 use Rattle.c0_meaning.proofs.Sizes.{size_exp, size_stmt, size_function, weight, twice}
 use Rattle.c0_meaning.proofs.Rows.{exp_call, exp_print, stmt_block, size_in, size_in_block, size_body, falls_by}
@@ -46,12 +46,12 @@ calls::call-returns t c =
     let looked : get_or p.functions c.args.function no_function ≡ fn = get_or-map (function_of texts) all c.args.function f no_function here ∙ ap (function_of texts) (sym is) in
     let turned = c.in_ok-take_turn.ensures texts in
     let u = state_of texts c.take_turn.new.self in
-    let w = state_of texts c.run_function.new.machine in
+    let w = state_of texts c.run_function.new.state in
     let args = map (value_of texts) c.args.given.items in
     let ls = map (value_of texts) c.replace-outer.new.dest.items in
     let entered : ls ≡ locals_at_entry fn args = ap (λ (l : Vec run.Value Global). map (value_of texts) l.items) c.replace-outer.ensures.after ∙ c.in-Some-entry_locals.ensures texts in
     let after : v.Value → State → Outcome v.Value = λ x y. Done x (record y { locals = u.locals }) in
-    call_enters structs checks p d c.args.function args (state_of texts c.args.machine.now) u fn c.if-context-eq0.false turned.0 turned.1 looked
+    call_enters structs checks p d c.args.function args (state_of texts c.args.state.now) u fn c.if-context-eq0.false turned.0 turned.1 looked
     ∙ in_function_is checks structs (calls_over structs checks p (d - 1)) fn args ls u entered
     ∙ ap (λ o. then_do o after) c.in_ok-result.ensures
     ∙ ap (λ (l : Vec run.Value Global). Done (value_of texts c.in_ok-result.result) (record w { locals = map (value_of texts) l.items })) (sym c.replace-outer.ensures.value)
@@ -72,11 +72,11 @@ calls::call-returns-in_err-result t c =
     let looked : get_or p.functions c.args.function no_function ≡ fn = get_or-map (function_of texts) all c.args.function f no_function here ∙ ap (function_of texts) (sym is) in
     let turned = c.in_ok-take_turn.ensures texts in
     let u = state_of texts c.take_turn.new.self in
-    let w = state_of texts c.run_function.new.machine in
+    let w = state_of texts c.run_function.new.state in
     let args = map (value_of texts) c.args.given.items in
     let ls = map (value_of texts) c.replace-outer.new.dest.items in
     let entered : ls ≡ locals_at_entry fn args = ap (λ (l : Vec run.Value Global). map (value_of texts) l.items) c.replace-outer.ensures.after ∙ c.in-Some-entry_locals.ensures texts in
-    let enters = call_enters structs checks p d c.args.function args (state_of texts c.args.machine.now) u fn c.if-context-eq0.false turned.0 turned.1 looked
+    let enters = call_enters structs checks p d c.args.function args (state_of texts c.args.state.now) u fn c.if-context-eq0.false turned.0 turned.1 looked
     ∙ in_function_is checks structs (calls_over structs checks p (d - 1)) fn args ls u entered in
     subst (λ (o : Outcome v.Value). Agrees (value_of texts) c.from_residual-in_err-result.result o w) (sym enters) (search (rules, after_halt))
 
@@ -162,11 +162,11 @@ statements::run_loop-loop-left-preserved t c =
     let body : State → Outcome Way = exec checks structs calls (stmt_of texts c.args.body.now) in
     let step : State → Outcome Way = exec checks structs calls (stmt_of texts c.args.step.now) in
     let k = c.loop-left.left in
-    let s = state_of texts c.loop-left.machine in
-    let x = state_of texts c.evaluate.new.machine in
+    let s = state_of texts c.loop-left.state in
+    let x = state_of texts c.evaluate.new.state in
     let u = state_of texts c.take_turn.new.self in
-    let y = state_of texts c.execute.new.machine in
-    let z = state_of texts c.execute-in-loop-left.new.machine in
+    let y = state_of texts c.execute.new.state in
+    let z = state_of texts c.execute-in-loop-left.new.state in
     let a = value_of texts c.in_ok-evaluate.field-0 in
     let is_true : v.as_truth a ≡ true = sym (c.truth.ensures texts) ∙ c.if-truth.true in
     let turned = c.in_ok-take_turn.ensures texts in
@@ -193,12 +193,12 @@ statements::run_loop-returns-in_err-check-2 t c =
     let body : State → Outcome Way = exec checks structs calls (stmt_of texts c.args.body.now) in
     let step : State → Outcome Way = exec checks structs calls (stmt_of texts c.args.step.now) in
     let k = c.loop-left.left in
-    let s = state_of texts c.loop-left.machine in
-    let x = state_of texts c.evaluate.new.machine in
+    let s = state_of texts c.loop-left.state in
+    let x = state_of texts c.evaluate.new.state in
     let u = state_of texts c.take_turn.new.self in
-    let y = state_of texts c.execute.new.machine in
-    let z = state_of texts c.execute-in-loop-left.new.machine in
-    let w = state_of texts c.check-in-loop-left.new.machine in
+    let y = state_of texts c.execute.new.state in
+    let z = state_of texts c.execute-in-loop-left.new.state in
+    let w = state_of texts c.check-in-loop-left.new.state in
     let a = value_of texts c.in_ok-evaluate.field-0 in
     let is_true : v.as_truth a ≡ true = sym (c.truth.ensures texts) ∙ c.if-truth.true in
     let turned = c.in_ok-take_turn.ensures texts in
@@ -217,9 +217,9 @@ statements::run_loop-returns-in_err-check-2 t c =
 pub statements::update-returns : goal.statements::update-returns
 statements::update-returns t c =
     let texts = texts_in c.args.context.now in
-    let y = state_of texts c.evaluate.new.machine in
+    let y = state_of texts c.evaluate.new.state in
     let arg = value_of texts c.in_ok-value.value in
-    let s = state_of texts c.args.machine.now in
+    let s = state_of texts c.args.state.now in
     let set : v.Value → State → Outcome Way = λ w u. Done Next (set_local c.args.x w u) in
     let go : v.Value → State → Outcome Way = λ x u. then_do (value_or ArithFault (binary_value c.args.operator (local c.args.x s) x) u) set in
     ap (λ o. then_do o go) c.in_ok-value.ensures
@@ -230,9 +230,9 @@ statements::update-returns t c =
 pub statements::update-returns-in_err-new : goal.statements::update-returns-in_err-new
 statements::update-returns-in_err-new t c =
     let texts = texts_in c.args.context.now in
-    let y = state_of texts c.evaluate.new.machine in
+    let y = state_of texts c.evaluate.new.state in
     let arg = value_of texts c.in_ok-value.value in
-    let s = state_of texts c.args.machine.now in
+    let s = state_of texts c.args.state.now in
     let set : v.Value → State → Outcome Way = λ w u. Done Next (set_local c.args.x w u) in
     let go : v.Value → State → Outcome Way = λ x u. then_do (value_or ArithFault (binary_value c.args.operator (local c.args.x s) x) u) set in
     let there = ap (λ o. then_do o go) c.in_ok-value.ensures

@@ -4,7 +4,7 @@ use Rattle.c0_typed.specs.Trees.{Loop}
 use Rattle.c0_typed.specs.Meaning.{evals, exec, eval, all_hold, checked}
 use Rattle.c0_typed.specs.Views.{exp_of, exps_of, place_of, stmt_of, block_of, function_of, program_of}
 use Rattle.c0_meaning.specs.declared.context.Context.{Context}
-use Rattle.c0_meaning.specs.Machine.{value_of, state_of}
+use Rattle.c0_meaning.specs.PlainStates.{value_of, state_of}
 use Rattle.c0_meaning.specs.Run.{texts_in, structs_in, calls_in}
 use Rattle.c0_meaning.proofs.Sizes.{size_exp, size_exps, size_place, size_stmt, size_function, weight, twice}
 use Rattle.c0_meaning.proofs.Steps.{from_condition}
@@ -69,25 +69,25 @@ decreases-statements::update l = calls_weigh l.context.now + suc (twice (size_ex
 -- the values so far, and then those of the rest
 abbrev pub invariant-expressions::evaluate_all-loop-expression : goal.invariant-expressions::evaluate_all-loop-expression
 invariant-expressions::evaluate_all-loop-expression l =
-    evals (structs_in l.context) (calls_in l.context) (exps_of (texts_in l.context) l.expressions) (state_of (texts_in l.context) l.fn.machine)
-    ≡ then_do (evals (structs_in l.context) (calls_in l.context) (exps_of (texts_in l.context) (drop l.expression-index l.expressions)) (state_of (texts_in l.context) l.machine)) (λ vs u. Done (map (value_of (texts_in l.context)) l.values.items ++ vs) u)
+    evals (structs_in l.context) (calls_in l.context) (exps_of (texts_in l.context) l.expressions) (state_of (texts_in l.context) l.fn.state)
+    ≡ then_do (evals (structs_in l.context) (calls_in l.context) (exps_of (texts_in l.context) (drop l.expression-index l.expressions)) (state_of (texts_in l.context) l.state)) (λ vs u. Done (map (value_of (texts_in l.context)) l.values.items ++ vs) u)
 
 abbrev pub invariant-statements::check-loop-condition : goal.invariant-statements::check-loop-condition
 invariant-statements::check-loop-condition l =
-    all_hold l.context.checks (structs_in l.context) (calls_in l.context) (exps_of (texts_in l.context) l.conditions) (state_of (texts_in l.context) l.fn.machine)
-    ≡ all_hold l.context.checks (structs_in l.context) (calls_in l.context) (exps_of (texts_in l.context) (drop l.condition-index l.conditions)) (state_of (texts_in l.context) l.machine)
+    all_hold l.context.checks (structs_in l.context) (calls_in l.context) (exps_of (texts_in l.context) l.conditions) (state_of (texts_in l.context) l.fn.state)
+    ≡ all_hold l.context.checks (structs_in l.context) (calls_in l.context) (exps_of (texts_in l.context) (drop l.condition-index l.conditions)) (state_of (texts_in l.context) l.state)
 
 abbrev pub invariant-statements::execute_all-loop-statement : goal.invariant-statements::execute_all-loop-statement
 invariant-statements::execute_all-loop-statement l =
-    exec l.context.checks (structs_in l.context) (calls_in l.context) (block_of (texts_in l.context) l.statements) (state_of (texts_in l.context) l.fn.machine)
-    ≡ exec l.context.checks (structs_in l.context) (calls_in l.context) (block_of (texts_in l.context) (drop l.statement-index l.statements)) (state_of (texts_in l.context) l.machine)
+    exec l.context.checks (structs_in l.context) (calls_in l.context) (block_of (texts_in l.context) l.statements) (state_of (texts_in l.context) l.fn.state)
+    ≡ exec l.context.checks (structs_in l.context) (calls_in l.context) (block_of (texts_in l.context) (drop l.statement-index l.statements)) (state_of (texts_in l.context) l.state)
 
 -- the loop from here
 abbrev pub invariant-statements::run_loop-loop-left : goal.invariant-statements::run_loop-loop-left
 invariant-statements::run_loop-loop-left l =
-    exec l.context.checks (structs_in l.context) (calls_in l.context) (Loop (exps_of (texts_in l.context) l.invariants) (exp_of (texts_in l.context) l.condition) (stmt_of (texts_in l.context) l.body) (stmt_of (texts_in l.context) l.step)) (state_of (texts_in l.context) l.fn.machine)
+    exec l.context.checks (structs_in l.context) (calls_in l.context) (Loop (exps_of (texts_in l.context) l.invariants) (exp_of (texts_in l.context) l.condition) (stmt_of (texts_in l.context) l.body) (stmt_of (texts_in l.context) l.step)) (state_of (texts_in l.context) l.fn.state)
     ≡ from_condition (checked l.context.checks (structs_in l.context) (calls_in l.context) (exps_of (texts_in l.context) l.invariants)) (eval (structs_in l.context) (calls_in l.context) (exp_of (texts_in l.context) l.condition))
-    (exec l.context.checks (structs_in l.context) (calls_in l.context) (stmt_of (texts_in l.context) l.body)) (exec l.context.checks (structs_in l.context) (calls_in l.context) (stmt_of (texts_in l.context) l.step)) l.left (state_of (texts_in l.context) l.machine)
+    (exec l.context.checks (structs_in l.context) (calls_in l.context) (stmt_of (texts_in l.context) l.body)) (exec l.context.checks (structs_in l.context) (calls_in l.context) (stmt_of (texts_in l.context) l.step)) l.left (state_of (texts_in l.context) l.state)
 
 abbrev pub decreases-statements::run_loop-loop-left : goal.decreases-statements::run_loop-loop-left
 decreases-statements::run_loop-loop-left l = l.left

@@ -1,7 +1,7 @@
 use Rattle.std.proofs.Common.{◌≤◌, ap, ◌∙◌, sym, map, length, arith}
 use Rattle.std.proofs.lemmas.List.{take_all}
 use Rattle.c0_typed.specs.Values.{Node}
-use Rattle.c0_meaning.specs.Machine.{tree_of, trees_of, parts_in_order}
+use Rattle.c0_meaning.specs.PlainStates.{tree_of, trees_of, parts_in_order}
 use Rattle.c0_meaning.proofs.Parts.{tree_node}
 use Rattle.c0_meaning.proofs.heap.+copied.Goals as goal
 

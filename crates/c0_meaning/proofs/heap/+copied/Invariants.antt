@@ -1,6 +1,6 @@
 use Rattle.std.proofs.Common.{◌≡◌, map, take}
 use Rattle.c0_typed.specs.Values.{Node}
-use Rattle.c0_meaning.specs.Machine.{Texts, tree_of, trees_of}
+use Rattle.c0_meaning.specs.PlainStates.{Texts, tree_of, trees_of}
 use Rattle.c0_meaning.proofs.heap.+copied.Given as goal
 
 abbrev pub invariant-loop-part : goal.invariant-loop-part

@@ -1,6 +1,6 @@
 use Rattle.std.proofs.Common.{◌≡◌, ◌≤◌, ◌<◌, length, get_or, arith, sym, subst}
 use Rattle.c0_typed.specs.Values as v
-use Rattle.c0_meaning.specs.Machine.{value_of}
+use Rattle.c0_meaning.specs.PlainStates.{value_of}
 use Rattle.std.specs.Vec.{with_item}
 use Rattle.c0_meaning.proofs.Parts.{store_node, store_past, set_twice}
 use Rattle.c0_meaning.proofs.heap.+stored.Goals as goal

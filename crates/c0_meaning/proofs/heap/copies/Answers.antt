@@ -1,5 +1,5 @@
 use Rattle.std.proofs.Common.{◌≡◌, ap, ◌∙◌, sym, replicate, arith}
-use Rattle.c0_meaning.specs.Machine.{tree_of, parts_in_order}
+use Rattle.c0_meaning.specs.PlainStates.{tree_of, parts_in_order}
 use Rattle.c0_meaning.proofs.Parts.{copies_are}
 use Rattle.c0_meaning.proofs.heap.copies.Goals as goal
 

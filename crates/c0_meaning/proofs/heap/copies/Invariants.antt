@@ -1,5 +1,5 @@
 use Rattle.std.proofs.Common.{◌≡◌, map, replicate}
-use Rattle.c0_meaning.specs.Machine.{Texts, tree_of}
+use Rattle.c0_meaning.specs.PlainStates.{Texts, tree_of}
 use Rattle.c0_meaning.proofs.heap.copies.Given as goal
 
 abbrev pub invariant-loop : goal.invariant-loop

@@ -2,7 +2,7 @@ use Rattle.std.proofs.Common.{◌≤◌, ap, ◌∙◌, sym, map, length, arith}
 use Rattle.std.proofs.lemmas.List.{take_all}
 use Rattle.c0_typed.specs.Meaning.{default}
 use Rattle.c0_typed.specs.Views.{type_of}
-use Rattle.c0_meaning.specs.Machine.{tree_of, parts_in_order}
+use Rattle.c0_meaning.specs.PlainStates.{tree_of, parts_in_order}
 use Rattle.c0_meaning.proofs.Parts.{fields_are}
 use Rattle.c0_meaning.proofs.heap.default_fields.Goals as goal
 

@@ -1,7 +1,7 @@
 use Rattle.std.proofs.Common.{◌≡◌, map, take}
 use Rattle.c0_typed.specs.Meaning.{default}
 use Rattle.c0_typed.specs.Views.{type_of}
-use Rattle.c0_meaning.specs.Machine.{Texts, tree_of}
+use Rattle.c0_meaning.specs.PlainStates.{Texts, tree_of}
 use Rattle.c0_meaning.proofs.heap.default_fields.Given as goal
 
 abbrev pub invariant-loop-ty : goal.invariant-loop-ty

@@ -1,7 +1,7 @@
 use Rattle.std.proofs.Common.{◌≡◌, ◌++◌, ◌∷◌, [], ap, ◌∙◌, map, rules}
 use Rattle.c0_typed.specs.Meaning.{fields}
 use Rattle.c0_typed.specs.Views.{struct_of, type_of}
-use Rattle.c0_meaning.specs.Machine.{tree_of, trees_of}
+use Rattle.c0_meaning.specs.PlainStates.{tree_of, trees_of}
 use Rattle.c0_meaning.specs.declared.heap.Tree.TheViews.{Node}
 use Rattle.c0_meaning.proofs.Parts.{next_struct}
 use Rattle.c0_meaning.proofs.heap.default_structs.Goals as goal

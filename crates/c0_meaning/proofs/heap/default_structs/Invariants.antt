@@ -1,7 +1,7 @@
 use Rattle.std.proofs.Common.{◌≡◌, [], map, drop}
 use Rattle.c0_typed.specs.Meaning.{struct_defaults}
 use Rattle.c0_typed.specs.Views.{struct_of}
-use Rattle.c0_meaning.specs.Machine.{Texts, tree_of}
+use Rattle.c0_meaning.specs.PlainStates.{Texts, tree_of}
 use Rattle.c0_meaning.proofs.heap.default_structs.Given as goal
 
 abbrev pub invariant-loop-one : goal.invariant-loop-one

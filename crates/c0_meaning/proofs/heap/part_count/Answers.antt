@@ -1,6 +1,6 @@
 use Rattle.std.proofs.Common.{◌≡◌, ap, ◌∙◌, sym, length, arith}
 use Rattle.c0_typed.specs.Values.{count, parts}
-use Rattle.c0_meaning.specs.Machine.{tree_of}
+use Rattle.c0_meaning.specs.PlainStates.{tree_of}
 use Rattle.c0_meaning.proofs.Parts.{tree_node}
 use Rattle.c0_meaning.proofs.Heaps.{count_is}
 use Rattle.c0_meaning.proofs.heap.part_count.Goals as goal

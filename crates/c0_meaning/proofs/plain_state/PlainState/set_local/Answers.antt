@@ -1,7 +1,7 @@
 use Rattle.std.proofs.Common.{ap}
 use Rattle.std.proofs.lemmas.List.{map-set}
-use Rattle.c0_meaning.specs.Machine.{value_of, state_of}
-use Rattle.c0_meaning.proofs.machine.Machine.set_local.Goals as goal
+use Rattle.c0_meaning.specs.PlainStates.{value_of, state_of}
+use Rattle.c0_meaning.proofs.plain_state.PlainState.set_local.Goals as goal
 
 pub returns-then-x-len : goal.returns-then-x-len
 returns-then-x-len c = λ texts.

@@ -1,6 +1,6 @@
 use Rattle.std.proofs.Common.{◌∙◌, string_bytes}
 use Rattle.c0_meaning.proofs.Heaps.{text_is}
-use Rattle.c0_meaning.proofs.machine.text_at.Goals as goal
+use Rattle.c0_meaning.proofs.plain_state.text_at.Goals as goal
 
 pub returns-in-Some : goal.returns-in-Some
 returns-in-Some c =

@@ -5,7 +5,7 @@ ghost use Rattle.c0_typed.specs.Meaning.{State, allocate as allocate_of, allocat
 ghost use Rattle.c0_typed.specs.Views.{output_of, text_at as text_of, texts_of, type_of};
 ghost use Rattle.cells.specs.Outcomes.{Done};
 ghost use Rattle.cells.specs.Stops.{ErrorCalled};
-ghost use Rattle.c0_meaning.specs.Machine.{Agrees, TakesTurn, Texts, next_of, nothing_of, opening, prints, spot_of, state_of, tree_of, value_of, way_of};
+ghost use Rattle.c0_meaning.specs.PlainStates.{Agrees, TakesTurn, Texts, next_of, nothing_of, opening, prints, spot_of, state_of, tree_of, value_of, way_of};
 
 use crate::heap::{Spot, Tree, copies, default_tree, part, part_count, stored};
 use crate::value::Value;
@@ -33,7 +33,7 @@ pub(crate) enum Way {
 
 /// The turns that are left, the heap, the locals of the running call, and what was printed.
 #[derive(Debug, Drop)]
-pub(crate) struct Machine {
+pub(crate) struct PlainState {
     pub(crate) turns: u64,
     pub(crate) heap: Vec<Tree>,
     pub(crate) locals: Vec<Value>,
@@ -117,12 +117,12 @@ pub(crate) fn error_called(alloc: Global, program: &Typed, value: Value) -> Resu
     Err(Halt::Stopped(Stop::ErrorCalled(text)))
 }
 
-impl Machine {
-    /// The machine where the call of `main` begins: nothing is allocated, and nothing was printed.
-    pub(crate) fn begin(alloc: Global, turns: u64) -> Machine
+impl PlainState {
+    /// The state where the call of `main` begins: nothing is allocated, and nothing was printed.
+    pub(crate) fn begin(alloc: Global, turns: u64) -> PlainState
         ensures { (texts : Texts) → state_of texts result ≡ opening turns }
     {
-        Machine {
+        PlainState {
             turns,
             heap: Vec::new(alloc),
             locals: Vec::new(alloc),

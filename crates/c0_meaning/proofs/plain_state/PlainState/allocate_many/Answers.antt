@@ -3,10 +3,10 @@ use Rattle.c0_typed.specs.Values.{Node, Tree, copies}
 use Rattle.c0_typed.specs.Meaning.{Outcome, allocate, allocate_array, default}
 use Rattle.c0_typed.specs.Values as v
 use Rattle.c0_typed.specs.Views.{type_of}
-use Rattle.c0_meaning.specs.Machine.{Agrees, natural, tree_of, value_of, state_of}
+use Rattle.c0_meaning.specs.PlainStates.{Agrees, natural, tree_of, value_of, state_of}
 use Rattle.c0_meaning.proofs.Heaps.{is_natural}
 use Rattle.c0_meaning.proofs.Parts.{tree_node}
-use Rattle.c0_meaning.proofs.machine.Machine.allocate_many.Goals as goal
+use Rattle.c0_meaning.proofs.plain_state.PlainState.allocate_many.Goals as goal
 
 pub returns : goal.returns
 returns c = λ texts.

@@ -1,8 +1,8 @@
 use Rattle.std.proofs.Common.{◌≡◌, ◌<◌, ap, ◌∙◌, sym, subst, length, get_or, arith}
 use Rattle.c0_typed.specs.Values.{Leaf, with_part_at}
-use Rattle.c0_meaning.specs.Machine.{value_of, tree_of, state_of}
+use Rattle.c0_meaning.specs.PlainStates.{value_of, tree_of, state_of}
 use Rattle.c0_meaning.proofs.Heaps.{store_is}
-use Rattle.c0_meaning.proofs.machine.Machine.store.Goals as goal
+use Rattle.c0_meaning.proofs.plain_state.PlainState.store.Goals as goal
 
 pub returns-then-spot-len : goal.returns-then-spot-len
 returns-then-spot-len c = λ texts.

@@ -1,6 +1,6 @@
 use Rattle.std.proofs.Common.{◌≡◌, ◌<◌, ◌-◌, ap, ◌∙◌, subst, length, get_or}
 use Rattle.c0_meaning.proofs.Heaps.{length_is}
-use Rattle.c0_meaning.proofs.machine.Machine.length.Goals as goal
+use Rattle.c0_meaning.proofs.plain_state.PlainState.length.Goals as goal
 
 pub returns-in-Some : goal.returns-in-Some
 returns-in-Some c = λ texts.

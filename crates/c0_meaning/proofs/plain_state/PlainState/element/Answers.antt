@@ -1,7 +1,7 @@
 use Rattle.std.proofs.Common.{◌<◌, [], map, arith}
-use Rattle.c0_meaning.specs.Machine.{tree_of}
+use Rattle.c0_meaning.specs.PlainStates.{tree_of}
 use Rattle.c0_meaning.proofs.Heaps.{not_empty}
-use Rattle.c0_meaning.proofs.machine.Machine.element.Goals as goal
+use Rattle.c0_meaning.proofs.plain_state.PlainState.element.Goals as goal
 
 pub overflow_sub-result : goal.overflow_sub-result
 overflow_sub-result c =

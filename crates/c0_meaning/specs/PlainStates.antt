@@ -1,4 +1,4 @@
--- The machine of the plain run as a state of the meaning, and how an answer of the code agrees with an outcome.
+-- The state of the plain run as a state of the meaning, and how an answer of the code agrees with an outcome.
 use Rattle.std.specs.Prelude.{◌≡◌, ℕ, suc, ℤ, pos, negsuc, List, [], ◌∷◌, ◌++◌, map, Option, Some, None, Result, Ok, Err}
 use Rattle.cells.specs.Stops.{stop_of}
 use Rattle.cells.specs.Outcomes as o
@@ -10,11 +10,11 @@ use Rattle.c0_meaning.specs.declared.value.Value.{Value}
 use Rattle.c0_meaning.specs.declared.value.Value.TheVariants.{Number, Truth, Letter, Text, Reference, Void}
 use Rattle.c0_meaning.specs.declared.heap.Tree.{Tree, Leaf, Node', Row_of-Tree, end_of-Tree, more_of-Tree}
 use Rattle.c0_meaning.specs.declared.heap.Spot.{Spot}
-use Rattle.c0_meaning.specs.declared.machine.Halt.{Halt}
-use Rattle.c0_meaning.specs.declared.machine.Halt.TheVariants.{Stopped, Cut, Memory}
-use Rattle.c0_meaning.specs.declared.machine.Way.{Way}
-use Rattle.c0_meaning.specs.declared.machine.Way.TheVariants.{Next, Returned}
-use Rattle.c0_meaning.specs.declared.machine.Machine.{Machine}
+use Rattle.c0_meaning.specs.declared.plain_state.Halt.{Halt}
+use Rattle.c0_meaning.specs.declared.plain_state.Halt.TheVariants.{Stopped, Cut, Memory}
+use Rattle.c0_meaning.specs.declared.plain_state.Way.{Way}
+use Rattle.c0_meaning.specs.declared.plain_state.Way.TheVariants.{Next, Returned}
+use Rattle.c0_meaning.specs.declared.plain_state.PlainState.{PlainState}
 
 -- a number that is not below 0
 abbrev pub natural : ℤ → Option ℕ
@@ -57,7 +57,7 @@ module _ (texts : Texts) where
   trees_of ts = parts_in_order (map tree_of ts)
 
   -- the state
-  abbrev pub state_of : Machine → m.State
+  abbrev pub state_of : PlainState → m.State
   state_of a = record { turns = a.turns; heap = map tree_of a.heap.items; locals = map value_of a.locals.items; output = a.output.items }
 
 -- how a statement is left

@@ -1,6 +1,6 @@
 use Rattle.std.proofs.Common.{◌≤◌, subst, length}
 use Rattle.c0_meaning.proofs.Heaps.{load_past}
-use Rattle.c0_meaning.proofs.machine.Machine.load.Goals as goal
+use Rattle.c0_meaning.proofs.plain_state.PlainState.load.Goals as goal
 
 pub returns-in-None : goal.returns-in-None
 returns-in-None c = λ texts.

@@ -3,9 +3,9 @@ use Rattle.cells.specs.Outcomes.{Done}
 use Rattle.c0_typed.specs.Values.{Void}
 use Rattle.c0_typed.specs.Meaning.{printed}
 use Rattle.c0_typed.specs.Views.{output_of, texts_of}
-use Rattle.c0_meaning.specs.Machine.{value_of, state_of}
+use Rattle.c0_meaning.specs.PlainStates.{value_of, state_of}
 use Rattle.c0_meaning.proofs.Heaps.{printed_is}
-use Rattle.c0_meaning.proofs.machine.Machine.print.Goals as goal
+use Rattle.c0_meaning.proofs.plain_state.PlainState.print.Goals as goal
 
 pub returns : goal.returns
 returns c =
