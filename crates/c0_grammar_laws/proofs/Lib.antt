@@ -14,3 +14,5 @@ pub mod SoundPrograms
 pub mod SoundStatements
 pub mod Turns
 pub mod Types
+pub mod Placed
+pub mod PlacedLists

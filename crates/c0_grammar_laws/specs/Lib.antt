@@ -1,3 +1,6 @@
+pub mod PlacedPrograms
+pub mod PlacedStatements
+pub mod Places
 pub mod Laws
 pub mod Outcome
 pub mod Parsing

@@ -1,3 +1,4 @@
+pub mod PlacedLoops
 pub mod ListLoops
 pub mod StatementLoops
 pub mod ProgramLoops

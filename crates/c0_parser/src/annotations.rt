@@ -2,9 +2,10 @@
 // A tree held where reading may fail is boxed before, or dropped there by a call: a drop that `?` makes is proved
 // variant by variant.
 
-ghost use Rattle.std.specs.Prelude.{length, map, suc};
+ghost use Rattle.std.specs.Prelude.{length, map, suc, IfOk};
 ghost use Rattle.c0_syntax.specs.Views.{annotation_of, spec_of};
 ghost use Rattle.c0_grammar_laws.specs.Outcome.{Gives, next, plain_at};
+ghost use Rattle.c0_grammar_laws.specs.PlacedStatements.{AnnotationStands, AnnotationsStand, SpecStands, SpecsStand};
 ghost use Rattle.c0_parser.specs.Found.{spec_behind};
 ghost use Rattle.c0_grammar_laws.specs.ReadStatements.{read_annotations, read_spec, read_specs, spec_by};
 
@@ -22,7 +23,8 @@ fn condition(
     depth: usize,
     kind: SpecKind,
 ) -> Result<Spec, ReadError>
-    ensures { Gives (λ s. record { value = spec_of s; rest = cursor.new }) result (spec_behind types.now depth kind cursor.old) }
+    ensures given { Gives (λ s. record { value = spec_of s; rest = cursor.new.seen }) result (spec_behind types.now depth kind cursor.old.seen) }
+    ensures placed { IfOk result (λ s. SpecStands cursor.old.position s cursor.new.position) }
 {
     let start = cursor.start();
     cursor.advance();
@@ -42,7 +44,8 @@ fn condition(
 
 /// A spec whose condition has at most `depth` nodes on a path.
 fn any_spec(cursor: &mut Cursor<'_>, types: &TypeNames<'_>, depth: usize) -> Result<Spec, ReadError>
-    ensures { Gives (λ s. record { value = spec_of s; rest = cursor.new }) result (spec_by types.now depth (plain_at cursor.old) cursor.old) }
+    ensures given { Gives (λ s. record { value = spec_of s; rest = cursor.new.seen }) result (spec_by types.now depth (plain_at cursor.old.seen) cursor.old.seen) }
+    ensures placed { IfOk result (λ s. SpecStands cursor.old.position s cursor.new.position) }
 {
     match cursor.peek() {
         Kind::Clause(clause) => condition(cursor, types, depth, SpecKind::Contract(clause)),
@@ -53,7 +56,8 @@ fn any_spec(cursor: &mut Cursor<'_>, types: &TypeNames<'_>, depth: usize) -> Res
 
 /// A spec of at most `depth` nodes on a path.
 fn spec(cursor: &mut Cursor<'_>, types: &TypeNames<'_>, depth: usize) -> Result<Spec, ReadError>
-    ensures { Gives (λ s. record { value = spec_of s; rest = cursor.new }) result (read_spec types.now depth cursor.old) }
+    ensures given { Gives (λ s. record { value = spec_of s; rest = cursor.new.seen }) result (read_spec types.now depth cursor.old.seen) }
+    ensures placed { IfOk result (λ s. SpecStands cursor.old.position s cursor.new.position) }
 {
     if depth == 0 {
         return Err(cursor.too_deep());
@@ -68,7 +72,8 @@ fn specs(
     depth: usize,
     most: usize,
 ) -> Result<Vec<Spec>, ReadError>
-    ensures { Gives (λ v. record { value = map spec_of v.items; rest = cursor.new }) result (read_specs types.now depth most cursor.old) }
+    ensures given { Gives (λ v. record { value = map spec_of v.items; rest = cursor.new.seen }) result (read_specs types.now depth most cursor.old.seen) }
+    ensures placed { IfOk result (λ v. SpecsStand cursor.old.position v.items cursor.new.position) }
 {
     let mut specs = Vec::new(cursor.alloc());
     for _turn in 0..most {
@@ -92,7 +97,8 @@ pub(crate) fn annotation(
     types: &TypeNames<'_>,
     depth: usize,
 ) -> Result<Annotation, ReadError>
-    ensures { Gives (λ a. record { value = annotation_of a; rest = cursor.new }) result (read_specs types.now depth (length cursor.old) (next cursor.old)) }
+    ensures given { Gives (λ a. record { value = annotation_of a; rest = cursor.new.seen }) result (read_specs types.now depth (length cursor.old.seen) (next cursor.old.seen)) }
+    ensures placed { IfOk result (λ a. AnnotationStands cursor.old.position a cursor.new.position) }
 {
     let start = cursor.start();
     let most = cursor.remaining();
@@ -110,7 +116,8 @@ pub(crate) fn annotations(
     types: &TypeNames<'_>,
     depth: usize,
 ) -> Result<Vec<Annotation>, ReadError>
-    ensures { Gives (λ v. record { value = map annotation_of v.items; rest = cursor.new }) result (read_annotations types.now depth (suc (length cursor.old)) cursor.old) }
+    ensures given { Gives (λ v. record { value = map annotation_of v.items; rest = cursor.new.seen }) result (read_annotations types.now depth (suc (length cursor.old.seen)) cursor.old.seen) }
+    ensures placed { IfOk result (λ v. AnnotationsStand cursor.old.position v.items cursor.new.position) }
 {
     let mut annotations = Vec::new(cursor.alloc());
     for _turn in 0..cursor.remaining() + 1 {

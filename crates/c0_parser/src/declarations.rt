@@ -5,7 +5,10 @@ ghost use Rattle.c0_source.specs.declared.kind.Kind.TheVariants as k;
 ghost use Rattle.c0_syntax.specs.Programs.{type_names_after};
 ghost use Rattle.c0_syntax.specs.Views.{declaration_of, header_of, typed_name_of};
 ghost use Rattle.c0_grammar_laws.specs.Outcome.{Gives, next, plain_at};
+ghost use Rattle.c0_grammar_laws.specs.Places.{Position, start_of};
+ghost use Rattle.c0_grammar_laws.specs.PlacedPrograms.{DeclarationStands, HeaderStands, PlacedDeclarations, TypedNameStands};
 ghost use Rattle.c0_grammar_laws.specs.ReadPrograms.{declaration_by, end_by, function as spec_function, less as spec_less, over_by, parameters_by, read_fields, read_header, read_parameters, read_program, struct_by, struct_of};
+ghost use Rattle.c0_parser.specs.Stands.{FieldStands, FieldsStand, ParametersStand};
 ghost use Rattle.c0_parser.specs.FoundPrograms.{first_known, found_declaration, found_header, found_parameter, found_parameters, one_field, one_parameter};
 
 use crate::annotations::annotations;
@@ -46,7 +49,9 @@ fn over_after(over: Option<usize>, room: usize, at: usize) -> Option<usize>
 }
 
 fn declaration_node(cursor: &Cursor<'_>, start: usize, kind: DeclarationKind) -> Declaration
-    ensures { result.kind ≡ kind }
+    ensures node { result.kind ≡ kind }
+    ensures start { result.span.start ≡ start }
+    ensures end { result.span.end ≡ cursor.now.position.end }
 {
     Declaration {
         kind,
@@ -56,9 +61,10 @@ fn declaration_node(cursor: &Cursor<'_>, start: usize, kind: DeclarationKind) ->
 
 /// The `#use` that stands next.
 fn use_declaration(cursor: &mut Cursor<'_>) -> Result<Declaration, ReadError>
-    requires { plain_at cursor.old ≡ k.Use }
-    ensures given { (types : List (List ℕ)) (loops : Bool) (depth room : ℕ) → Gives (found_declaration room cursor.new) result (declaration_by types loops depth room k.Use cursor.old) }
+    requires { plain_at cursor.old.seen ≡ k.Use }
+    ensures given { (types : List (List ℕ)) (loops : Bool) (depth room : ℕ) → Gives (found_declaration room cursor.new.seen) result (declaration_by types loops depth room k.Use cursor.old.seen) }
     ensures names { IfOk result (λ x. (types : List (List ℕ)) → type_names_after types (declaration_of x) ≡ types) }
+    ensures placed { IfOk result (λ x. DeclarationStands cursor.old.position x cursor.new.position) }
 {
     let start = cursor.start();
     let used = cursor.used()?;
@@ -77,7 +83,8 @@ fn struct_field(
     types: &TypeNames<'_>,
     depth: usize,
 ) -> Result<TypedName, ReadError>
-    ensures { Gives (λ x. record { value = typed_name_of x; rest = cursor.new }) result (one_field types.now depth cursor.old) }
+    ensures given { Gives (λ x. record { value = typed_name_of x; rest = cursor.new.seen }) result (one_field types.now depth cursor.old.seen) }
+    ensures placed { IfOk result (λ x. FieldStands cursor.old.position x cursor.new.position) }
 {
     let found = cursor.value_type(types, depth)?;
     let name = cursor.name()?;
@@ -95,7 +102,8 @@ fn fields(
     depth: usize,
     most: usize,
 ) -> Result<Vec<TypedName>, ReadError>
-    ensures { Gives (λ v. record { value = map typed_name_of v.items; rest = cursor.new }) result (read_fields types.now depth most cursor.old) }
+    ensures given { Gives (λ v. record { value = map typed_name_of v.items; rest = cursor.new.seen }) result (read_fields types.now depth most cursor.old.seen) }
+    ensures placed { IfOk result (λ v. FieldsStand cursor.old.position v.items cursor.new.position) }
 {
     let mut fields = Vec::new(cursor.alloc());
     for _turn in 0..most {
@@ -119,7 +127,8 @@ fn parameter(
     types: &TypeNames<'_>,
     depth: usize,
 ) -> Result<FoundParameter, ReadError>
-    ensures { Gives (found_parameter cursor.new) result (one_parameter types.now depth cursor.old) }
+    ensures given { Gives (found_parameter cursor.new.seen) result (one_parameter types.now depth cursor.old.seen) }
+    ensures placed { IfOk result (λ f. TypedNameStands cursor.old.position f.parameter cursor.new.position) }
 {
     let found = cursor.value_type(types, depth)?;
     let at = cursor.remaining();
@@ -139,7 +148,8 @@ fn some_parameters(
     types: &TypeNames<'_>,
     depth: usize,
 ) -> Result<FoundParameters, ReadError>
-    ensures { Gives (found_parameters cursor.new) result (read_parameters types.now depth 1024 (length cursor.old) cursor.old) }
+    ensures given { Gives (found_parameters cursor.new.seen) result (read_parameters types.now depth 1024 (length cursor.old.seen) cursor.old.seen) }
+    ensures placed { IfOk result (λ f. ParametersStand cursor.old.position f.parameters.items cursor.new.position) }
 {
     let mut parameters = Vec::new(cursor.alloc());
     let mut over = None;
@@ -167,7 +177,8 @@ fn parameters(
     types: &TypeNames<'_>,
     depth: usize,
 ) -> Result<FoundParameters, ReadError>
-    ensures { Gives (found_parameters cursor.new) result (parameters_by types.now depth (plain_at cursor.old) cursor.old) }
+    ensures given { Gives (found_parameters cursor.new.seen) result (parameters_by types.now depth (plain_at cursor.old.seen) cursor.old.seen) }
+    ensures placed { IfOk result (λ f. ParametersStand cursor.old.position f.parameters.items cursor.new.position) }
 {
     match cursor.peek() {
         Kind::RParen => {
@@ -188,7 +199,8 @@ fn header(
     types: &TypeNames<'_>,
     depth: usize,
 ) -> Result<FoundHeader, ReadError>
-    ensures { Gives (found_header cursor.new) result (read_header types.now depth cursor.old) }
+    ensures given { Gives (found_header cursor.new.seen) result (read_header types.now depth cursor.old.seen) }
+    ensures placed { IfOk result (λ f. HeaderStands cursor.old.position f.header cursor.new.position) }
 {
     let start = cursor.start();
     let result = cursor.value_type(types, depth)?;
@@ -220,8 +232,9 @@ fn definition(
     start: usize,
     found: FoundHeader,
 ) -> Result<Declaration, ReadError>
-    ensures given { (room : ℕ) → Gives (found_declaration room cursor.new) result (end_by types.now loops depth (suc room) found.at found.over k.LBrace (header_of found.header) cursor.old) }
+    ensures given { (room : ℕ) → Gives (found_declaration room cursor.new.seen) result (end_by types.now loops depth (suc room) found.at found.over k.LBrace (header_of found.header) cursor.old.seen) }
     ensures names { IfOk result (λ x. (types : List (List ℕ)) → type_names_after types (declaration_of x) ≡ types) }
+    ensures placed { (first : Position) → start ≡ start_of first → HeaderStands first found.header cursor.old.position → IfOk result (λ x. DeclarationStands first x cursor.new.position) }
 {
     if let Some(at) = found.over {
         drop(found);
@@ -252,8 +265,9 @@ fn function_end(
     start: usize,
     found: FoundHeader,
 ) -> Result<Declaration, ReadError>
-    ensures given { Gives (found_declaration room.new cursor.new) result (end_by types.now loops depth room.old found.at found.over (plain_at cursor.old) (header_of found.header) cursor.old) }
+    ensures given { Gives (found_declaration room.new cursor.new.seen) result (end_by types.now loops depth room.old found.at found.over (plain_at cursor.old.seen) (header_of found.header) cursor.old.seen) }
     ensures names { IfOk result (λ x. (types : List (List ℕ)) → type_names_after types (declaration_of x) ≡ types) }
+    ensures placed { (first : Position) → start ≡ start_of first → HeaderStands first found.header cursor.old.position → IfOk result (λ x. DeclarationStands first x cursor.new.position) }
 {
     match cursor.peek() {
         Kind::Semi => {
@@ -281,8 +295,9 @@ fn function(
     depth: usize,
     room: &mut usize,
 ) -> Result<Declaration, ReadError>
-    ensures given { Gives (found_declaration room.new cursor.new) result (spec_function types.now loops depth room.old cursor.old) }
+    ensures given { Gives (found_declaration room.new cursor.new.seen) result (spec_function types.now loops depth room.old cursor.old.seen) }
     ensures names { IfOk result (λ x. (types : List (List ℕ)) → type_names_after types (declaration_of x) ≡ types) }
+    ensures placed { IfOk result (λ x. DeclarationStands cursor.old.position x cursor.new.position) }
 {
     let start = cursor.start();
     let found = header(cursor, types, depth)?;
@@ -291,9 +306,10 @@ fn function(
 
 /// `struct`, a name and a semicolon, which stand next.
 fn declared_struct(cursor: &mut Cursor<'_>) -> Result<Declaration, ReadError>
-    requires { plain_at (next cursor.old) ≡ k.Name }
-    ensures given { (types : List (List ℕ)) (loops : Bool) (depth room : ℕ) → Gives (found_declaration room cursor.new) result (struct_by types loops depth room k.Semi cursor.old) }
+    requires { plain_at (next cursor.old.seen) ≡ k.Name }
+    ensures given { (types : List (List ℕ)) (loops : Bool) (depth room : ℕ) → Gives (found_declaration room cursor.new.seen) result (struct_by types loops depth room k.Semi cursor.old.seen) }
     ensures names { IfOk result (λ x. (types : List (List ℕ)) → type_names_after types (declaration_of x) ≡ types) }
+    ensures placed { IfOk result (λ x. DeclarationStands cursor.old.position x cursor.new.position) }
 {
     let start = cursor.start();
     cursor.advance();
@@ -308,9 +324,10 @@ fn defined_struct(
     types: &TypeNames<'_>,
     depth: usize,
 ) -> Result<Declaration, ReadError>
-    requires { plain_at (next cursor.old) ≡ k.Name }
-    ensures given { (loops : Bool) (room : ℕ) → Gives (found_declaration room cursor.new) result (struct_by types.now loops depth room k.LBrace cursor.old) }
+    requires { plain_at (next cursor.old.seen) ≡ k.Name }
+    ensures given { (loops : Bool) (room : ℕ) → Gives (found_declaration room cursor.new.seen) result (struct_by types.now loops depth room k.LBrace cursor.old.seen) }
     ensures names { IfOk result (λ x. (types : List (List ℕ)) → type_names_after types (declaration_of x) ≡ types) }
+    ensures placed { IfOk result (λ x. DeclarationStands cursor.old.position x cursor.new.position) }
 {
     let start = cursor.start();
     let most = cursor.remaining();
@@ -331,9 +348,10 @@ fn named_struct(
     depth: usize,
     room: &mut usize,
 ) -> Result<Declaration, ReadError>
-    requires { plain_at (next cursor.old) ≡ k.Name }
-    ensures given { Gives (found_declaration room.new cursor.new) result (struct_by types.now loops depth room.old (plain_at (next (next cursor.old))) cursor.old) }
+    requires { plain_at (next cursor.old.seen) ≡ k.Name }
+    ensures given { Gives (found_declaration room.new cursor.new.seen) result (struct_by types.now loops depth room.old (plain_at (next (next cursor.old.seen))) cursor.old.seen) }
     ensures names { IfOk result (λ x. (types : List (List ℕ)) → type_names_after types (declaration_of x) ≡ types) }
+    ensures placed { IfOk result (λ x. DeclarationStands cursor.old.position x cursor.new.position) }
 {
     match cursor.ahead().ahead().peek() {
         Kind::Semi => declared_struct(cursor),
@@ -350,8 +368,9 @@ fn struct_declaration(
     depth: usize,
     room: &mut usize,
 ) -> Result<Declaration, ReadError>
-    ensures given { Gives (found_declaration room.new cursor.new) result (struct_of types.now loops depth room.old (plain_at (next cursor.old)) cursor.old) }
+    ensures given { Gives (found_declaration room.new cursor.new.seen) result (struct_of types.now loops depth room.old (plain_at (next cursor.old.seen)) cursor.old.seen) }
     ensures names { IfOk result (λ x. (types : List (List ℕ)) → type_names_after types (declaration_of x) ≡ types) }
+    ensures placed { IfOk result (λ x. DeclarationStands cursor.old.position x cursor.new.position) }
 {
     let behind = cursor.ahead();
     match behind.peek() {
@@ -366,8 +385,9 @@ fn typedef<'a>(
     types: &mut TypeNames<'a>,
     depth: usize,
 ) -> Result<Declaration, ReadError>
-    ensures given { (loops : Bool) (room : ℕ) → Gives (found_declaration room cursor.new) result (declaration_by types.old loops depth room k.Typedef cursor.old) }
+    ensures given { (loops : Bool) (room : ℕ) → Gives (found_declaration room cursor.new.seen) result (declaration_by types.old loops depth room k.Typedef cursor.old.seen) }
     ensures names { IfOk result (λ x. types.new ≡ type_names_after types.old (declaration_of x)) }
+    ensures placed { IfOk result (λ x. DeclarationStands cursor.old.position x cursor.new.position) }
 {
     let start = cursor.start();
     cursor.advance();
@@ -388,8 +408,9 @@ fn declaration<'a>(
     depth: usize,
     room: &mut usize,
 ) -> Result<Declaration, ReadError>
-    ensures given { Gives (found_declaration room.new cursor.new) result (declaration_by types.old loops depth room.old (plain_at cursor.old) cursor.old) }
+    ensures given { Gives (found_declaration room.new cursor.new.seen) result (declaration_by types.old loops depth room.old (plain_at cursor.old.seen) cursor.old.seen) }
     ensures names { IfOk result (λ x. types.new ≡ type_names_after types.old (declaration_of x)) }
+    ensures placed { IfOk result (λ x. DeclarationStands cursor.old.position x cursor.new.position) }
 {
     match cursor.peek() {
         Kind::Use => use_declaration(cursor),
@@ -401,7 +422,8 @@ fn declaration<'a>(
 
 /// Declarations up to the end of the tokens.
 pub(crate) fn program(cursor: &mut Cursor<'_>, loops: bool) -> Result<Vec<Declaration>, ReadError>
-    ensures { Gives (λ v. map declaration_of v.items) result (read_program loops cursor.old) }
+    ensures given { Gives (λ v. map declaration_of v.items) result (read_program loops cursor.old.seen) }
+    ensures placed { IfOk result (λ v. PlacedDeclarations cursor.old.position v.items) }
 {
     let mut types = TypeNames::new(cursor.alloc());
     let mut room = MOST_FUNCTIONS;

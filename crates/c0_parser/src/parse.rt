@@ -9,7 +9,9 @@ ghost use Rattle.c0_syntax.specs.Trees as t;
 ghost use Rattle.c0_syntax.specs.Views.{declaration_of, program_of};
 ghost use Rattle.c0_grammar_laws.specs.Outcome.{Gives};
 ghost use Rattle.c0_grammar_laws.specs.ReadPrograms.{read_program};
-ghost use Rattle.c0_grammar_laws.specs.Parsing.{IsReadFault, fault_by, place_of, read_from};
+ghost use Rattle.c0_parser.specs.Stands.{first_position};
+ghost use Rattle.c0_grammar_laws.specs.PlacedPrograms.{PlacedDeclarations, PlacedIn};
+ghost use Rattle.c0_grammar_laws.specs.Parsing.{IsReadFault, before_last, fault_by, place_of, read_from};
 ghost use Rattle.c0_grammar_laws.specs.Tokens.{AreTokens};
 
 use crate::declarations::program;
@@ -73,7 +75,8 @@ fn declarations_of<'a>(
     level: Level,
 ) -> Result<Vec<Declaration>, ReadError>
     requires { AreTokens (map lexeme tokens.now) }
-    ensures { Gives (λ v. map declaration_of v.items) result (read_program (has_loops level) (read_from (map lexeme tokens.now))) }
+    ensures given { Gives (λ v. map declaration_of v.items) result (read_program (has_loops level) (read_from (map lexeme tokens.now))) }
+    ensures placed { IfOk result (λ v. PlacedDeclarations (first_position (before_last (map lexeme tokens.now))) v.items) }
 {
     let mut cursor = Cursor::new(alloc, before_last(tokens));
     program(&mut cursor, with_loops(level))
@@ -86,6 +89,8 @@ pub fn parse<'a>(alloc: Global, tokens: &'a [Token<'a>], level: Level) -> Result
     requires { AreTokens (map lexeme tokens.now) }
     // What is given is what the tokens read as.
     ensures found { IfOk result (λ p. Reads (has_loops level) (read_from (map lexeme tokens.now)) (program_of p)) }
+    // Each of its parts begins where the first of its tokens does, and ends where the last one does.
+    ensures placed { IfOk result (λ p. PlacedIn (before_last (map lexeme tokens.now)) p) }
     // Its text ends where the last token stands.
     ensures ending { IfOk result (λ p. p.end ≡ place_of (map lexeme tokens.now) 0) }
     // Where none is given, they read as no program, unless memory ran out.

@@ -2,12 +2,14 @@
 // A tree held where reading may fail is boxed before, or dropped there by a call: a drop that `?` makes is proved
 // variant by variant.
 
-ghost use Rattle.std.specs.Prelude.{◌≡◌, ℕ, option_map};
+ghost use Rattle.std.specs.Prelude.{◌≡◌, ℕ, option_map, IfOk};
 ghost use Rattle.c0_source.specs.declared.kind.Kind.TheVariants as k;
 ghost use Rattle.c0_syntax.specs.Expressions.{begins_star as spec_begins_star};
 ghost use Rattle.c0_syntax.specs.Trees as t;
 ghost use Rattle.c0_syntax.specs.Views.{expression_of, name_of, simple_of, type_of};
 ghost use Rattle.c0_grammar_laws.specs.Outcome.{Gives, kind_at, plain_at};
+ghost use Rattle.c0_grammar_laws.specs.Places.{ExpressionStands, NameStands, Position, TypeStands, start_of};
+ghost use Rattle.c0_grammar_laws.specs.PlacedStatements.{OptionStands, SimpleStands};
 ghost use Rattle.c0_grammar_laws.specs.ReadStatements.{behind_by, first_by, local_declaration as spec_local_declaration, read_simple, simple_by, step_by, third_by, value_by};
 ghost use Rattle.c0_parser_expressions.specs.Found.{found_expression};
 
@@ -39,7 +41,9 @@ fn begins_star(expression: &Expression) -> bool
 }
 
 fn simple_node(cursor: &Cursor<'_>, start: usize, kind: SimpleKind) -> SimpleStatement
-    ensures { result.kind ≡ kind }
+    ensures node { result.kind ≡ kind }
+    ensures start { result.span.start ≡ start }
+    ensures end { result.span.end ≡ cursor.now.position.end }
 {
     SimpleStatement {
         kind,
@@ -56,8 +60,9 @@ fn local(
     value_type: ValueType,
     name: Name,
 ) -> Result<SimpleStatement, ReadError>
-    ensures { (room : ℕ) → Gives (λ s. record { value = simple_of s; room = room; rest = cursor.new }) result
-        (value_by types.now depth room (plain_at cursor.old) (type_of value_type) (record { value = name_of name; rest = cursor.old })) }
+    ensures given { (room : ℕ) → Gives (λ s. record { value = simple_of s; room = room; rest = cursor.new.seen }) result
+        (value_by types.now depth room (plain_at cursor.old.seen) (type_of value_type) (record { value = name_of name; rest = cursor.old.seen })) }
+    ensures placed { (first middle : Position) → start ≡ start_of first → TypeStands first value_type middle → NameStands middle name cursor.old.position → IfOk result (λ s. SimpleStands first s cursor.new.position) }
 {
     match cursor.peek() {
         Kind::Assign => {
@@ -85,7 +90,8 @@ fn local_declaration(
     depth: usize,
     room: &mut usize,
 ) -> Result<SimpleStatement, ReadError>
-    ensures { Gives (λ s. record { value = simple_of s; room = room.new; rest = cursor.new }) result (spec_local_declaration types.now depth room.old cursor.old) }
+    ensures given { Gives (λ s. record { value = simple_of s; room = room.new; rest = cursor.new.seen }) result (spec_local_declaration types.now depth room.old cursor.old.seen) }
+    ensures placed { IfOk result (λ s. SimpleStands cursor.old.position s cursor.new.position) }
 {
     let start = cursor.start();
     let found = cursor.value_type(types, depth)?;
@@ -104,8 +110,9 @@ fn step(
     destination: FoundExpression,
     change: Change,
 ) -> Result<SimpleStatement, ReadError>
-    ensures { (room : ℕ) → Gives (λ s. record { value = simple_of s; room = room; rest = cursor.new }) result
-        (step_by room (spec_begins_star (expression_of destination.expression)) (t.Step (expression_of destination.expression) change) (found_expression cursor.old destination)) }
+    ensures given { (room : ℕ) → Gives (λ s. record { value = simple_of s; room = room; rest = cursor.new.seen }) result
+        (step_by room (spec_begins_star (expression_of destination.expression)) (t.Step (expression_of destination.expression) change) (found_expression cursor.old.seen destination)) }
+    ensures placed { (first : Position) → ExpressionStands first destination.expression cursor.old.position → IfOk result (λ s. SimpleStands first s cursor.new.position) }
 {
     if begins_star(&destination.expression) {
         drop(destination);
@@ -128,7 +135,8 @@ fn update(
     destination: FoundExpression,
     operator: Operator,
 ) -> Result<SimpleStatement, ReadError>
-    ensures { (room : ℕ) → Gives (λ s. record { value = simple_of s; room = room; rest = cursor.new }) result (behind_by types.now depth room (k.Update operator) (found_expression cursor.old destination)) }
+    ensures given { (room : ℕ) → Gives (λ s. record { value = simple_of s; room = room; rest = cursor.new.seen }) result (behind_by types.now depth room (k.Update operator) (found_expression cursor.old.seen destination)) }
+    ensures placed { (first : Position) → ExpressionStands first destination.expression cursor.old.position → IfOk result (λ s. SimpleStands first s cursor.new.position) }
 {
     let start = destination.expression.span.start;
     cursor.advance();
@@ -151,7 +159,8 @@ fn behind_expression(
     depth: usize,
     first: FoundExpression,
 ) -> Result<SimpleStatement, ReadError>
-    ensures { (room : ℕ) → Gives (λ s. record { value = simple_of s; room = room; rest = cursor.new }) result (behind_by types.now depth room (plain_at cursor.old) (found_expression cursor.old first)) }
+    ensures given { (room : ℕ) → Gives (λ s. record { value = simple_of s; room = room; rest = cursor.new.seen }) result (behind_by types.now depth room (plain_at cursor.old.seen) (found_expression cursor.old.seen first)) }
+    ensures placed { (begin : Position) → ExpressionStands begin first.expression cursor.old.position → IfOk result (λ s. SimpleStands begin s cursor.new.position) }
 {
     let start = first.expression.span.start;
     match cursor.peek() {
@@ -182,7 +191,8 @@ pub(crate) fn any_simple(
     depth: usize,
     room: &mut usize,
 ) -> Result<SimpleStatement, ReadError>
-    ensures { Gives (λ s. record { value = simple_of s; room = room.new; rest = cursor.new }) result (simple_by types.now depth room.old (kind_at types.now cursor.old) cursor.old) }
+    ensures given { Gives (λ s. record { value = simple_of s; room = room.new; rest = cursor.new.seen }) result (simple_by types.now depth room.old (kind_at types.now cursor.old.seen) cursor.old.seen) }
+    ensures placed { IfOk result (λ s. SimpleStands cursor.old.position s cursor.new.position) }
 {
     match cursor.peek_among(types) {
         Kind::Base(_) | Kind::Struct | Kind::TypeName => {
@@ -202,7 +212,8 @@ fn simple(
     depth: usize,
     room: &mut usize,
 ) -> Result<SimpleStatement, ReadError>
-    ensures { Gives (λ s. record { value = simple_of s; room = room.new; rest = cursor.new }) result (read_simple types.now depth room.old cursor.old) }
+    ensures given { Gives (λ s. record { value = simple_of s; room = room.new; rest = cursor.new.seen }) result (read_simple types.now depth room.old cursor.old.seen) }
+    ensures placed { IfOk result (λ s. SimpleStands cursor.old.position s cursor.new.position) }
 {
     if depth == 0 {
         return Err(cursor.too_deep());
@@ -217,7 +228,8 @@ pub(crate) fn first_part(
     depth: usize,
     room: &mut usize,
 ) -> Result<Option<SimpleStatement>, ReadError>
-    ensures { Gives (λ s. record { value = option_map simple_of s; room = room.new; rest = cursor.new }) result (first_by types.now depth room.old (plain_at cursor.old) cursor.old) }
+    ensures given { Gives (λ s. record { value = option_map simple_of s; room = room.new; rest = cursor.new.seen }) result (first_by types.now depth room.old (plain_at cursor.old.seen) cursor.old.seen) }
+    ensures placed { IfOk result (λ s. OptionStands cursor.old.position s cursor.new.position) }
 {
     match cursor.peek() {
         Kind::Semi => Ok(None),
@@ -232,7 +244,8 @@ pub(crate) fn third_part(
     depth: usize,
     room: &mut usize,
 ) -> Result<Option<SimpleStatement>, ReadError>
-    ensures { Gives (λ s. record { value = option_map simple_of s; room = room.new; rest = cursor.new }) result (third_by types.now depth room.old (plain_at cursor.old) cursor.old) }
+    ensures given { Gives (λ s. record { value = option_map simple_of s; room = room.new; rest = cursor.new.seen }) result (third_by types.now depth room.old (plain_at cursor.old.seen) cursor.old.seen) }
+    ensures placed { IfOk result (λ s. OptionStands cursor.old.position s cursor.new.position) }
 {
     match cursor.peek() {
         Kind::RParen => Ok(None),

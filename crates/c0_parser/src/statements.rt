@@ -2,12 +2,15 @@
 // A tree held where reading may fail is boxed before, or dropped there by a call: a drop that `?` makes is proved
 // variant by variant.
 
-ghost use Rattle.std.specs.Prelude.{◌≡◌, ℕ, box_value, option_map};
+ghost use Rattle.std.specs.Prelude.{◌≡◌, ℕ, box_value, option_map, IfOk};
 ghost use Rattle.c0_source.specs.declared.kind.Kind.TheVariants as k;
 ghost use Rattle.c0_syntax.specs.Trees as t;
 ghost use Rattle.c0_syntax.specs.Views.{expression_of, simple_of, statement_of, statement_of_kind, statements_of};
 ghost use Rattle.c0_grammar_laws.specs.Outcome.{Gives, next, plain_at};
+ghost use Rattle.c0_grammar_laws.specs.Places.{Position, skip, start_of};
+ghost use Rattle.c0_grammar_laws.specs.PlacedStatements.{ConditionStands, OptionStands, PlacedStatementKind, StatementStands, StatementsStand, after_statement};
 ghost use Rattle.c0_grammar_laws.specs.ReadStatements.{call_of, else_by, for_of, for_test as spec_for_test, for_end as spec_for_end, if_of, leave_by, loop_body as spec_loop_body, read_statement, read_statements, return_by, statement_by, read_condition, while_of, with_semi as spec_with_semi};
+ghost use Rattle.c0_parser.specs.Stands.{BodyStands, CheckedStands, ForEndStands, ForTestStands};
 ghost use Rattle.c0_parser.specs.Found.{found_body, found_for_end, found_for_test, for_tree, simple_line as spec_simple_line};
 
 use crate::annotations::{annotation, annotations};
@@ -22,7 +25,9 @@ use c0_syntax::expression::Expression;
 use c0_syntax::statement::{SimpleStatement, Statement, StatementKind};
 
 fn statement_node(cursor: &Cursor<'_>, start: usize, kind: StatementKind) -> Statement
-    ensures { result.kind ≡ kind }
+    ensures node { result.kind ≡ kind }
+    ensures start { result.span.start ≡ start }
+    ensures end { result.span.end ≡ cursor.now.position.end }
 {
     Statement {
         kind,
@@ -31,7 +36,8 @@ fn statement_node(cursor: &Cursor<'_>, start: usize, kind: StatementKind) -> Sta
 }
 
 fn block_node(cursor: &Cursor<'_>, start: usize, statements: Vec<Statement>) -> Statement
-    ensures { statement_of result ≡ t.Block (statements_of statements.items) }
+    ensures node { statement_of result ≡ t.Block (statements_of statements.items) }
+    ensures placed { (first : Position) → start ≡ start_of first → StatementsStand (skip first) statements.items cursor.now.position → StatementStands first result cursor.now.position }
 {
     statement_node(cursor, start, StatementKind::Block(statements))
 }
@@ -42,7 +48,8 @@ fn for_node(
     first: Option<SimpleStatement>,
     found: FoundForTest,
 ) -> Statement
-    ensures { statement_of result ≡ for_tree (option_map simple_of first) found }
+    ensures node { statement_of result ≡ for_tree (option_map simple_of first) found }
+    ensures placed { (begin middle : Position) → start ≡ start_of begin → OptionStands (skip (skip begin)) first middle → ForTestStands (skip middle) found cursor.now.position → StatementStands begin result cursor.now.position }
 {
     let FoundForTest { condition, end } = found;
     let FoundForEnd { step, body } = end;
@@ -57,7 +64,8 @@ fn with_semi(
     start: usize,
     kind: StatementKind,
 ) -> Result<Statement, ReadError>
-    ensures { (room : ℕ) → Gives (λ s. record { value = statement_of s; room = room; rest = cursor.new }) result (spec_with_semi (statement_of_kind kind) room cursor.old) }
+    ensures given { (room : ℕ) → Gives (λ s. record { value = statement_of s; room = room; rest = cursor.new.seen }) result (spec_with_semi (statement_of_kind kind) room cursor.old.seen) }
+    ensures placed { (first : Position) → start ≡ start_of first → PlacedStatementKind first kind → after_statement (statement_of_kind kind) first ≡ skip cursor.old.position → IfOk result (λ s. StatementStands first s cursor.new.position) }
 {
     if let Err(error) = cursor.semi() {
         drop(kind);
@@ -73,7 +81,8 @@ fn test(
     types: &TypeNames<'_>,
     depth: usize,
 ) -> Result<Expression, ReadError>
-    ensures { Gives (λ e. record { value = expression_of e; rest = cursor.new }) result (read_condition types.now depth cursor.old) }
+    ensures given { Gives (λ e. record { value = expression_of e; rest = cursor.new.seen }) result (read_condition types.now depth cursor.old.seen) }
+    ensures placed { IfOk result (λ e. ConditionStands cursor.old.position e cursor.new.position) }
 {
     cursor.lparen()?;
     let found = expression(cursor, types, depth, 1)?;
@@ -91,7 +100,8 @@ fn checked(
     types: &TypeNames<'_>,
     depth: usize,
 ) -> Result<Expression, ReadError>
-    ensures { Gives (λ e. record { value = expression_of e; rest = cursor.new }) result (call_of types.now depth cursor.old) }
+    ensures given { Gives (λ e. record { value = expression_of e; rest = cursor.new.seen }) result (call_of types.now depth cursor.old.seen) }
+    ensures placed { IfOk result (λ e. CheckedStands cursor.old.position e cursor.new.position) }
 {
     let operand = test(cursor, types, depth)?;
     if let Err(error) = cursor.semi() {
@@ -109,7 +119,8 @@ fn simple_line(
     depth: usize,
     room: &mut usize,
 ) -> Result<Statement, ReadError>
-    ensures { Gives (λ s. record { value = statement_of s; room = room.new; rest = cursor.new }) result (spec_simple_line types.now depth room.old cursor.old) }
+    ensures given { Gives (λ s. record { value = statement_of s; room = room.new; rest = cursor.new.seen }) result (spec_simple_line types.now depth room.old cursor.old.seen) }
+    ensures placed { IfOk result (λ s. StatementStands cursor.old.position s cursor.new.position) }
 {
     let start = cursor.start();
     let simple = any_simple(cursor, types, depth, room)?;
@@ -122,7 +133,8 @@ fn return_statement(
     types: &TypeNames<'_>,
     depth: usize,
 ) -> Result<Statement, ReadError>
-    ensures { (room : ℕ) → Gives (λ s. record { value = statement_of s; room = room; rest = cursor.new }) result (return_by types.now depth room (plain_at (next cursor.old)) (next cursor.old)) }
+    ensures given { (room : ℕ) → Gives (λ s. record { value = statement_of s; room = room; rest = cursor.new.seen }) result (return_by types.now depth room (plain_at (next cursor.old.seen)) (next cursor.old.seen)) }
+    ensures placed { IfOk result (λ s. StatementStands cursor.old.position s cursor.new.position) }
 {
     let start = cursor.start();
     cursor.advance();
@@ -140,7 +152,8 @@ fn return_statement(
 
 /// `break` or `continue`, which stands next, where there are any.
 fn leave(cursor: &mut Cursor<'_>, loops: bool, kind: StatementKind) -> Result<Statement, ReadError>
-    ensures { (room : ℕ) → Gives (λ s. record { value = statement_of s; room = room; rest = cursor.new }) result (leave_by loops (statement_of_kind kind) room cursor.old) }
+    ensures given { (room : ℕ) → Gives (λ s. record { value = statement_of s; room = room; rest = cursor.new.seen }) result (leave_by loops (statement_of_kind kind) room cursor.old.seen) }
+    ensures placed { PlacedStatementKind cursor.old.position kind → after_statement (statement_of_kind kind) cursor.old.position ≡ skip (skip cursor.old.position) → IfOk result (λ s. StatementStands cursor.old.position s cursor.new.position) }
 {
     if !loops {
         return Err(cursor.syntax());
@@ -159,7 +172,8 @@ fn statement(
     depth: usize,
     room: &mut usize,
 ) -> Result<Statement, ReadError>
-    ensures { Gives (λ s. record { value = statement_of s; room = room.new; rest = cursor.new }) result (read_statement types.now loops depth room.old cursor.old) }
+    ensures given { Gives (λ s. record { value = statement_of s; room = room.new; rest = cursor.new.seen }) result (read_statement types.now loops depth room.old cursor.old.seen) }
+    ensures placed { IfOk result (λ s. StatementStands cursor.old.position s cursor.new.position) }
 {
     if depth == 0 {
         return Err(cursor.too_deep());
@@ -176,7 +190,8 @@ fn any_statement(
     depth: usize,
     room: &mut usize,
 ) -> Result<Statement, ReadError>
-    ensures { Gives (λ s. record { value = statement_of s; room = room.new; rest = cursor.new }) result (statement_by types.now loops (read_statement types.now loops depth) depth (plain_at cursor.old) room.old cursor.old) }
+    ensures given { Gives (λ s. record { value = statement_of s; room = room.new; rest = cursor.new.seen }) result (statement_by types.now loops (read_statement types.now loops depth) depth (plain_at cursor.old.seen) room.old cursor.old.seen) }
+    ensures placed { IfOk result (λ s. StatementStands cursor.old.position s cursor.new.position) }
 {
     let start = cursor.start();
     match cursor.peek() {
@@ -214,7 +229,8 @@ fn block(
     depth: usize,
     room: &mut usize,
 ) -> Result<Statement, ReadError>
-    ensures { Gives (λ s. record { value = statement_of s; room = room.new; rest = cursor.new }) result (statement_by types.now loops (read_statement types.now loops depth) depth k.LBrace room.old cursor.old) }
+    ensures given { Gives (λ s. record { value = statement_of s; room = room.new; rest = cursor.new.seen }) result (statement_by types.now loops (read_statement types.now loops depth) depth k.LBrace room.old cursor.old.seen) }
+    ensures placed { IfOk result (λ s. StatementStands cursor.old.position s cursor.new.position) }
 {
     let start = cursor.start();
     let most = cursor.remaining();
@@ -233,7 +249,8 @@ pub(crate) fn statements(
     most: usize,
     room: &mut usize,
 ) -> Result<Vec<Statement>, ReadError>
-    ensures { Gives (λ v. record { value = statements_of v.items; room = room.new; rest = cursor.new }) result (read_statements types.now loops (read_statement types.now loops depth) depth most room.old cursor.old) }
+    ensures given { Gives (λ v. record { value = statements_of v.items; room = room.new; rest = cursor.new.seen }) result (read_statements types.now loops (read_statement types.now loops depth) depth most room.old cursor.old.seen) }
+    ensures placed { IfOk result (λ v. StatementsStand cursor.old.position v.items cursor.new.position) }
 {
     let mut statements = Vec::new(cursor.alloc());
     for _turn in 0..most {
@@ -260,7 +277,8 @@ fn boxed(
     depth: usize,
     room: &mut usize,
 ) -> Result<Box<Statement>, ReadError>
-    ensures { Gives (λ s. record { value = statement_of (box_value s); room = room.new; rest = cursor.new }) result (read_statement types.now loops depth room.old cursor.old) }
+    ensures given { Gives (λ s. record { value = statement_of (box_value s); room = room.new; rest = cursor.new.seen }) result (read_statement types.now loops depth room.old cursor.old.seen) }
+    ensures placed { IfOk result (λ s. StatementStands cursor.old.position (box_value s) cursor.new.position) }
 {
     let statement = statement(cursor, types, loops, depth, room)?;
     Ok(Box::new(cursor.alloc(), statement)?)
@@ -276,7 +294,8 @@ fn if_statement(
     depth: usize,
     room: &mut usize,
 ) -> Result<Statement, ReadError>
-    ensures { Gives (λ s. record { value = statement_of s; room = room.new; rest = cursor.new }) result (if_of types.now loops (read_statement types.now loops depth) depth room.old (next cursor.old)) }
+    ensures given { Gives (λ s. record { value = statement_of s; room = room.new; rest = cursor.new.seen }) result (if_of types.now loops (read_statement types.now loops depth) depth room.old (next cursor.old.seen)) }
+    ensures placed { IfOk result (λ s. StatementStands cursor.old.position s cursor.new.position) }
 {
     let start = cursor.start();
     cursor.advance();
@@ -302,8 +321,9 @@ fn behind_first(
     condition: Expression,
     first: Box<Statement>,
 ) -> Result<Statement, ReadError>
-    ensures { Gives (λ s. record { value = statement_of s; room = room.new; rest = cursor.new }) result
-        (else_by types.now loops (read_statement types.now loops depth) depth (plain_at cursor.old) (expression_of condition) (record { value = statement_of (box_value first); room = room.old; rest = cursor.old })) }
+    ensures given { Gives (λ s. record { value = statement_of s; room = room.new; rest = cursor.new.seen }) result
+        (else_by types.now loops (read_statement types.now loops depth) depth (plain_at cursor.old.seen) (expression_of condition) (record { value = statement_of (box_value first); room = room.old; rest = cursor.old.seen })) }
+    ensures placed { (begin middle : Position) → start ≡ start_of begin → ConditionStands (skip begin) condition middle → StatementStands middle (box_value first) cursor.old.position → IfOk result (λ s. StatementStands begin s cursor.new.position) }
 {
     match cursor.peek() {
         Kind::Else => {
@@ -333,7 +353,8 @@ fn loop_body(
     depth: usize,
     room: &mut usize,
 ) -> Result<FoundBody, ReadError>
-    ensures { Gives (found_body room.new cursor.new) result (spec_loop_body types.now loops (read_statement types.now loops depth) depth room.old cursor.old) }
+    ensures given { Gives (found_body room.new cursor.new.seen) result (spec_loop_body types.now loops (read_statement types.now loops depth) depth room.old cursor.old.seen) }
+    ensures placed { IfOk result (λ f. BodyStands cursor.old.position f cursor.new.position) }
 {
     let annotations = annotations(cursor, types, depth)?;
     let body = boxed(cursor, types, loops, depth, room)?;
@@ -350,7 +371,8 @@ fn while_statement(
     depth: usize,
     room: &mut usize,
 ) -> Result<Statement, ReadError>
-    ensures { Gives (λ s. record { value = statement_of s; room = room.new; rest = cursor.new }) result (while_of types.now loops (read_statement types.now loops depth) depth room.old (next cursor.old)) }
+    ensures given { Gives (λ s. record { value = statement_of s; room = room.new; rest = cursor.new.seen }) result (while_of types.now loops (read_statement types.now loops depth) depth room.old (next cursor.old.seen)) }
+    ensures placed { IfOk result (λ s. StatementStands cursor.old.position s cursor.new.position) }
 {
     let start = cursor.start();
     cursor.advance();
@@ -377,7 +399,8 @@ fn for_end(
     depth: usize,
     room: &mut usize,
 ) -> Result<FoundForEnd, ReadError>
-    ensures { Gives (found_for_end room.new cursor.new) result (spec_for_end types.now loops (read_statement types.now loops depth) depth room.old cursor.old) }
+    ensures given { Gives (found_for_end room.new cursor.new.seen) result (spec_for_end types.now loops (read_statement types.now loops depth) depth room.old cursor.old.seen) }
+    ensures placed { IfOk result (λ f. ForEndStands cursor.old.position f cursor.new.position) }
 {
     let step = third_part(cursor, types, depth, room)?;
     if let Err(error) = cursor.rparen() {
@@ -403,7 +426,8 @@ fn for_test(
     depth: usize,
     room: &mut usize,
 ) -> Result<FoundForTest, ReadError>
-    ensures { Gives (found_for_test room.new cursor.new) result (spec_for_test types.now loops (read_statement types.now loops depth) depth room.old cursor.old) }
+    ensures given { Gives (found_for_test room.new cursor.new.seen) result (spec_for_test types.now loops (read_statement types.now loops depth) depth room.old cursor.old.seen) }
+    ensures placed { IfOk result (λ f. ForTestStands cursor.old.position f cursor.new.position) }
 {
     let condition = expression(cursor, types, depth, 1)?.expression;
     if let Err(error) = cursor.semi() {
@@ -429,7 +453,8 @@ fn for_statement(
     depth: usize,
     room: &mut usize,
 ) -> Result<Statement, ReadError>
-    ensures { Gives (λ s. record { value = statement_of s; room = room.new; rest = cursor.new }) result (for_of types.now loops (read_statement types.now loops depth) depth room.old (next cursor.old)) }
+    ensures given { Gives (λ s. record { value = statement_of s; room = room.new; rest = cursor.new.seen }) result (for_of types.now loops (read_statement types.now loops depth) depth room.old (next cursor.old.seen)) }
+    ensures placed { IfOk result (λ s. StatementStands cursor.old.position s cursor.new.position) }
 {
     let start = cursor.start();
     cursor.advance();

@@ -2,6 +2,7 @@
 use Rattle.std.specs.Prelude.{◌≡◌, ℕ, List, Result, Ok, Err}
 use Rattle.c0_source.specs.Terminals.{Terminal}
 use Rattle.c0_syntax.specs.Views.{type_of}
+use Rattle.c0_syntax.specs.declared.value_type.ValueType.{ValueType}
 use Rattle.c0_grammar_laws.specs.declared.read_error.ReadError.{ReadError}
 use Rattle.c0_parser_cursor.specs.declared.found.FoundType.{FoundType}
 use Rattle.c0_parser_cursor.specs.declared.found.TypeStep.{TypeStep}
@@ -23,3 +24,8 @@ GivesType go_on rest (Err e) read = Fails e read
 abbrev pub height_of_step : TypeStep → ℕ
 height_of_step (t.More f) = f.height
 height_of_step (t.Done f) = f.height
+
+-- the type so far
+abbrev pub type_of_step : TypeStep → ValueType
+type_of_step (t.More f) = f.value_type
+type_of_step (t.Done f) = f.value_type

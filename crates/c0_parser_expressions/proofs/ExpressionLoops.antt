@@ -14,7 +14,9 @@ use Rattle.c0_parser_expressions.specs.declared.found.ExpressionStep.{Expression
 use Rattle.c0_parser_expressions.specs.declared.found.ExpressionStep.TheVariants as e
 use Rattle.c0_grammar_laws.specs.Outcome.{Outcome, ◌>>=◌, Fails, plain_at, next, refuse, too_deep}
 use Rattle.c0_grammar_laws.specs.ReadExpressions.{ReadType, ReadExpression, ReadArguments, add_first, after_argument, arguments, climb, join, postfix, postfix_by, read_expression, read_type, unary, whole}
-use Rattle.c0_parser_expressions.specs.Found.{GivesExpression, found_expression, height_of_expression_step}
+use Rattle.c0_grammar_laws.specs.Places.{ArgumentsStand, ExpressionStands, PlacedArguments, Position, after_arguments, after_each, after_expression, skip}
+use Rattle.c0_grammar_laws.proofs.Placed.{after_push, after_some, arguments_push}
+use Rattle.c0_parser_expressions.specs.Found.{GivesExpression, expression_of_step, found_expression, height_of_expression_step}
 use Rattle.c0_parser_cursor.proofs.Turned.{fails_along, fails_bind}
 
 abbrev Inner : Type 0
@@ -51,6 +53,12 @@ expression_more go_on rest step f read e h = subst (λ s. GivesExpression go_on 
 
 pub expression_low : (d : ℕ) (step : ExpressionStep) (f : FoundExpression) → step ≡ e.More f → height_of_expression_step step ≤ d → f.height ≤ d
 expression_low d step f e h = subst (λ s. height_of_expression_step s ≤ d) e h
+
+pub expression_stands : (first last : Position) (step : ExpressionStep) (f : FoundExpression) → step ≡ e.Done f → ExpressionStands first (expression_of_step step) last → ExpressionStands first f.expression last
+expression_stands first last step f e h = subst (λ s. ExpressionStands first (expression_of_step s) last) e h
+
+pub expression_grows : (first last : Position) (step : ExpressionStep) (f : FoundExpression) → step ≡ e.More f → ExpressionStands first (expression_of_step step) last → ExpressionStands first f.expression last
+expression_grows first last step f e h = subst (λ s. ExpressionStands first (expression_of_step s) last) e h
 
 module _ (types : Names) (inner : Inner) (inner_type : InnerType) where
   pub postfix_turn : (limit m n : ℕ) (a : ReadExpression) (total : Outcome ReadExpression) → m ≡ suc n → postfix types inner inner_type limit m a ≡ total
@@ -177,3 +185,15 @@ module _ (types : Names) (inner : Inner) (inner_type : InnerType) (front : Expre
   arguments_end m ts total e so_far =
       let one : with_front front h (arguments types inner inner_type m ts) ≡ refuse ts = rw e refl in
       sym so_far ∙ one
+
+-- ---- where the arguments stand
+
+pub arguments_grow : (p m n q : Position) (es all : List Expression) (e : Expression) → all ≡ es ++ e ∷ [] → PlacedArguments p es × (after_each (expressions_of es) p ≡ m) → ExpressionStands m e n → skip n ≡ q
+    → PlacedArguments p all × (after_each (expressions_of all) p ≡ q)
+arguments_grow p m n q es all e same so_far stands last =
+    rw same (arguments_push p m es e so_far.0 so_far.1 stands.0, after_push p es e ∙ (ap (λ o. skip (after_expression (expression_of e) o)) so_far.1 ∙ (ap skip stands.1 ∙ last)))
+
+pub arguments_stand : (p m n q : Position) (es all : List Expression) (e : Expression) → all ≡ es ++ e ∷ [] → PlacedArguments p es × (after_each (expressions_of es) p ≡ m) → ExpressionStands m e n → skip n ≡ q → ArgumentsStand p all q
+arguments_stand p m n q es all e same so_far stands last =
+    let grown = arguments_grow p m n q es all e same so_far stands last in
+    (grown.0, ap (λ xs. after_arguments (expressions_of xs) p) same ∙ (after_some p es e ∙ (sym (ap (λ xs. after_each (expressions_of xs) p) same) ∙ grown.1)))

@@ -3,6 +3,7 @@ use Rattle.std.specs.Prelude.{◌≡◌, ℕ, suc, List, Result, Ok, Err}
 use Rattle.c0_source.specs.Terminals.{Terminal}
 use Rattle.c0_syntax.specs.Trees.{Field, PointerField}
 use Rattle.c0_syntax.specs.Views.{expression_of, expressions_of}
+use Rattle.c0_syntax.specs.declared.expression.Expression.{Expression}
 use Rattle.c0_grammar_laws.specs.declared.read_error.ReadError.{ReadError}
 use Rattle.c0_parser_expressions.specs.declared.found.FoundExpression.{FoundExpression}
 use Rattle.c0_parser_expressions.specs.declared.found.FoundArguments.{FoundArguments}
@@ -37,3 +38,8 @@ field_behind a = any_name (next a.rest) >>= λ x. Ok (record { tree = Field a.tr
 -- ... whose `->` stands behind it
 abbrev pub pointer_field_behind : ReadExpression → Outcome ReadExpression
 pointer_field_behind a = any_name (next a.rest) >>= λ x. Ok (record { tree = PointerField a.tree x.value; height = suc a.height; rest = x.rest })
+
+-- the expression so far
+abbrev pub expression_of_step : ExpressionStep → Expression
+expression_of_step (e.More f) = f.expression
+expression_of_step (e.Done f) = f.expression

@@ -8,8 +8,9 @@ ghost use Rattle.c0_syntax.specs.Trees as t;
 ghost use Rattle.c0_syntax.specs.Expressions.{precedence as spec_precedence};
 ghost use Rattle.c0_syntax.specs.Views.{expression_of, expression_of_kind, expressions_of, name_of};
 ghost use Rattle.c0_grammar_laws.specs.Outcome.{Gives, Outcome, bytes_at, next, plain_at};
+ghost use Rattle.c0_grammar_laws.specs.Places.{ArgumentsStand, ExpressionStands, IsPlaced, NameStands, Position, skip, start_of};
 ghost use Rattle.c0_grammar_laws.specs.ReadExpressions.{ReadExpression, alloc, alloc_array, arguments as spec_arguments, arguments_by, climb, index as spec_index, join, join_by, leaf as spec_leaf, length_of as spec_length_of, named_by, operator_of as spec_operator_of, parenthesized as spec_parenthesized, postfix as spec_postfix, postfix_by, prefix_of as spec_prefix_of, primary as spec_primary, read_expression, read_type, unary, unary_by};
-ghost use Rattle.c0_parser_expressions.specs.Found.{GivesExpression, field_behind, found_arguments, found_expression, height_of_expression_step, pointer_field_behind};
+ghost use Rattle.c0_parser_expressions.specs.Found.{GivesExpression, expression_of_step, field_behind, found_arguments, found_expression, height_of_expression_step, pointer_field_behind};
 
 use crate::found::{ExpressionStep, FoundArguments, FoundExpression};
 use c0_grammar_laws::read_error::ReadError;
@@ -75,6 +76,8 @@ fn expression_node(
 ) -> FoundExpression
     ensures node { result.expression.kind ≡ kind }
     ensures height { result.height ≡ height }
+    ensures start { result.expression.span.start ≡ start }
+    ensures end { result.expression.span.end ≡ cursor.now.position.end }
 {
     FoundExpression {
         expression: Expression {
@@ -87,8 +90,11 @@ fn expression_node(
 
 /// An expression that is the next token.
 fn leaf(cursor: &mut Cursor<'_>, kind: ExpressionKind) -> FoundExpression
-    ensures node { spec_leaf (expression_of_kind kind) (next cursor.old) ≡ Ok (found_expression cursor.new result) }
+    ensures node { spec_leaf (expression_of_kind kind) (next cursor.old.seen) ≡ Ok (found_expression cursor.new.seen result) }
     ensures small { result.height ≡ 1 }
+    ensures kind { result.expression.kind ≡ kind }
+    ensures placed { IsPlaced result.expression.span cursor.old.position (skip cursor.old.position) }
+    ensures position { skip cursor.old.position ≡ cursor.new.position }
 {
     let start = cursor.start();
     cursor.advance();
@@ -102,8 +108,9 @@ fn field(
     of: FoundExpression,
 ) -> Result<FoundExpression, ReadError>
     requires { of.height < depth }
-    ensures given { Gives (found_expression cursor.new) result (field_behind (found_expression cursor.old of)) }
+    ensures given { Gives (found_expression cursor.new.seen) result (field_behind (found_expression cursor.old.seen of)) }
     ensures small { IfOk result (λ f. f.height ≤ depth) }
+    ensures placed { (first : Position) → ExpressionStands first of.expression cursor.old.position → IfOk result (λ f. ExpressionStands first f.expression cursor.new.position) }
 {
     cursor.advance();
     let start = of.expression.span.start;
@@ -124,8 +131,9 @@ fn pointer_field(
     of: FoundExpression,
 ) -> Result<FoundExpression, ReadError>
     requires { of.height < depth }
-    ensures given { Gives (found_expression cursor.new) result (pointer_field_behind (found_expression cursor.old of)) }
+    ensures given { Gives (found_expression cursor.new.seen) result (pointer_field_behind (found_expression cursor.old.seen of)) }
     ensures small { IfOk result (λ f. f.height ≤ depth) }
+    ensures placed { (first : Position) → ExpressionStands first of.expression cursor.old.position → IfOk result (λ f. ExpressionStands first f.expression cursor.new.position) }
 {
     cursor.advance();
     let start = of.expression.span.start;
@@ -148,6 +156,8 @@ fn call_node(
     requires { found.height < usize.MAX }
     ensures tree { expression_of result.expression ≡ t.Call (name_of function) (expressions_of found.arguments.items) }
     ensures height { result.height ≡ suc found.height }
+    ensures placed { (first behind : Position) → start ≡ start_of first → NameStands first function behind → ArgumentsStand (skip behind) found.arguments.items cursor.now.position
+        → ExpressionStands first result.expression cursor.now.position }
 {
     let height = found.height + 1;
     expression_node(
@@ -160,9 +170,10 @@ fn call_node(
 
 /// The text that the next token is.
 fn text_leaf(cursor: &mut Cursor<'_>) -> Result<FoundExpression, ReadError>
-    requires { plain_at cursor.old ≡ k.Text }
-    ensures given { Gives (found_expression cursor.new) result (spec_leaf (t.Text (bytes_at cursor.old)) (next cursor.old)) }
+    requires { plain_at cursor.old.seen ≡ k.Text }
+    ensures given { Gives (found_expression cursor.new.seen) result (spec_leaf (t.Text (bytes_at cursor.old.seen)) (next cursor.old.seen)) }
     ensures small { IfOk result (λ f. f.height ≡ 1) }
+    ensures placed { IfOk result (λ f. ExpressionStands cursor.old.position f.expression cursor.new.position) }
 {
     let text = cursor.text()?;
     Ok(leaf(cursor, ExpressionKind::Text(text)))
@@ -176,8 +187,9 @@ pub fn expression(
     depth: usize,
     least: u8,
 ) -> Result<FoundExpression, ReadError>
-    ensures given { Gives (found_expression cursor.new) result (read_expression types.now depth least cursor.old) }
+    ensures given { Gives (found_expression cursor.new.seen) result (read_expression types.now depth least cursor.old.seen) }
     ensures small { IfOk result (λ f. f.height ≤ depth) }
+    ensures placed { IfOk result (λ f. ExpressionStands cursor.old.position f.expression cursor.new.position) }
 {
     if depth == 0 {
         return Err(cursor.too_deep());
@@ -195,8 +207,9 @@ fn operand(
     depth: usize,
 ) -> Result<FoundExpression, ReadError>
     requires { 0 < depth }
-    ensures given { Gives (found_expression cursor.new) result (unary types.now (read_expression types.now (depth - 1)) (read_type types.now (depth - 1)) depth cursor.old) }
+    ensures given { Gives (found_expression cursor.new.seen) result (unary types.now (read_expression types.now (depth - 1)) (read_type types.now (depth - 1)) depth cursor.old.seen) }
     ensures small { IfOk result (λ f. f.height ≤ depth) }
+    ensures placed { IfOk result (λ f. ExpressionStands cursor.old.position f.expression cursor.new.position) }
 {
     match prefix_of(cursor.peek()) {
         Some(operator) => prefixed(cursor, types, depth, operator),
@@ -216,8 +229,9 @@ fn prefixed(
     operator: PrefixOperator,
 ) -> Result<FoundExpression, ReadError>
     requires { 0 < depth }
-    ensures given { Gives (found_expression cursor.new) result (unary_by types.now (read_expression types.now (depth - 1)) (read_type types.now (depth - 1)) depth (Some operator) cursor.old) }
+    ensures given { Gives (found_expression cursor.new.seen) result (unary_by types.now (read_expression types.now (depth - 1)) (read_type types.now (depth - 1)) depth (Some operator) cursor.old.seen) }
     ensures small { IfOk result (λ f. f.height ≤ depth) }
+    ensures placed { IfOk result (λ f. ExpressionStands cursor.old.position f.expression cursor.new.position) }
 {
     let start = cursor.start();
     cursor.advance();
@@ -240,8 +254,9 @@ fn primary(
     depth: usize,
 ) -> Result<FoundExpression, ReadError>
     requires { 0 < depth }
-    ensures given { Gives (found_expression cursor.new) result (spec_primary types.now (read_expression types.now (depth - 1)) (read_type types.now (depth - 1)) cursor.old) }
+    ensures given { Gives (found_expression cursor.new.seen) result (spec_primary types.now (read_expression types.now (depth - 1)) (read_type types.now (depth - 1)) cursor.old.seen) }
     ensures small { IfOk result (λ f. f.height ≤ depth) }
+    ensures placed { IfOk result (λ f. ExpressionStands cursor.old.position f.expression cursor.new.position) }
 {
     match cursor.peek_among(types) {
         Kind::Number(value) => Ok(leaf(cursor, ExpressionKind::Number(value))),
@@ -266,10 +281,11 @@ fn named(
     types: &TypeNames<'_>,
     depth: usize,
 ) -> Result<FoundExpression, ReadError>
-    requires name { plain_at cursor.old ≡ k.Name }
+    requires name { plain_at cursor.old.seen ≡ k.Name }
     requires deep { 0 < depth }
-    ensures given { Gives (found_expression cursor.new) result (named_by types.now (read_expression types.now (depth - 1)) (read_type types.now (depth - 1)) (plain_at (next cursor.old)) (bytes_at cursor.old) (next cursor.old)) }
+    ensures given { Gives (found_expression cursor.new.seen) result (named_by types.now (read_expression types.now (depth - 1)) (read_type types.now (depth - 1)) (plain_at (next cursor.old.seen)) (bytes_at cursor.old.seen) (next cursor.old.seen)) }
     ensures small { IfOk result (λ f. f.height ≤ depth) }
+    ensures placed { IfOk result (λ f. ExpressionStands cursor.old.position f.expression cursor.new.position) }
 {
     let start = cursor.start();
     let name = cursor.take_name()?;
@@ -291,8 +307,9 @@ fn arguments(
     depth: usize,
 ) -> Result<FoundArguments, ReadError>
     requires { 0 < depth }
-    ensures given { Gives (found_arguments cursor.new) result (arguments_by types.now (read_expression types.now (depth - 1)) (read_type types.now (depth - 1)) (plain_at cursor.old) cursor.old) }
+    ensures given { Gives (found_arguments cursor.new.seen) result (arguments_by types.now (read_expression types.now (depth - 1)) (read_type types.now (depth - 1)) (plain_at cursor.old.seen) cursor.old.seen) }
     ensures small { IfOk result (λ f. f.height < depth) }
+    ensures placed { IfOk result (λ f. ArgumentsStand cursor.old.position f.arguments.items cursor.new.position) }
 {
     match cursor.peek() {
         Kind::RParen => {
@@ -314,8 +331,9 @@ fn some_arguments(
     depth: usize,
 ) -> Result<FoundArguments, ReadError>
     requires { 0 < depth }
-    ensures given { Gives (found_arguments cursor.new) result (spec_arguments types.now (read_expression types.now (depth - 1)) (read_type types.now (depth - 1)) (length cursor.old) cursor.old) }
+    ensures given { Gives (found_arguments cursor.new.seen) result (spec_arguments types.now (read_expression types.now (depth - 1)) (read_type types.now (depth - 1)) (length cursor.old.seen) cursor.old.seen) }
     ensures small { IfOk result (λ f. f.height < depth) }
+    ensures placed { IfOk result (λ f. ArgumentsStand cursor.old.position f.arguments.items cursor.new.position) }
 {
     let mut arguments = Vec::new(cursor.alloc());
     let mut height = 0;
@@ -344,8 +362,9 @@ fn parenthesized(
     depth: usize,
 ) -> Result<FoundExpression, ReadError>
     requires { 0 < depth }
-    ensures given { Gives (found_expression cursor.new) result (spec_parenthesized types.now (read_expression types.now (depth - 1)) (read_type types.now (depth - 1)) (next cursor.old)) }
+    ensures given { Gives (found_expression cursor.new.seen) result (spec_parenthesized types.now (read_expression types.now (depth - 1)) (read_type types.now (depth - 1)) (next cursor.old.seen)) }
     ensures small { IfOk result (λ f. f.height ≤ depth) }
+    ensures placed { IfOk result (λ f. ExpressionStands cursor.old.position f.expression cursor.new.position) }
 {
     let start = cursor.start();
     cursor.advance();
@@ -365,8 +384,9 @@ fn length_of(
     depth: usize,
 ) -> Result<FoundExpression, ReadError>
     requires { 0 < depth }
-    ensures given { Gives (found_expression cursor.new) result (spec_length_of types.now (read_expression types.now (depth - 1)) (read_type types.now (depth - 1)) (next cursor.old)) }
+    ensures given { Gives (found_expression cursor.new.seen) result (spec_length_of types.now (read_expression types.now (depth - 1)) (read_type types.now (depth - 1)) (next cursor.old.seen)) }
     ensures small { IfOk result (λ f. f.height ≤ depth) }
+    ensures placed { IfOk result (λ f. ExpressionStands cursor.old.position f.expression cursor.new.position) }
 {
     let start = cursor.start();
     cursor.advance();
@@ -390,8 +410,9 @@ fn alloc_of(
     depth: usize,
 ) -> Result<FoundExpression, ReadError>
     requires { 0 < depth }
-    ensures given { Gives (found_expression cursor.new) result (alloc types.now (read_expression types.now (depth - 1)) (read_type types.now (depth - 1)) (next cursor.old)) }
+    ensures given { Gives (found_expression cursor.new.seen) result (alloc types.now (read_expression types.now (depth - 1)) (read_type types.now (depth - 1)) (next cursor.old.seen)) }
     ensures small { IfOk result (λ f. f.height ≤ depth) }
+    ensures placed { IfOk result (λ f. ExpressionStands cursor.old.position f.expression cursor.new.position) }
 {
     let start = cursor.start();
     cursor.advance();
@@ -416,8 +437,9 @@ fn alloc_array_of(
     depth: usize,
 ) -> Result<FoundExpression, ReadError>
     requires { 0 < depth }
-    ensures given { Gives (found_expression cursor.new) result (alloc_array types.now (read_expression types.now (depth - 1)) (read_type types.now (depth - 1)) (next cursor.old)) }
+    ensures given { Gives (found_expression cursor.new.seen) result (alloc_array types.now (read_expression types.now (depth - 1)) (read_type types.now (depth - 1)) (next cursor.old.seen)) }
     ensures small { IfOk result (λ f. f.height ≤ depth) }
+    ensures placed { IfOk result (λ f. ExpressionStands cursor.old.position f.expression cursor.new.position) }
 {
     let start = cursor.start();
     cursor.advance();
@@ -441,8 +463,9 @@ fn index(
     of: FoundExpression,
 ) -> Result<FoundExpression, ReadError>
     requires { of.height < depth }
-    ensures given { Gives (found_expression cursor.new) result (spec_index types.now (read_expression types.now (depth - 1)) (read_type types.now (depth - 1)) (found_expression cursor.old of)) }
+    ensures given { Gives (found_expression cursor.new.seen) result (spec_index types.now (read_expression types.now (depth - 1)) (read_type types.now (depth - 1)) (found_expression cursor.old.seen of)) }
     ensures small { IfOk result (λ f. f.height ≤ depth) }
+    ensures placed { (first : Position) → ExpressionStands first of.expression cursor.old.position → IfOk result (λ f. ExpressionStands first f.expression cursor.new.position) }
 {
     cursor.advance();
     let start = of.expression.span.start;
@@ -464,8 +487,9 @@ fn postfix(
 ) -> Result<ExpressionStep, ReadError>
     requires tall { found.height ≤ depth }
     requires deep { 0 < depth }
-    ensures given { (go_on : ReadExpression → Outcome ReadExpression) → GivesExpression go_on cursor.new result (postfix_by types.now (read_expression types.now (depth - 1)) (read_type types.now (depth - 1)) depth go_on (plain_at cursor.old) (found_expression cursor.old found)) }
+    ensures given { (go_on : ReadExpression → Outcome ReadExpression) → GivesExpression go_on cursor.new.seen result (postfix_by types.now (read_expression types.now (depth - 1)) (read_type types.now (depth - 1)) depth go_on (plain_at cursor.old.seen) (found_expression cursor.old.seen found)) }
     ensures small { IfOk result (λ step. height_of_expression_step step ≤ depth) }
+    ensures placed { (first : Position) → ExpressionStands first found.expression cursor.old.position → IfOk result (λ step. ExpressionStands first (expression_of_step step) cursor.new.position) }
 {
     match cursor.peek() {
         Kind::LBracket => {
@@ -506,8 +530,9 @@ fn postfixes(
 ) -> Result<FoundExpression, ReadError>
     requires tall { found.height ≤ depth }
     requires deep { 0 < depth }
-    ensures given { Gives (found_expression cursor.new) result (spec_postfix types.now (read_expression types.now (depth - 1)) (read_type types.now (depth - 1)) depth depth (found_expression cursor.old found)) }
+    ensures given { Gives (found_expression cursor.new.seen) result (spec_postfix types.now (read_expression types.now (depth - 1)) (read_type types.now (depth - 1)) depth depth (found_expression cursor.old.seen found)) }
     ensures small { IfOk result (λ f. f.height ≤ depth) }
+    ensures placed { (first : Position) → ExpressionStands first found.expression cursor.old.position → IfOk result (λ f. ExpressionStands first f.expression cursor.new.position) }
 {
     let mut found = found;
     for _turn in 0..depth {
@@ -531,8 +556,9 @@ fn operators(
 ) -> Result<FoundExpression, ReadError>
     requires tall { found.height ≤ depth }
     requires deep { 0 < depth }
-    ensures given { Gives (found_expression cursor.new) result (climb types.now (read_expression types.now (depth - 1)) (read_type types.now (depth - 1)) depth least depth (found_expression cursor.old found)) }
+    ensures given { Gives (found_expression cursor.new.seen) result (climb types.now (read_expression types.now (depth - 1)) (read_type types.now (depth - 1)) depth least depth (found_expression cursor.old.seen found)) }
     ensures small { IfOk result (λ f. f.height ≤ depth) }
+    ensures placed { (first : Position) → ExpressionStands first found.expression cursor.old.position → IfOk result (λ f. ExpressionStands first f.expression cursor.new.position) }
 {
     let mut found = found;
     for _turn in 0..depth {
@@ -559,8 +585,9 @@ fn joined(
     left: FoundExpression,
 ) -> Result<FoundExpression, ReadError>
     requires { left.height < depth }
-    ensures given { Gives (found_expression cursor.new) result (join types.now (read_expression types.now (depth - 1)) (read_type types.now (depth - 1)) (found_expression cursor.old left)) }
+    ensures given { Gives (found_expression cursor.new.seen) result (join types.now (read_expression types.now (depth - 1)) (read_type types.now (depth - 1)) (found_expression cursor.old.seen left)) }
     ensures small { IfOk result (λ f. f.height ≤ depth) }
+    ensures placed { (first : Position) → ExpressionStands first left.expression cursor.old.position → IfOk result (λ f. ExpressionStands first f.expression cursor.new.position) }
 {
     match operator_of(cursor.peek()) {
         Some(operator) => binary(cursor, types, depth, operator, left),
@@ -578,8 +605,9 @@ fn binary(
     left: FoundExpression,
 ) -> Result<FoundExpression, ReadError>
     requires { left.height < depth }
-    ensures given { Gives (found_expression cursor.new) result (join_by types.now (read_expression types.now (depth - 1)) (read_type types.now (depth - 1)) (Some operator) (found_expression cursor.old left)) }
+    ensures given { Gives (found_expression cursor.new.seen) result (join_by types.now (read_expression types.now (depth - 1)) (read_type types.now (depth - 1)) (Some operator) (found_expression cursor.old.seen left)) }
     ensures small { IfOk result (λ f. f.height ≤ depth) }
+    ensures placed { (first : Position) → ExpressionStands first left.expression cursor.old.position → IfOk result (λ f. ExpressionStands first f.expression cursor.new.position) }
 {
     cursor.advance();
     let start = left.expression.span.start;
@@ -601,8 +629,9 @@ fn conditional(
     condition: FoundExpression,
 ) -> Result<FoundExpression, ReadError>
     requires { condition.height < depth }
-    ensures given { Gives (found_expression cursor.new) result (join_by types.now (read_expression types.now (depth - 1)) (read_type types.now (depth - 1)) None (found_expression cursor.old condition)) }
+    ensures given { Gives (found_expression cursor.new.seen) result (join_by types.now (read_expression types.now (depth - 1)) (read_type types.now (depth - 1)) None (found_expression cursor.old.seen condition)) }
     ensures small { IfOk result (λ f. f.height ≤ depth) }
+    ensures placed { (first : Position) → ExpressionStands first condition.expression cursor.old.position → IfOk result (λ f. ExpressionStands first f.expression cursor.new.position) }
 {
     cursor.advance();
     let start = condition.expression.span.start;

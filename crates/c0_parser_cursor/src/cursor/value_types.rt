@@ -4,7 +4,8 @@ ghost use Rattle.std.specs.Prelude.{◌≡◌, ◌<◌, ◌≤◌, Ok, IfOk};
 ghost use Rattle.c0_syntax.specs.Views.{type_of};
 ghost use Rattle.c0_grammar_laws.specs.Outcome.{Gives, Outcome, kind_at, plain_at};
 ghost use Rattle.c0_grammar_laws.specs.ReadExpressions.{ReadType, array_behind, base_by, leaf_type, pointer_to, read_type, suffix_by, suffixes};
-ghost use Rattle.c0_parser_cursor.specs.Found.{GivesType, found_type, height_of_step};
+ghost use Rattle.c0_grammar_laws.specs.Places.{Position, TypeStands};
+ghost use Rattle.c0_parser_cursor.specs.Found.{GivesType, found_type, height_of_step, type_of_step};
 
 use super::Cursor;
 use crate::found::{FoundType, TypeStep};
@@ -15,7 +16,9 @@ use c0_syntax::value_type::{TypeKind, ValueType};
 
 impl<'a> Cursor<'a> {
     fn type_node(&self, start: usize, kind: TypeKind) -> ValueType
-        ensures { result.kind ≡ kind }
+        ensures node { result.kind ≡ kind }
+        ensures start { result.span.start ≡ start }
+        ensures end { result.span.end ≡ self.now.position.end }
     {
         ValueType {
             kind,
@@ -25,7 +28,8 @@ impl<'a> Cursor<'a> {
 
     /// A type without `*` and `[]`.
     fn base_type(&mut self, types: &TypeNames<'_>) -> Result<ValueType, ReadError>
-        ensures { Gives (λ t. leaf_type (type_of t) self.new) result (base_by (kind_at types.now self.old) self.old) }
+        ensures given { Gives (λ t. leaf_type (type_of t) self.new.seen) result (base_by (kind_at types.now self.old.seen) self.old.seen) }
+        ensures placed { IfOk result (λ t. TypeStands self.old.position t self.new.position) }
     {
         let start = self.start();
         match self.peek_among(types) {
@@ -49,7 +53,8 @@ impl<'a> Cursor<'a> {
     /// The type with the `*` that stands next.
     fn pointer_type(&mut self, depth: usize, of: FoundType) -> Result<FoundType, ReadError>
         requires { of.height < depth }
-        ensures given { Gives (found_type self.new) result (Ok (pointer_to (found_type self.old of))) }
+        ensures given { Gives (found_type self.new.seen) result (Ok (pointer_to (found_type self.old.seen of))) }
+        ensures placed { (first : Position) → TypeStands first of.value_type self.old.position → IfOk result (λ f. TypeStands first f.value_type self.new.position) }
         ensures small { IfOk result (λ f. f.height ≤ depth) }
     {
         self.advance();
@@ -64,7 +69,8 @@ impl<'a> Cursor<'a> {
     /// The type with the `[]` whose `[` stands next.
     fn array_type(&mut self, depth: usize, of: FoundType) -> Result<FoundType, ReadError>
         requires { of.height < depth }
-        ensures given { Gives (found_type self.new) result (array_behind (found_type self.old of)) }
+        ensures given { Gives (found_type self.new.seen) result (array_behind (found_type self.old.seen of)) }
+        ensures placed { (first : Position) → TypeStands first of.value_type self.old.position → IfOk result (λ f. TypeStands first f.value_type self.new.position) }
         ensures small { IfOk result (λ f. f.height ≤ depth) }
     {
         self.advance();
@@ -80,7 +86,8 @@ impl<'a> Cursor<'a> {
     /// The type with the `*` or `[]` that stands next, if one does.
     fn type_suffix(&mut self, depth: usize, found: FoundType) -> Result<TypeStep, ReadError>
         requires { found.height ≤ depth }
-        ensures given { (go_on : ReadType → Outcome ReadType) → GivesType go_on self.new result (suffix_by depth go_on (plain_at self.old) (found_type self.old found)) }
+        ensures given { (go_on : ReadType → Outcome ReadType) → GivesType go_on self.new.seen result (suffix_by depth go_on (plain_at self.old.seen) (found_type self.old.seen found)) }
+        ensures placed { (first : Position) → TypeStands first found.value_type self.old.position → IfOk result (λ step. TypeStands first (type_of_step step) self.new.position) }
         ensures small { IfOk result (λ step. height_of_step step ≤ depth) }
     {
         match self.peek() {
@@ -104,7 +111,8 @@ impl<'a> Cursor<'a> {
 
     fn type_suffixes(&mut self, depth: usize, found: FoundType) -> Result<FoundType, ReadError>
         requires { found.height ≤ depth }
-        ensures given { Gives (found_type self.new) result (suffixes depth depth (found_type self.old found)) }
+        ensures given { Gives (found_type self.new.seen) result (suffixes depth depth (found_type self.old.seen found)) }
+        ensures placed { (first : Position) → TypeStands first found.value_type self.old.position → IfOk result (λ f. TypeStands first f.value_type self.new.position) }
         ensures small { IfOk result (λ f. f.height ≤ depth) }
     {
         let mut found = found;
@@ -123,7 +131,8 @@ impl<'a> Cursor<'a> {
         types: &TypeNames<'_>,
         depth: usize,
     ) -> Result<FoundType, ReadError>
-        ensures given { Gives (found_type self.new) result (read_type types.now depth self.old) }
+        ensures given { Gives (found_type self.new.seen) result (read_type types.now depth self.old.seen) }
+        ensures placed { IfOk result (λ f. TypeStands self.old.position f.value_type self.new.position) }
         ensures small { IfOk result (λ f. f.height ≤ depth) }
     {
         if depth == 0 {

@@ -2,6 +2,7 @@ use Rattle.std.proofs.Common.{◌≡◌, ◌*◌, ◌+◌, ◌-◌}
 use Rattle.c0_syntax.specs.Views.{statements_of}
 use Rattle.c0_grammar_laws.specs.ReadStatements.{read_statement, read_statements}
 use Rattle.c0_parser.proofs.StatementLoops.{with_statements}
+use Rattle.c0_grammar_laws.specs.PlacedStatements.{PlacedStatements, after_each_statement}
 use Rattle.c0_parser.proofs.statements.+statement.Given as goal
 
 abbrev pub decreases-statement : goal.decreases-statement
@@ -43,4 +44,5 @@ decreases-for_statement l = 8 * l.depth + 5
 -- the statements so far, with those that are read from here on
 abbrev pub invariant-statements-loop-turn : goal.invariant-statements-loop-turn
 invariant-statements-loop-turn l =
-    with_statements (statements_of l.statements.items) (read_statements l.types l.loops (read_statement l.types l.loops l.depth) l.depth (l.most - l._turn) l.room l.cursor) ≡ read_statements l.types l.loops (read_statement l.types l.loops l.depth) l.depth l.most l.fn.room l.fn.cursor
+    (with_statements (statements_of l.statements.items) (read_statements l.types l.loops (read_statement l.types l.loops l.depth) l.depth (l.most - l._turn) l.room l.cursor.seen) ≡ read_statements l.types l.loops (read_statement l.types l.loops l.depth) l.depth l.most l.fn.room l.fn.cursor.seen)
+    × (PlacedStatements l.fn.cursor.position l.statements.items × (after_each_statement (statements_of l.statements.items) l.fn.cursor.position ≡ l.cursor.position))

@@ -1,6 +1,7 @@
 use Rattle.std.proofs.Common.{◌≡◌, ◌*◌, ◌+◌, ◌-◌, ◌<◌, ◌≤◌, length}
 use Rattle.c0_syntax.specs.Views.{expressions_of}
 use Rattle.c0_grammar_laws.specs.ReadExpressions.{arguments, climb, postfix, read_expression, read_type}
+use Rattle.c0_grammar_laws.specs.Places.{ExpressionStands, PlacedArguments, Position, after_each}
 use Rattle.c0_parser_expressions.specs.Found.{found_expression}
 use Rattle.c0_parser_expressions.proofs.ExpressionLoops.{with_front}
 use Rattle.c0_parser_expressions.proofs.expressions.+expression.Given as goal
@@ -59,14 +60,17 @@ decreases-some_arguments l = 16 * l.depth + 4
 -- the arguments so far, with what is read from here on
 abbrev pub invariant-some_arguments-loop-turn : goal.invariant-some_arguments-loop-turn
 invariant-some_arguments-loop-turn l =
-    (l.height < l.depth) × (with_front (expressions_of l.arguments.items) l.height (arguments l.types (read_expression l.types (l.depth - 1)) (read_type l.types (l.depth - 1)) (length l.fn.cursor - l._turn) l.cursor) ≡ arguments l.types (read_expression l.types (l.depth - 1)) (read_type l.types (l.depth - 1)) (length l.fn.cursor) l.fn.cursor)
+    (l.height < l.depth) × (with_front (expressions_of l.arguments.items) l.height (arguments l.types (read_expression l.types (l.depth - 1)) (read_type l.types (l.depth - 1)) (length l.fn.cursor.seen - l._turn) l.cursor.seen) ≡ arguments l.types (read_expression l.types (l.depth - 1)) (read_type l.types (l.depth - 1)) (length l.fn.cursor.seen) l.fn.cursor.seen)
+    × (PlacedArguments l.fn.cursor.position l.arguments.items × (after_each (expressions_of l.arguments.items) l.fn.cursor.position ≡ l.cursor.position))
 
 -- reading on from here gives what reading from the start gives
 abbrev pub invariant-postfixes-loop-turn : goal.invariant-postfixes-loop-turn
 invariant-postfixes-loop-turn l =
-    (l.found.height ≤ l.depth) × (postfix l.types (read_expression l.types (l.depth - 1)) (read_type l.types (l.depth - 1)) l.depth (l.depth - l._turn) (found_expression l.cursor l.found) ≡ postfix l.types (read_expression l.types (l.depth - 1)) (read_type l.types (l.depth - 1)) l.depth l.depth (found_expression l.fn.cursor l.fn.found))
+    (l.found.height ≤ l.depth) × (postfix l.types (read_expression l.types (l.depth - 1)) (read_type l.types (l.depth - 1)) l.depth (l.depth - l._turn) (found_expression l.cursor.seen l.found) ≡ postfix l.types (read_expression l.types (l.depth - 1)) (read_type l.types (l.depth - 1)) l.depth l.depth (found_expression l.fn.cursor.seen l.fn.found))
+    × ((first : Position) → ExpressionStands first l.fn.found.expression l.fn.cursor.position → ExpressionStands first l.found.expression l.cursor.position)
 
 -- ... likewise
 abbrev pub invariant-operators-loop-turn : goal.invariant-operators-loop-turn
 invariant-operators-loop-turn l =
-    (l.found.height ≤ l.depth) × (climb l.types (read_expression l.types (l.depth - 1)) (read_type l.types (l.depth - 1)) l.depth l.least (l.depth - l._turn) (found_expression l.cursor l.found) ≡ climb l.types (read_expression l.types (l.depth - 1)) (read_type l.types (l.depth - 1)) l.depth l.least l.depth (found_expression l.fn.cursor l.fn.found))
+    (l.found.height ≤ l.depth) × (climb l.types (read_expression l.types (l.depth - 1)) (read_type l.types (l.depth - 1)) l.depth l.least (l.depth - l._turn) (found_expression l.cursor.seen l.found) ≡ climb l.types (read_expression l.types (l.depth - 1)) (read_type l.types (l.depth - 1)) l.depth l.least l.depth (found_expression l.fn.cursor.seen l.fn.found))
+    × ((first : Position) → ExpressionStands first l.fn.found.expression l.fn.cursor.position → ExpressionStands first l.found.expression l.cursor.position)

@@ -1,0 +1,9 @@
+-- What a cursor is worth.
+use Rattle.std.specs.Prelude.{List}
+use Rattle.c0_source.specs.Terminals.{Terminal}
+use Rattle.c0_grammar_laws.specs.Places.{Position}
+
+-- what the grammar sees of the tokens that are left, and the position before them
+pub record Remaining : Type 0 where
+  pub seen : List Terminal
+  pub position : Position
