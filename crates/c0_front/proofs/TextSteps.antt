@@ -18,11 +18,12 @@ use Rattle.c0_typed.specs.Views.{program_of as typed_of}
 use Rattle.c0_typed.specs.declared.tree.Typed.{Typed}
 use Rattle.c0_grammar_laws.proofs.CompletePrograms.{complete_program}
 use Rattle.c0_grammar_laws.proofs.SoundPrograms.{one_program}
-use Rattle.c0_grammar_laws.specs.Parsing.{IsReadFault, Meets, place_of, read_from, start_at}
+use Rattle.c0_grammar_laws.specs.PlacedPrograms.{PlacedIn}
+use Rattle.c0_grammar_laws.specs.Parsing.{IsReadFault, Meets, before_last, place_of, read_from, start_at}
 use Rattle.c0_rules.specs.Answers.{Answers}
 use Rattle.c0_rules.specs.FaultPrograms.{FaultAt}
 use Rattle.c0_rules.specs.Programs.{typed_program}
-use Rattle.c0_front.specs.Texts.{HasTokens, IsRefusedText, IsTextOf, IsTypedAs}
+use Rattle.c0_front.specs.Texts.{HasTokens, IsPlacedTextOf, IsRefusedText, IsTextOf, IsTypedAs}
 
 -- ---- one of each
 
@@ -85,10 +86,12 @@ module _ (loops : Bool) (text : List ℕ) where
     text_of : (p : Program) → Reads loops (read_from us) p → IsTextOf loops text p
     text_of p r = record { tokens = ts; spelled = spelled; read = subst (λ xs. Reads loops (read_from xs) p) same r }
 
-    pub read_so : (r : Result Placed Fault) → IfOk r (λ p. Reads loops (read_from us) (program_of p)) → IfOk r (λ p. p.end ≡ place_of us 0)
-        → IfOk r (λ p. IsTextOf loops text (program_of p) × (p.end ≡ length text))
-    read_so (Ok p) h e = (text_of (program_of p) h, e ∙ ap (λ xs. place_of xs 0) same ∙ end_is text ts spelled.lexed)
-    read_so (Err f) h e = h
+    pub read_so : (r : Result Placed Fault) → IfOk r (λ p. Reads loops (read_from us) (program_of p)) → IfOk r (λ p. PlacedIn (before_last us) p) → IfOk r (λ p. p.end ≡ place_of us 0)
+        → IfOk r (λ p. IsPlacedTextOf loops text p)
+    unfolding text_of
+    read_so (Ok p) h g e =
+        record { written = text_of (program_of p) h; placed = subst (λ xs. PlacedIn (before_last xs) p) same g; ends = e ∙ ap (λ xs. place_of xs 0) same ∙ end_is text ts spelled.lexed }
+    read_so (Err f) h g e = h
 
     pub read_every : (r : Result Placed Fault) → IfOk r (λ p. Reads loops (read_from us) (program_of p)) → IfErr r (λ f. IsReadFault loops us f)
         → (p : Program) → IsTextOf loops text p → MatchResult r (λ q. program_of q ≡ p) (λ f. f.kind ≡ k.OutOfMemory)
@@ -98,14 +101,14 @@ module _ (loops : Bool) (text : List ℕ) where
         absurd (never_met loops us x p m (subst (λ xs. Reads loops (read_from xs) p) (one_tokens text w.tokens ts w.spelled spelled ∙ sym same) w.read))
 
   -- the rules of the program of a text
-  module _ (tree : Placed) (written : IsTextOf loops text (program_of tree)) where
-    pub rules_refused : {T : Type 0} (r : Result T Fault) → tree.end ≡ length text → IfErr r (λ f. (f.kind ≡ k.OutOfMemory) ⊎ FaultAt tree f) → IfErr r (λ f. (f.kind ≡ k.OutOfMemory) ⊎ IsRefusedText loops text f)
-    rules_refused (Ok x) e h = h
-    rules_refused (Err x) e (inl h) = inl h
-    rules_refused (Err x) e (inr h) = inr (inr (record { program = tree; written = written; ends = e; cause = h }))
+  module _ (tree : Placed) (written : IsPlacedTextOf loops text tree) where
+    pub rules_refused : {T : Type 0} (r : Result T Fault) → IfErr r (λ f. (f.kind ≡ k.OutOfMemory) ⊎ FaultAt tree f) → IfErr r (λ f. (f.kind ≡ k.OutOfMemory) ⊎ IsRefusedText loops text f)
+    rules_refused (Ok x) h = h
+    rules_refused (Err x) (inl h) = inl h
+    rules_refused (Err x) (inr h) = inr (inr (record { program = tree; written = written; cause = h }))
 
     pub rules_every : (r : Result Typed Fault) → Answers typed_of r (typed_program (program_of tree)) → (p : y.Program) → IsTypedAs loops text p → MatchResult r (λ q. typed_of q ≡ p) (λ f. f.kind ≡ k.OutOfMemory)
-    rules_every r a p w = at r a (ap typed_program (one_text loops text (program_of tree) w.program written w.written) ∙ w.rules)
+    rules_every r a p w = at r a (ap typed_program (one_text loops text (program_of tree) w.program written.written w.written) ∙ w.rules)
       where
         at : (r : Result Typed Fault) → Answers typed_of r (typed_program (program_of tree)) → typed_program (program_of tree) ≡ Some p → MatchResult r (λ q. typed_of q ≡ p) (λ f. f.kind ≡ k.OutOfMemory)
         at (Ok q) a e = cc (sym a ∙ e)

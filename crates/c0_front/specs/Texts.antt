@@ -9,7 +9,8 @@ use Rattle.c0_syntax.specs.Trees as s
 use Rattle.c0_syntax.specs.Views.{program_of}
 use Rattle.c0_syntax.specs.declared.program.Program.{Program}
 use Rattle.c0_typed.specs.Trees as y
-use Rattle.c0_grammar_laws.specs.Parsing.{Meets, read_from}
+use Rattle.c0_grammar_laws.specs.Parsing.{Meets, before_last, read_from}
+use Rattle.c0_grammar_laws.specs.PlacedPrograms.{PlacedIn}
 use Rattle.c0_rules.specs.FaultPrograms.{FaultAt}
 use Rattle.c0_rules.specs.Programs.{typed_program}
 
@@ -23,6 +24,12 @@ pub record IsTextOf (loops : Bool) (text : List ℕ) (program : s.Program) : Typ
   pub tokens : List Lexeme
   pub spelled : HasTokens text tokens
   pub read : Reads loops (read_from tokens) program
+
+-- ... and each part of it begins where the first of its tokens does, and ends where the last one does
+pub record IsPlacedTextOf (loops : Bool) (text : List ℕ) (program : Program) : Type 0 where
+  pub written : IsTextOf loops text (program_of program)
+  pub placed : PlacedIn (before_last written.tokens) program
+  pub ends : program.end ≡ length text
 
 -- this program is well typed, and this is its typed tree
 pub record IsTypedAs (loops : Bool) (text : List ℕ) (typed : y.Program) : Type 0 where
@@ -46,11 +53,10 @@ IsReadingFault loops text fault = (tokens : List Lexeme) × HasTokens text token
 abbrev pub IsUnreadText : Bool → List ℕ → Fault → Type 0
 IsUnreadText loops text fault = IsSourceFault text fault ⊎ IsTokenFault text fault ⊎ IsReadingFault loops text fault
 
--- the program of the text, with the places of its parts, breaks a static rule at the fault's place
+-- the program of the text, each part of which stands where its tokens do, breaks a static rule at the fault's place
 pub record IsRuleFault (loops : Bool) (text : List ℕ) (fault : Fault) : Type 0 where
   pub program : Program
-  pub written : IsTextOf loops text (program_of program)
-  pub ends : program.end ≡ length text
+  pub written : IsPlacedTextOf loops text program
   pub cause : FaultAt program fault
 
 -- the first stage that finds a fault

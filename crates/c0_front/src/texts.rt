@@ -1,13 +1,13 @@
 // What a text is the text of, and the fault of the first stage that refuses it.
 
-ghost use Rattle.std.specs.Prelude.{◌≡◌, ◌⊎◌, IfErr, IfOk, MatchResult, length};
+ghost use Rattle.std.specs.Prelude.{◌≡◌, ◌⊎◌, IfErr, IfOk, MatchResult};
 ghost use Rattle.c0_source.specs.declared.fault.FaultKind.TheVariants.{OutOfMemory};
 ghost use Rattle.c0_syntax.specs.Levels.{has_loops};
 ghost use Rattle.c0_syntax.specs.Trees as s;
 ghost use Rattle.c0_syntax.specs.Views.{program_of as tree_of};
 ghost use Rattle.c0_typed.specs.Trees as y;
 ghost use Rattle.c0_typed.specs.Views.{program_of as typed_of};
-ghost use Rattle.c0_front.specs.Texts.{IsRefusedText, IsTextOf, IsTypedAs, IsUnreadText};
+ghost use Rattle.c0_front.specs.Texts.{IsPlacedTextOf, IsRefusedText, IsTextOf, IsTypedAs, IsUnreadText};
 
 use c0_lexer::lex::lex;
 use c0_parser::parse::parse;
@@ -22,7 +22,8 @@ use std::alloc::Global;
 /// The program that a text is the text of. The fault is of the first stage that finds one: 10 or 22 of the text, 11 or 12 of its tokens,
 /// 20 to 22 of what the tokens read as; or 50, where memory runs out.
 pub fn read_text(alloc: Global, text: &[u8], level: Level) -> Result<Program, Fault>
-    ensures read { IfOk result (λ p. IsTextOf (has_loops level) text.now (tree_of p) × (p.end ≡ length text.now)) }
+    // Each part of the program begins where the first of its tokens does, and ends where the last one does.
+    ensures read { IfOk result (λ p. IsPlacedTextOf (has_loops level) text.now p) }
     ensures refused { IfErr result (λ f. (f.kind ≡ OutOfMemory) ⊎ IsUnreadText (has_loops level) text.now f) }
     // A text of a program is read as it, and as no other, unless memory runs out.
     ensures every { (p : s.Program) → IsTextOf (has_loops level) text.now p → MatchResult result (λ q. tree_of q ≡ p) (λ f. f.kind ≡ OutOfMemory) }

@@ -9,7 +9,7 @@ returns-in_err-program-clause-every c = λ p w.
     rw (q.1, q.2) (c.in_err-program.ensures.every w.program w.written)
 
 pub returns-clause-refused : goal.returns-clause-refused
-returns-clause-refused c = rules_refused (has_loops c.args.level) c.args.text.now c.in_ok-program.program c.in_ok-program.ensures.read.0 c.check.result c.in_ok-program.ensures.read.1 c.check.ensures.cause
+returns-clause-refused c = rules_refused (has_loops c.args.level) c.args.text.now c.in_ok-program.program c.in_ok-program.ensures.read c.check.result c.check.ensures.cause
 
 pub returns-clause-every : goal.returns-clause-every
-returns-clause-every c = rules_every (has_loops c.args.level) c.args.text.now c.in_ok-program.program c.in_ok-program.ensures.read.0 c.check.result c.check.ensures.answers
+returns-clause-every c = rules_every (has_loops c.args.level) c.args.text.now c.in_ok-program.program c.in_ok-program.ensures.read c.check.result c.check.ensures.answers

@@ -30,7 +30,7 @@ returns-clause-read c =
       source = subst IsSourceText c.in_ok-source.ensures (subst IsSourceText c.source.view_is c.source.invariant);
       lexed = subst (λ (bytes : List ℕ). IsLexed bytes (map lexeme c.in_ok-tokens.tokens.items)) c.in_ok-source.ensures c.in_ok-tokens.ensures.spelled;
     } in
-    read_so (has_loops c.args.level) c.args.text.now _ _ has (ap (map lexeme) c.deref.ensures.value) c.parse.result c.parse.ensures.found c.parse.ensures.ending
+    read_so (has_loops c.args.level) c.args.text.now _ _ has (ap (map lexeme) c.deref.ensures.value) c.parse.result c.parse.ensures.found c.parse.ensures.placed c.parse.ensures.ending
 
 pub returns-clause-every : goal.returns-clause-every
 returns-clause-every c =
