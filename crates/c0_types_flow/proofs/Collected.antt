@@ -1,6 +1,7 @@
 -- Texts and calls among what a program names.
 use Rattle.std.proofs.Common.{◌≡◌, ℕ, ◌+◌, ◌<◌, List, [], ◌∷◌, ◌++◌, length, get_or, drop, refl, sym, ap, ◌∙◌, Bool, true, false}
-use Rattle.std.specs.Prelude.{◌&&◌, ◌||◌, not, filter_map}
+use Rattle.std.specs.Prelude.{◌&&◌, ◌||◌, not, filter_map, IfOk, Result}
+use Rattle.std.proofs.lemmas.Result.{IfOk-weaker}
 use Rattle.std.specs.List.{list_all, list_any}
 use mathlib.Core.List.{append_assoc}
 use Rattle.std.proofs.lemmas.List.{drop_more}
@@ -23,6 +24,16 @@ two_texts old mid new ms ns e h = h ∙ ap (λ z. z ++ texts ns) e ∙ append_as
 
 pub three_texts : (old mid far new : List Name) (ms ns ks : List Mention) → mid ≡ old ++ texts ms → far ≡ mid ++ texts ns → new ≡ far ++ texts ks → new ≡ old ++ texts (ms ++ ns ++ ks)
 three_texts old mid far new ms ns ks e h k = two_texts old far new (ms ++ ns) ks (two_texts old mid far ms ns e h) k
+
+-- the same, where the last part may be refused; `all` is what the whole names
+module _ {T E : Type 0} (r : Result T E) (all : List Mention) (ms ns : List Mention) where
+  pub two_or_refused : all ≡ ms ++ ns → (old mid new : List Name) → mid ≡ old ++ texts ms → IfOk r (λ _. new ≡ mid ++ texts ns) → IfOk r (λ _. new ≡ old ++ texts all)
+  two_or_refused whole old mid new e h =
+      IfOk-weaker r (λ _. new ≡ mid ++ texts ns) (λ _. new ≡ old ++ texts all) (λ _ k. two_texts old mid new ms ns e k ∙ ap (λ z. old ++ texts z) (sym whole)) h
+
+  pub three_or_refused : (ks : List Mention) → all ≡ ms ++ ns ++ ks → (old mid far new : List Name) → mid ≡ old ++ texts ms → far ≡ mid ++ texts ns → IfOk r (λ _. new ≡ far ++ texts ks) → IfOk r (λ _. new ≡ old ++ texts all)
+  three_or_refused ks whole old mid far new e h k =
+      IfOk-weaker r (λ _. new ≡ far ++ texts ks) (λ _. new ≡ old ++ texts all) (λ _ z. three_texts old mid far new ms ns ks e h z ∙ ap (λ z. old ++ texts z) (sym whole)) k
 
 -- those of the first part that is left, and then of the rest
 pub texts_step : {A : Type 0} (part : A → List Mention) (parts : List A → List Mention) → ((x : A) (xs : List A) → parts (x ∷ xs) ≡ part x ++ parts xs)

@@ -169,6 +169,13 @@ if_leads c a f g r e =
     ∙ ap (λ z. and_so z (λ g. Some (joined f g f))) e
     ∙ ap Some (joined_before f g)
 
+pub if_else_leads : (c : t.Expression) (a b : t.Statement) (f g h : Flow) → true ≡ reads_assigned f c → flow_of_statement a f ≡ Some g → flow_of_statement b f ≡ Some h
+    → flow_of_statement (t.IfElse c a b) f ≡ Some (joined f g h)
+if_else_leads c a b f g h r e k =
+    provided_so (reads_assigned f c) (and_so (flow_of_statement a f) (λ g. and_so (flow_of_statement b f) (λ h. Some (joined f g h)))) r
+    ∙ ap (λ z. and_so z (λ g. and_so (flow_of_statement b f) (λ h. Some (joined f g h)))) e
+    ∙ ap (λ z. and_so z (λ h. Some (joined f g h))) k
+
 -- ---- behind a `for`
 
 module _ (first : Option t.SimpleStatement) (c : t.Expression) (third : Option t.SimpleStatement) (notes : List (List t.Spec)) (a : t.Statement) (f : Flow) where

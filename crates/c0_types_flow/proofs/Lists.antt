@@ -1,6 +1,6 @@
 -- Tests over lists.
-use Rattle.std.proofs.Common.{◌≡◌, ℕ, zero, suc, ◌+◌, ◌<◌, List, [], ◌∷◌, ◌++◌, map, length, get_or, drop, refl, sym, ap, subst, ◌∙◌, Bool, true, false, cond, Some, None, ltb, arith}
-use Rattle.std.specs.Prelude.{◌||◌, filter, is_some, not}
+use Rattle.std.proofs.Common.{◌≡◌, ℕ, zero, suc, ◌+◌, ◌<◌, List, [], ◌∷◌, ◌++◌, map, length, get_or, drop, refl, sym, ap, subst, ◌∙◌, Bool, true, false, cond, Some, None, ltb, arith, inl, inr}
+use Rattle.std.specs.Prelude.{◌⊎◌, ◌||◌, filter, is_some, not, IfErr, Result, Err}
 use Rattle.std.specs.List.{Any, list_any, position_from, position_or_len}
 use Rattle.std.proofs.lemmas.Iterator.Adapters.{position_from-zero}
 use Rattle.std.proofs.lemmas.List.{drop_more}
@@ -72,6 +72,18 @@ found_right test (x ∷ xs) ys e = at (test x) (found_right test xs ys e)
     at : (b : Bool) → false ≡ not (list_any test (xs ++ ys)) → false ≡ not (b || list_any test (xs ++ ys))
     at true k = refl
     at false k = k
+
+-- ---- causes
+
+-- what holds of the error that is returned
+pub at_err : {T E : Type 0} (r : Result T E) (y x : E) (P : E → Type 0) → r ≡ Err y → y ≡ x → P x → IfErr r P
+at_err r y x P e q h = subst (λ z. IfErr z P) (sym e) (subst P (sym q) h)
+
+-- one of three, with two more behind
+pub before_two : {A B C D E : Type 0} → A ⊎ B ⊎ C → A ⊎ B ⊎ C ⊎ D ⊎ E
+before_two (inl h) = inl h
+before_two (inr (inl h)) = inr (inl h)
+before_two (inr (inr h)) = inr (inr (inl h))
 
 -- ---- places
 

@@ -152,6 +152,41 @@ fn behind_for_start<'a>(
     Ok(start)
 }
 
+// At the end of a scope that began here.
+fn leave_scope<'a>(alloc: Global, inner: &Behind<'a>, flow: &Flow<'a>) -> Result<Behind<'a>, Fault>
+    ensures answers { Answers (behind_of (flow_of flow.now)) result (Some (a.left_scope (flow_of flow.now) (behind_of (flow_of flow.now) inner.now))) }
+    ensures cause { IfErr result (λ f. f.kind ≡ OutOfMemory) }
+{
+    Ok(flow.leave(alloc, inner)?)
+}
+
+// Behind a choice of two ways that began here.
+fn join_ways<'a>(
+    alloc: Global,
+    first: &Behind<'a>,
+    second: &Behind<'a>,
+    flow: &Flow<'a>,
+) -> Result<Behind<'a>, Fault>
+    ensures answers { Answers (behind_of (flow_of flow.now)) result (Some (a.joined (flow_of flow.now) (behind_of (flow_of flow.now) first.now) (behind_of (flow_of flow.now) second.now))) }
+    ensures cause { IfErr result (λ f. f.kind ≡ OutOfMemory) }
+{
+    Ok(flow.join(alloc, first, second)?)
+}
+
+// Behind the third part of a `for`, which begins where the scope of the body ends; the body began here.
+fn behind_turn<'a>(
+    alloc: Global,
+    body: &Behind<'a>,
+    third: &'a Option<SimpleStatement>,
+    flow: &Flow<'a>,
+) -> Result<Behind<'a>, Fault>
+    ensures answers { let left = a.left_scope (flow_of flow.now) (behind_of (flow_of flow.now) body.now) in Answers (behind_of left) result (a.flow_of_part (option_map simple_of third.now) left) }
+    ensures cause { IfErr result (λ f. (f.kind ≡ OutOfMemory) ⊎ ReadInPart f (a.left_scope (flow_of flow.now) (behind_of (flow_of flow.now) body.now)) third.now) }
+{
+    let left = flow.leave(alloc, body)?;
+    behind_part(alloc, third, left.over(flow))
+}
+
 /// Behind a statement. A read of a local that may not be assigned is an error, `NotAssigned` at its name.
 #[cycle(flow)]
 pub(crate) fn behind_statement<'a>(
@@ -166,7 +201,7 @@ pub(crate) fn behind_statement<'a>(
         StatementKind::Simple(simple) => behind_simple(alloc, simple, flow),
         StatementKind::Block(statements) => {
             let inner = behind_statements(alloc, statements, flow)?;
-            Ok(flow.leave(alloc, &inner)?)
+            leave_scope(alloc, &inner, flow)
         }
         StatementKind::Annotated(annotation) => behind_specs(&annotation.specs, flow),
         StatementKind::Return => Ok(Behind::Changed(Flow::Ended)),
@@ -180,7 +215,7 @@ pub(crate) fn behind_statement<'a>(
             check_reads(flow, condition)?;
             let behind_first = behind_statement(alloc, first, flow)?;
             let behind_second = behind_statement(alloc, second, flow)?;
-            Ok(flow.join(alloc, &behind_first, &behind_second)?)
+            join_ways(alloc, &behind_first, &behind_second, flow)
         }
         StatementKind::While(condition, annotations, body) => {
             check_reads(flow, condition)?;
@@ -192,9 +227,8 @@ pub(crate) fn behind_statement<'a>(
             let start = behind_for_start(alloc, first, condition, annotations, flow)?;
             let inner = start.over(&*flow);
             let behind = behind_statement(alloc, body, inner)?;
-            let left = inner.leave(alloc, &behind)?;
-            behind_part(alloc, third, left.over(inner))?;
-            Ok(flow.leave(alloc, &start)?)
+            behind_turn(alloc, &behind, third, inner)?;
+            leave_scope(alloc, &start, flow)
         }
         StatementKind::Assert(condition) => behind_read(condition, flow),
         StatementKind::Error(text) => behind_end(text, flow),

@@ -1,15 +1,16 @@
-use Rattle.std.proofs.Common.{◌≡◌, ◌⊎◌, Bool, map, option_map, ap, ◌∙◌, sym, subst}
+use Rattle.std.proofs.Common.{◌≡◌, ◌⊎◌, Bool, map, option_map, ap, ◌∙◌, sym, subst, refl, inl}
 use Rattle.std.specs.Prelude.{◌&&◌}
-use Rattle.std.proofs.lemmas.Result.{err_from_is_err_and}
+use Rattle.std.proofs.lemmas.Result.{IfErr-weaker, err_from_is_err_and}
 use Rattle.c0_source.specs.declared.fault.Fault.{Fault}
 use Rattle.c0_source.specs.declared.fault.FaultKind.TheVariants.{OutOfMemory}
 use Rattle.c0_syntax.specs.declared.statement.StatementKind.{StatementKind}
 use Rattle.c0_syntax.specs.Views.{annotation_of, expression_of, simple_of, statement_of, statement_of_kind, statements_of}
+use Rattle.c0_rules.specs.Answers.{Answers}
 use Rattle.c0_rules.specs.Assignment as a
 use Rattle.c0_rules.specs.FaultPaths.{ReadIn, ReadInAnnotations, ReadInBody, ReadInStatement}
 use Rattle.c0_rules.specs.Mentions.{specs_in}
 use Rattle.c0_types_flow.specs.FlowViews.{behind_of, flow_of}
-use Rattle.c0_types_flow.proofs.Flows.{start_refused, for_body_refused, for_third_refused, for_leads, start_cause, inside_cause, last_cause, block_leads, block_refused, if_leads, third_cause}
+use Rattle.c0_types_flow.proofs.Flows.{start_refused, for_body_refused, for_third_refused, for_leads, start_cause, inside_cause, last_cause, block_leads, block_refused, if_leads, if_else_leads, third_cause}
 use Rattle.c0_types_flow.proofs.Rows.{block_is, block_cause, body_cause}
 use Rattle.c0_types_flow.proofs.flow.statements.+flow.Goals as goal
 
@@ -28,11 +29,30 @@ behind_statement-returns-in_err-inner-in-Block-clause-cause t c =
     let P : StatementKind → Type 0 = λ k. (fault.kind ≡ OutOfMemory) ⊎ ReadInStatement fault (flow_of c.args.flow.now) k in
     rw (p.1, p.2) (subst P (sym c.in-Block.is) (block_cause fault (flow_of c.args.flow.now) c.in-Block.statements there))
 
-pub behind_statement-returns-in_ok-leave-in-Block-clause-answers : goal.behind_statement-returns-in_ok-leave-in-Block-clause-answers
-behind_statement-returns-in_ok-leave-in-Block-clause-answers t c =
+pub behind_statement-returns-in_ok-inner-in-Block-clause-answers : goal.behind_statement-returns-in_ok-inner-in-Block-clause-answers
+behind_statement-returns-in_ok-inner-in-Block-clause-answers t c =
+    let before = flow_of c.args.flow.now in
     let shape = ap statement_of_kind c.in-Block.is ∙ block_is c.in-Block.statements in
     let led = rw c.deref.ensures.value at c.in_ok-inner-in-Block.ensures.answers in
-    rw shape (block_leads (statements_of c.in-Block.statements.items) (flow_of c.args.flow.now) _ _ led c.in_ok-leave-in-Block.ensures)
+    rw shape (subst (Answers (behind_of before) c.leave_scope.result) (sym (block_leads (statements_of c.in-Block.statements.items) before _ _ led refl)) c.leave_scope.ensures.answers)
+
+pub behind_statement-returns-in_ok-inner-in-Block-clause-cause : goal.behind_statement-returns-in_ok-inner-in-Block-clause-cause
+behind_statement-returns-in_ok-inner-in-Block-clause-cause t c =
+    IfErr-weaker c.leave_scope.result _ _ (λ f h. inl h) c.leave_scope.ensures.cause
+
+pub behind_statement-returns-in_ok-behind_second-in-IfElse-clause-answers : goal.behind_statement-returns-in_ok-behind_second-in-IfElse-clause-answers
+behind_statement-returns-in_ok-behind_second-in-IfElse-clause-answers t c =
+    let x = c.in-IfElse in
+    let before = flow_of c.args.flow.now in
+    let shape = ap statement_of_kind x.is in
+    let first = rw c.deref-in-IfElse.ensures at c.in_ok-behind_first-in-IfElse.ensures.answers in
+    let second = rw c.deref-in-IfElse-2.ensures at c.in_ok-behind_second-in-IfElse.ensures.answers in
+    rw shape (subst (Answers (behind_of before) c.join_ways.result)
+    (sym (if_else_leads (expression_of x.condition) (statement_of x.first.value) (statement_of x.second.value) before _ _ c.in_ok-check_reads-in-IfElse.ensures.answers first second)) c.join_ways.ensures.answers)
+
+pub behind_statement-returns-in_ok-behind_second-in-IfElse-clause-cause : goal.behind_statement-returns-in_ok-behind_second-in-IfElse-clause-cause
+behind_statement-returns-in_ok-behind_second-in-IfElse-clause-cause t c =
+    IfErr-weaker c.join_ways.result _ _ (λ f h. inl h) c.join_ways.ensures.cause
 
 pub behind_statement-returns-in_err-behind_second-in-IfElse-clause-cause : goal.behind_statement-returns-in_err-behind_second-in-IfElse-clause-cause
 behind_statement-returns-in_err-behind_second-in-IfElse-clause-cause t c =
@@ -102,33 +122,39 @@ behind_statement-returns-in_err-behind-in-For-clause-cause t c =
     let reads : a.Flow → Bool = λ g. a.reads_assigned g (expression_of x.condition) && a.specs_read_assigned g (specs_in (map annotation_of x.annotations.items)) in
     rw (p.1, p.2) (subst P (sym x.is) (inside_cause fault x.first x.condition x.third x.annotations.items x.body.value.kind (flow_of c.args.flow.now) _ reads started _ c.over-inner.ensures there))
 
-pub behind_statement-returns-in_err-behind_part-in-For-clause-answers : goal.behind_statement-returns-in_err-behind_part-in-For-clause-answers
-behind_statement-returns-in_err-behind_part-in-For-clause-answers t c =
+pub behind_statement-returns-in_err-behind_turn-in-For-clause-answers : goal.behind_statement-returns-in_err-behind_turn-in-For-clause-answers
+behind_statement-returns-in_err-behind_turn-in-For-clause-answers t c =
     let x = c.in-For in
     let shape = ap statement_of_kind x.is in
-    let p = err_from_is_err_and c.from_residual-in_err-behind_part-in-For.result c.from_residual-in_err-behind_part-in-For.ensures.1 in
+    let p = err_from_is_err_and c.from_residual-in_err-behind_turn-in-For.result c.from_residual-in_err-behind_turn-in-For.ensures.1 in
     let started = rw c.deref-in-For.ensures.value at c.in_ok-start-in-For.ensures.answers in
     let led = rw c.deref-in-For-2.ensures at c.in_ok-behind-in-For.ensures.answers in
     rw (p.1, p.2, shape) (for_third_refused (option_map simple_of x.first) (expression_of x.condition) (option_map simple_of x.third) (map annotation_of x.annotations.items) (statement_of x.body.value) (flow_of c.args.flow.now) _ started
-    _ _ c.over-inner.ensures led _ (c.over.ensures ∙ c.in_ok-left-in-For.ensures) c.in_err-behind_part-in-For.ensures.answers)
+    _ _ c.over-inner.ensures led _ refl c.in_err-behind_turn-in-For.ensures.answers)
 
-pub behind_statement-returns-in_err-behind_part-in-For-clause-cause : goal.behind_statement-returns-in_err-behind_part-in-For-clause-cause
-behind_statement-returns-in_err-behind_part-in-For-clause-cause t c =
+pub behind_statement-returns-in_err-behind_turn-in-For-clause-cause : goal.behind_statement-returns-in_err-behind_turn-in-For-clause-cause
+behind_statement-returns-in_err-behind_turn-in-For-clause-cause t c =
     let x = c.in-For in
-    let fault : Fault = c.in_err-behind_part-in-For.field-0.0 in
-    let p = err_from_is_err_and c.from_residual-in_err-behind_part-in-For.result c.from_residual-in_err-behind_part-in-For.ensures.1 in
+    let fault : Fault = c.in_err-behind_turn-in-For.field-0.0 in
+    let p = err_from_is_err_and c.from_residual-in_err-behind_turn-in-For.result c.from_residual-in_err-behind_turn-in-For.ensures.1 in
     let P : StatementKind → Type 0 = λ k. (fault.kind ≡ OutOfMemory) ⊎ ReadInStatement fault (flow_of c.args.flow.now) k in
     let started = rw c.deref-in-For.ensures.value at c.in_ok-start-in-For.ensures.answers in
     let led = rw c.deref-in-For-2.ensures at c.in_ok-behind-in-For.ensures.answers in
     let reads : a.Flow → Bool = λ g. a.reads_assigned g (expression_of x.condition) && a.specs_read_assigned g (specs_in (map annotation_of x.annotations.items)) in
     rw (p.1, p.2) (subst P (sym x.is) (last_cause fault x.first x.condition x.third x.annotations.items x.body.value.kind (flow_of c.args.flow.now) _ reads started _ c.over-inner.ensures
-    _ _ led (c.over.ensures ∙ c.in_ok-left-in-For.ensures) c.in_err-behind_part-in-For.ensures.cause))
+    _ _ led refl c.in_err-behind_turn-in-For.ensures.cause))
 
-pub behind_statement-returns-in_ok-leave-in-For-clause-answers : goal.behind_statement-returns-in_ok-leave-in-For-clause-answers
-behind_statement-returns-in_ok-leave-in-For-clause-answers t c =
+pub behind_statement-returns-in_ok-behind_turn-in-For-clause-answers : goal.behind_statement-returns-in_ok-behind_turn-in-For-clause-answers
+behind_statement-returns-in_ok-behind_turn-in-For-clause-answers t c =
     let x = c.in-For in
+    let before = flow_of c.args.flow.now in
     let shape = ap statement_of_kind x.is in
     let started = rw c.deref-in-For.ensures.value at c.in_ok-start-in-For.ensures.answers in
     let led = rw c.deref-in-For-2.ensures at c.in_ok-behind-in-For.ensures.answers in
-    rw shape (for_leads (option_map simple_of x.first) (expression_of x.condition) (option_map simple_of x.third) (map annotation_of x.annotations.items) (statement_of x.body.value) (flow_of c.args.flow.now) _ started
-    _ _ c.over-inner.ensures led _ (c.over.ensures ∙ c.in_ok-left-in-For.ensures) _ _ c.in_ok-behind_part-in-For.ensures.answers c.in_ok-leave-in-For.ensures)
+    let leads = for_leads (option_map simple_of x.first) (expression_of x.condition) (option_map simple_of x.third) (map annotation_of x.annotations.items) (statement_of x.body.value) before _ started
+    _ _ c.over-inner.ensures led _ refl _ _ c.in_ok-behind_turn-in-For.ensures.answers refl in
+    rw shape (subst (Answers (behind_of before) c.leave_scope-in-For.result) (sym leads) c.leave_scope-in-For.ensures.answers)
+
+pub behind_statement-returns-in_ok-behind_turn-in-For-clause-cause : goal.behind_statement-returns-in_ok-behind_turn-in-For-clause-cause
+behind_statement-returns-in_ok-behind_turn-in-For-clause-cause t c =
+    IfErr-weaker c.leave_scope-in-For.result _ _ (λ f h. inl h) c.leave_scope-in-For.ensures.cause

@@ -1,8 +1,7 @@
 use Rattle.std.proofs.Common.{◌∙◌, ap, refl}
-use Rattle.std.proofs.lemmas.Result.{on_ok_weaker}
 use Rattle.c0_syntax.specs.Views.{expression_of, expression_of_kind, expressions_of}
 use Rattle.c0_rules.specs.Mentions.{mentions, argument_mentions}
-use Rattle.c0_types_flow.proofs.Collected.{two_texts, three_texts, texts_step}
+use Rattle.c0_types_flow.proofs.Collected.{two_or_refused, three_or_refused, texts_step}
 use Rattle.c0_types_flow.proofs.Rows.{call_is}
 use Rattle.c0_types_flow.proofs.mentioned.texts.Texts.+expression.Goals as goal
 
@@ -18,23 +17,26 @@ expression-returns-in-Call t c =
 
 pub expression-returns-in_ok-expression-in-Index : goal.expression-returns-in_ok-expression-in-Index
 expression-returns-in_ok-expression-in-Index t c =
-    let shape = ap expression_of_kind c.in-Index.is in
+    let whole = mentions (expression_of c.args.expression.now) in
+    let shape = ap (λ k. mentions (expression_of_kind k)) c.in-Index.is in
     let first = rw c.deref-in-Index.ensures at c.in_ok-expression-in-Index.ensures in
     let second = rw c.deref-in-Index-2.ensures at c.expression-in-Index-2.ensures in
-    rw shape (on_ok_weaker c.expression-in-Index-2.result (λ h. two_texts _ _ _ (mentions (expression_of c.in-Index.array.value)) (mentions (expression_of c.in-Index.index.value)) first h) second)
+    two_or_refused c.expression-in-Index-2.result whole (mentions (expression_of c.in-Index.array.value)) (mentions (expression_of c.in-Index.index.value)) shape _ _ _ first second
 
 pub expression-returns-in_ok-expression-in-Binary : goal.expression-returns-in_ok-expression-in-Binary
 expression-returns-in_ok-expression-in-Binary t c =
-    let shape = ap expression_of_kind c.in-Binary.is in
+    let whole = mentions (expression_of c.args.expression.now) in
+    let shape = ap (λ k. mentions (expression_of_kind k)) c.in-Binary.is in
     let first = rw c.deref-in-Binary.ensures at c.in_ok-expression-in-Binary.ensures in
     let second = rw c.deref-in-Binary-2.ensures at c.expression-in-Binary-2.ensures in
-    rw shape (on_ok_weaker c.expression-in-Binary-2.result (λ h. two_texts _ _ _ (mentions (expression_of c.in-Binary.left.value)) (mentions (expression_of c.in-Binary.right.value)) first h) second)
+    two_or_refused c.expression-in-Binary-2.result whole (mentions (expression_of c.in-Binary.left.value)) (mentions (expression_of c.in-Binary.right.value)) shape _ _ _ first second
 
 pub expression-returns-in_ok-expression-in-Conditional-2 : goal.expression-returns-in_ok-expression-in-Conditional-2
 expression-returns-in_ok-expression-in-Conditional-2 t c =
-    let shape = ap expression_of_kind c.in-Conditional.is in
+    let whole = mentions (expression_of c.args.expression.now) in
+    let shape = ap (λ k. mentions (expression_of_kind k)) c.in-Conditional.is in
     let x = c.in-Conditional in
     let first = rw c.deref-in-Conditional.ensures at c.in_ok-expression-in-Conditional.ensures in
     let second = rw c.deref-in-Conditional-2.ensures at c.in_ok-expression-in-Conditional-2.ensures in
     let third = rw c.deref-in-Conditional-3.ensures at c.expression-in-Conditional-3.ensures in
-    rw shape (on_ok_weaker c.expression-in-Conditional-3.result (λ h. three_texts _ _ _ _ (mentions (expression_of x.condition.value)) (mentions (expression_of x.first.value)) (mentions (expression_of x.second.value)) first second h) third)
+    three_or_refused c.expression-in-Conditional-3.result whole (mentions (expression_of x.condition.value)) (mentions (expression_of x.first.value)) (mentions (expression_of x.second.value)) shape _ _ _ _ first second third
