@@ -21,19 +21,19 @@ copied_more ps ws i n l h = below_more _ _
     (seen_here ps i n ∙ ap Some (sym (get_or-set_same ws i n 0 l)))
 
 -- one cell more was copied
-pub copy_more : {C : Type 0} (s t u : SeatView C) (ws : List ℕ) (i n : ℕ) → i < length ws → CopiesOnly s t → IsCopied t.view.hand ws i → u ≡ record t { view = with_hand t.view (copying t.view.hand i n) }
+pub copy_more : {W C : Type 0} (s t u : SeatView W C) (ws : List ℕ) (i n : ℕ) → i < length ws → CopiesOnly s t → IsCopied t.view.hand ws i → u ≡ record t { view = with_hand t.view (copying t.view.hand i n) }
     → CopiesOnly s u × IsCopied u.view.hand (set ws i n) (i + 1)
-copy_more {C} s t u ws i n l same below d =
-    let a : u.view.hand.copied ≡ t.view.hand.copied ++ (i, n) ∷ [] = ap (λ (x : SeatView C). x.view.hand.copied) d in
-    let put : SeatView C → List (ℕ × ℕ) → SeatView C = λ x ps. record x { view = with_hand x.view (record x.view.hand { copied = ps }) } in
-    (d ∙ ap (put t) (sym a) ∙ ap (λ (x : SeatView C). put x u.view.hand.copied) same, (λ j m. ap (λ (ps : List (ℕ × ℕ)). seen ps j) a ∙ copied_more t.view.hand.copied ws i n l below j m))
+copy_more {W} {C} s t u ws i n l same below d =
+    let a : u.view.hand.copied ≡ t.view.hand.copied ++ (i, n) ∷ [] = ap (λ (x : SeatView W C). x.view.hand.copied) d in
+    let put : SeatView W C → List (ℕ × ℕ) → SeatView W C = λ x ps. record x { view = with_hand x.view (record x.view.hand { copied = ps }) } in
+    (d ∙ ap (put t) (sym a) ∙ ap (λ (x : SeatView W C). put x u.view.hand.copied) same, (λ j m. ap (λ (ps : List (ℕ × ℕ)). seen ps j) a ∙ copied_more t.view.hand.copied ws i n l below j m))
 
 -- while it copies, the owner is moving the object out
-pub moving : {C : Type 0} (s t : SeatView C) (o f : ℕ) → CopiesOnly s t → MovesOut o f s.view.hand → IsMovingOut t.view.hand f
-moving {C} s t o f same m = (o, ap (λ (x : SeatView C). x.view.hand.leaving) same ∙ m.0, ap (λ (x : SeatView C). x.view.hand.source) same ∙ m.1)
+pub moving : {W C : Type 0} (s t : SeatView W C) (o f : ℕ) → CopiesOnly s t → MovesOut o f s.view.hand → IsMovingOut t.view.hand f
+moving {W} {C} s t o f same m = (o, ap (λ (x : SeatView W C). x.view.hand.leaving) same ∙ m.0, ap (λ (x : SeatView W C). x.view.hand.source) same ∙ m.1)
 
 -- what was copied and put is what the berth keeps
-pub has_put : {C : Type 0} (content : C → Option (List ℕ)) (n o : ℕ) (s t : SeatView C) (ws : List ℕ) → n ≡ piece_cells → IsCopied s.view.hand ws piece_cells → t ≡ record s { taken = t.taken; refusals = t.refusals }
+pub has_put : {W C : Type 0} (content : C → Option (List ℕ)) (n o : ℕ) (s t : SeatView W C) (ws : List ℕ) → n ≡ piece_cells → IsCopied s.view.hand ws piece_cells → t ≡ record s { taken = t.taken; store = t.store; refusals = t.refusals }
     → (b : Berth C) × Path (Option (Berth C)) t.taken (Some b) × berth_keeps content b o ws → HasPut content n o t
-has_put {C} content n o s t ws many copied same k =
-    (k.0, ws, k.1, k.2, λ i l. ap (λ (x : SeatView C). seen x.view.hand.copied i) same ∙ copied i (let e = many in omega arith))
+has_put {W} {C} content n o s t ws many copied same k =
+    (k.0, ws, k.1, k.2, λ i l. ap (λ (x : SeatView W C). seen x.view.hand.copied i) same ∙ copied i (let e = many in omega arith))

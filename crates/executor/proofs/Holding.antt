@@ -116,7 +116,7 @@ pub owned_here : (s : State) (o : ℕ) → IsHolding s → Owns s.view o → o <
 owned_here s o ok w = let a = w.1 in let b = ok.wide in omega arith
 
 pub changes_shut : (s t : State) (k : ℕ) (x : Option Hold) → hold_at s.holds k ≡ x → IsHolding s → k < length s.holds → t ≡ shut_at s k x → Changes k s t
-changes_shut s t k None e ok l d = subst (λ (u : State). Changes k s u) (sym d) (record { image = refl; core = refl; firsts = refl; next = refl; completed = refl; want = refl; refusals = refl; low = refl; high = refl; stored = λ o. refl; others = λ j ne. refl; many = refl })
+changes_shut s t k None e ok l d = subst (λ (u : State). Changes k s u) (sym d) (record { image = refl; core = refl; firsts = refl; next = refl; completed = refl; want = refl; refusals = refl; low = refl; high = refl; seat = refl; stored = λ o. refl; others = λ j ne. refl; many = refl })
 changes_shut s t k (Some h) e ok l d =
     let here = owned_here s h.object ok (ok.held k h e).owns in
     subst (λ (u : State). Changes k s u) (sym d)
@@ -130,6 +130,7 @@ changes_shut s t k (Some h) e ok l d =
       refusals = refl;
       low = refl;
       high = refl;
+      seat = refl;
       stored = λ o. stored_note s.view h.object (closed (note s.view h.object)) o here refl;
       others = λ j ne. get_or-set_other s.holds k j None None ne;
       many = length-set s.holds k None;
@@ -203,6 +204,7 @@ module _ (s t : State) (k o : ℕ) (ok : IsHolding s) (l : k < length s.holds) (
     refusals = ap (λ (u : State). u.refusals) h.same;
     low = h.takes.low;
     high = h.takes.high;
+    seat = h.takes.seat;
     stored = λ p. ap (λ (z : Note). z.history) (at p) ∙ stored_note s.view o n p here refl;
     others = λ j ne. ap (λ (u : State). hold_at u.holds j) h.same ∙ get_or-set_other s.holds k j (Some (a_hold o f false)) None ne;
     many = ap (λ (u : State). length u.holds) h.same ∙ length-set s.holds k (Some (a_hold o f false));
@@ -212,7 +214,7 @@ module _ (s t : State) (k o : ℕ) (ok : IsHolding s) (l : k < length s.holds) (
   opened_hold = ap (λ (u : State). hold_at u.holds k) h.same ∙ get_or-set_same s.holds k (Some (a_hold o h.frame false)) None l
 
 pub changes_trans : (k : ℕ) (s t u : State) → Changes k s t → Changes k t u → Changes k s u
-changes_trans k s t u a b = record { image = b.image ∙ a.image; core = b.core ∙ a.core; firsts = b.firsts ∙ a.firsts; next = b.next ∙ a.next; completed = b.completed ∙ a.completed; want = b.want ∙ a.want; refusals = b.refusals ∙ a.refusals; low = b.low ∙ a.low; high = b.high ∙ a.high; stored = λ o. b.stored o ∙ a.stored o; others = λ j ne. b.others j ne ∙ a.others j ne; many = b.many ∙ a.many }
+changes_trans k s t u a b = record { image = b.image ∙ a.image; core = b.core ∙ a.core; firsts = b.firsts ∙ a.firsts; next = b.next ∙ a.next; completed = b.completed ∙ a.completed; want = b.want ∙ a.want; refusals = b.refusals ∙ a.refusals; low = b.low ∙ a.low; high = b.high ∙ a.high; seat = b.seat ∙ a.seat; stored = λ o. b.stored o ∙ a.stored o; others = λ j ne. b.others j ne ∙ a.others j ne; many = b.many ∙ a.many }
 
 pub changes_none : (k : ℕ) (s : State) → Changes k s s
-changes_none k s = record { image = refl; core = refl; firsts = refl; next = refl; completed = refl; want = refl; refusals = refl; low = refl; high = refl; stored = λ o. refl; others = λ j ne. refl; many = refl }
+changes_none k s = record { image = refl; core = refl; firsts = refl; next = refl; completed = refl; want = refl; refusals = refl; low = refl; high = refl; seat = refl; stored = λ o. refl; others = λ j ne. refl; many = refl }

@@ -10,3 +10,4 @@ mod Running
 mod Taking
 mod Ways
 mod Writing
+mod Looking

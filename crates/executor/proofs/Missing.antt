@@ -73,6 +73,7 @@ module _ (reliable : Type 0) (s t : State) (o : ℕ) (ok : IsHolding s) (own : O
       refusals = refl;
       low = m.gives.low;
       high = m.gives.high;
+      seat = m.gives.seat;
       stored = λ p. ap (λ (z : Note). z.history) (at p) ∙ stored_note s.view o n p here refl;
     },
     m.refused,
@@ -101,6 +102,7 @@ shut_first reliable k s t u a f = (
     refusals = f.0.refusals;
     low = f.0.low ∙ a.low;
     high = f.0.high ∙ a.high;
+    seat = f.0.seat ∙ a.seat;
     stored = λ o. f.0.stored o ∙ a.stored o;
   },
   subst (λ n. Refused reliable n u.refusals) a.refusals f.1,

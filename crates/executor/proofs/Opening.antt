@@ -53,7 +53,7 @@ begins_so (Some g) = at_block (slice_get g.blocks 0)
     at_block None = record { none = refl; holds = λ k. refl; waits = tt }
     at_block (Some x) = record { none = refl; holds = λ k. shut_scopes g.scopes k; waits = tt }
 
-pub blank_seat : {C : Type 0} (t : TableView) (s : SeatView C) → IsFresh t s → s.view.low ≤ s.view.high → IsBlank s.view
+pub blank_seat : {W C : Type 0} (t : TableView) (s : SeatView W C) → IsFresh t s → s.view.low ≤ s.view.high → IsBlank s.view
 blank_seat t s f low =
     let seat = f.0 in
     let hand = f.1 in
@@ -100,7 +100,7 @@ opened_run honest C v n f few =
       };
     }
 
-pub fresh_run : {C : Type 0} (honest : Type 0) (t : TableView) (s : SeatView C) (image : Image) → IsFresh t s → s.view.low ≤ s.view.high → most_scopes image.functions ≤ 4 → IsSession honest (begin image s.view s.refusals)
+pub fresh_run : {W C : Type 0} (honest : Type 0) (t : TableView) (s : SeatView W C) (image : Image) → IsFresh t s → s.view.low ≤ s.view.high → most_scopes image.functions ≤ 4 → IsSession honest (begin image s.view s.refusals)
 fresh_run honest t s image f low few = live_session honest (begin image s.view s.refusals) (opened_run honest image s.view s.refusals (blank_seat t s f low) few) refl
 
 -- where the program has stopped every scope is shut

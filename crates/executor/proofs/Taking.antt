@@ -6,7 +6,7 @@ use Rattle.pointer_word.specs.Hands.{Hand, Note, blank, closed, listed, opened, 
 use Rattle.pointer_word.specs.Calls.{Filled}
 use Rattle.object_lock.specs.Seats.{View, note, with_hand, with_note}
 use Rattle.object_lock.specs.SeatViews.{SeatView}
-use Rattle.executor.specs.Taken.{Brings, ClosesAgain, FetchesOr, FilledBelow, FillsOnly, GivesUp, Refused, Takes, TakesOr}
+use Rattle.executor.specs.Taken.{Brings, ClosesAgain, FetchesOr, FilledBelow, FillsOnly, GivesUp, Refused, Takes, TakesOr, seat_of}
 use Rattle.executor.proofs.Filling.{filled_next}
 
 pub filled_from : (honest : Type 0) (promised : List ℕ) (w : Hand) (ws : List ℕ) → w.promised ≡ promised → FilledBelow w.filled ws 64
@@ -24,31 +24,32 @@ taken o v u w f away e wide b =
       notes = b.notes ∙ (ap (λ (x : Note). slice_set u.notes o (told x (Some f))) at ∙ (ap (λ (x : View). slice_set x.notes o (told n (Some f))) e ∙ set-set v.notes o n (told n (Some f))));
       low = b.low ∙ ap (λ (x : View). x.low) e;
       high = b.high ∙ ap (λ (x : View). x.high) e;
+      seat = b.seat ∙ ap seat_of e;
       sizes = b.sizes ∙ ap (λ (x : View). x.sizes) e;
       quiet = b.quiet;
     }
 
-pub fill_keeps : {C : Type 0} (s t u : SeatView C) (i n : ℕ) → FillsOnly s t
+pub fill_keeps : {W C : Type 0} (s t u : SeatView W C) (i n : ℕ) → FillsOnly s t
     → u ≡ record t { view = with_hand t.view (record t.view.hand { filled = t.view.hand.filled ++ (i, n) ∷ [] }) } → FillsOnly s u
-fill_keeps {C} s t u i n e d =
-    let a : u.view.hand.filled ≡ t.view.hand.filled ++ (i, n) ∷ [] = ap (λ (x : SeatView C). x.view.hand.filled) d in
-    let put : SeatView C → List (ℕ × ℕ) → SeatView C = λ x ps. record x { view = with_hand x.view (record x.view.hand { filled = ps }) } in
-    d ∙ ap (put t) (sym a) ∙ ap (λ (x : SeatView C). put x u.view.hand.filled) e
+fill_keeps {W} {C} s t u i n e d =
+    let a : u.view.hand.filled ≡ t.view.hand.filled ++ (i, n) ∷ [] = ap (λ (x : SeatView W C). x.view.hand.filled) d in
+    let put : SeatView W C → List (ℕ × ℕ) → SeatView W C = λ x ps. record x { view = with_hand x.view (record x.view.hand { filled = ps }) } in
+    d ∙ ap (put t) (sym a) ∙ ap (λ (x : SeatView W C). put x u.view.hand.filled) e
 
-same_view : {C : Type 0} (s t : SeatView C) → s ≡ t → s.view ≡ t.view
-same_view {C} s t e = ap (λ (x : SeatView C). x.view) e
+same_view : {W C : Type 0} (s t : SeatView W C) → s ≡ t → s.view ≡ t.view
+same_view {W} {C} s t e = ap (λ (x : SeatView W C). x.view) e
 
-pub fill_more : {C : Type 0} (s t u : SeatView C) (ws : List ℕ) (i : ℕ) → FillsOnly s t → FilledBelow t.view.hand.filled ws i
+pub fill_more : {W C : Type 0} (s t u : SeatView W C) (ws : List ℕ) (i : ℕ) → FillsOnly s t → FilledBelow t.view.hand.filled ws i
     → u ≡ record t { view = with_hand t.view (record t.view.hand { filled = t.view.hand.filled ++ (i, listed ws i) ∷ [] }) }
     → FillsOnly s u × FilledBelow u.view.hand.filled ws (i + 1)
-fill_more {C} s t u ws i same below e =
-    (fill_keeps s t u i (listed ws i) same e, filled_next t.view.hand.filled u.view.hand.filled ws i below (ap (λ (x : SeatView C). x.view.hand.filled) e))
+fill_more {W} {C} s t u ws i same below e =
+    (fill_keeps s t u i (listed ws i) same e, filled_next t.view.hand.filled u.view.hand.filled ws i below (ap (λ (x : SeatView W C). x.view.hand.filled) e))
 
-pub filled_hand : {C : Type 0} (honest : Type 0) (t u w : SeatView C) (cells : ℕ) (ws : List ℕ) → cells ≡ 64
-    → u ≡ record t { refusals = u.refusals } → FillsOnly u w
+pub filled_hand : {W C : Type 0} (honest : Type 0) (t u w : SeatView W C) (cells : ℕ) (ws : List ℕ) → cells ≡ 64
+    → u ≡ record t { store = u.store; refusals = u.refusals } → FillsOnly u w
     → FilledBelow w.view.hand.filled ws 64 → (honest → (i : ℕ) → i < 64 → listed ws i ≡ listed t.view.hand.promised i) → Filled honest cells w.view.hand
-filled_hand {C} honest t u w cells ws size read fills below got =
-    let promised : SeatView C → List ℕ = λ x. x.view.hand.promised in
+filled_hand {W} {C} honest t u w cells ws size read fills below got =
+    let promised : SeatView W C → List ℕ = λ x. x.view.hand.promised in
     let same : w.view.hand.promised ≡ t.view.hand.promised = ap promised fills ∙ ap promised read in
     subst (λ n. Filled honest n w.view.hand) (sym size) (filled_from honest t.view.hand.promised w.view.hand ws same below got)
 
@@ -63,12 +64,13 @@ given_up o v u w away e wide b =
       notes = b.notes ∙ (ap (λ (x : Note). slice_set u.notes o (closed x)) at ∙ (ap (λ (x : View). slice_set x.notes o (closed n)) e ∙ set-set v.notes o n (closed n)));
       low = b.low ∙ ap (λ (x : View). x.low) e;
       high = b.high ∙ ap (λ (x : View). x.high) e;
+      seat = b.seat ∙ ap seat_of e;
       sizes = b.sizes ∙ ap (λ (x : View). x.sizes) e;
       quiet = b.quiet;
     }
 
 -- the object was fetched after a hold was opened, or the hold is closed again
-pub taken_or : {C : Type 0} (reliable : Type 0) (o : ℕ) (s t u : SeatView C) (r : Option ℕ) → (note s.view o).frame ≡ None → t ≡ record s { view = with_note s.view o (opened (note s.view o) None) } → o < length s.view.notes
+pub taken_or : {W C : Type 0} (reliable : Type 0) (o : ℕ) (s t u : SeatView W C) (r : Option ℕ) → (note s.view o).frame ≡ None → t ≡ record s { view = with_note s.view o (opened (note s.view o) None) } → o < length s.view.notes
     → FetchesOr reliable o t u r → TakesOr reliable o s u r
-taken_or {C} reliable o s t u (Some f) away e wide k = (taken o s.view t.view u.view f away (same_view t _ e) wide k.0, k.1 ∙ ap (λ (x : SeatView C). x.refusals) e)
-taken_or {C} reliable o s t u None away e wide k = (given_up o s.view t.view u.view away (same_view t _ e) wide k.0, subst (λ n. Refused reliable n u.refusals) (ap (λ (x : SeatView C). x.refusals) e) k.1)
+taken_or {W} {C} reliable o s t u (Some f) away e wide k = (taken o s.view t.view u.view f away (same_view t _ e) wide k.0, k.1 ∙ ap (λ (x : SeatView W C). x.refusals) e)
+taken_or {W} {C} reliable o s t u None away e wide k = (given_up o s.view t.view u.view away (same_view t _ e) wide k.0, subst (λ n. Refused reliable n u.refusals) (ap (λ (x : SeatView W C). x.refusals) e) k.1)

@@ -16,6 +16,7 @@ use Rattle.remote_store.specs.Kept.{piece_cells}
 use Rattle.object_lock.specs.Seats.{Owns, View, note, with_note}
 use Rattle.executor.specs.declared.hold.Hold.{Hold}
 use Rattle.executor.specs.State.{AllShut, Matches, State, cells_in, hold_at, latest_in, next_touch, object_of}
+use Rattle.executor.specs.Taken.{seat_of}
 use Rattle.executor.specs.Keeping.{Changes, Closes, HasWriter, IsHolding, IsNext, IsPlaced, IsSafe, Moves, a_hold, extended, finished, shut, shut_at, written}
 use Rattle.executor.proofs.Filling.{seen_else, seen_here}
 use Rattle.executor.proofs.Holding.{owned_here}
@@ -250,14 +251,14 @@ same_latest : (v w : View) → ((o : ℕ) → (note w o).history ≡ (note v o).
 same_latest v w h o i = ap (λ ps. latest_of ps i) (h o)
 
 pub moves_plain : (honest : Type 0) (s u : State) → u ≡ finished s 0 → Moves honest touch.Plain s u
-moves_plain honest s u e = subst (λ (y : State). Moves honest touch.Plain s y) (sym e) (record { image = refl; want = refl; refusals = refl; value = 0; core = refl; loads = λ _. tt; stores = λ o i. refl; low = refl; high = refl; completed = refl })
+moves_plain honest s u e = subst (λ (y : State). Moves honest touch.Plain s y) (sym e) (record { image = refl; want = refl; refusals = refl; value = 0; core = refl; loads = λ _. tt; stores = λ o i. refl; low = refl; high = refl; seat = refl; completed = refl })
 
 pub moves_loaded : (honest : Type 0) → Laws → (s u : State) (k : ℕ) (a : Cell) (v i : ℕ) (h : Hold) → IsSafe s → IsNext (touch.Loads k a) s → hold_at s.holds k ≡ Some h → i ≡ a.index % piece_cells
     → (honest → v ≡ latest_in s.view h.object i) → u ≡ finished s v → Moves honest (touch.Loads k a) s u
 moves_loaded honest laws s u k a v i h safe next e p got f =
     let o = object_is s k a h safe (loads_cell laws s k a safe next) e in
     subst (λ (y : State). Moves honest (touch.Loads k a) s y) (sym f)
-    (record { image = refl; want = refl; refusals = refl; value = v; core = refl; loads = λ q. got q ∙ (ap (λ z. latest_in s.view z i) o ∙ ap (latest_in s.view (object_of s a)) p); stores = λ o i. refl; low = refl; high = refl; completed = refl })
+    (record { image = refl; want = refl; refusals = refl; value = v; core = refl; loads = λ q. got q ∙ (ap (λ z. latest_in s.view z i) o ∙ ap (latest_in s.view (object_of s a)) p); stores = λ o i. refl; low = refl; high = refl; seat = refl; completed = refl })
 
 module _ (honest : Type 0) (s t u : State) (k : ℕ) (ch : Changes k s t) (e : u ≡ finished t 0) where
   pub moves_aimed : (w : Option Cell) → Moves honest (touch.Aims k w) s u
@@ -271,6 +272,7 @@ module _ (honest : Type 0) (s t u : State) (k : ℕ) (ch : Changes k s t) (e : u
     stores = λ o i. ap (λ (y : State). latest_in y.view o i) e ∙ same_latest s.view t.view ch.stored o i;
     low = ap (λ (y : State). y.view.low) e ∙ ch.low;
     high = ap (λ (y : State). y.view.high) e ∙ ch.high;
+    seat = ap (λ (y : State). seat_of y.view) e ∙ ch.seat;
     completed = ap (λ (y : State). y.completed) e ∙ ap (λ n. n + 1) ch.completed;
   }
 
@@ -285,6 +287,7 @@ module _ (honest : Type 0) (s t u : State) (k : ℕ) (ch : Changes k s t) (e : u
     stores = λ o i. ap (λ (y : State). latest_in y.view o i) e ∙ same_latest s.view t.view ch.stored o i;
     low = ap (λ (y : State). y.view.low) e ∙ ch.low;
     high = ap (λ (y : State). y.view.high) e ∙ ch.high;
+    seat = ap (λ (y : State). seat_of y.view) e ∙ ch.seat;
     completed = ap (λ (y : State). y.completed) e ∙ ap (λ n. n + 1) ch.completed;
   }
 
@@ -299,11 +302,12 @@ moves_ended honest s t u ch e = record {
   stores = λ o i. ap (λ (y : State). latest_in y.view o i) e ∙ same_latest s.view t.view ch.stored o i;
   low = ap (λ (y : State). y.view.low) e ∙ ch.low;
   high = ap (λ (y : State). y.view.high) e ∙ ch.high;
+  seat = ap (λ (y : State). seat_of y.view) e ∙ ch.seat;
   completed = ap (λ (y : State). y.completed) e ∙ ap (λ n. n + 1) ch.completed;
 }
 
 pub moves_extended : (honest : Type 0) (s u : State) (n : ℕ) → u ≡ extended s n → Moves honest (touch.Allocs n) s u
-moves_extended honest s u n e = subst (λ (y : State). Moves honest (touch.Allocs n) s y) (sym e) (record { image = refl; want = refl; refusals = refl; value = 0; core = refl; loads = λ _. tt; stores = λ o i. refl; low = refl; high = refl; completed = refl })
+moves_extended honest s u n e = subst (λ (y : State). Moves honest (touch.Allocs n) s y) (sym e) (record { image = refl; want = refl; refusals = refl; value = 0; core = refl; loads = λ _. tt; stores = λ o i. refl; low = refl; high = refl; seat = refl; completed = refl })
 
 -- the latest stores, with one more
 latest_added : (v : View) (o x n : ℕ) → o < length v.notes → (p i : ℕ)
@@ -354,6 +358,7 @@ moves_saved honest laws s t v u k a n i h safe next e ok ch w p d f =
           (ap (λ z. upd (latest_in s.view) z (upd (latest_in s.view z) i n) q j) o ∙ ap (λ z. upd (latest_in s.view) (object_of s a) (upd (latest_in s.view (object_of s a)) z n) q j) p))));
       low = ap (λ (y : State). y.view.low) f ∙ (ap (λ (y : State). y.view.low) d ∙ ch.low);
       high = ap (λ (y : State). y.view.high) f ∙ (ap (λ (y : State). y.view.high) d ∙ ch.high);
+      seat = ap (λ (y : State). seat_of y.view) f ∙ (ap (λ (y : State). seat_of y.view) d ∙ ch.seat);
       completed = ap (λ (y : State). y.completed) f ∙ (ap (λ (y : State). y.completed + 1) d ∙ ap (λ n. n + 1) ch.completed);
     }
 

@@ -78,6 +78,7 @@ changes_cleared s t k h ok l e d =
       refusals = refl;
       low = refl;
       high = refl;
+      seat = refl;
       stored = λ o. stored_note s.view h.object (writable (note s.view h.object)) o (owned_here s h.object ok (ok.held k h e).owns) refl;
       others = λ j ne. get_or-set_other s.holds k j (Some (a_hold h.object h.frame true)) None ne;
       many = length-set s.holds k (Some (a_hold h.object h.frame true));
@@ -115,7 +116,7 @@ pub none_past : (hs : List (Option Hold)) (n : ℕ) → n ≡ length hs → ((j 
 none_past hs n e h k = elim (leb_tells n k) [ inl l ↦ get_or_past hs k None (let a = l.1 in omega arith) | inr l ↦ h k (let a = l.1 in omega arith) ]
 
 pub closes_more : (s t u : State) (k : ℕ) → Closes s t → Changes k t u → Closes s u
-closes_more s t u k a b = record { image = b.image ∙ a.image; core = b.core ∙ a.core; firsts = b.firsts ∙ a.firsts; next = b.next ∙ a.next; completed = b.completed ∙ a.completed; want = b.want ∙ a.want; refusals = b.refusals ∙ a.refusals; low = b.low ∙ a.low; high = b.high ∙ a.high; stored = λ o. b.stored o ∙ a.stored o }
+closes_more s t u k a b = record { image = b.image ∙ a.image; core = b.core ∙ a.core; firsts = b.firsts ∙ a.firsts; next = b.next ∙ a.next; completed = b.completed ∙ a.completed; want = b.want ∙ a.want; refusals = b.refusals ∙ a.refusals; low = b.low ∙ a.low; high = b.high ∙ a.high; seat = b.seat ∙ a.seat; stored = λ o. b.stored o ∙ a.stored o }
 
 -- another hold of an object may be opened, where a scope holds nothing
 pub may_open : (s : State) (k o n : ℕ) → IsHolding s → k < length s.holds → hold_at s.holds k ≡ None → Owns s.view o → n ≡ count_of o s.holds

@@ -16,7 +16,7 @@ use Rattle.pointer_word.specs.Hands.{added, blank, closed, writable}
 use Rattle.remote_store.specs.Kept.{piece_cells}
 use Rattle.object_lock.specs.Seats.{Owns, View, note, with_note}
 use Rattle.executor.specs.declared.hold.Hold.{Hold}
-use Rattle.executor.specs.Taken.{GivesUp, IsQuiet, Refused, Takes}
+use Rattle.executor.specs.Taken.{GivesUp, IsQuiet, Refused, Takes, seat_of}
 use Rattle.executor.specs.State.{AllShut, Caused, IsAt, IsGoing, SameProgram, ScopesHold, State, cells_in, hold_at, latest_in, next_touch, object_of}
 
 -- allocations, the newest first, take their objects one behind the other, from low on; next is the object behind them
@@ -116,6 +116,7 @@ pub record Moves (honest : Type 0) (x : Touch) (s t : State) : Type 0 where
   pub stores : Stores x s t
   pub low : t.view.low ≡ s.view.low
   pub high : t.view.high ≡ s.view.high
+  pub seat : seat_of t.view ≡ seat_of s.view
   pub completed : t.completed ≡ s.completed + 1
 
 -- the state with a scope shut that held x
@@ -168,6 +169,7 @@ pub record Changes (k : ℕ) (s t : State) : Type 0 where
   pub refusals : t.refusals ≡ s.refusals
   pub low : t.view.low ≡ s.view.low
   pub high : t.view.high ≡ s.view.high
+  pub seat : seat_of t.view ≡ seat_of s.view
   pub stored : (o : ℕ) → (note t.view o).history ≡ (note s.view o).history
   pub others : (j : ℕ) → j ≢ k → hold_at t.holds j ≡ hold_at s.holds j
   pub many : length t.holds ≡ length s.holds
@@ -183,6 +185,7 @@ pub record Closes (s t : State) : Type 0 where
   pub refusals : t.refusals ≡ s.refusals
   pub low : t.view.low ≡ s.view.low
   pub high : t.view.high ≡ s.view.high
+  pub seat : seat_of t.view ≡ seat_of s.view
   pub stored : (o : ℕ) → (note t.view o).history ≡ (note s.view o).history
 
 -- The store refused a call: nothing else changed but holds that were shut

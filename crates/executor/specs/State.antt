@@ -18,7 +18,7 @@ use Rattle.pointer_word.specs.Hands.{latest_of}
 use Rattle.remote_store.specs.Kept.{piece_cells}
 use Rattle.object_lock.specs.Seats.{View, note}
 use Rattle.executor.specs.declared.hold.Hold.{Hold}
-use Rattle.executor.specs.Taken.{Refused}
+use Rattle.executor.specs.Taken.{Refused, seat_of}
 
 -- A session: its image, where its program is, what each scope holds, the first object of each allocation, the newest first, the next
 -- object, what its seat knows, how many calls were refused through its port modulo 2^64, how many instructions were completed, and what it
@@ -98,9 +98,9 @@ Caused reliable before s NoObjects = (s.refusals ≡ before) × ((n : ℕ) × (n
 Caused reliable before s OutOfMemory = (s.refusals ≡ before) × (may_grow (next_touch s) (rest_of s.core) ≡ true) × HasRoom s (next_touch s)
 Caused reliable before s StoreFailed = Refused reliable before s.refusals ⊎ ((s.refusals ≡ before) × IsHalted s)
 
--- the program and its share of the objects are the same
+-- the program is the same, and its seat: the same mover of the same table, with the same objects of its own
 abbrev pub SameProgram : State → State → Type 0
-SameProgram s t = (t.image ≡ s.image) × (t.view.low ≡ s.view.low) × (t.view.high ≡ s.view.high)
+SameProgram s t = (t.image ≡ s.image) × (t.view.low ≡ s.view.low) × (t.view.high ≡ s.view.high) × (seat_of t.view ≡ seat_of s.view)
 
 -- A run of at most n instructions from s to t: what it answers is so, and it answers a want for a cause. No call is refused through the session's
 -- port but one for which it wants StoreFailed

@@ -1,8 +1,13 @@
 -- What bringing an object into a frame, and moving one out for it, leaves of its owner's seat.
-use Rattle.std.specs.Prelude.{◌≡◌, ℕ, ◌+◌, ◌%◌, ◌<◌, Option, Some, None, List}
-use Rattle.pointer_word.specs.Hands.{Hand, claiming, closed, listed, opened, seen, told}
+use Rattle.std.specs.Prelude.{◌≡◌, ◌≢◌, ℕ, ◌+◌, ◌%◌, ◌<◌, ◌≤◌, Option, Some, None, List, []}
+use Rattle.pointer_word.specs.Hands.{Hand, claiming, closed, empty_handed, listed, opened, seen, told}
 use Rattle.object_lock.specs.Seats.{View, note, with_hand, with_note}
 use Rattle.object_lock.specs.SeatViews.{SeatView}
+use Rattle.object_lock.specs.Plays.{IsLook}
+
+-- what a seat knows from when it was made: its table's numbers, its own number, how many objects each program has, and its own objects
+abbrev pub seat_of : View → View
+seat_of v = record v { hand = empty_handed; notes = [] }
 
 -- the owner has nothing in hand
 abbrev pub IsQuiet : View → Type 0
@@ -20,9 +25,9 @@ MovesOut o f x = (x.leaving ≡ Some o) × (x.source ≡ f) × (x.claimed ≡ No
 abbrev pub Refused : Type 0 → ℕ → ℕ → Type 0
 Refused reliable before after = (after ≡ (before + 1) % 18446744073709551616) × (reliable → ⊥)
 
--- of a seat only the mover's hand changed, the berth that is moved out, and the count of what was refused
-abbrev pub HandOnly : {C : Type 0} → SeatView C → SeatView C → Type 0
-HandOnly s t = t ≡ record s { view = with_hand s.view t.view.hand; taken = t.taken; refusals = t.refusals }
+-- of a seat only the mover's hand changed, the berth that is moved out, its way to the store, and the count of what was refused
+abbrev pub HandOnly : {W C : Type 0} → SeatView W C → SeatView W C → Type 0
+HandOnly s t = t ≡ record s { view = with_hand s.view t.view.hand; taken = t.taken; store = t.store; refusals = t.refusals }
 
 -- the same object is brought in, under the same promise
 abbrev pub BringsSame : Hand → Hand → Type 0
@@ -33,16 +38,16 @@ abbrev pub StillBrings : Hand → Hand → Type 0
 StillBrings x y = BringsSame x y × (y.leaving ≡ None) × (y.claimed ≡ None) × (y.freed ≡ None)
 
 -- only the cells copied since the mark differ
-abbrev pub CopiesOnly : {C : Type 0} → SeatView C → SeatView C → Type 0
+abbrev pub CopiesOnly : {W C : Type 0} → SeatView W C → SeatView W C → Type 0
 CopiesOnly s t = t ≡ record s { view = with_hand s.view (record s.view.hand { copied = t.view.hand.copied }) }
 
 -- a frame of the table was claimed, or nothing changed
-abbrev pub ClaimsOne : {C : Type 0} → SeatView C → SeatView C → Option ℕ → Type 0
+abbrev pub ClaimsOne : {W C : Type 0} → SeatView W C → SeatView W C → Option ℕ → Type 0
 ClaimsOne s t None = t ≡ s
 ClaimsOne s t (Some f) = (f < s.view.sizes.frames) × (t ≡ record s { view = with_hand s.view (claiming s.view.hand f) })
 
 -- the frame f was claimed for the object that is brought in, after others may have been moved out
-pub record Claims {C : Type 0} (s t : SeatView C) (f : ℕ) : Type 0 where
+pub record Claims {W C : Type 0} (s t : SeatView W C) (f : ℕ) : Type 0 where
   pub room : f < s.view.sizes.frames
   pub hand : HandOnly s t
   pub brings : BringsSame s.view.hand t.view.hand
@@ -51,8 +56,17 @@ pub record Claims {C : Type 0} (s t : SeatView C) (f : ℕ) : Type 0 where
   pub freed : t.view.hand.freed ≡ None
   pub refusals : t.refusals ≡ s.refusals
 
+-- each frame from low to below high was looked at, and was not free then
+abbrev pub AreTaken : Type 0 → ℕ → ℕ → View → Type 0
+AreTaken honest low high v = (f : ℕ) → low ≤ f → f < high → IsLook honest v (λ x. x.frame f ≢ 0)
+
+-- a frame was claimed, or none was, and the same object is brought in still
+abbrev pub ClaimsOr : {W C : Type 0} → SeatView W C → SeatView W C → Option ℕ → Type 0
+ClaimsOr s t None = HandOnly s t × StillBrings s.view.hand t.view.hand × (t.refusals ≡ s.refusals)
+ClaimsOr s t (Some f) = Claims s t f
+
 -- only the words filled since a claim differ
-abbrev pub FillsOnly : {C : Type 0} → SeatView C → SeatView C → Type 0
+abbrev pub FillsOnly : {W C : Type 0} → SeatView W C → SeatView W C → Type 0
 FillsOnly s t = t ≡ record s { view = with_hand s.view (record s.view.hand { filled = t.view.hand.filled }) }
 
 -- the first n cells were filled with these words
@@ -65,6 +79,7 @@ pub record Brings (o : ℕ) (v w : View) (f : ℕ) : Type 0 where
   pub notes : w.notes ≡ (with_note v o (told (note v o) (Some f))).notes
   pub low : w.low ≡ v.low
   pub high : w.high ≡ v.high
+  pub seat : seat_of w ≡ seat_of v
   pub sizes : w.sizes ≡ v.sizes
   pub quiet : IsQuiet w
 
@@ -73,11 +88,12 @@ pub record GoesBack (v w : View) : Type 0 where
   pub notes : w.notes ≡ v.notes
   pub low : w.low ≡ v.low
   pub high : w.high ≡ v.high
+  pub seat : seat_of w ≡ seat_of v
   pub sizes : w.sizes ≡ v.sizes
   pub quiet : IsQuiet w
 
 -- the object was brought into a frame, or its owner gave it up as the store refused
-abbrev pub BringsOr : {C : Type 0} → Type 0 → ℕ → SeatView C → SeatView C → Option ℕ → Type 0
+abbrev pub BringsOr : {W C : Type 0} → Type 0 → ℕ → SeatView W C → SeatView W C → Option ℕ → Type 0
 BringsOr reliable o s t (Some f) = Brings o s.view t.view f × (t.refusals ≡ s.refusals)
 BringsOr reliable o s t None = GoesBack s.view t.view × Refused reliable s.refusals t.refusals
 
@@ -86,11 +102,12 @@ pub record ClosesAgain (o : ℕ) (v w : View) : Type 0 where
   pub notes : w.notes ≡ (with_note v o (closed (note v o))).notes
   pub low : w.low ≡ v.low
   pub high : w.high ≡ v.high
+  pub seat : seat_of w ≡ seat_of v
   pub sizes : w.sizes ≡ v.sizes
   pub quiet : IsQuiet w
 
 -- the object was brought into a frame, or its owner closed its hold as the store refused
-abbrev pub FetchesOr : {C : Type 0} → Type 0 → ℕ → SeatView C → SeatView C → Option ℕ → Type 0
+abbrev pub FetchesOr : {W C : Type 0} → Type 0 → ℕ → SeatView W C → SeatView W C → Option ℕ → Type 0
 FetchesOr reliable o s t (Some f) = Brings o s.view t.view f × (t.refusals ≡ s.refusals)
 FetchesOr reliable o s t None = ClosesAgain o s.view t.view × Refused reliable s.refusals t.refusals
 
@@ -101,6 +118,7 @@ pub record Takes (o : ℕ) (v w : View) (f : ℕ) : Type 0 where
   pub notes : w.notes ≡ (with_note v o (opened (note v o) (Some f))).notes
   pub low : w.low ≡ v.low
   pub high : w.high ≡ v.high
+  pub seat : seat_of w ≡ seat_of v
   pub sizes : w.sizes ≡ v.sizes
   pub quiet : IsQuiet w
 
@@ -110,10 +128,11 @@ pub record GivesUp (o : ℕ) (v w : View) : Type 0 where
   pub notes : w.notes ≡ (with_note v o (closed (opened (note v o) None))).notes
   pub low : w.low ≡ v.low
   pub high : w.high ≡ v.high
+  pub seat : seat_of w ≡ seat_of v
   pub sizes : w.sizes ≡ v.sizes
   pub quiet : IsQuiet w
 
 -- the object was taken, or its owner gave it up as the store refused
-abbrev pub TakesOr : {C : Type 0} → Type 0 → ℕ → SeatView C → SeatView C → Option ℕ → Type 0
+abbrev pub TakesOr : {W C : Type 0} → Type 0 → ℕ → SeatView W C → SeatView W C → Option ℕ → Type 0
 TakesOr reliable o s t (Some f) = Takes o s.view t.view f × (t.refusals ≡ s.refusals)
 TakesOr reliable o s t None = GivesUp o s.view t.view × Refused reliable s.refusals t.refusals

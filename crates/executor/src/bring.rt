@@ -1,7 +1,9 @@
 //! How a hold of an object is opened, and the object brought into a frame.
-ghost use Rattle.std.specs.Prelude.{◌≡◌, ◌<◌, ℕ, None, Some, MatchOption, MatchResult, length};
-ghost use Rattle.executor.specs.Taken.{BringsOr, Claims, ClaimsOne, FilledBelow, FillsOnly, FetchesOr, HandOnly, HasOnly, IsQuiet, Refused, StillBrings, TakesOr};
+ghost use Rattle.std.specs.Prelude.{◌≡◌, ◌≢◌, ◌<◌, ◌≤◌, ℕ, None, Some, false, IfOk, IfSome, MatchOption, MatchResult, length};
+ghost use Rattle.executor.specs.Taken.{AreTaken, BringsOr, Claims, ClaimsOne, ClaimsOr, FilledBelow, FillsOnly, FetchesOr, HandOnly, HasOnly, IsQuiet, Refused, StillBrings, TakesOr};
+ghost use Rattle.object_lock.specs.Plays.{IsLook};
 ghost use Rattle.object_lock.specs.SeatViews.{IsSeat};
+ghost use Rattle.object_lock.specs.Telling.{Claimed};
 ghost use Rattle.object_lock.specs.Seats.{Owns, note};
 ghost use Rattle.pointer_word.specs.Hands.{listed};
 ghost use Rattle.remote_store.specs.Kept.{piece_cells};
@@ -11,33 +13,130 @@ use object_lock::{Begin, Held, ObjectTable, OwnerSeat};
 use remote_store::{Failed, PIECE_CELLS, RawStore};
 use std::sync::Wait;
 
-/// Looks once at each frame, and claims one that is free for the object that is being brought in.
-fn find_frame<S: RawStore>(
+/// Claims the frame for the object that is being brought in, where a look at it finds it free, and nobody else claims it first.
+fn try_frame<S: RawStore>(
     table: &ObjectTable<S>,
     owner: &mut OwnerSeat<S>,
     obj: usize,
+    frame: usize,
+) -> bool
+    requires table { IsSeat table.now owner.old }
+    requires low { frame < table.now.sizes.frames }
+    requires own { Owns owner.old.view obj }
+    requires hands { HasOnly obj owner.old.view }
+    ensures table { IsSeat table.now owner.new }
+    ensures told { Claimed frame owner.old owner.new result }
+    ensures looked { result ≡ false → IsLook S.honest owner.old.view (λ x. x.frame frame ≢ 0) }
+{
+    match table.look(owner, frame) {
+        Some(_object) => false,
+        None => table.try_claim(owner, frame, obj),
+    }
+}
+
+/// Looks once at each frame from `low` to below `high`, and claims the first that is free for the object that is being brought in.
+fn find_between<S: RawStore>(
+    table: &ObjectTable<S>,
+    owner: &mut OwnerSeat<S>,
+    obj: usize,
+    low: usize,
+    high: usize,
 ) -> Option<usize>
     requires table { IsSeat table.now owner.old }
+    requires range { high ≤ table.now.sizes.frames }
     requires own { Owns owner.old.view obj }
     requires hands { HasOnly obj owner.old.view }
     ensures table { IsSeat table.now owner.new }
     ensures told { ClaimsOne owner.old owner.new result }
+    ensures looked { result ≡ None → AreTaken S.honest low high owner.old.view }
 {
-    for frame in 0..table.frames() {
-        if table.try_claim(owner, frame, obj) {
+    for frame in low..high {
+        if try_frame(table, owner, obj, frame) {
             return Some(frame);
         }
     }
     None
 }
 
+/// Looks once at each frame, from the one of this number on, and claims the first that is free for the object that is being brought in.
+fn find_frame<S: RawStore>(
+    table: &ObjectTable<S>,
+    owner: &mut OwnerSeat<S>,
+    obj: usize,
+    from: usize,
+) -> Option<usize>
+    requires table { IsSeat table.now owner.old }
+    requires own { Owns owner.old.view obj }
+    requires hands { HasOnly obj owner.old.view }
+    ensures table { IsSeat table.now owner.new }
+    ensures told { ClaimsOne owner.old owner.new result }
+    ensures looked { result ≡ None → AreTaken S.honest 0 table.now.sizes.frames owner.old.view }
+{
+    let count = table.frames();
+    let start = if from < count { from } else { 0 };
+    match find_between(table, owner, obj, start, count) {
+        Some(frame) => Some(frame),
+        None => find_between(table, owner, obj, 0, start),
+    }
+}
+
+/// Claims the frame, which was freed just now, for the object that is being brought in, unless somebody else claims it first.
+fn claim_freed<S: RawStore>(
+    table: &ObjectTable<S>,
+    owner: &mut OwnerSeat<S>,
+    obj: usize,
+    freed: Option<usize>,
+) -> Option<usize>
+    requires table { IsSeat table.now owner.old }
+    requires low { IfSome freed (λ frame. frame < table.now.sizes.frames) }
+    requires own { Owns owner.old.view obj }
+    requires hands { HasOnly obj owner.old.view }
+    ensures table { IsSeat table.now owner.new }
+    ensures told { ClaimsOne owner.old owner.new result }
+{
+    let Some(frame) = freed else {
+        return None;
+    };
+    if table.try_claim(owner, frame, obj) {
+        Some(frame)
+    } else {
+        None
+    }
+}
+
+/// Claims a frame for the object that is being brought in: one that is free, or that another object is moved out of. `None` where each
+/// frame was looked at, none was free, and none was freed that nobody else claimed. `Err` where the store failed.
+fn claim_once<S: RawStore>(
+    table: &ObjectTable<S>,
+    owner: &mut OwnerSeat<S>,
+    obj: usize,
+    from: usize,
+) -> Result<Option<usize>, Failed>
+    requires table { IsSeat table.now owner.old }
+    requires own { Owns owner.old.view obj }
+    requires hands { HasOnly obj owner.old.view }
+    ensures table { IsSeat table.now owner.new }
+    ensures told { MatchResult result (λ claimed. ClaimsOr owner.old owner.new claimed)
+        (λ _. HandOnly owner.old owner.new × StillBrings owner.old.view.hand owner.new.view.hand × Refused S.reliable owner.old.refusals owner.new.refusals) }
+    ensures looked { IfOk result (λ claimed. claimed ≡ None → AreTaken S.honest 0 table.now.sizes.frames owner.old.view) }
+{
+    if let Some(frame) = find_frame(table, owner, obj, from) {
+        return Ok(Some(frame));
+    }
+    match make_room(table, owner, obj) {
+        Ok(freed) => Ok(claim_freed(table, owner, obj, freed)),
+        Err(failed) => Err(failed),
+    }
+}
+
 /// Claims a frame for the object that is being brought in: one that is free, or that another object is moved out of. Waits
-/// until there is one. `Err` where the store failed.
+/// until there is one. Looks for it from frame `from` on, which is the one behind it then. `Err` where the store failed.
 fn claim<R: Wait, S: RawStore>(
     rt: &R,
     table: &ObjectTable<S>,
     owner: &mut OwnerSeat<S>,
     obj: usize,
+    from: &mut usize,
 ) -> Result<usize, Failed>
     requires table { IsSeat table.now owner.old }
     requires own { Owns owner.old.view obj }
@@ -47,11 +146,13 @@ fn claim<R: Wait, S: RawStore>(
         (λ _. HandOnly owner.old owner.new × StillBrings owner.old.view.hand owner.new.view.hand × Refused S.reliable owner.old.refusals owner.new.refusals) }
 {
     for _ in rt.forever() {
-        if let Some(frame) = find_frame(table, owner, obj) {
-            return Ok(frame);
-        }
-        if let Err(failed) = make_room(table, owner, obj) {
-            return Err(failed);
+        match claim_once(table, owner, obj, *from) {
+            Ok(Some(frame)) => {
+                *from = frame + 1;
+                return Ok(frame);
+            }
+            Ok(None) => (),
+            Err(failed) => return Err(failed),
         }
     }
     unreachable!()
@@ -61,7 +162,7 @@ fn claim<R: Wait, S: RawStore>(
 /// refuses.
 fn read<S: RawStore>(owner: &mut OwnerSeat<S>, obj: usize) -> Option<[u64; PIECE_CELLS]>
     requires brings { owner.old.view.hand.bringing ≡ Some obj }
-    ensures same { owner.new ≡ record owner.old { refusals = owner.new.refusals } }
+    ensures same { owner.new ≡ record owner.old { store = owner.new.store; refusals = owner.new.refusals } }
     ensures told { MatchOption result (Refused S.reliable owner.old.refusals owner.new.refusals)
         (λ words. (owner.new.refusals ≡ owner.old.refusals) × (length words ≡ PIECE_CELLS) × (S.honest → (i : ℕ) → i < piece_cells → listed words i ≡ listed owner.old.view.hand.promised i)) }
 {
@@ -96,6 +197,7 @@ fn bring<R: Wait, S: RawStore>(
     table: &ObjectTable<S>,
     owner: &mut OwnerSeat<S>,
     obj: usize,
+    from: &mut usize,
 ) -> Option<usize>
     requires table { IsSeat table.now owner.old }
     requires hold { Owns owner.old.view obj × (0 < (note owner.old.view obj).count) }
@@ -103,7 +205,7 @@ fn bring<R: Wait, S: RawStore>(
     ensures table { IsSeat table.now owner.new }
     ensures told { BringsOr S.reliable obj owner.old owner.new result }
 {
-    let Ok(frame) = claim(rt, table, owner, obj) else {
+    let Ok(frame) = claim(rt, table, owner, obj, from) else {
         table.retreat(owner, obj);
         return None;
     };
@@ -124,6 +226,7 @@ fn fetch<R: Wait, S: RawStore>(
     owner: &mut OwnerSeat<S>,
     obj: usize,
     count: u64,
+    from: &mut usize,
 ) -> Option<usize>
     requires table { IsSeat table.now owner.old }
     requires hold { Owns owner.old.view obj × (0 < count) × (count ≡ (note owner.old.view obj).count) × (count < 5) }
@@ -133,7 +236,7 @@ fn fetch<R: Wait, S: RawStore>(
 {
     for _ in rt.forever() {
         match table.try_begin(owner, obj, count) {
-            Begin::Taken => return bring(rt, table, owner, obj),
+            Begin::Taken => return bring(rt, table, owner, obj, from),
             Begin::Here(frame) => return Some(frame),
             Begin::Busy => (),
         }
@@ -149,6 +252,7 @@ fn fetch_or_close<R: Wait, S: RawStore>(
     owner: &mut OwnerSeat<S>,
     obj: usize,
     count: u64,
+    from: &mut usize,
 ) -> Option<usize>
     requires table { IsSeat table.now owner.old }
     requires hold { Owns owner.old.view obj × (0 < count) × (count ≡ (note owner.old.view obj).count) × (count < 5) }
@@ -156,7 +260,7 @@ fn fetch_or_close<R: Wait, S: RawStore>(
     ensures table { IsSeat table.now owner.new }
     ensures told { FetchesOr S.reliable obj owner.old owner.new result }
 {
-    let fetched = fetch(rt, table, owner, obj, count);
+    let fetched = fetch(rt, table, owner, obj, count, from);
     match fetched {
         Some(frame) => Some(frame),
         None => {
@@ -174,6 +278,7 @@ pub(crate) fn take<R: Wait, S: RawStore>(
     owner: &mut OwnerSeat<S>,
     obj: usize,
     count: u64,
+    from: &mut usize,
 ) -> Option<usize>
     requires table { IsSeat table.now owner.old }
     requires hold { Owns owner.old.view obj × (count < 4) × (count ≡ (note owner.old.view obj).count) }
@@ -183,7 +288,7 @@ pub(crate) fn take<R: Wait, S: RawStore>(
 {
     match table.open(owner, obj) {
         Held::Here(frame) => Some(frame),
-        Held::Away => fetch_or_close(rt, table, owner, obj, count + 1),
-        Held::Coming => fetch_or_close(rt, table, owner, obj, count + 1),
+        Held::Away => fetch_or_close(rt, table, owner, obj, count + 1, from),
+        Held::Coming => fetch_or_close(rt, table, owner, obj, count + 1, from),
     }
 }

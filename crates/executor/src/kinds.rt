@@ -22,7 +22,7 @@ fn place(cell: Cell) -> usize
 
 impl<'a, S: RawStore> Machine<'a, S> {
     /// Completes an instruction that touches nothing. `Err` where memory is refused: then nothing is changed.
-    pub(crate) fn goes(&mut self) -> Result<(), AllocError>
+    pub(crate) fn complete_plain(&mut self) -> Result<(), AllocError>
         requires safe { IsSafe self.old }
         requires next { IsNext Plain self.old }
         requires room { self.old.completed + 1 < 2 ^ 64 }

@@ -34,6 +34,8 @@ pub(crate) struct Machine<'a, S: RawStore> {
     holds: Vec<Option<Hold>>,
     firsts: Vec<u64>,
     next: u64,
+    // The frame at which the next search for a free one begins.
+    next_frame: usize,
     completed: u64,
     want: Option<Want>,
 }
@@ -71,6 +73,7 @@ impl<'a, S: RawStore> Machine<'a, S> {
             holds,
             firsts: Vec::new(alloc),
             next,
+            next_frame: 0,
             completed: 0,
             want: None,
         })
@@ -162,7 +165,8 @@ impl<'a, S: RawStore> Machine<'a, S> {
         requires quiet { IsQuiet self.old.view }
         ensures { MatchBool result (Holds scope object self.old self.new) (Misses S.reliable object self.old self.new) }
     {
-        match take(rt, self.table, &mut self.owner, object, count) {
+        let from = &mut self.next_frame;
+        match take(rt, self.table, &mut self.owner, object, count, from) {
             Some(frame) => {
                 self.holds[scope] = Some(Hold {
                     object,

@@ -1,5 +1,5 @@
 //! How an object is moved out of a frame, to make room for another.
-ghost use Rattle.std.specs.Prelude.{◌≡◌, ◌<◌, ℕ, None, Some, MatchResult, length};
+ghost use Rattle.std.specs.Prelude.{◌≡◌, ◌<◌, ℕ, None, Some, IfOk, IfSome, MatchResult, length};
 ghost use Rattle.executor.specs.Taken.{CopiesOnly, HandOnly, HasOnly, MovesOut, Refused, StillBrings, BringsSame};
 ghost use Rattle.object_lock.specs.SeatViews.{IsSeat};
 ghost use Rattle.object_lock.specs.Seats.{Owns};
@@ -25,6 +25,7 @@ fn copy<S: RawStore>(
     ensures length { length result ≡ PIECE_CELLS }
     ensures copied { IsCopied owner.new.view.hand result piece_cells }
 {
+    // For the proof alone: the clauses speak of the object that is moved out.
     let _ = obj;
     let mut words = [0; PIECE_CELLS];
     for i in 0..PIECE_CELLS {
@@ -34,8 +35,13 @@ fn copy<S: RawStore>(
 }
 
 /// Lets the object go whose cells were put into its berth: it leaves the frame, which is free then, or stays where it has changed
-/// since it was marked.
-fn let_go<S: RawStore>(table: &ObjectTable<S>, owner: &mut OwnerSeat<S>, obj: usize, frame: usize)
+/// since it was marked. Whether it has left.
+fn let_go<S: RawStore>(
+    table: &ObjectTable<S>,
+    owner: &mut OwnerSeat<S>,
+    obj: usize,
+    frame: usize,
+) -> bool
     requires table { IsSeat table.now owner.old }
     requires low { (obj < table.now.sizes.objects) × (frame < table.now.sizes.frames) }
     requires hands { MovesOut obj frame owner.old.view.hand }
@@ -47,19 +53,21 @@ fn let_go<S: RawStore>(table: &ObjectTable<S>, owner: &mut OwnerSeat<S>, obj: us
 {
     if table.try_commit(owner, obj) {
         table.release(owner, frame);
+        true
     } else {
         table.abort(owner, obj);
+        false
     }
 }
 
-/// Moves the object, which the owner has marked, out of the frame, or leaves it there where it has changed since. `Err` where the
-/// store failed: then it stays.
+/// Moves the object, which the owner has marked, out of the frame, or leaves it there where it has changed since. Whether it has left.
+/// `Err` where the store failed: then it stays.
 fn move_out<S: RawStore>(
     table: &ObjectTable<S>,
     owner: &mut OwnerSeat<S>,
     obj: usize,
     frame: usize,
-) -> Result<(), Failed>
+) -> Result<bool, Failed>
     requires table { IsSeat table.now owner.old }
     requires low { (obj < table.now.sizes.objects) × (frame < table.now.sizes.frames) }
     requires hands { MovesOut obj frame owner.old.view.hand }
@@ -70,10 +78,7 @@ fn move_out<S: RawStore>(
 {
     let words = copy(table, owner, obj, frame);
     match owner.put(obj, &words) {
-        Ok(()) => {
-            let_go(table, owner, obj, frame);
-            Ok(())
-        }
+        Ok(()) => Ok(let_go(table, owner, obj, frame)),
         Err(failed) => {
             table.abort(owner, obj);
             Err(failed)
@@ -81,28 +86,35 @@ fn move_out<S: RawStore>(
     }
 }
 
-/// Looks once at each frame, and moves out the first object there that it can mark. `Err` where the store failed.
+/// Looks once at each frame, and moves out the first object there that it can mark: the frame that it has left. `Err` where the store
+/// failed.
 pub(crate) fn make_room<S: RawStore>(
     table: &ObjectTable<S>,
     owner: &mut OwnerSeat<S>,
     obj: usize,
-) -> Result<(), Failed>
+) -> Result<Option<usize>, Failed>
     requires table { IsSeat table.now owner.old }
     requires own { Owns owner.old.view obj }
     requires hands { HasOnly obj owner.old.view }
     ensures table { IsSeat table.now owner.new }
     ensures same { HandOnly owner.old owner.new }
     ensures brings { StillBrings owner.old.view.hand owner.new.view.hand }
+    ensures low { IfOk result (λ freed. IfSome freed (λ frame. frame < table.now.sizes.frames)) }
     ensures told { MatchResult result (λ _. owner.new.refusals ≡ owner.old.refusals) (λ _. Refused S.reliable owner.old.refusals owner.new.refusals) }
 {
+    // For the proof alone: the clauses speak of the object that is being brought in.
     let _ = obj;
     for frame in 0..table.frames() {
         let Some(victim) = table.look(owner, frame) else {
-            return Ok(());
+            return Ok(None);
         };
         if table.try_mark(owner, victim, frame) {
-            return move_out(table, owner, victim, frame);
+            return match move_out(table, owner, victim, frame) {
+                Ok(true) => Ok(Some(frame)),
+                Ok(false) => Ok(None),
+                Err(Failed) => Err(Failed),
+            };
         }
     }
-    Ok(())
+    Ok(None)
 }

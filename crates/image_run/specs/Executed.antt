@@ -14,7 +14,7 @@ use Rattle.code_form.specs.Placed.{next_object, pieces}
 use Rattle.code_form.specs.Touches.{touch_of}
 use Rattle.code_form.specs.declared.touch.Touch.TheVariants.{Allocs}
 use Rattle.remote_store.specs.Kept.{piece_cells}
-use Rattle.executor.specs.State.{Caused, State}
+use Rattle.executor.specs.State.{Caused, IsGoing, State}
 
 -- the next instruction allocates this many cells
 abbrev pub AllocatesNext : Image → Core → ℕ → Type 0
@@ -46,6 +46,12 @@ abbrev pub IsOver : Type 0 → ℕ → State → Run → Type 0
 IsOver reliable before t Running = ⊥
 IsOver reliable before t (Stopped x) = stop_of t.core ≡ Some (stop_read x)
 IsOver reliable before t (Wanted w) = (stop_of t.core ≡ None) × Caused reliable before t w
+
+-- a session that was going on was run on from s to t: it goes on after n instructions more, or is at its end
+abbrev pub HasRunOn : Type 0 → ℕ → State → State → Run → Type 0
+HasRunOn reliable n s t Running = (t.completed ≡ s.completed + n) × IsGoing t × (t.refusals ≡ s.refusals)
+HasRunOn reliable n s t (Stopped x) = IsOver reliable s.refusals t (Stopped x)
+HasRunOn reliable n s t (Wanted w) = IsOver reliable s.refusals t (Wanted w)
 
 -- What was printed, and how the program ended, are those of the code's run after the instructions that were completed, before each of which it had
 -- not stopped, and which took no more than 65,536 objects

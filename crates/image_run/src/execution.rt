@@ -1,11 +1,11 @@
 //! A run of an image over a store in memory.
-ghost use Rattle.std.specs.Prelude.{◌≢◌, IfOk};
+ghost use Rattle.std.specs.Prelude.{◌≢◌, ◌+◌, ◌<◌, ◌≤◌, ◌^◌, IfOk};
 ghost use Rattle.cells.specs.declared.ending.Run.TheVariants.{Wanted};
 ghost use Rattle.cells.specs.declared.ending.Want.TheVariants.{StoreFailed};
-ghost use Rattle.code_form.specs.Code.{Covered};
+ghost use Rattle.code_form.specs.Code.{Covered, most_scopes};
 ghost use Rattle.code_form.specs.Form.{image_of};
 ghost use Rattle.executor.specs.State.{IsAt, IsGoing, SameProgram};
-ghost use Rattle.image_run.specs.Executed.{IsExecuted, IsOver};
+ghost use Rattle.image_run.specs.Executed.{HasRunOn, IsExecuted, IsOver};
 
 use cells::{Ended, Run};
 use code_form::Image;
@@ -24,9 +24,23 @@ const OBJECTS: u32 = 65_536;
 /// How many instructions are run at once.
 const QUANTUM: u64 = 1_000_000;
 
-/// Runs the session until its program has stopped or wants something.
+/// Runs the session for `QUANTUM` instructions, unless its program stops or wants something.
+fn run_on<S: RawStore, W: Wait>(rt: &W, session: &mut Session<'_, S>) -> Run
+    requires going { IsGoing session.old }
+    requires room { session.old.completed + QUANTUM < 2 ^ 64 }
+    ensures at { S.honest → IsAt session.new }
+    ensures same { SameProgram session.old session.new }
+    ensures told { HasRunOn S.reliable QUANTUM session.old session.new result }
+    ensures covered { S.honest → S.reliable → Covered session.old.image → result ≢ Wanted StoreFailed }
+{
+    session.run(rt, QUANTUM)
+}
+
+/// Runs the session until its program has stopped or wants something. A program that holds as many objects as there are frames would
+/// wait for ever for one more, so the table has as many frames as the program has scopes.
 fn run_to_end<S: RawStore, W: Wait>(rt: &W, session: &mut Session<'_, S>) -> Run
-    requires { IsGoing session.old }
+    requires going { IsGoing session.old }
+    requires frames { most_scopes session.old.image.functions ≤ session.old.view.sizes.frames }
     ensures at { S.honest → IsAt session.new }
     ensures same { SameProgram session.old session.new }
     ensures over { IsOver S.reliable session.old.refusals session.new result }
@@ -34,7 +48,7 @@ fn run_to_end<S: RawStore, W: Wait>(rt: &W, session: &mut Session<'_, S>) -> Run
 {
     for _ in rt.forever() {
         if session.completed() <= u64::MAX - QUANTUM {
-            match session.run(rt, QUANTUM) {
+            match run_on(rt, session) {
                 Run::Running => {}
                 Run::Stopped(stop) => return Run::Stopped(stop),
                 Run::Wanted(want) => return Run::Wanted(want),

@@ -4,10 +4,8 @@ use Rattle.std.specs.Prelude.{Option, Some, None, Result, Ok, Err, IfOk}
 use mathlib.Core.Path.{Path}
 use Rattle.atomic_table.specs.Table.{Me}
 use Rattle.pointer_word.specs.Words.{Place, Away, Coming, Here, Leaving, Word, face, framed}
-use Rattle.pointer_word.specs.Hands.{Hand, listed, told, filling}
+use Rattle.pointer_word.specs.Hands.{Hand, told}
 use Rattle.pointer_word.specs.Calls.{Filled}
-use Rattle.pointer_word.specs.Ordered.{IsFilled}
-use Rattle.pointer_word.proofs.Ordered.{filled_one}
 use Rattle.remote_store.specs.declared.berth.Berth.{Berth}
 use Rattle.object_lock.specs.declared.answers.Begin.{Begin}
 use Rattle.object_lock.specs.declared.answers.Begin.TheVariants as B
@@ -30,9 +28,9 @@ unknown v o none = go (note v o).frame refl
     go None e = ap (λ (q : Option ℕ). with_note v o (told (note v o) q)) (sym e) ∙ same_note v o
     go (Some f) e = absurd (let h = none f e in cc)
 
-module _ {C : Type 0} (content : C → Option (List ℕ)) (o : ℕ) (old new : SeatView C) where
+module _ {W C : Type 0} (content : C → Option (List ℕ)) (o : ℕ) (old new : SeatView W C) where
   abbrev Left : Place → Type 0
-  Left p = Path (SeatView C) new (record old { view = with_note old.view o (told (note old.view o) (framed p)) })
+  Left p = Path (SeatView W C) new (record old { view = with_note old.view o (told (note old.view o) (framed p)) })
 
   answered : (p : Place) → PlaceIn old.view.sizes p → Confirms old.view o p → Left p → Begun content o old new (begun p)
   answered Away k c e = e ∙ ap (λ (v : View). record old { view = v }) (unknown old.view o c)
@@ -44,15 +42,15 @@ module _ {C : Type 0} (content : C → Option (List ℕ)) (o : ℕ) (old new : S
   pub not_begun : (p : Place) (r : Begin) → r ≡ begun p → PlaceIn old.view.sizes p → Confirms old.view o p → Left p → Begun content o old new r
   not_begun p r is k c e = subst (Begun content o old new) (sym is) (answered p k c e)
 
-module _ {C : Type 0} (content : C → Option (List ℕ)) (o : ℕ) (old new : SeatView C) where
-  unfetched : (p : Place) → PlaceIn old.view.sizes p → Path (SeatView C) new old → Fetched content o old new (begun p)
+module _ {W C : Type 0} (content : C → Option (List ℕ)) (o : ℕ) (old new : SeatView W C) where
+  unfetched : (p : Place) → PlaceIn old.view.sizes p → Path (SeatView W C) new old → Fetched content o old new (begun p)
   unfetched Away k e = e
   unfetched (Coming m) k e = e
   unfetched (Here f b) k e = (k, e)
   unfetched (Leaving f m b) k e = (k.0, e)
 
   -- what a fetcher is answered of an object that was not begun
-  pub not_fetched : (p : Place) (r : Begin) → r ≡ begun p → PlaceIn old.view.sizes p → Path (SeatView C) new old → Fetched content o old new r
+  pub not_fetched : (p : Place) (r : Begin) → r ≡ begun p → PlaceIn old.view.sizes p → Path (SeatView W C) new old → Fetched content o old new r
   not_fetched p r is k e = subst (Fetched content o old new) (sym is) (unfetched p k e)
 
 -- the berth that a put left keeps what was put
@@ -91,20 +89,6 @@ module _ {C : Type 0} (content : C → Option (List ℕ)) (o : ℕ) where
 
 pub filled_at : (h : Type 0) (n k : ℕ) (x y : Hand) → n ≡ k → x ≡ y → Filled h k y → Filled h n x
 filled_at h n k x y e d f = subst (λ (q : ℕ). Filled h q x) (sym e) (subst (Filled h k) (sym d) f)
-
--- one more fill of the claimed frame
-pub refilled : {C : Type 0} (first old new : SeatView C) (i v : ℕ) → old ≡ record first { view = with_hand first.view (record first.view.hand { filled = old.view.hand.filled }) }
-    → new ≡ record old { view = with_hand old.view (filling old.view.hand i v) } → new ≡ record first { view = with_hand first.view (record first.view.hand { filled = new.view.hand.filled }) }
-refilled {C} first old new i v a b =
-    let g : new.view.hand.filled ≡ old.view.hand.filled ++ (i, v) ∷ [] = ap (λ (s : SeatView C). s.view.hand.filled) b in
-    b ∙ (ap (λ (s : SeatView C). record s { view = with_hand s.view (filling s.view.hand i v) }) a
-    ∙ (ap (λ (xs : List (ℕ × ℕ)). record first { view = with_hand first.view (record first.view.hand { filled = xs }) }) (sym g)))
-
-pub filled_on : {C : Type 0} (old new : SeatView C) (ws : List ℕ) (i v : ℕ) → new ≡ record old { view = with_hand old.view (filling old.view.hand i v) } → listed ws i ≡ v → IsFilled old.view.hand ws i → IsFilled new.view.hand ws (i + 1)
-filled_on {C} old new ws i v b e is =
-    let one : suc i ≡ i + 1 = omega arith in
-    subst (λ (k : ℕ). IsFilled new.view.hand ws k) one (subst (λ (x : Hand). IsFilled x ws (suc i)) (sym (ap (λ (s : SeatView C). s.view.hand) b))
-    (subst (λ (q : ℕ). IsFilled (filling old.view.hand i q) ws (suc i)) e (filled_one old.view.hand ws i is)))
 
 -- what a try to begin answers, by the word that it found
 pub tried_hit : (z : Sizes) (w : Word) (r c : ℕ) → c < 65536 → Found z w r → r ≡ c → B.Taken ≡ tried c w

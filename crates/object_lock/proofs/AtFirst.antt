@@ -1,6 +1,9 @@
 -- A table whose seats have nothing in hand: every object is away, and every frame free.
-use Rattle.std.proofs.Common.{◌≡◌, ◌⊎◌, inl, inr, ℕ, zero, suc, ◌<◌, ◌≤◌, List, [], ◌∷◌, length, Option, Some, None, sym, ap, refl, ◌∙◌, subst, arith}
-use mathlib.Core.Option.{some}
+use Rattle.std.proofs.Common.{◌≡◌, ◌⊎◌, inl, inr, ℕ, zero, suc, ◌<◌, ◌≤◌, List, [], ◌∷◌, ◌++◌, length, Option, Some, None, sym, ap, refl, ◌∙◌, subst, arith}
+use Rattle.std.specs.Prelude.{map}
+use Rattle.std.specs.List.{All}
+use Rattle.std.proofs.lemmas.List.Elements.{All-head, All-tail, All-append, All-weaker}
+use mathlib.Core.Option.{some, some-injective, some-ne-none}
 use lib.ListN.{get_elem?}
 use Rattle.atomic_table.specs.Table.{State}
 use Rattle.pointer_word.specs.Words.{Place, Away, Coming, Here, Leaving, framed, pack}
@@ -9,13 +12,21 @@ use Rattle.pointer_word.specs.Machine.{State as Machine, Far, Never, content, Ho
 use Rattle.pointer_word.specs.Sound.{PlaceOk, FrameOk, IsOutside}
 use Rattle.object_lock.specs.Seats.{Sizes, View}
 use Rattle.object_lock.specs.Rule.{Berthed, Stores, Rule}
-use Rattle.object_lock.specs.NewTable.{AreEmptyHanded, NewTable}
+use Rattle.object_lock.specs.SeatViews.{TableView, SeatView}
+use Rattle.object_lock.specs.Fresh.{IsFreshOwner, IsFreshMover}
+use Rattle.object_lock.specs.NewTable.{AreEmptyHanded, BeginsAway, NewTable}
 
 -- a place of the list is in it or behind it
 seat_or : {A : Type 0} (l : List A) (j : ℕ) → ((a : A) × (get_elem? l j ≡ some a)) ⊎ (length l ≤ j)
 seat_or [] j = inr (omega arith)
 seat_or (a ∷ l) zero = inl (a, refl)
 seat_or (a ∷ l) (suc j) = elim (seat_or l j) [ inl h ↦ inl h | inr h ↦ inr (omega arith) ]
+
+-- what is so of the view of each seat is so of each view
+seat_at : {W C : Type 0} (P : View → Type 0) (xs : List (SeatView W C)) (j : ℕ) (v : View) → All (λ (x : SeatView W C). P x.view) xs → get_elem? (map (λ (x : SeatView W C). x.view) xs) j ≡ some v → P v
+seat_at P [] j v all e = absurd (some-ne-none v (sym e))
+seat_at {W} {C} P (x ∷ xs) zero v all e = subst P (some-injective x.view v e) (All-head (λ (y : SeatView W C). P y.view) x xs all)
+seat_at {W} {C} P (x ∷ xs) (suc j) v all e = seat_at P xs j v (All-tail (λ (y : SeatView W C). P y.view) x xs all) e
 
 nothing_in : (x y : Option ℕ) (o : ℕ) → x ≡ y → y ≡ None → x ≡ Some o → ⊥
 nothing_in x y o e n s = let z : None ≡ Some o = sym n ∙ sym e ∙ s in cc
@@ -60,3 +71,10 @@ module _ {S : Type 0} (kept : S → ℕ → List ℕ → Type 0) (there : S → 
             (x.0, x.1, never_kept o x.0 (r.machine.far o) (r.inv.untouched none o).1 x.2);
         frames = λ f l. (r.frames f l).word ∙ free_at r.machine f (r.machine.who f) idle away (r.inv.frame f);
       }
+
+  -- so it is of a table that was just made
+  pub begins_away : {W C : Type 0} (z : Sizes) (t : TableView) (share : ℕ) (owners movers : List (SeatView W C)) → All (IsFreshOwner t share) owners → All (IsFreshMover t) movers → BeginsAway kept there honest z (owners ++ movers)
+  begins_away {W} {C} z t share owners movers o m s r is =
+      let idle : SeatView W C → Type 0 = λ x. x.view.hand ≡ empty_handed in
+      let all : All idle (owners ++ movers) = All-append idle owners movers (All-weaker (IsFreshOwner t share) idle (λ x f. f.0.1) owners o) (All-weaker (IsFreshMover t) idle (λ x f. f.0.1) movers m) in
+      new_table z s r (λ j v at. seat_at (λ (x : View). x.hand ≡ empty_handed) (owners ++ movers) j v all (subst (λ (vs : List View). get_elem? vs j ≡ some v) is at))

@@ -36,20 +36,20 @@ each_on P (y ∷ ys) x f p (suc o) l = each_on (λ i. P (suc i)) ys x (λ i m. f
 pub keeps_zeros : {C : Type 0} (content : C → Option (List ℕ)) (b : Berth C) (o : ℕ) → b.version ≡ 0 → berth_keeps content b o []
 keeps_zeros content b o e = inl (e, λ i l. refl)
 
-module _ {C : Type 0} where
+module _ {W C : Type 0} where
   -- one seat more, with the next number
-  pub numbered_on : (first n : ℕ) (xs : List (SeatView C)) (s : SeatView C) → AreNumbered first n xs → s.view.number ≡ first + n → AreNumbered first (n + 1) (xs ++ s ∷ [])
-  numbered_on first n xs s e is = map_on (λ (q : SeatView C). q.view.number) xs s ∙ (ap₂ (λ (ns : List ℕ) (q : ℕ). ns ++ q ∷ []) e is ∙ (sym (counts_on first n) ∙ (let g : suc n ≡ n + 1 = omega arith in ap (range_with_len first) g)))
+  pub numbered_on : (first n : ℕ) (xs : List (SeatView W C)) (s : SeatView W C) → AreNumbered first n xs → s.view.number ≡ first + n → AreNumbered first (n + 1) (xs ++ s ∷ [])
+  numbered_on first n xs s e is = map_on (λ (q : SeatView W C). q.view.number) xs s ∙ (ap₂ (λ (ns : List ℕ) (q : ℕ). ns ++ q ∷ []) e is ∙ (sym (counts_on first n) ∙ (let g : suc n ≡ n + 1 = omega arith in ap (range_with_len first) g)))
 
-  one : (P : SeatView C → Type 0) (s : SeatView C) → P s → All P (s ∷ [])
+  one : (P : SeatView W C → Type 0) (s : SeatView W C) → P s → All P (s ∷ [])
   one P s p zero d l = p
   one P s p (suc k) d l = absurd (omega arith)
 
-  pub all_on : (P : SeatView C → Type 0) (xs : List (SeatView C)) (s : SeatView C) → All P xs → P s → All P (xs ++ s ∷ [])
+  pub all_on : (P : SeatView W C → Type 0) (xs : List (SeatView W C)) (s : SeatView W C) → All P xs → P s → All P (xs ++ s ∷ [])
   all_on P xs s a k = All-append P xs (s ∷ []) a (one P s k)
 
   -- a seat that was just made, from what the last seat was
-  made : (t : TableView) (s next : SeatView C) (v : View) → IsFresh t s → next.table ≡ s.table → next.view ≡ v → v.sizes ≡ s.view.sizes → v.high ≤ s.view.high → v.hand ≡ empty_handed → v.notes ≡ s.view.notes → Path (Option (Berth C)) next.brought None → Path (Option (Berth C)) next.taken None → next.refusals ≡ 0 → IsFresh t next
+  made : (t : TableView) (s next : SeatView W C) (v : View) → IsFresh t s → next.table ≡ s.table → next.view ≡ v → v.sizes ≡ s.view.sizes → v.high ≤ s.view.high → v.hand ≡ empty_handed → v.notes ≡ s.view.notes → Path (Option (Berth C)) next.brought None → Path (Option (Berth C)) next.taken None → next.refusals ≡ 0 → IsFresh t next
   made t s next v k table is sizes high hand notes brought taken refusals =
       let w = k.0.2 in let l = k.0.3 in (
         (
@@ -66,7 +66,7 @@ module _ {C : Type 0} where
         refusals,
       )
 
-  pub owner_done : (t : TableView) (share programs k : ℕ) (s s' : SeatView C) → suc k < programs → IsLastOwner t share programs k s → s' ≡ record s { view = first_part s.view } → IsFreshOwner t share s'
+  pub owner_done : (t : TableView) (share programs k : ℕ) (s s' : SeatView W C) → suc k < programs → IsLastOwner t share programs k s → s' ≡ record s { view = first_part s.view } → IsFreshOwner t share s'
   owner_done t share programs k s s' l last is = subst (IsFreshOwner t share) (sym is) (
     (
       (last.0.0.0, last.0.0.1, (let a = last.0.0.2 in bounded a), (let a = last.0.0.3 in bounded a), last.0.0.4),
@@ -84,7 +84,7 @@ module _ {C : Type 0} where
       bounded h = let r = room_for share programs k l in let lo = last.2 in let hi = last.3 in let sh = last.4 in
           let x : ℕ = k * share in let y : ℕ = programs * share in let r' : x + share ≤ y = r in let lo' : s.view.low ≡ x = lo in let hi' : s.view.high ≡ y = hi in omega arith
 
-  pub owner_next : (t : TableView) (share programs k : ℕ) (s next : SeatView C) → IsLastOwner t share programs k s → next.table ≡ s.table → next.view ≡ next_owner s.view → Path (Option (Berth C)) next.brought None → Path (Option (Berth C)) next.taken None → next.refusals ≡ 0
+  pub owner_next : (t : TableView) (share programs k : ℕ) (s next : SeatView W C) → IsLastOwner t share programs k s → next.table ≡ s.table → next.view ≡ next_owner s.view → Path (Option (Berth C)) next.brought None → Path (Option (Berth C)) next.taken None → next.refusals ≡ 0
       → IsLastOwner t share programs (k + 1) next
   owner_next t share programs k s next last table is brought taken refusals = (
     made t s next (next_owner s.view) last.0 table is refl (omega arith) refl refl brought taken refusals,
@@ -95,11 +95,11 @@ module _ {C : Type 0} where
     ap (λ (q : View). q.last) is ∙ last.5,
   )
 
-  pub mover_done : (t : TableView) (n : ℕ) (s s' : SeatView C) → IsLastMover t n s → s' ≡ record s { view = whole_part s.view } → IsFreshMover t s'
+  pub mover_done : (t : TableView) (n : ℕ) (s s' : SeatView W C) → IsLastMover t n s → s' ≡ record s { view = whole_part s.view } → IsFreshMover t s'
   mover_done t n s s' last is = subst (IsFreshMover t) (sym is) last.0
 
   -- a mover's seat that was made by this seat
-  pub mover_next : (t : TableView) (s next : SeatView C) → IsFresh t s → s.view.last ≡ true → next.table ≡ s.table → next.view ≡ next_mover s.view → Path (Option (Berth C)) next.brought None → Path (Option (Berth C)) next.taken None → next.refusals ≡ 0
+  pub mover_next : (t : TableView) (s next : SeatView W C) → IsFresh t s → s.view.last ≡ true → next.table ≡ s.table → next.view ≡ next_mover s.view → Path (Option (Berth C)) next.brought None → Path (Option (Berth C)) next.taken None → next.refusals ≡ 0
       → IsLastMover t (suc s.view.number) next
   mover_next t s next k end table is brought taken refusals = (
     (made t s next (next_mover s.view) k table is refl (omega arith) refl refl brought taken refusals, ap (λ (q : View). q.high) is ∙ sym (ap (λ (q : View). q.low) is)),
@@ -107,11 +107,11 @@ module _ {C : Type 0} where
     ap (λ (q : View). q.last) is ∙ end,
   )
 
-  pub same_but_last : (s s' : SeatView C) → s' ≡ record s { view = whole_part s.view } → s' ≡ record s { view = record s.view { last = s'.view.last } }
-  same_but_last s s' e = e ∙ ap (λ (b : Bool). record s { view = record s.view { last = b } }) (sym (ap (λ (q : SeatView C). q.view.last) e))
+  pub same_but_last : (s s' : SeatView W C) → s' ≡ record s { view = whole_part s.view } → s' ≡ record s { view = record s.view { last = s'.view.last } }
+  same_but_last s s' e = e ∙ ap (λ (b : Bool). record s { view = record s.view { last = b } }) (sym (ap (λ (q : SeatView W C). q.view.last) e))
 
   -- the last program's seat, when the others are made
-  pub last_done : (t : TableView) (share programs : ℕ) (s s' : SeatView C) (b : Bool) → 0 < programs → IsLastOwner t share programs (programs - 1) s → s' ≡ record s { view = record s.view { last = b } } → IsFreshOwner t share s'
+  pub last_done : (t : TableView) (share programs : ℕ) (s s' : SeatView W C) (b : Bool) → 0 < programs → IsLastOwner t share programs (programs - 1) s → s' ≡ record s { view = record s.view { last = b } } → IsFreshOwner t share s'
   last_done t share programs s s' b some_programs last is = subst (IsFreshOwner t share) (sym is) (
     last.0,
     (let e : s.view.number - 1 ≡ programs - 1 = (let n = last.1 in omega arith) in last.2 ∙ ap (λ (q : ℕ). q * share) (sym e)),

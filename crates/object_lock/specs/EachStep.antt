@@ -8,7 +8,7 @@ use Rattle.pointer_word.specs.Hands.{or_zero, seen, listed}
 use Rattle.pointer_word.specs.Machine.{Kept}
 use Rattle.pointer_word.specs.Calls.{Opens, Closes, Clears, Stores, Begins, Claims, Fills, Arrives, Unclaims, Retreats, Marks, Copies, Puts, Commits, Aborts, Releases, act, Filled}
 use Rattle.object_lock.specs.Seats.{Sizes, View, Owns, note, frame_word, cell_word}
-use Rattle.object_lock.specs.Plays.{mine, frame_at, index_at, IsCell, told_open, told_close, told_clear, told_load, told_store, told_begin, told_begin_own, told_claim, told_fill, told_arrive, told_arrive_own, told_mark, told_copy, told_commit, told_abort, told_retreat, told_unclaim, told_release}
+use Rattle.object_lock.specs.Plays.{mine, frame_at, index_at, IsCell, told_open, told_close, told_clear, told_load, told_store, told_peek, told_look, told_begin, told_begin_own, told_claim, told_fill, told_arrive, told_arrive_own, told_mark, told_copy, told_commit, told_abort, told_retreat, told_unclaim, told_release}
 use Rattle.object_lock.specs.Carrying.{Carries}
 
 module _ {S : Type 0} (kept : S → ℕ → List ℕ → Type 0) (there : S → Type 0) (honest : Type 0) where
@@ -25,6 +25,10 @@ module _ {S : Type 0} (kept : S → ℕ → List ℕ → Type 0) (there : S → 
     pub loads : (z : Sizes) (slots id : ℕ) (me : Me S View) (k : ℕ) → Carries kept there honest z slots id me k (λ n. n) (λ x. x) (told_load honest (step slots k 0 0 maybe.none) me)
     -- an owner stores in a cell
     pub stores : (z : Sizes) (slots id : ℕ) (me : Me S View) (k o f i a : ℕ) → IsCell me.0 k o f i → (note me.0 o).writing ≡ true → Carries kept there honest z slots id me k (λ _. a) (λ x. act x (Stores o f i a)) (λ _. told_store honest (step slots k a 0 maybe.none) me a)
+    -- a seat looks at an object's word
+    pub peeks : (z : Sizes) (slots id : ℕ) (me : Me S View) (o : ℕ) → o < me.0.sizes.objects → Carries kept there honest z slots id me o (λ n. n) (λ x. x) (told_peek honest (step slots o 0 0 maybe.none) me)
+    -- a seat looks at a frame's word
+    pub looks : (z : Sizes) (slots id : ℕ) (me : Me S View) (k g : ℕ) → k ≡ frame_word me.0.sizes g → g < me.0.sizes.frames → Carries kept there honest z slots id me k (λ n. n) (λ x. x) (told_look honest (step slots k 0 0 maybe.none) me)
     -- a fetcher tries to begin
     pub begins : (z : Sizes) (slots id : ℕ) (me : Me S View) (o c new : ℕ) → o < z.objects → c < 65536 → me.0.hand.bringing ≡ None → new ≡ face (Coming me.0.number) c → Carries kept there honest z slots id me o (λ n. either (eqb n c) new n) (λ x. act x (Begins me.0.number o c false)) (told_begin honest kept there (step slots o c new maybe.none) me)
     -- an owner tries to begin

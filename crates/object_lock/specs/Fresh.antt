@@ -7,19 +7,19 @@ use Rattle.object_lock.specs.Seats.{Sizes}
 use Rattle.object_lock.specs.SeatViews.{TableView, SeatView, IsSeat}
 
 -- a seat of the table that has no holds, has stored nothing, has nothing in hand, and through whose port nothing was refused
-abbrev pub IsFresh : {C : Type 0} → TableView → SeatView C → Type 0
+abbrev pub IsFresh : {W C : Type 0} → TableView → SeatView W C → Type 0
 IsFresh t s = IsSeat t s × (s.view.hand ≡ empty_handed) × (s.view.notes ≡ replicate t.sizes.objects blank) × (s.brought ≡ None) × (s.taken ≡ None) × (s.refusals ≡ 0)
 
 -- a program's seat: program k is mover k + 1 and owns the objects from k * share on, share of them
-abbrev pub IsFreshOwner : {C : Type 0} → TableView → ℕ → SeatView C → Type 0
+abbrev pub IsFreshOwner : {W C : Type 0} → TableView → ℕ → SeatView W C → Type 0
 IsFreshOwner t share s = IsFresh t s × (s.view.low ≡ (s.view.number - 1) * share) × (s.view.high ≡ s.view.low + share)
 
 -- the seat of a mover that owns nothing
-abbrev pub IsFreshMover : {C : Type 0} → TableView → SeatView C → Type 0
+abbrev pub IsFreshMover : {W C : Type 0} → TableView → SeatView W C → Type 0
 IsFreshMover t s = IsFresh t s × (s.view.high ≡ s.view.low)
 
 -- these are seats of the movers from first on, count of them
-abbrev pub AreNumbered : {C : Type 0} → ℕ → ℕ → List (SeatView C) → Type 0
+abbrev pub AreNumbered : {W C : Type 0} → ℕ → ℕ → List (SeatView W C) → Type 0
 AreNumbered first count seats = map (λ s. s.view.number) seats ≡ range_with_len first count
 
 -- the numbers of a table of this many objects and frames
@@ -27,11 +27,11 @@ abbrev pub sizes_of : ℕ → ℕ → Sizes
 sizes_of objects frames = record { objects = objects; frames = frames; cells = piece_cells }
 
 -- The last seat of a table that is being made, which may make more: it is fresh, and that of program k; the objects of all programs from k on are its own
-abbrev pub IsLastOwner : {C : Type 0} → TableView → ℕ → ℕ → ℕ → SeatView C → Type 0
+abbrev pub IsLastOwner : {W C : Type 0} → TableView → ℕ → ℕ → ℕ → SeatView W C → Type 0
 IsLastOwner t share programs k s = IsFresh t s × (s.view.number ≡ suc k) × (s.view.low ≡ k * share) × (s.view.high ≡ programs * share) × (s.view.share ≡ share) × (s.view.last ≡ true)
 
 -- the last seat of a table that is being made, that of a mover of this number
-abbrev pub IsLastMover : {C : Type 0} → TableView → ℕ → SeatView C → Type 0
+abbrev pub IsLastMover : {W C : Type 0} → TableView → ℕ → SeatView W C → Type 0
 IsLastMover t number s = IsFreshMover t s × (s.view.number ≡ number) × (s.view.last ≡ true)
 
 -- how many programs, frames, objects, evacuators and fetchers a system may have

@@ -1,15 +1,20 @@
 -- What the rule of a table says of its words and berths while no mover has made a call, as when it was made.
-use Rattle.std.specs.Prelude.{◌≡◌, ℕ, ◌<◌, ◌≤◌, List, [], slice_index_or}
+use Rattle.std.specs.Prelude.{◌≡◌, ℕ, ◌<◌, ◌≤◌, List, [], map, slice_index_or}
 use mathlib.Core.Option.{some}
 use lib.ListN.{get_elem?}
 use Rattle.atomic_table.specs.Table.{State}
 use Rattle.pointer_word.specs.Hands.{empty_handed}
 use Rattle.object_lock.specs.Seats.{Sizes, View, Owns, note, frame_word}
 use Rattle.object_lock.specs.Rule.{Rule}
+use Rattle.object_lock.specs.SeatViews.{SeatView}
 
 -- no seat has anything in hand, nor has made a call of a mover
 abbrev pub AreEmptyHanded : {S : Type 0} → State S View → Type 0
 AreEmptyHanded s = (j : ℕ) (v : View) → get_elem? s.views j ≡ some v → v.hand ≡ empty_handed
+
+-- these are all seats of a table, in the order of their numbers, and what it knows of each is what the seat says
+abbrev pub AreSeats : {S W C : Type 0} → State S View → List (SeatView W C) → Type 0
+AreSeats s seats = s.views ≡ map (λ x. x.view) seats
 
 module _ {S : Type 0} (kept : S → ℕ → List ℕ → Type 0) where
   -- each object is away: its word is the count of its holds, which its owner knows; its berth is at home, and nothing was put there; each frame is free
@@ -22,3 +27,7 @@ module _ {S : Type 0} (kept : S → ℕ → List ℕ → Type 0) where
   -- whatever a table is, the rule says so of it
   abbrev pub NewTable : (S → Type 0) → Type 0 → Type 0
   NewTable there honest = (z : Sizes) (s : State S View) → Rule kept there honest z s → AreEmptyHanded s → AllAway z s
+
+  -- while these seats, which are all seats of a table of these sizes, are as they are, all of it is away
+  abbrev pub BeginsAway : {W C : Type 0} → (S → Type 0) → Type 0 → Sizes → List (SeatView W C) → Type 0
+  BeginsAway there honest z seats = (s : State S View) → Rule kept there honest z s → AreSeats s seats → AllAway z s

@@ -12,13 +12,14 @@ pub record TableView : Type 0 where
   pub sizes : Sizes
 
 -- The table of a seat and its number there, what the seat knows, the berth of the object that it is bringing in, the berth of the object that it is
--- moving out, and how many puts and gets were refused through its port, modulo 2^64
-pub record SeatView (C : Type 0) : Type 0 where
+-- moving out, its way to the store as it is now, and how many puts and gets were refused through its port, modulo 2^64
+pub record SeatView (W C : Type 0) : Type 0 where
   pub table : TableId
   pub id : ℕ
   pub view : View
   pub brought : Option (Berth C)
   pub taken : Option (Berth C)
+  pub store : W
   pub refusals : ℕ
 
 -- The numbers of a table are within the limits
@@ -26,7 +27,7 @@ abbrev pub IsTable : TableView → Type 0
 IsTable t = (t.sizes.objects ≤ 16777216) × (t.sizes.frames ≤ 1048576) × (t.sizes.cells ≡ piece_cells)
 
 -- The seat is one of the table, whose numbers are within the limits; its own objects are among the table's, and it has a note of each
-abbrev pub IsSeat : {C : Type 0} → TableView → SeatView C → Type 0
+abbrev pub IsSeat : {W C : Type 0} → TableView → SeatView W C → Type 0
 IsSeat t s = (s.table ≡ t.id) × (s.view.sizes ≡ t.sizes) × (s.view.high ≤ t.sizes.objects) × (s.view.high ≤ length s.view.notes) × IsTable t
 
 -- the slots that are out: the berths themselves lie in the seat

@@ -37,20 +37,20 @@ abbrev pub tried : ℕ → Word → Begin
 tried c w = tried_at c w.count w.place
 
 -- A hold of the object o was opened: its note has one hold more, and the frame that was told. A frame that the seat knew is told again
-abbrev pub Opened : {C : Type 0} → ℕ → SeatView C → SeatView C → Held → Type 0
+abbrev pub Opened : {W C : Type 0} → ℕ → SeatView W C → SeatView W C → Held → Type 0
 Opened o old new (H.Here f) = (f < old.view.sizes.frames) × ((g : ℕ) → (note old.view o).frame ≡ Some g → g ≡ f) × (new ≡ record old { view = with_note old.view o (opened (note old.view o) (Some f)) })
 Opened o old new H.Away = ((note old.view o).frame ≡ None) × (new ≡ record old { view = with_note old.view o (opened (note old.view o) None) })
 Opened o old new H.Coming = ((note old.view o).frame ≡ None) × (new ≡ record old { view = with_note old.view o (opened (note old.view o) None) })
 
-module _ {C : Type 0} (content : C → Option (List ℕ)) where
+module _ {W C : Type 0} (content : C → Option (List ℕ)) where
   -- The object o was begun: its berth is in hand, and what that keeps is promised. Or it is in a frame, which is noted. Or nothing changed
-  abbrev pub Begun : ℕ → SeatView C → SeatView C → Begin → Type 0
+  abbrev pub Begun : ℕ → SeatView W C → SeatView W C → Begin → Type 0
   Begun o old new B.Taken = (b : Berth C) × (ws : List ℕ) × berth_keeps content b o ws × (new ≡ record old { view = with_hand old.view (bringing old.view.hand o ws); brought = Some b })
   Begun o old new (B.Here f) = (f < old.view.sizes.frames) × ((g : ℕ) → (note old.view o).frame ≡ Some g → g ≡ f) × (new ≡ record old { view = with_note old.view o (told (note old.view o) (Some f)) })
   Begun o old new B.Busy = new ≡ old
 
 -- the frame f was claimed, or nothing changed
-abbrev pub Claimed : {C : Type 0} → ℕ → SeatView C → SeatView C → Bool → Type 0
+abbrev pub Claimed : {W C : Type 0} → ℕ → SeatView W C → SeatView W C → Bool → Type 0
 Claimed f old new true = new ≡ record old { view = with_hand old.view (claiming old.view.hand f) }
 Claimed f old new false = new ≡ old
 
@@ -60,21 +60,21 @@ named zero = None
 named (suc o) = Some o
 
 -- A fetcher began the object o: its berth is in hand, and what that keeps is promised. Else nothing changed
-abbrev pub Fetched : {C : Type 0} → (C → Option (List ℕ)) → ℕ → SeatView C → SeatView C → Begin → Type 0
-Fetched {C} content o old new B.Taken = (b : Berth C) × (ws : List ℕ) × berth_keeps content b o ws × (new ≡ record old { view = with_hand old.view (bringing old.view.hand o ws); brought = Some b })
+abbrev pub Fetched : {W C : Type 0} → (C → Option (List ℕ)) → ℕ → SeatView W C → SeatView W C → Begin → Type 0
+Fetched {W} {C} content o old new B.Taken = (b : Berth C) × (ws : List ℕ) × berth_keeps content b o ws × (new ≡ record old { view = with_hand old.view (bringing old.view.hand o ws); brought = Some b })
 Fetched content o old new (B.Here f) = (f < old.view.sizes.frames) × (new ≡ old)
 Fetched content o old new B.Busy = new ≡ old
 
 -- the object o was marked in the frame f, and its berth is in hand, or nothing changed
-abbrev pub Marked : {C : Type 0} → ℕ → ℕ → SeatView C → SeatView C → Bool → Type 0
-Marked {C} o f old new true = (b : Berth C) × (new ≡ record old { view = with_hand old.view (marking old.view.hand o f); taken = Some b })
+abbrev pub Marked : {W C : Type 0} → ℕ → ℕ → SeatView W C → SeatView W C → Bool → Type 0
+Marked {W} {C} o f old new true = (b : Berth C) × (new ≡ record old { view = with_hand old.view (marking old.view.hand o f); taken = Some b })
 Marked o f old new false = new ≡ old
 
 -- the object that was moved out is away, and its frame freed, or nothing changed
-abbrev pub Committed : {C : Type 0} → SeatView C → SeatView C → Bool → Type 0
+abbrev pub Committed : {W C : Type 0} → SeatView W C → SeatView W C → Bool → Type 0
 Committed old new true = new ≡ record old { view = with_hand old.view (committing old.view.hand old.view.hand.source); taken = None }
 Committed old new false = new ≡ old
 
 -- the berth of the object o that is moved out keeps the n cells that were copied
-abbrev pub HasPut : {C : Type 0} → (C → Option (List ℕ)) → ℕ → ℕ → SeatView C → Type 0
-HasPut {C} content n o s = (b : Berth C) × (ws : List ℕ) × (s.taken ≡ Some b) × berth_keeps content b o ws × ((i : ℕ) → i < n → seen s.view.hand.copied i ≡ Some (listed ws i))
+abbrev pub HasPut : {W C : Type 0} → (C → Option (List ℕ)) → ℕ → ℕ → SeatView W C → Type 0
+HasPut {W} {C} content n o s = (b : Berth C) × (ws : List ℕ) × (s.taken ≡ Some b) × berth_keeps content b o ws × ((i : ℕ) → i < n → seen s.view.hand.copied i ≡ Some (listed ws i))

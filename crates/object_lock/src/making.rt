@@ -1,9 +1,10 @@
 //! How a table is made with all its seats.
-ghost use Rattle.std.specs.Prelude.{◌≡◌, ◌≢◌, ℕ, ◌+◌, ◌-◌, ◌*◌, ◌/◌, ◌<◌, ◌≤◌, true, None, IfOk, IfErr, [], length, suc};
+ghost use Rattle.std.specs.Prelude.{◌≡◌, ◌≢◌, ℕ, ◌+◌, ◌-◌, ◌*◌, ◌/◌, ◌<◌, ◌≤◌, true, None, IfOk, IfErr, [], ◌++◌, length, suc};
 ghost use mathlib.Core.Option.{some};
 ghost use lib.ListN.{get_elem?};
 ghost use Rattle.std.specs.List.{All};
-ghost use Rattle.object_lock.specs.Kept.{slot_keeps};
+ghost use Rattle.object_lock.specs.Kept.{slot_keeps, slot_has};
+ghost use Rattle.object_lock.specs.NewTable.{BeginsAway};
 ghost use Rattle.object_lock.specs.Seats.{first_part, next_owner, whole_part, next_mover};
 ghost use Rattle.object_lock.specs.SeatViews.{IsSeat};
 ghost use Rattle.object_lock.specs.Fresh.{IsFresh, IsFreshOwner, IsFreshMover, IsLastOwner, IsLastMover, AreNumbered, IsWithinLimits, sizes_of};
@@ -182,6 +183,7 @@ impl<S: RawStore> ObjectTable<S> {
         ensures made { IfOk result (λ t. (t.0.sizes ≡ sizes_of config.now.objects config.now.frames)
             × AreNumbered 1 programs t.1.items × All (IsFreshOwner t.0 (config.now.objects / programs)) t.1.items
             × AreNumbered (suc programs) (config.now.evacuators + config.now.fetchers) t.2.items × All (IsFreshMover t.0) t.2.items) }
+        ensures away { IfOk result (λ t. BeginsAway (slot_keeps S.content) slot_has S.honest t.0.sizes (t.1.items ++ t.2.items)) }
         ensures wants { IfErr result (λ want. want ≢ Want.NoObjects) }
     {
         let port = Port::new(config.stores.one(alloc)?);

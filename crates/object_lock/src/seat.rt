@@ -29,9 +29,9 @@ pub type OwnerSeat<S> = MoverSeat<S>;
 impl<S: RawStore> Model for MoverSeat<S> {
     ghost use Rattle.object_lock.specs.SeatViews.{SeatView, InHand};
 
-    ghost Value = { SeatView S.Cell };
+    ghost Value = { SeatView S S.Cell };
 
-    ghost view = { λ s. record { table = s.seat.table_id; id = s.seat.id; view = s.seat.me.0; brought = s.brought; taken = s.taken; refusals = s.port.refusals } };
+    ghost view = { λ s. record { table = s.seat.table_id; id = s.seat.id; view = s.seat.me.0; brought = s.brought; taken = s.taken; store = s.port.store; refusals = s.port.refusals } };
 
     ghost invariant = { λ s. InHand S.content s.number s.low s.high s.source s.seat.me.0 s.seat.me.1 s.brought s.taken };
 }
@@ -64,6 +64,7 @@ impl<S: RawStore> MoverSeat<S> {
         ensures version { result ≡ not (version_of self.now.brought == 0) }
         ensures zeros { result ≡ false → (i : ℕ) → i < piece_cells → listed self.now.view.hand.promised i ≡ 0 }
     {
+        // Only the condition speaks of the object: its berth is the one in hand.
         let _ = obj;
         match &self.brought {
             Some(berth) => berth.version != 0,
@@ -78,12 +79,14 @@ impl<S: RawStore> MoverSeat<S> {
         requires stored { 0 < version_of self.old.brought }
         requires words { length words.old ≡ PIECE_CELLS }
         ensures length { length words.new ≡ PIECE_CELLS }
-        ensures same { self.new ≡ record self.old { refusals = self.new.refusals } }
+        ensures same { self.new ≡ record self.old { store = self.new.store; refusals = self.new.refusals } }
         ensures got { IfOk result (λ _. S.honest → words.new ≡ self.old.view.hand.promised) }
         ensures sure { S.reliable → IsOk result }
-        ensures counted { MatchResult result (λ _. self.new.refusals ≡ self.old.refusals) (λ _. (words.new ≡ words.old) × (self.new.refusals ≡ (self.old.refusals + 1) % 18446744073709551616)) }
-        ensures read { (b : _) × (before : S) × (after : S) × (self.old.brought ≡ Some b) × MatchResult result (λ _. Took (λ row. S.read_gives before b.cell row after) b.version obj words.new)
-            (λ why. RefusedFor (S.failures after ≡ (S.failures before + 1) % 18446744073709551616) (λ row. S.read_gives before b.cell row after × (S.failures after ≡ S.failures before)) b.version obj why) }
+        ensures counted { MatchResult result (λ _. (self.new.refusals ≡ self.old.refusals) × (S.failures self.new.store ≡ S.failures self.old.store))
+            (λ why. (words.new ≡ words.old) × (self.new.refusals ≡ (self.old.refusals + 1) % 18446744073709551616) × (why ≡ Refusal.Failed → S.failures self.new.store ≡ (S.failures self.old.store + 1) % 18446744073709551616)) }
+        ensures read { (b : _) × (self.old.brought ≡ Some b) × MatchResult result (λ _. Took (λ row. S.read_gives self.old.store b.cell row self.new.store) b.version obj words.new)
+            (λ why. RefusedFor (S.failures self.new.store ≡ (S.failures self.old.store + 1) % 18446744073709551616)
+            (λ row. S.read_gives self.old.store b.cell row self.new.store × (S.failures self.new.store ≡ S.failures self.old.store)) b.version obj why) }
     {
         match &self.brought {
             Some(berth) => berth.get(&mut self.port, obj, words),
@@ -96,12 +99,12 @@ impl<S: RawStore> MoverSeat<S> {
     pub fn put(&mut self, obj: usize, words: &[u64]) -> Result<(), Failed>
         requires leaves { self.old.view.hand.leaving ≡ Some obj }
         requires words { length words.now ≡ PIECE_CELLS }
-        ensures same { self.new ≡ record self.old { taken = self.new.taken; refusals = self.new.refusals } }
+        ensures same { self.new ≡ record self.old { taken = self.new.taken; store = self.new.store; refusals = self.new.refusals } }
         ensures version { version_of self.new.taken ≡ next_version (version_of self.old.taken) }
         ensures sure { S.reliable → IsOk result }
         ensures put { IfOk result (λ _. (b : _) × (self.new.taken ≡ Some b) × berth_keeps S.content b obj words.now) }
-        ensures counted { MatchResult result (λ _. self.new.refusals ≡ self.old.refusals) (λ _. self.new.refusals ≡ (self.old.refusals + 1) % 18446744073709551616) }
-        ensures failed { (before : S) × (after : S) × MatchResult result (λ _. S.failures after ≡ S.failures before) (λ _. S.failures after ≡ (S.failures before + 1) % 18446744073709551616) }
+        ensures counted { MatchResult result (λ _. (self.new.refusals ≡ self.old.refusals) × (S.failures self.new.store ≡ S.failures self.old.store))
+            (λ _. (self.new.refusals ≡ (self.old.refusals + 1) % 18446744073709551616) × (S.failures self.new.store ≡ (S.failures self.old.store + 1) % 18446744073709551616)) }
     {
         match &mut self.taken {
             Some(berth) => berth.put(&mut self.port, obj, words),

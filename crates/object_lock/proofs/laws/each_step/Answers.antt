@@ -1,9 +1,9 @@
 use Rattle.object_lock.specs.Kept.{slot_keeps, slot_has}
 use Rattle.object_lock.proofs.Stored.{stored}
-use Rattle.object_lock.proofs.Owner.{opens_on, closes_on, clears_on}
+use Rattle.object_lock.proofs.Owner.{opens_on, closes_on, clears_on, peeks_on}
 use Rattle.object_lock.proofs.Mover.{begins_on, marks_on, commits_on, aborts_on, retreats_on, arrives_on}
 use Rattle.object_lock.proofs.Own.{arrives_own_on, begins_own_on}
-use Rattle.object_lock.proofs.Frames.{claims_on, unclaims_on, releases_on, fills_on, copies_on, loads_on, stores_on}
+use Rattle.object_lock.proofs.Frames.{claims_on, unclaims_on, releases_on, fills_on, copies_on, loads_on, stores_on, looks_on}
 use Rattle.object_lock.proofs.laws.each_step.Goals as goal
 
 pub returns : goal.returns
@@ -13,6 +13,8 @@ returns g c = record {
   clears = λ z. clears_on (slot_keeps g.S.RawStore.content) slot_has g.S.RawStore.honest z (stored g.S.RawStore.content);
   loads = λ z. loads_on (slot_keeps g.S.RawStore.content) slot_has g.S.RawStore.honest z;
   stores = λ z. stores_on (slot_keeps g.S.RawStore.content) slot_has g.S.RawStore.honest z;
+  peeks = λ z. peeks_on (slot_keeps g.S.RawStore.content) slot_has g.S.RawStore.honest z;
+  looks = λ z. looks_on (slot_keeps g.S.RawStore.content) slot_has g.S.RawStore.honest z;
   begins = λ z. begins_on (slot_keeps g.S.RawStore.content) slot_has g.S.RawStore.honest z;
   begins_own = λ z. begins_own_on (slot_keeps g.S.RawStore.content) slot_has g.S.RawStore.honest z;
   claims = λ z. claims_on (slot_keeps g.S.RawStore.content) slot_has g.S.RawStore.honest z;

@@ -4,4 +4,4 @@ use Rattle.executor.specs.State.{IsGoing, SameProgram}
 use Rattle.executor.proofs.machine.Machine.run.Given as goal
 
 abbrev pub invariant-loop-done : goal.invariant-loop-done
-invariant-loop-done g l = IsRun g.S.RawStore.honest l.self × IsGoing l.self × SameProgram l.initial.self l.self × (l.self.completed ≡ l.initial.self.completed + l.done) × (l.self.refusals ≡ l.initial.self.refusals)
+invariant-loop-done g l = IsRun g.S.RawStore.honest l.self × IsGoing l.self × SameProgram l.initial.self l.self × (l.self.completed ≡ l.initial.self.completed + l._done) × (l.self.refusals ≡ l.initial.self.refusals)

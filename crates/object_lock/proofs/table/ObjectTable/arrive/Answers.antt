@@ -13,7 +13,7 @@ use Rattle.object_lock.proofs.table.ObjectTable.arrive.Goals as goal
 
 pub arrive_word-requires-clause-hands : goal.arrive_word-requires-clause-hands
 arrive_word-requires-clause-hands g c κs within =
-    let e : c.mover.inside.seat.me.0 ≡ c.args.mover.now.view = ap (λ (h : SeatView g.row.S-Cell.Denot). h.view) c.mover.view_is in
+    let e : c.mover.inside.seat.me.0 ≡ c.args.mover.now.view = ap (λ (h : SeatView g.row.S.Denot g.row.S-Cell.Denot). h.view) c.mover.view_is in
     let x = c.exchange.ensures.3 in
     let d : c.exchange.new.seat.me.0 ≡ c.mover.inside.seat.me.0 = ap (λ (m : Me (Option (Berth g.row.S-Cell.Denot)) View). m.0) x in
     let bring : c.mover.inside.seat.me.0.hand.bringing ≡ Some c.args.obj = ap (λ (v : View). v.hand.bringing) e ∙ c.requires.hands.0 in
@@ -28,18 +28,18 @@ arrive_word-requires-clause-hands g c κs within =
 
 pub arrive_word-requires-clause-filled : goal.arrive_word-requires-clause-filled
 arrive_word-requires-clause-filled g c κs within =
-    let e : c.mover.inside.seat.me.0 ≡ c.args.mover.now.view = ap (λ (h : SeatView g.row.S-Cell.Denot). h.view) c.mover.view_is in
+    let e : c.mover.inside.seat.me.0 ≡ c.args.mover.now.view = ap (λ (h : SeatView g.row.S.Denot g.row.S-Cell.Denot). h.view) c.mover.view_is in
     let d : c.exchange.new.seat.me.0 ≡ c.mover.inside.seat.me.0 = ap (λ (m : Me (Option (Berth g.row.S-Cell.Denot)) View). m.0) c.exchange.ensures.3 in
     filled_at g.S.RawStore.honest _ _ _ _ (ap (λ (t : TableView). t.sizes.cells) c.self.view_is) (ap (λ (v : View). v.hand) (d ∙ e)) c.requires.filled
 
 pub returns-clause-step : goal.returns-clause-step
 returns-clause-step g c =
-    let e : c.mover.inside.seat.me.0 ≡ c.args.mover.now.view = ap (λ (h : SeatView g.row.S-Cell.Denot). h.view) c.mover.view_is in
+    let e : c.mover.inside.seat.me.0 ≡ c.args.mover.now.view = ap (λ (h : SeatView g.row.S.Denot g.row.S-Cell.Denot). h.view) c.mover.view_is in
     let d : c.exchange.new.seat.me.0 ≡ c.mover.inside.seat.me.0 = ap (λ (m : Me (Option (Berth g.row.S-Cell.Denot)) View). m.0) c.exchange.ensures.3 in
     subst (λ (v : View). Holds v c.args.obj → Steps g.S.RawStore.honest (Arrives v.number c.args.obj c.args.frame false true) v c.arrive_word.new.seat.me.0 (λ _. Unit {0})) (d ∙ e) c.arrive_word.ensures.step
 
 pub returns-clause-unheld_step : goal.returns-clause-unheld_step
 returns-clause-unheld_step g c =
-    let e : c.mover.inside.seat.me.0 ≡ c.args.mover.now.view = ap (λ (h : SeatView g.row.S-Cell.Denot). h.view) c.mover.view_is in
+    let e : c.mover.inside.seat.me.0 ≡ c.args.mover.now.view = ap (λ (h : SeatView g.row.S.Denot g.row.S-Cell.Denot). h.view) c.mover.view_is in
     let d : c.exchange.new.seat.me.0 ≡ c.mover.inside.seat.me.0 = ap (λ (m : Me (Option (Berth g.row.S-Cell.Denot)) View). m.0) c.exchange.ensures.3 in
     subst (λ (v : View). IsUnheld v c.args.obj → Steps g.S.RawStore.honest (Arrives v.number c.args.obj c.args.frame false false) v c.arrive_word.new.seat.me.0 (λ _. Unit {0})) (d ∙ e) c.arrive_word.ensures.unheld_step

@@ -17,20 +17,20 @@ use Rattle.object_lock.proofs.table.ObjectTable.try_begin.Goals as goal
 pub returns-else-found-count-clause-told : goal.returns-else-found-count-clause-told
 returns-else-found-count-clause-told g c held =
     let t = c.begin_word-found.ensures.missed c.if-found-count.false in let v = c.mover.view_is in let o : ℕ = c.args.obj in let w = c.begin_word-found in let own = t.3 held in
-    let old : SeatView g.row.S-Cell.Denot = record { table = c.mover.inside.seat.table_id; id = c.mover.inside.seat.id; view = c.mover.inside.seat.me.0; brought = c.mover.inside.brought; taken = c.mover.inside.taken; refusals = c.mover.inside.port.refusals } in
-    let new : SeatView g.row.S-Cell.Denot = record { table = w.new.seat.table_id; id = w.new.seat.id; view = w.new.seat.me.0; brought = c.mover.inside.brought; taken = c.mover.inside.taken; refusals = c.mover.inside.port.refusals } in
-    subst (λ (h : SeatView g.row.S-Cell.Denot). Begun g.S.RawStore.content o h new c.begin_of.result) v
+    let old : SeatView g.row.S.Denot g.row.S-Cell.Denot = record { table = c.mover.inside.seat.table_id; id = c.mover.inside.seat.id; view = c.mover.inside.seat.me.0; brought = c.mover.inside.brought; taken = c.mover.inside.taken; store = c.mover.inside.port.store; refusals = c.mover.inside.port.refusals } in
+    let new : SeatView g.row.S.Denot g.row.S-Cell.Denot = record { table = w.new.seat.table_id; id = w.new.seat.id; view = w.new.seat.me.0; brought = c.mover.inside.brought; taken = c.mover.inside.taken; store = c.mover.inside.port.store; refusals = c.mover.inside.port.refusals } in
+    subst (λ (h : SeatView g.row.S.Denot g.row.S-Cell.Denot). Begun g.S.RawStore.content o h new c.begin_of.result) v
     (not_begun g.S.RawStore.content o old new t.1 c.begin_of.result (c.begin_of.ensures (counted t.0 t.1) t.2.1.0 t.2.0) t.2.1.1 own.0
-    (λ i. record { table = w.ensures.seat.0 i; id = w.ensures.seat.1 i; view = ap (λ (m : Me (Option (Berth g.row.S-Cell.Denot)) View). m.0) own.1 i; brought = c.mover.inside.brought; taken = c.mover.inside.taken; refusals = c.mover.inside.port.refusals }))
+    (λ i. record { table = w.ensures.seat.0 i; id = w.ensures.seat.1 i; view = ap (λ (m : Me (Option (Berth g.row.S-Cell.Denot)) View). m.0) own.1 i; brought = c.mover.inside.brought; taken = c.mover.inside.taken; store = c.mover.inside.port.store; refusals = c.mover.inside.port.refusals }))
 
 pub returns-else-found-count-clause-fetched : goal.returns-else-found-count-clause-fetched
 returns-else-found-count-clause-fetched g c none =
     let t = c.begin_word-found.ensures.missed c.if-found-count.false in let v = c.mover.view_is in let o : ℕ = c.args.obj in let w = c.begin_word-found in let same = t.4 none in
-    let old : SeatView g.row.S-Cell.Denot = record { table = c.mover.inside.seat.table_id; id = c.mover.inside.seat.id; view = c.mover.inside.seat.me.0; brought = c.mover.inside.brought; taken = c.mover.inside.taken; refusals = c.mover.inside.port.refusals } in
-    let new : SeatView g.row.S-Cell.Denot = record { table = w.new.seat.table_id; id = w.new.seat.id; view = w.new.seat.me.0; brought = c.mover.inside.brought; taken = c.mover.inside.taken; refusals = c.mover.inside.port.refusals } in
-    subst (λ (h : SeatView g.row.S-Cell.Denot). Fetched g.S.RawStore.content o h new c.begin_of.result) v
+    let old : SeatView g.row.S.Denot g.row.S-Cell.Denot = record { table = c.mover.inside.seat.table_id; id = c.mover.inside.seat.id; view = c.mover.inside.seat.me.0; brought = c.mover.inside.brought; taken = c.mover.inside.taken; store = c.mover.inside.port.store; refusals = c.mover.inside.port.refusals } in
+    let new : SeatView g.row.S.Denot g.row.S-Cell.Denot = record { table = w.new.seat.table_id; id = w.new.seat.id; view = w.new.seat.me.0; brought = c.mover.inside.brought; taken = c.mover.inside.taken; store = c.mover.inside.port.store; refusals = c.mover.inside.port.refusals } in
+    subst (λ (h : SeatView g.row.S.Denot g.row.S-Cell.Denot). Fetched g.S.RawStore.content o h new c.begin_of.result) v
     (not_fetched g.S.RawStore.content o old new t.1 c.begin_of.result (c.begin_of.ensures (counted t.0 t.1) t.2.1.0 t.2.0) t.2.1.1
-    (λ i. record { table = w.ensures.seat.0 i; id = w.ensures.seat.1 i; view = ap (λ (m : Me (Option (Berth g.row.S-Cell.Denot)) View). m.0) same i; brought = c.mover.inside.brought; taken = c.mover.inside.taken; refusals = c.mover.inside.port.refusals }))
+    (λ i. record { table = w.ensures.seat.0 i; id = w.ensures.seat.1 i; view = ap (λ (m : Me (Option (Berth g.row.S-Cell.Denot)) View). m.0) same i; brought = c.mover.inside.brought; taken = c.mover.inside.taken; store = c.mover.inside.port.store; refusals = c.mover.inside.port.refusals }))
 
 pub returns-then-found-count-clause-told : goal.returns-then-found-count-clause-told
 returns-then-found-count-clause-told g c held =
@@ -42,12 +42,13 @@ returns-then-found-count-clause-told g c held =
       t.1,
       b.1,
       λ i. record {
-        table = (x.0 ∙ (w.ensures.seat.0 ∙ ap (λ (h : SeatView g.row.S-Cell.Denot). h.table) v)) i;
-        id = (x.1 ∙ (w.ensures.seat.1 ∙ ap (λ (h : SeatView g.row.S-Cell.Denot). h.id) v)) i;
-        view = (ap (λ (m : Me (Option (Berth g.row.S-Cell.Denot)) View). m.0) x.3 ∙ (ap (λ (m : Me (Option (Berth g.row.S-Cell.Denot)) View). m.0) t.3 ∙ ap (λ (h : SeatView g.row.S-Cell.Denot). with_hand h.view (bringing h.view.hand c.args.obj t.1)) v)) i;
+        table = (x.0 ∙ (w.ensures.seat.0 ∙ ap (λ (h : SeatView g.row.S.Denot g.row.S-Cell.Denot). h.table) v)) i;
+        id = (x.1 ∙ (w.ensures.seat.1 ∙ ap (λ (h : SeatView g.row.S.Denot g.row.S-Cell.Denot). h.id) v)) i;
+        view = (ap (λ (m : Me (Option (Berth g.row.S-Cell.Denot)) View). m.0) x.3 ∙ (ap (λ (m : Me (Option (Berth g.row.S-Cell.Denot)) View). m.0) t.3 ∙ ap (λ (h : SeatView g.row.S.Denot g.row.S-Cell.Denot). with_hand h.view (bringing h.view.hand c.args.obj t.1)) v)) i;
         brought = b.2 i;
-        taken = ap (λ (h : SeatView g.row.S-Cell.Denot). h.taken) v i;
-        refusals = ap (λ (h : SeatView g.row.S-Cell.Denot). h.refusals) v i;
+        taken = ap (λ (h : SeatView g.row.S.Denot g.row.S-Cell.Denot). h.taken) v i;
+        store = ap (λ (h : SeatView g.row.S.Denot g.row.S-Cell.Denot). h.store) v i;
+        refusals = ap (λ (h : SeatView g.row.S.Denot g.row.S-Cell.Denot). h.refusals) v i;
       },
     )
 
@@ -61,19 +62,20 @@ returns-then-found-count-clause-fetched g c none =
       t.1,
       b.1,
       λ i. record {
-        table = (x.0 ∙ (w.ensures.seat.0 ∙ ap (λ (h : SeatView g.row.S-Cell.Denot). h.table) v)) i;
-        id = (x.1 ∙ (w.ensures.seat.1 ∙ ap (λ (h : SeatView g.row.S-Cell.Denot). h.id) v)) i;
-        view = (ap (λ (m : Me (Option (Berth g.row.S-Cell.Denot)) View). m.0) x.3 ∙ (ap (λ (m : Me (Option (Berth g.row.S-Cell.Denot)) View). m.0) t.3 ∙ ap (λ (h : SeatView g.row.S-Cell.Denot). with_hand h.view (bringing h.view.hand c.args.obj t.1)) v)) i;
+        table = (x.0 ∙ (w.ensures.seat.0 ∙ ap (λ (h : SeatView g.row.S.Denot g.row.S-Cell.Denot). h.table) v)) i;
+        id = (x.1 ∙ (w.ensures.seat.1 ∙ ap (λ (h : SeatView g.row.S.Denot g.row.S-Cell.Denot). h.id) v)) i;
+        view = (ap (λ (m : Me (Option (Berth g.row.S-Cell.Denot)) View). m.0) x.3 ∙ (ap (λ (m : Me (Option (Berth g.row.S-Cell.Denot)) View). m.0) t.3 ∙ ap (λ (h : SeatView g.row.S.Denot g.row.S-Cell.Denot). with_hand h.view (bringing h.view.hand c.args.obj t.1)) v)) i;
         brought = b.2 i;
-        taken = ap (λ (h : SeatView g.row.S-Cell.Denot). h.taken) v i;
-        refusals = ap (λ (h : SeatView g.row.S-Cell.Denot). h.refusals) v i;
+        taken = ap (λ (h : SeatView g.row.S.Denot g.row.S-Cell.Denot). h.taken) v i;
+        store = ap (λ (h : SeatView g.row.S.Denot g.row.S-Cell.Denot). h.store) v i;
+        refusals = ap (λ (h : SeatView g.row.S.Denot g.row.S-Cell.Denot). h.refusals) v i;
       },
     )
 
 pub returns-then-found-count-clause-step : goal.returns-then-found-count-clause-step
 returns-then-found-count-clause-step g c =
     let w = c.begin_word-found in let s = w.ensures.step in let o : ℕ = c.args.obj in let n : ℕ = c.args.count in let low = c.requires.low.1 in
-    let e : c.mover.inside.seat.me.0 ≡ c.args.mover.now.view = ap (λ (h : SeatView g.row.S-Cell.Denot). h.view) c.mover.view_is in
+    let e : c.mover.inside.seat.me.0 ≡ c.args.mover.now.view = ap (λ (h : SeatView g.row.S.Denot g.row.S-Cell.Denot). h.view) c.mover.view_is in
     let d : w.new.seat.me.0 ≡ c.exchange.new.seat.me.0 = sym (ap (λ (m : Me (Option (Berth g.row.S-Cell.Denot)) View). m.0) c.exchange.ensures.3) in
     subst (λ (q : View × View). Steps g.S.RawStore.honest (Begins q.0.number o n (not (n == 0))) q.0 q.1 (λ x. B.Taken ≡ tried n (x.word o))) (λ i. (e i, d i))
     (s.0, s.1, s.2, tried_hit c.mover.inside.seat.me.0.sizes (s.0.word o) w.result n (omega arith) s.3 c.if-found-count.true)
@@ -81,6 +83,6 @@ returns-then-found-count-clause-step g c =
 pub returns-else-found-count-clause-step : goal.returns-else-found-count-clause-step
 returns-else-found-count-clause-step g c =
     let w = c.begin_word-found in let s = w.ensures.step in let o : ℕ = c.args.obj in let n : ℕ = c.args.count in
-    let e : c.mover.inside.seat.me.0 ≡ c.args.mover.now.view = ap (λ (h : SeatView g.row.S-Cell.Denot). h.view) c.mover.view_is in
+    let e : c.mover.inside.seat.me.0 ≡ c.args.mover.now.view = ap (λ (h : SeatView g.row.S.Denot g.row.S-Cell.Denot). h.view) c.mover.view_is in
     subst (λ (q : View). Steps g.S.RawStore.honest (Begins q.number o n (not (n == 0))) q w.new.seat.me.0 (λ x. c.begin_of.result ≡ tried n (x.word o))) e
     (s.0, s.1, s.2, tried_miss c.mover.inside.seat.me.0.sizes (s.0.word o) w.result n c.begin_of.result s.3 c.if-found-count.false (c.begin_of.ensures (s.0.word o) s.3.1.0 s.3.0))

@@ -17,11 +17,12 @@ returns-then-found-plain-clause-told g c =
     let b = berth_there t.0 c.exchange.result t.1 got in (
       b.0,
       λ i. record {
-        table = (x.0 ∙ (w.ensures.seat.0 ∙ ap (λ (h : SeatView g.row.S-Cell.Denot). h.table) v)) i;
-        id = (x.1 ∙ (w.ensures.seat.1 ∙ ap (λ (h : SeatView g.row.S-Cell.Denot). h.id) v)) i;
-        view = (ap (λ (m : Me (Option (Berth g.row.S-Cell.Denot)) View). m.0) x.3 ∙ (ap (λ (m : Me (Option (Berth g.row.S-Cell.Denot)) View). m.0) t.2 ∙ ap (λ (h : SeatView g.row.S-Cell.Denot). with_hand h.view (marking h.view.hand c.args.obj c.args.frame)) v)) i;
-        brought = ap (λ (h : SeatView g.row.S-Cell.Denot). h.brought) v i;
+        table = (x.0 ∙ (w.ensures.seat.0 ∙ ap (λ (h : SeatView g.row.S.Denot g.row.S-Cell.Denot). h.table) v)) i;
+        id = (x.1 ∙ (w.ensures.seat.1 ∙ ap (λ (h : SeatView g.row.S.Denot g.row.S-Cell.Denot). h.id) v)) i;
+        view = (ap (λ (m : Me (Option (Berth g.row.S-Cell.Denot)) View). m.0) x.3 ∙ (ap (λ (m : Me (Option (Berth g.row.S-Cell.Denot)) View). m.0) t.2 ∙ ap (λ (h : SeatView g.row.S.Denot g.row.S-Cell.Denot). with_hand h.view (marking h.view.hand c.args.obj c.args.frame)) v)) i;
+        brought = ap (λ (h : SeatView g.row.S.Denot g.row.S-Cell.Denot). h.brought) v i;
         taken = b.1 i;
-        refusals = ap (λ (h : SeatView g.row.S-Cell.Denot). h.refusals) v i;
+        store = ap (λ (h : SeatView g.row.S.Denot g.row.S-Cell.Denot). h.store) v i;
+        refusals = ap (λ (h : SeatView g.row.S.Denot g.row.S-Cell.Denot). h.refusals) v i;
       },
     )

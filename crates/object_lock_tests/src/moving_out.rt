@@ -1,0 +1,237 @@
+//! Movers that mark, give up, commit and look, while the owner works on the object.
+ghost use Rattle.std.specs.Prelude.{◌≡◌, ◌<◌, true};
+ghost use Rattle.object_lock_tests.specs.Standing.{IsIdle, IsShut};
+
+use crate::fixtures::bring_back;
+use crate::standing::{
+    bring, bring_with, close, commit, give_up, give_up_put, mark, move_out, open, put, read_once,
+    release, tell_word, write,
+};
+use crate::tape::Tape;
+use object_lock::{Begin, Held, MoverSeat, ObjectTable, OwnerSeat};
+use remote_store::RawStore;
+
+/// Tries to mark object 0 while its owner has a hold of it, in another frame, and where it is: its word after each.
+pub(crate) fn marks_only_the_unheld<S: RawStore>(
+    table: &ObjectTable<S>,
+    owner: &mut OwnerSeat<S>,
+    mover: &mut MoverSeat<S>,
+    tape: &mut Tape,
+)
+    requires low { (3 < table.now.sizes.frames) × (0 < table.now.sizes.objects) }
+    requires seats { IsShut table.now owner.old 0 × IsIdle table.now mover.old }
+{
+    if !bring(table, owner, 0, 2) || mark(table, mover, 0, 2) {
+        return;
+    }
+    tell_word(table, mover, 0, tape);
+    close(table, owner, 0, 2);
+    if mark(table, mover, 0, 3) {
+        return;
+    }
+    tell_word(table, mover, 0, tape);
+    tape.did(mark(table, mover, 0, 2));
+    tell_word(table, mover, 0, tape);
+}
+
+/// Marks object 0 in frame 2, gives it up, marks it again and moves it out: its word after each.
+pub(crate) fn marks_again<S: RawStore>(
+    table: &ObjectTable<S>,
+    owner: &mut OwnerSeat<S>,
+    mover: &mut MoverSeat<S>,
+    tape: &mut Tape,
+)
+    requires low { (3 < table.now.sizes.frames) × (0 < table.now.sizes.objects) }
+    requires seats { IsShut table.now owner.old 0 × IsIdle table.now mover.old }
+{
+    if !bring_with(table, owner, 0, 2, 5) || !mark(table, mover, 0, 2) {
+        return;
+    }
+    give_up(table, mover, 0, 2);
+    tell_word(table, mover, 0, tape);
+    if !mark(table, mover, 0, 2) {
+        return;
+    }
+    tell_word(table, mover, 0, tape);
+    if put(table, mover, 0, 2) && commit(table, mover, 0, 2) {
+        tell_word(table, mover, 0, tape);
+    }
+}
+
+/// Opens object 0, which is away, begins it, and brings it into the frame: its word after each, and its cell 0.
+fn brings_back<S: RawStore>(
+    table: &ObjectTable<S>,
+    owner: &mut OwnerSeat<S>,
+    frame: usize,
+    tape: &mut Tape,
+)
+    requires shut { IsShut table.now owner.old 0 }
+    requires low { (frame < table.now.sizes.frames) × (0 < table.now.sizes.objects) }
+{
+    let Held::Away = table.open(owner, 0) else {
+        return;
+    };
+    tape.word(table.word(owner, 0));
+    let Begin::Taken = table.try_begin(owner, 0, 1) else {
+        return;
+    };
+    tape.word(table.word(owner, 0));
+    if let Some(value) = bring_back(table, owner, 0, frame) {
+        tape.number(value);
+        tape.word(table.word(owner, 0));
+    }
+}
+
+/// Opens object 0, which is in a frame, stores the value in its cell 0, and closes it: its word after each. Whether it was in a frame.
+fn writes_once<S: RawStore>(
+    table: &ObjectTable<S>,
+    owner: &mut OwnerSeat<S>,
+    value: u64,
+    tape: &mut Tape,
+) -> bool
+    requires shut { IsShut table.now owner.old 0 }
+    requires low { 0 < table.now.sizes.objects }
+    ensures { result ≡ true → IsShut table.now owner.new 0 }
+{
+    let Some(frame) = open(table, owner, 0, tape) else {
+        return false;
+    };
+    tell_word(table, owner, 0, tape);
+    write(table, owner, 0, frame, 0, value);
+    tell_word(table, owner, 0, tape);
+    close(table, owner, 0, frame);
+    tell_word(table, owner, 0, tape);
+    true
+}
+
+/// Puts object 0 and gives it up, which its owner writes then: the next mark copies what it wrote.
+pub(crate) fn copies_anew<S: RawStore>(
+    table: &ObjectTable<S>,
+    owner: &mut OwnerSeat<S>,
+    mover: &mut MoverSeat<S>,
+    tape: &mut Tape,
+)
+    requires low { (3 < table.now.sizes.frames) × (0 < table.now.sizes.objects) }
+    requires seats { IsShut table.now owner.old 0 × IsIdle table.now mover.old }
+{
+    if !bring_with(table, owner, 0, 2, 5) || !mark(table, mover, 0, 2) {
+        return;
+    }
+    if !put(table, mover, 0, 2) {
+        return;
+    }
+    give_up_put(table, mover, 0, 2);
+    if !writes_once(table, owner, 9, tape) {
+        return;
+    }
+    tape.did(move_out(table, mover, 0, 2));
+    tell_word(table, mover, 0, tape);
+    brings_back(table, owner, 3, tape);
+}
+
+/// Marks object 0 in frame 2, puts it and gives it up: whether it was put, how many puts and gets were refused then, and the object's word.
+fn gives_up<S: RawStore>(table: &ObjectTable<S>, mover: &mut MoverSeat<S>, tape: &mut Tape)
+    requires low { (3 < table.now.sizes.frames) × (0 < table.now.sizes.objects) }
+    requires idle { IsIdle table.now mover.old }
+    ensures { IsIdle table.now mover.new }
+{
+    tape.number(mover.refusals());
+    if !mark(table, mover, 0, 2) {
+        return;
+    }
+    let done = put(table, mover, 0, 2);
+    tape.did(done);
+    tape.number(mover.refusals());
+    if done {
+        give_up_put(table, mover, 0, 2);
+    } else {
+        give_up(table, mover, 0, 2);
+    }
+    tell_word(table, mover, 0, tape);
+}
+
+/// Object 0 is given up as its put fails, is read in its frame, and moved out by a put that doesn't fail.
+pub(crate) fn survives_a_failed_put<S: RawStore>(
+    table: &ObjectTable<S>,
+    owner: &mut OwnerSeat<S>,
+    mover: &mut MoverSeat<S>,
+    tape: &mut Tape,
+)
+    requires low { (3 < table.now.sizes.frames) × (0 < table.now.sizes.objects) }
+    requires seats { IsShut table.now owner.old 0 × IsIdle table.now mover.old }
+{
+    if !bring_with(table, owner, 0, 2, 5) {
+        return;
+    }
+    gives_up(table, mover, tape);
+    let done = read_once(table, owner, 0, tape);
+    tape.did(done);
+    tape.did(move_out(table, mover, 0, 2));
+    tape.number(mover.refusals());
+    tell_word(table, mover, 0, tape);
+}
+
+/// Object 0 is written while the mover has it marked, so that it is not moved out: its word after each call, and what its owner reads
+/// then.
+pub(crate) fn is_written_meanwhile<S: RawStore>(
+    table: &ObjectTable<S>,
+    owner: &mut OwnerSeat<S>,
+    mover: &mut MoverSeat<S>,
+    tape: &mut Tape,
+)
+    requires low { (3 < table.now.sizes.frames) × (0 < table.now.sizes.objects) }
+    requires seats { IsShut table.now owner.old 0 × IsIdle table.now mover.old }
+{
+    if !bring_with(table, owner, 0, 2, 5) {
+        return;
+    }
+    tell_word(table, owner, 0, tape);
+    if !mark(table, mover, 0, 2) {
+        return;
+    }
+    tell_word(table, owner, 0, tape);
+    if !put(table, mover, 0, 2) || !writes_once(table, owner, 9, tape) {
+        return;
+    }
+    if commit(table, mover, 0, 2) {
+        return;
+    }
+    tell_word(table, owner, 0, tape);
+    give_up(table, mover, 0, 2);
+    tell_word(table, owner, 0, tape);
+    let done = read_once(table, owner, 0, tape);
+    tape.did(done);
+}
+
+/// Object 0 is moved out of frame 2 while its owner reads it, and brought back: its word after each call, what was read, and what the
+/// frame's word names before it is released and after.
+pub(crate) fn is_moved_out_and_in<S: RawStore>(
+    table: &ObjectTable<S>,
+    owner: &mut OwnerSeat<S>,
+    mover: &mut MoverSeat<S>,
+    tape: &mut Tape,
+)
+    requires low { (3 < table.now.sizes.frames) × (0 < table.now.sizes.objects) }
+    requires seats { IsShut table.now owner.old 0 × IsIdle table.now mover.old }
+{
+    if !bring_with(table, owner, 0, 2, 5) {
+        return;
+    }
+    tell_word(table, owner, 0, tape);
+    if !mark(table, mover, 0, 2) {
+        return;
+    }
+    tell_word(table, owner, 0, tape);
+    if !read_once(table, owner, 0, tape) {
+        return;
+    }
+    tell_word(table, owner, 0, tape);
+    if !put(table, mover, 0, 2) || !commit(table, mover, 0, 2) {
+        return;
+    }
+    tell_word(table, owner, 0, tape);
+    tape.names(table.look(mover, 2));
+    release(table, mover, 2);
+    tape.names(table.look(mover, 2));
+    brings_back(table, owner, 2, tape);
+}
