@@ -82,9 +82,10 @@ stopped_is (Running f st al o) e = absurd (cc e)
 stopped_is (Stopped s al o) e = (s, al, o, refl)
 stopped_is (Stuck al o) e = absurd (cc e)
 
--- the code of this image has not stopped before so many completed instructions, which leave each program of it stopped so
+-- the code of this image is stopped so at so many completed instructions, and not before; they leave each program of it stopped so
 abbrev SettledAt : ℕ → Image → Stop → List ℕ → Type 0
 SettledAt j C s o = ((i : ℕ) → i < j → stop_of (code_run (code C) i).0 ≡ None)
+    × ((al : List Allocation) × ((code_run (code C) j).0 ≡ Stopped s al o))
     × ((z : Sizes) (images : ℕ → Image) (events : List Event) (v : World) (k : ℕ) → IsRun z images events v → images k ≡ C
     → j ≤ (v.programs k).completed → (al : List Allocation) × ((v.programs k).core ≡ Stopped s al o))
 
@@ -145,6 +146,7 @@ module _ (laws : Laws) where
           first.0,
           (
             first.2,
+            (there.0, first.1),
             λ z images events v k run is le.
                 (there.0, run_of z images events v k run is ∙ stays_stopped C first.0 (v.programs k).completed s there.0 o le first.1),
           ),

@@ -32,13 +32,14 @@ pub record Promised (P : Typed) (checks : Bool) (p : Program) (HasCauseOf : Want
   -- where it wants something the cause is among the events
   pub wanting : (want : Want) → p.mode ≡ Wanted want → HasCauseOf want
 
--- Where the meaning ends, some number of completed instructions, before which the code of the text has not stopped, leaves the program
--- stopped so. The number is that of the text and of `checks`: the same whatever image the text was compiled to, and in every run of
+-- Where the meaning ends, some number of completed instructions, at which the code of the text is stopped so, and before which it has not
+-- stopped, leaves the program stopped so. The number is that of the text and of `checks`: the same whatever image the text was compiled to, and in every run of
 -- whatever world, beside whatever other programs.
 abbrev pub Settles : List ℕ → Bool → Typed → Type 0
 Settles text checks P = (s : Stop) (o : List ℕ) → EndsSo P checks s o
     → (j : ℕ) × ((D : Image) → IsCompiled text checks D
     → ((i : ℕ) → i < j → stop_of (code_run (code D) i).0 ≡ None)
+    × ((al : List Allocation) × ((code_run (code D) j).0 ≡ Stopped s al o))
     × ((z : Sizes) (images : ℕ → Image) (events : List Event) (v : World) (k : ℕ) → IsRun z images events v → images k ≡ D
     → j ≤ (v.programs k).completed → (al : List Allocation) × ((v.programs k).core ≡ Stopped s al o)))
 

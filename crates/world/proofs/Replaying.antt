@@ -1,15 +1,23 @@
 -- the lines of a schedule, one after another
-use Rattle.std.proofs.Common.{◌≡◌, ◌≢◌, ℕ, zero, suc, ◌+◌, ◌<◌, List, [], ◌∷◌, ◌++◌, length, Option, Some, None, append_assoc, append-nil, length-append, refl, sym, ap, ◌∙◌, subst, arith}
-use Rattle.std.specs.Prelude.{codes}
+use Rattle.std.proofs.Common.{◌≡◌, ◌≢◌, ◌&&◌, inl, inr, Bool, true, false, ℕ, zero, suc, ◌+◌, ◌<◌, List, [], ◌∷◌, ◌++◌, length, Option, Some, None, append_assoc, append-nil, length-append, refl, sym, ap, ◌∙◌, subst, arith}
+use Rattle.std.specs.Prelude.{codes, cond, nat_lt, slice_get}
+use Rattle.std.proofs.lemmas.Bool.{ltb-true}
+use Rattle.std.proofs.lemmas.Option.{slice_get_cases}
 use Rattle.cells.specs.declared.ending.Ended.{Ended}
 use Rattle.code_form.specs.Form.{Image}
 use Rattle.world_semantics.specs.declared.event.Actor.{Actor}
 use Rattle.world_semantics.specs.declared.event.Actor.TheVariants as actor
 use Rattle.world_semantics.specs.Programs.{Program}
 use Rattle.schedule_lines.specs.Lines.{Line, IsLine, IsLine32, spell, spell_actor, spell_choice}
-use Rattle.world.specs.Reports.{event_of, AreEnds, AreLines, HasCome, HasLed, IsEnded, LinesLead}
+use Rattle.world.specs.Acting.{IsWorld}
+use Rattle.world.specs.Answered.{IsPortOf, StoreTold}
+use Rattle.world.specs.Seats.{Seat}
+use Rattle.world.specs.Tables.{Tables}
+use Rattle.world.specs.declared.evacuator.Evacuator.{Evacuator}
+use Rattle.world_semantics.specs.declared.event.Choice.{Choice}
+use Rattle.world.specs.Reports.{event_of, AreEnds, AreLines, HasCome, HasLed, IsEnded, LinesLead, Told, Ways}
 use Rattle.world_semantics.specs.Turns.{Answer}
-use Rattle.world_semantics.specs.Worlds.{IsHonest, Sizes, World, event}
+use Rattle.world_semantics.specs.Worlds.{IsHonest, Sizes, World, event, in_range}
 
 -- one line more
 pub line_more : (xs : List Line) (x : Line) (text : List ℕ) → AreLines xs text → IsLine32 x → AreLines (xs ++ x ∷ []) (text ++ spell x)
@@ -18,35 +26,71 @@ line_more (y ∷ ys) x text are small =
     let rest = are.1.0 in
     (are.0, (rest ++ spell x, ap (λ t. t ++ spell x) are.1.1 ∙ append_assoc (spell y) rest (spell x), line_more ys x rest are.1.2 small))
 
--- one event more
-pub leads_more : (h : Type 0) (z : Sizes) (images : ℕ → Image) (w v u : World) (xs : List Line) (x : Line) (a : Answer) → LinesLead h z images w xs v
-    → event z images v (event_of x a) ≡ Some u → (h → IsHonest z v x.actor a) → LinesLead h z images w (xs ++ x ∷ []) u
-leads_more h z images w v u [] x a led is honest = subst (λ (y : World). LinesLead h z images y (x ∷ []) u) led (a, u, is, honest, refl)
-leads_more h z images w v u (y ∷ ys) x a led is honest = (led.0, led.1, led.2, led.3, leads_more h z images led.1 v u ys x a led.4 is honest)
-
 pub many_more : (xs : List Line) (x : Line) → length (xs ++ x ∷ []) ≡ suc (length xs)
 many_more [] x = refl
 many_more (y ∷ ys) x = ap suc (many_more ys x)
 
 -- ---- a schedule
 
-pub comes : (h : Type 0) (z : Sizes) (images : ℕ → Image) (w : World) (schedule : List ℕ) → HasCome h z images w schedule schedule 1 w
-comes h z images w schedule = record { before = []; text = []; cut = refl; lines = refl; count = refl; leads = refl }
+module _ {S C : Type 0} (honest reliable : Type 0) (failures : S → ℕ) (gives : S → C → List ℕ → S → Type 0) where
+  -- one event more
+  pub leads_more : (z : Sizes) (images : ℕ → Image) (w v u : World) (x y t : Ways S C) (ls : List Line) (l : Line) (a : Answer) → LinesLead honest reliable failures gives z images w x ls v y
+      → event z images v (event_of l a) ≡ Some u → (honest → IsHonest z v l.actor a) → Told honest reliable failures gives z v y t l.actor a
+      → LinesLead honest reliable failures gives z images w x (ls ++ l ∷ []) u t
+  leads_more z images w v u x y t [] l a led is honestly told =
+      subst (λ (p : Ways S C). LinesLead honest reliable failures gives z images w p (l ∷ []) u t) led.1
+      (subst (λ (p : World). LinesLead honest reliable failures gives z images p y (l ∷ []) u t) led.0 (a, u, t, is, honestly, told, (refl, refl)))
+  leads_more z images w v u x y t (k ∷ ks) l a led is honestly told =
+      (led.0, led.1, led.2, led.3, led.4, led.5, leads_more z images led.1 v u led.2 y t ks l a led.6 is honestly told)
 
-pub come_more : (h : Type 0) (z : Sizes) (images : ℕ → Image) (w v u : World) (schedule rest others : List ℕ) (line : ℕ) (x : Line) (a : Answer) → HasCome h z images w schedule rest line v
-    → IsLine x others rest → event z images v (event_of x a) ≡ Some u → (h → IsHonest z v x.actor a) → HasCome h z images w schedule others (line + 1) u
-come_more h z images w v u schedule rest others line x a come is e honest = record {
-  before = come.before ++ x ∷ [];
-  text = come.text ++ spell x;
-  cut = come.cut ∙ ap (λ t. come.text ++ t) is.1 ∙ sym (append_assoc come.text (spell x) others);
-  lines = line_more come.before x come.text come.lines is.0;
-  count = omega (arith, come.count, many_more come.before x);
-  leads = leads_more h z images w v u come.before x a come.leads e honest;
-}
+  pub comes : (z : Sizes) (images : ℕ → Image) (w : World) (x : Ways S C) (schedule : List ℕ) → HasCome honest reliable failures gives z images w x schedule schedule 1 w x
+  comes z images w x schedule = record { before = []; text = []; cut = refl; lines = refl; count = refl; leads = (refl, refl) }
 
-pub has_led : (h : Type 0) (z : Sizes) (images : ℕ → Image) (w v : World) (schedule rest : List ℕ) (line : ℕ) → HasCome h z images w schedule rest line v → length rest ≡ 0 → HasLed h z images w schedule v
-has_led h z images w v schedule [] line come none = (come.before, subst (AreLines come.before) (sym (come.cut ∙ append-nil come.text)) come.lines, come.leads)
-has_led h z images w v schedule (b ∷ rest) line come none = absurd (omega (arith, none))
+  pub come_more : (z : Sizes) (images : ℕ → Image) (w v u : World) (x y t : Ways S C) (schedule rest others : List ℕ) (line : ℕ) (l : Line) (a : Answer)
+      → HasCome honest reliable failures gives z images w x schedule rest line v y → IsLine l others rest → event z images v (event_of l a) ≡ Some u → (honest → IsHonest z v l.actor a)
+      → Told honest reliable failures gives z v y t l.actor a → HasCome honest reliable failures gives z images w x schedule others (line + 1) u t
+  come_more z images w v u x y t schedule rest others line l a come is e honestly told = record {
+    before = come.before ++ l ∷ [];
+    text = come.text ++ spell l;
+    cut = come.cut ∙ ap (λ p. come.text ++ p) is.1 ∙ sym (append_assoc come.text (spell l) others);
+    lines = line_more come.before l come.text come.lines is.0;
+    count = omega (arith, come.count, many_more come.before l);
+    leads = leads_more z images w v u x y t come.before l a come.leads e honestly told;
+  }
+
+  pub has_led : (z : Sizes) (images : ℕ → Image) (w v : World) (x y : Ways S C) (schedule rest : List ℕ) (line : ℕ)
+      → HasCome honest reliable failures gives z images w x schedule rest line v y → length rest ≡ 0 → HasLed honest reliable failures gives z images w x schedule v y
+  has_led z images w v x y schedule [] line come none = (come.before, subst (AreLines come.before) (sym (come.cut ∙ append-nil come.text)) come.lines, come.leads)
+  has_led z images w v x y schedule (b ∷ rest) line come none = absurd (omega (arith, none))
+
+-- an actor of an event is there
+is_there : (b c : Bool) (o : Option World) (u : World) → cond (b && c) o None ≡ Some u → b ≡ true
+is_there true c o u is = refl
+is_there false c o u is = cc
+
+-- each actor of an event has a way to the store
+way_at : {A P : Type 0} (xs : List (A × P)) (k n : ℕ) → length xs ≡ n → nat_lt k n ≡ true → (p : P) × (x : A) × (slice_get xs k ≡ Some (x, p))
+way_at {A} {P} xs k n many less = elim (slice_get_cases xs k).1 [
+    inl r ↦ (r.0.1, r.0.0, r.2)
+  | inr r ↦ absurd (let below : k < n = ltb-true k n less in omega (arith, r.0, below, many))
+  ]
+
+pub way_of : {P : Type 0} (z : Sizes) (images : ℕ → Image) (w u : World) (seats : List (Seat × P)) (movers : List (Evacuator × P)) (who : Actor) (c : Choice) (a : Answer) → length seats ≡ z.programs → length movers ≡ z.evacuators
+    → event z images w (record { actor = who; choice = c; answer = a }) ≡ Some u → (p : P) × IsPortOf seats movers who p
+way_of z images w u seats movers (actor.Program k) c a programs evacuators is = let r = way_at seats k z.programs programs (is_there _ _ _ u is) in (r.0, (r.1, r.2))
+way_of z images w u seats movers (actor.Evacuator k) c a programs evacuators is = let r = way_at movers k z.evacuators evacuators (is_there _ _ _ u is) in (r.0, (r.1, r.2))
+way_of z images w u seats movers (actor.Fetcher k) c a programs evacuators is = absurd (let no : false ≡ true = is_there false (in_range z c) None u is in cc)
+
+module _ {S C : Type 0} (content : C → Option (List ℕ)) (honest reliable : Type 0) (failures : S → ℕ) (gives : S → C → List ℕ → S → Type 0) where
+  -- what the store answered in an event of worlds that code holds, by their ways
+  pub told_by : (z : Sizes) (images : ℕ → Image) (w u : World) (t t' : Tables) (x y : Ways S C) (who : Actor) (c : Choice) (a : Answer)
+      → IsWorld content honest z images t x.berths x.programs x.evacuators w → IsWorld content honest z images t' y.berths y.programs y.evacuators u
+      → event z images w (record { actor = who; choice = c; answer = a }) ≡ Some u → StoreTold reliable failures gives z w x.berths x.programs x.evacuators y.programs y.evacuators who a
+      → Told honest reliable failures gives z w x y who a
+  told_by z images w u t t' x y who c a is will happens told =
+      let p = way_of z images w u x.programs x.evacuators who c a is.programs_many is.evacuators_many happens in
+      let q = way_of z images w u y.programs y.evacuators who c a will.programs_many will.evacuators_many happens in
+      record { many = is.shows.many; before = p.0; after = q.0; from = p.1; to = q.1; answered = told p.0 q.0 p.1 q.1 }
 
 -- a line has a byte at least
 some_actor : (a : Actor) → 0 < length (spell_actor a)

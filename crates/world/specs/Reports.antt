@@ -7,8 +7,14 @@ use Rattle.cells.specs.declared.ending.Want.{Want}
 use Rattle.cells.specs.Stops.{stop_of as stop_read}
 use Rattle.code_form.specs.Code.{output_of, stop_of}
 use Rattle.code_form.specs.Form.{Image}
+use Rattle.remote_store.specs.declared.berth.Berth.{Berth}
+use Rattle.remote_store.specs.declared.port.Port.{Port}
 use Rattle.schedule_lines.specs.Lines.{Line, IsLine, IsLine32, IsNoLine, spell}
+use Rattle.world_semantics.specs.declared.event.Actor.{Actor}
 use Rattle.world_semantics.specs.Programs.{Program, Wanted}
+use Rattle.world.specs.Answered.{AnswersSo, IsPortOf, asked_by}
+use Rattle.world.specs.Seats.{Seat}
+use Rattle.world.specs.declared.evacuator.Evacuator.{Evacuator}
 use Rattle.world.specs.declared.schedule.Refused.{Refused}
 use Rattle.world.specs.declared.schedule.Refused.TheVariants as refused
 use Rattle.world_semantics.specs.Turns.{Answer}
@@ -30,10 +36,11 @@ pub record IsEnded (p : Program) (e : Ended) : Type 0 where
 abbrev pub event_of : Line → Answer → Event
 event_of x a = record { actor = x.actor; choice = x.choice; answer = a }
 
--- these lines lead from one world to another, with some answers; h says that the store is honest
-abbrev pub LinesLead : Type 0 → Sizes → (ℕ → Image) → World → List Line → World → Type 0
-LinesLead h z images w [] v = v ≡ w
-LinesLead h z images w (x ∷ xs) v = (a : Answer) × (u : World) × (event z images w (event_of x a) ≡ Some u) × (h → IsHonest z w x.actor a) × LinesLead h z images u xs v
+-- the cells of the store that objects have, and each program's and each evacuator's way to it
+pub record Ways (S C : Type 0) : Type 0 where
+  pub berths : List (Berth C)
+  pub programs : List (Seat × Port S C)
+  pub evacuators : List (Evacuator × Port S C)
 
 -- the text of lines, whose numbers fit in 32 bits
 abbrev pub AreLines : List Line → List ℕ → Type 0
@@ -45,35 +52,57 @@ abbrev pub AreEnds : (ℕ → Program) → ℕ → List Ended → Type 0
 AreEnds programs k [] = Unit {0}
 AreEnds programs k (e ∷ es) = IsEnded (programs k) e × AreEnds programs (suc k) es
 
--- all lines of the schedule lead from the world w to the world v
-abbrev pub HasLed : Type 0 → Sizes → (ℕ → Image) → World → List ℕ → World → Type 0
-HasLed h z images w schedule v = (lines : List Line) × AreLines lines schedule × LinesLead h z images w lines v
-
--- the lines before this one, counted from 1, lead from the world w to the world v, and the rest of the schedule stands behind them
-pub record HasCome (h : Type 0) (z : Sizes) (images : ℕ → Image) (w : World) (schedule rest : List ℕ) (line : ℕ) (v : World) : Type 0 where
-  pub before : List Line
-  pub text : List ℕ
-  pub cut : schedule ≡ text ++ rest
-  pub lines : AreLines before text
-  pub count : line ≡ suc (length before)
-  pub leads : LinesLead h z images w before v
-
 -- what comes next in the schedule is, in the world w, no line, or a line that is not enabled, whatever is answered
 abbrev pub IsStuckAt : Sizes → (ℕ → Image) → World → List ℕ → Type 0
 IsStuckAt z images w text = IsNoLine text ⊎ ((x : Line) × (rest : List ℕ) × IsLine x rest text × ((a : Answer) → event z images w (event_of x a) ≡ None))
 
--- the lines before this one, counted from 1, lead from the world w to one in which it is no line or is not enabled
-abbrev pub IsRefusedLine : Type 0 → Sizes → (ℕ → Image) → World → List ℕ → ℕ → Type 0
-IsRefusedLine h z images w schedule line = (v : World) × (rest : List ℕ) × HasCome h z images w schedule rest line v × (0 < length rest) × IsStuckAt z images v rest
+-- `honest` says that the store gives back what was put, `reliable` that it never fails, `failures` counts its calls that failed, and
+-- `gives` tells what a read of a cell gave, by the store before it and after it
+module _ {S C : Type 0} (honest reliable : Type 0) (failures : S → ℕ) (gives : S → C → List ℕ → S → Type 0) where
+  -- in the world w, with a berth for each object, the store answered so to this actor, by its way to it before and after
+  pub record Told (z : Sizes) (w : World) (x y : Ways S C) (actor : Actor) (a : Answer) : Type 0 where
+    pub many : length x.berths ≡ z.objects
+    pub before : Port S C
+    pub after : Port S C
+    pub from : IsPortOf x.programs x.evacuators actor before
+    pub to : IsPortOf y.programs y.evacuators actor after
+    pub answered : AnswersSo reliable failures gives x.berths before after w.lock.far (asked_by z w actor) a
 
--- all lines of the schedule lead from the beginning to a world, and these are the ends of its programs
-pub record IsReport (h : Type 0) (z : Sizes) (images : ℕ → Image) (schedule : List ℕ) (ends : List Ended) : Type 0 where
-  pub world : World
-  pub led : HasLed h z images (start images) schedule world
-  pub all : length ends ≡ z.programs
-  pub ended : AreEnds world.programs 0 ends
+  -- these lines lead from one world to another, as the store answered to each
+  abbrev pub LinesLead : Sizes → (ℕ → Image) → World → Ways S C → List Line → World → Ways S C → Type 0
+  LinesLead z images w x [] v y = (v ≡ w) × (y ≡ x)
+  LinesLead z images w x (l ∷ ls) v y =
+      (a : Answer) × (u : World) × (t : Ways S C) × (event z images w (event_of l a) ≡ Some u) × (honest → IsHonest z w l.actor a) × Told z w x t l.actor a
+      × LinesLead z images u t ls v y
 
--- why a schedule is refused: a line of it, or want of memory
-abbrev pub IsRefusal : Type 0 → Sizes → (ℕ → Image) → List ℕ → Refused → Type 0
-IsRefusal h z images schedule (refused.Line line) = IsRefusedLine h z images (start images) schedule line
-IsRefusal h z images schedule refused.OutOfMemory = Unit {0}
+  -- all lines of the schedule lead from the world w to the world v
+  abbrev pub HasLed : Sizes → (ℕ → Image) → World → Ways S C → List ℕ → World → Ways S C → Type 0
+  HasLed z images w x schedule v y = (lines : List Line) × AreLines lines schedule × LinesLead z images w x lines v y
+
+  -- the lines before this one, counted from 1, lead from the world w to the world v, and the rest of the schedule stands behind them
+  pub record HasCome (z : Sizes) (images : ℕ → Image) (w : World) (x : Ways S C) (schedule rest : List ℕ) (line : ℕ) (v : World) (y : Ways S C) : Type 0 where
+    pub before : List Line
+    pub text : List ℕ
+    pub cut : schedule ≡ text ++ rest
+    pub lines : AreLines before text
+    pub count : line ≡ suc (length before)
+    pub leads : LinesLead z images w x before v y
+
+  -- the lines before this one, counted from 1, lead from the world w to one in which it is no line or is not enabled
+  abbrev pub IsRefusedLine : Sizes → (ℕ → Image) → World → Ways S C → List ℕ → ℕ → Type 0
+  IsRefusedLine z images w x schedule line =
+      (v : World) × (y : Ways S C) × (rest : List ℕ) × HasCome z images w x schedule rest line v y × (0 < length rest) × IsStuckAt z images v rest
+
+  -- all lines of the schedule lead from the beginning to a world, and these are the ends of its programs
+  pub record IsReport (z : Sizes) (images : ℕ → Image) (schedule : List ℕ) (ends : List Ended) : Type 0 where
+    pub opening : Ways S C
+    pub world : World
+    pub closing : Ways S C
+    pub led : HasLed z images (start images) opening schedule world closing
+    pub all : length ends ≡ z.programs
+    pub ended : AreEnds world.programs 0 ends
+
+  -- why a schedule is refused: a line of it, or want of memory
+  abbrev pub IsRefusal : Sizes → (ℕ → Image) → List ℕ → Refused → Type 0
+  IsRefusal z images schedule (refused.Line line) = (opening : Ways S C) × IsRefusedLine z images (start images) opening schedule line
+  IsRefusal z images schedule refused.OutOfMemory = Unit {0}

@@ -35,8 +35,10 @@ pub enum Refused {
 /// Does the lines of a schedule in turn. The number of the first that can't be read or is not enabled, if there is one.
 pub(crate) fn follow<S: RawStore>(world: &mut World<'_, S>, schedule: &[u8]) -> Option<u64>
     ensures { (z : Sizes) (images : ℕ → ImageOf) (w : Defined) → IsWorld S.content S.honest z images world.old.lock.machine world.old.lock.berths.items world.old.programs.items world.old.evacuators.items w
-        → MatchOption result ((v : Defined) × HasLed S.honest z images w schedule.now v × IsWorld S.content S.honest z images world.new.lock.machine world.new.lock.berths.items world.new.programs.items world.new.evacuators.items v)
-        (λ line. IsRefusedLine S.honest z images w schedule.now line) }
+        → MatchOption result ((v : Defined) × HasLed S.honest S.reliable S.failures S.read_gives z images w (record { berths = world.old.lock.berths.items; programs = world.old.programs.items; evacuators = world.old.evacuators.items })
+            schedule.now v (record { berths = world.new.lock.berths.items; programs = world.new.programs.items; evacuators = world.new.evacuators.items })
+            × IsWorld S.content S.honest z images world.new.lock.machine world.new.lock.berths.items world.new.programs.items world.new.evacuators.items v)
+        (λ line. IsRefusedLine S.honest S.reliable S.failures S.read_gives z images w (record { berths = world.old.lock.berths.items; programs = world.old.programs.items; evacuators = world.old.evacuators.items }) schedule.now line) }
 {
     let mut rest = schedule;
     let mut line = 1;
@@ -72,8 +74,8 @@ pub fn replay<M: Stores + Drop>(
     requires evacuators { config.now.evacuators ≤ 64 }
     requires fetchers { config.now.fetchers ≡ 0 }
     ensures { MatchResult result
-        (λ report. IsReport M.S.honest (sizes_of (length images.items) config.now.frames config.now.objects config.now.evacuators) (images_of images.items) schedule.now report.ended.items)
-        (λ refused. IsRefusal M.S.honest (sizes_of (length images.items) config.now.frames config.now.objects config.now.evacuators) (images_of images.items) schedule.now refused) }
+        (λ report. IsReport M.S.honest M.S.reliable M.S.failures M.S.read_gives (sizes_of (length images.items) config.now.frames config.now.objects config.now.evacuators) (images_of images.items) schedule.now report.ended.items)
+        (λ refused. IsRefusal M.S.honest M.S.reliable M.S.failures M.S.read_gives (sizes_of (length images.items) config.now.frames config.now.objects config.now.evacuators) (images_of images.items) schedule.now refused) }
 {
     let Ok(mut world) = World::new(alloc, &images, config) else {
         return Err(Refused::OutOfMemory);

@@ -21,7 +21,7 @@ use Rattle.world_semantics.specs.declared.event.Choice.TheVariants as choice
 use Rattle.world_semantics.specs.Programs.{Eviction, Copying, Stored, NotStored, Refused, Freed, Hold, Mode, Ready, Missing, Bringing, Reading, Filling, Evicting, Releasing, Retreating, Closing, Wanted, Program, Setting, next_touch, object_of, object_or_none, next_free, hold_at, holding, in_mode, first_hold, may_grow, rest_of}
 use Rattle.world_semantics.specs.Turns.{Answer, NotEnabled, Calls, taken, put_so, committed_so, evicts, grows, closes, aims_at, loads_from, loads_by, stores_to, stores_by, leaves_by, ends_by, ready, began, to_fill, seeks, read_so, fills, closed_so, gives_up, by_mode, program_turn}
 use Rattle.world_semantics.specs.Worlds.{Sizes, World, Event, Follows, setting, start, in_range, is_actor, with_program, with_evacuator, acted, event}
-use Rattle.world_semantics.specs.Causes.{HasFailed, IsRefused, IsCaused, CauseOf, HasCause}
+use Rattle.world_semantics.specs.Causes.{HasFailed, IsRefused, IsCaused, CauseOf, LeadsTo, HasCause}
 use Rattle.world_semantics.proofs.Going.{Leads, leads_cond, leads_next}
 use Rattle.world_semantics.proofs.Reached.{leads_taken}
 use Rattle.world_semantics.proofs.Stepping.{enabled}
@@ -245,14 +245,19 @@ module _ (z : Sizes) (images : ℕ → Image) where
         | inr same ↦ inl (subst (λ (y : Program). Tells want y.mode) same so)
       ]
 
+  leads_to : (want : Want) (m : Mode) → Tells want m → LeadsTo want m
+  leads_to OutOfMemory m so = so
+  leads_to NoObjects m so = so
+  leads_to StoreFailed m so = tt
+
   some_caused : (h : Type 0) (k : ℕ) (want : Want) (w v : World) (es : List Event) → Follows h z images w es v → Tells want (v.programs k).mode → Tells want (w.programs k).mode ⊎ HasCause h z images k want w es
   some_caused h k want w v [] f so = inl (subst (λ (y : World). Tells want (y.programs k).mode) f so)
   some_caused h k want w v (e ∷ es) f so = elim (some_caused h k want f.0 v es f.3 so) [
     | inl there ↦ elim (one want w f.0 e k f.1 there) [
       | inl here ↦ inl here
-      | inr r ↦ inr (record { before = []; event = e; after = es; at = w; among = refl; follows = refl; own = r.0; cause = r.1 })
+      | inr r ↦ inr (record { before = []; event = e; after = es; at = w; next = f.0; among = refl; follows = refl; own = r.0; cause = r.1; happens = f.1; leads = leads_to want (f.0.programs k).mode there })
     ]
-    | inr r ↦ inr (record { before = e ∷ r.before; event = r.event; after = r.after; at = r.at; among = ap (λ ys. e ∷ ys) r.among; follows = (f.0, f.1, f.2, r.follows); own = r.own; cause = r.cause })
+    | inr r ↦ inr (record { before = e ∷ r.before; event = r.event; after = r.after; at = r.at; next = r.next; among = ap (λ ys. e ∷ ys) r.among; follows = (f.0, f.1, f.2, r.follows); own = r.own; cause = r.cause; happens = r.happens; leads = r.leads })
   ]
 
   nothing_yet : (want : Want) → Tells want Ready → ⊥

@@ -1,5 +1,5 @@
 -- Why a program wants something.
-use Rattle.std.specs.Prelude.{◌≡◌, ◌⊎◌, ℕ, ◌+◌, ◌<◌, ◌≤◌, true, false, None, List, ◌∷◌, ◌++◌, length}
+use Rattle.std.specs.Prelude.{◌≡◌, ◌⊎◌, ℕ, ◌+◌, ◌<◌, ◌≤◌, true, false, None, Some, List, ◌∷◌, ◌++◌, length}
 use Rattle.cells.specs.declared.ending.Want.{Want}
 use Rattle.cells.specs.declared.ending.Want.TheVariants.{OutOfMemory, NoObjects, StoreFailed}
 use Rattle.code_form.specs.declared.touch.Touch.TheVariants as touch
@@ -8,6 +8,7 @@ use Rattle.code_form.specs.Placed.{pieces}
 use Rattle.world_semantics.specs.declared.event.Actor.TheVariants as actor
 use Rattle.world_semantics.specs.Programs.{Copying, NotStored, Mode, Reading, Evicting, Releasing, Retreating, Closing, Wanted, Program, Setting, next_touch, next_free, may_grow, rest_of}
 use Rattle.world_semantics.specs.Turns.{Answer}
+use Rattle.world_semantics.specs.Worlds as worlds
 use Rattle.world_semantics.specs.Worlds.{Sizes, World, Event, setting, Follows}
 
 -- in this mode the program's own call of the store was refused
@@ -51,13 +52,22 @@ CauseOf g OutOfMemory p a = LacksMemory g p a
 CauseOf g NoObjects p a = LacksObjects g p
 CauseOf g StoreFailed p a = IsRefused g.size p.mode a
 
--- among these events, which begin in the world w, one is of program k, and is the cause of this want
+-- an event that leads to this mode leads to the want itself; from a refused call of the store on, a program first gives back what it has in hand
+abbrev pub LeadsTo : Want → Mode → Type 0
+LeadsTo OutOfMemory m = m ≡ Wanted OutOfMemory
+LeadsTo NoObjects m = m ≡ Wanted NoObjects
+LeadsTo StoreFailed m = Unit {0}
+
+-- among these events, which begin in the world w, one is of program k, is the cause of this want, and leads to it
 pub record HasCause (h : Type 0) (z : Sizes) (images : ℕ → Image) (k : ℕ) (want : Want) (w : World) (events : List Event) : Type 0 where
   pub before : List Event
   pub event : Event
   pub after : List Event
   pub at : World
+  pub next : World
   pub among : events ≡ before ++ event ∷ after
   pub follows : Follows h z images w before at
   pub own : event.actor ≡ actor.Program k
   pub cause : CauseOf (setting z images k) want (at.programs k) event.answer
+  pub happens : worlds.event z images at event ≡ Some next
+  pub leads : LeadsTo want (next.programs k).mode

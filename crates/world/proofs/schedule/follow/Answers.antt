@@ -2,7 +2,7 @@ use Rattle.std.proofs.Common.{◌≡◌, inr, ℕ, suc, ◌+◌, ◌≤◌, ◌<
 use Rattle.std.proofs.Common.{sym}
 use Rattle.std.proofs.lemmas.Bool.{eqb-true}
 use Rattle.schedule_lines.specs.Lines.{Line}
-use Rattle.world.proofs.Replaying.{come_more, has_led, shorter}
+use Rattle.world.proofs.Replaying.{come_more, has_led, shorter, told_by}
 use Rattle.world.proofs.schedule.follow.Goals as goal
 
 pub loop-rest-preserved : goal.loop-rest-preserved
@@ -14,7 +14,9 @@ loop-rest-preserved g c =
           let at = c.loop-rest.invariant.1 z images w is in
           let took = c.in-Took.ensures z images at.0 at.2 in (
             took.3.0,
-            come_more g.S.RawStore.honest z images w at.0 took.3.0 c.args.schedule.now c.loop-rest.rest.now c.in-Some.others.now c.loop-rest.line x took.0 at.1 line took.3.1 took.1,
+            come_more g.S.RawStore.honest g.S.RawStore.reliable g.S.RawStore.failures g.S.RawStore.read_gives z images w at.0 took.3.0 _ _ _ c.args.schedule.now c.loop-rest.rest.now c.in-Some.others.now c.loop-rest.line x took.0
+                at.1 line took.3.1 (λ h. took.1 h)
+                (told_by g.S.RawStore.content g.S.RawStore.honest g.S.RawStore.reliable g.S.RawStore.failures g.S.RawStore.read_gives z images at.0 took.3.0 _ _ _ _ c.in-Some.actor c.in-Some.choice took.0 at.2 took.3.2 took.3.1 took.2),
             took.3.2,
           ),
     )
@@ -25,10 +27,10 @@ returns-in-NotEnabled g c = λ z images w is.
     let line = c.in-Some.ensures in
     let at = c.loop-rest.invariant.1 z images w is in
     let some : 0 < length c.loop-rest.rest.now = omega (arith, shorter x c.in-Some.others.now c.loop-rest.rest.now line) in
-    (at.0, c.loop-rest.rest.now, at.1, some, inr (x, c.in-Some.others.now, line, (c.in-NotEnabled.ensures z images at.0 at.2).0))
+    (at.0, _, c.loop-rest.rest.now, at.1, some, inr (x, c.in-Some.others.now, line, (c.in-NotEnabled.ensures z images at.0 at.2).0))
 
 pub returns : goal.returns
 returns g c = λ z images w is.
     let at = c.loop-rest.invariant.1 z images w is in
     let none : length c.loop-rest.rest.now ≡ 0 = eqb-true (length c.loop-rest.rest.now) 0 (sym c.loop-rest-test.ensures) in
-    (at.0, has_led g.S.RawStore.honest z images w at.0 c.args.schedule.now c.loop-rest.rest.now c.loop-rest.line at.1 none, at.2)
+    (at.0, has_led g.S.RawStore.honest g.S.RawStore.reliable g.S.RawStore.failures g.S.RawStore.read_gives z images w at.0 _ _ c.args.schedule.now c.loop-rest.rest.now c.loop-rest.line at.1 none, at.2)
