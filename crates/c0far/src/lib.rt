@@ -7,5 +7,4 @@ mod plain;
 pub mod say;
 pub mod stream;
 
-pub use command_line::line;
-pub use command_line::words;
+pub use command_line::{line, words};

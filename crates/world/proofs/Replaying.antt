@@ -71,9 +71,9 @@ is_there false c o u is = cc
 -- each actor of an event has a way to the store
 way_at : {A P : Type 0} (xs : List (A × P)) (k n : ℕ) → length xs ≡ n → nat_lt k n ≡ true → (p : P) × (x : A) × (slice_get xs k ≡ Some (x, p))
 way_at {A} {P} xs k n many less = elim (slice_get_cases xs k).1 [
-    inl r ↦ (r.0.1, r.0.0, r.2)
+  | inl r ↦ (r.0.1, r.0.0, r.2)
   | inr r ↦ absurd (let below : k < n = ltb-true k n less in omega (arith, r.0, below, many))
-  ]
+]
 
 pub way_of : {P : Type 0} (z : Sizes) (images : ℕ → Image) (w u : World) (seats : List (Seat × P)) (movers : List (Evacuator × P)) (who : Actor) (c : Choice) (a : Answer) → length seats ≡ z.programs → length movers ≡ z.evacuators
     → event z images w (record { actor = who; choice = c; answer = a }) ≡ Some u → (p : P) × IsPortOf seats movers who p

@@ -8,4 +8,5 @@ returns-in-Err-Refused-clause-done g c =
     inr (inl record {
       none = λ command names. let other : Refused ≡ OutOfMemory = sym c.in-Err-Refused.field-0-is ∙ c.in-Err-Refused.ensures.refused command names in cc;
       shown = c.say_help.ensures;
-      quiet = refl })
+      quiet = refl;
+    })

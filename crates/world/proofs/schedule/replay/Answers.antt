@@ -25,4 +25,4 @@ returns-in-Some g c =
     let z = sizes_of (length given) now.frames now.objects now.evacuators in
     let stuck = c.in-Some.ensures z images (start images) c.in-Ok.ensures.opens in
     subst (λ (xs : List Image). IsRefusal g.M.S.RawStore.honest g.M.S.RawStore.reliable g.M.S.RawStore.failures g.M.S.RawStore.read_gives (sizes_of (length xs) now.frames now.objects now.evacuators) (images_of xs)
-        c.args.schedule.now (refused.Line c.in-Some.line)) c.deref.ensures.value (_, stuck)
+    c.args.schedule.now (refused.Line c.in-Some.line)) c.deref.ensures.value (_, stuck)
