@@ -10,6 +10,7 @@ should run beside it. Its status is that of `rt ci`, and 0 of a run that was onl
 import argparse
 import os
 import re
+import signal
 import subprocess
 import sys
 import tempfile
@@ -148,12 +149,16 @@ def run_of_its_own(log):
 
 
 def run_of_another(folder):
-    """Watches what runs in a folder until no prover has run there for half a minute."""
+    """Watches what runs in a folder until no prover has run there for half a minute, or this is interrupted."""
     watch, begun, last = Watch(folder), time.monotonic(), time.monotonic()
-    while time.monotonic() - last < 30:
-        if watch.look():
-            last = time.monotonic()
-        time.sleep(PAUSE)
+    signal.signal(signal.SIGTERM, signal.default_int_handler)
+    try:
+        while time.monotonic() - last < 30:
+            if watch.look():
+                last = time.monotonic()
+            time.sleep(PAUSE)
+    except KeyboardInterrupt:
+        pass
     return folder, watch, last - begun, 0
 
 
