@@ -36,7 +36,7 @@ module _ {S : Type 0} (kept : S → ℕ → List ℕ → Type 0) (there : S → 
       let h = own (omega arith) in let d = begins_own kept there honest z slots id me o (suc c) new h.0 h.1 low empty is_new s r wide at bound in
       (d.0, d.1, d.2, d.3, ((λ _. d.4), (λ e. absurd (omega arith))))
 
-  pub arrives_any : (k : Bool) (clean : k ≡ true → keeps_clean ≡ true) (stores : (b : S) (o : ℕ) (ws : List ℕ) → kept b o ws → there b) (slots id : ℕ) (me : M) (o f by : ℕ) (b : S)
+  pub arrives_any : (k : Bool) (clean : k ≡ keeps_clean) (stores : (b : S) (o : ℕ) (ws : List ℕ) → kept b o ws → there b) (slots id : ℕ) (me : M) (o f by : ℕ) (b : S)
       → me.0.hand.bringing ≡ Some o → me.0.hand.claimed ≡ Some f → Filled honest z.cells me.0.hand
       → me.1 ≡ (o, b) ∷ rest me.1 → kept b o me.0.hand.promised → by ≡ arrival me.0.number (mine me.0) k
       → Allows (Rule kept there honest z) slots id me o (λ n. (n + by) % 18446744073709551616) (told_arrive_any honest kept there k (step slots o by 0 maybe.none) me)

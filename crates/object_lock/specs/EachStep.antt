@@ -38,9 +38,9 @@ module _ {S : Type 0} (kept : S → ℕ → List ℕ → Type 0) (there : S → 
     -- a mover fills a cell of its frame
     pub fills : (z : Sizes) (slots id : ℕ) (me : Me S View) (k i a : ℕ) → k ≡ cell_word me.0.sizes (mine me.0) i → i < me.0.sizes.cells → me.0.hand.claimed ≡ Some (mine me.0) → Carries kept there honest z slots id me k (λ _. a) (λ x. act x (Fills me.0.number (mine me.0) (index_at me.0 (mine me.0) k) a)) (λ _. told_fill honest (step slots k a 0 maybe.none) me a)
     -- a fetcher arrives
-    pub arrives : (z : Sizes) (k : Bool) (clean : k ≡ true → keeps_clean ≡ true) (slots id : ℕ) (me : Me S View) (o f by : ℕ) (b : S) → me.0.hand.bringing ≡ Some o → me.0.hand.claimed ≡ Some f → Filled honest z.cells me.0.hand → me.1 ≡ (o, b) ∷ rest me.1 → kept b o me.0.hand.promised → by ≡ arrival me.0.number (mine me.0) k → Carries kept there honest z slots id me o (λ n. (n + by) % 18446744073709551616) (λ x. act x (Arrives me.0.number o (mine me.0) k false)) (told_arrive honest k (step slots o by 0 maybe.none) me)
+    pub arrives : (z : Sizes) (k : Bool) (clean : k ≡ keeps_clean) (slots id : ℕ) (me : Me S View) (o f by : ℕ) (b : S) → me.0.hand.bringing ≡ Some o → me.0.hand.claimed ≡ Some f → Filled honest z.cells me.0.hand → me.1 ≡ (o, b) ∷ rest me.1 → kept b o me.0.hand.promised → by ≡ arrival me.0.number (mine me.0) k → Carries kept there honest z slots id me o (λ n. (n + by) % 18446744073709551616) (λ x. act x (Arrives me.0.number o (mine me.0) k false)) (told_arrive honest k (step slots o by 0 maybe.none) me)
     -- an owner arrives
-    pub arrives_own : (z : Sizes) (k : Bool) (clean : k ≡ true → keeps_clean ≡ true) (slots id : ℕ) (me : Me S View) (o f by : ℕ) (b : S) → Owns me.0 o → 0 < (note me.0 o).count → me.0.hand.bringing ≡ Some o → me.0.hand.claimed ≡ Some f → Filled honest z.cells me.0.hand → me.1 ≡ (o, b) ∷ rest me.1 → kept b o me.0.hand.promised → by ≡ arrival me.0.number (mine me.0) k → Carries kept there honest z slots id me o (λ n. (n + by) % 18446744073709551616) (λ x. act x (Arrives me.0.number o (mine me.0) k true)) (told_arrive_own honest kept there k (step slots o by 0 maybe.none) me)
+    pub arrives_own : (z : Sizes) (k : Bool) (clean : k ≡ keeps_clean) (slots id : ℕ) (me : Me S View) (o f by : ℕ) (b : S) → Owns me.0 o → 0 < (note me.0 o).count → me.0.hand.bringing ≡ Some o → me.0.hand.claimed ≡ Some f → Filled honest z.cells me.0.hand → me.1 ≡ (o, b) ∷ rest me.1 → kept b o me.0.hand.promised → by ≡ arrival me.0.number (mine me.0) k → Carries kept there honest z slots id me o (λ n. (n + by) % 18446744073709551616) (λ x. act x (Arrives me.0.number o (mine me.0) k true)) (told_arrive_own honest kept there k (step slots o by 0 maybe.none) me)
     -- a mover tries to mark
     pub marks : (z : Sizes) (slots id : ℕ) (me : Me S View) (o f old new : ℕ) → o < z.objects → f < z.frames → me.0.hand.leaving ≡ None → old ≡ face (Here f false) 0 → new ≡ face (Leaving f me.0.number true) 0 → Carries kept there honest z slots id me o (λ n. either (eqb n old) new n) (λ x. act x (Marks me.0.number o f)) (told_mark honest kept there (step slots o old new maybe.none) me)
     -- a mover copies a cell

@@ -289,7 +289,7 @@ module _ {C : Type 0} (content : C → Option (List ℕ)) (h : Type 0) (z : Size
   arrive_may : (o f k : ℕ) (words : List ℕ) → mode_of x.mode x.words ≡ Filling o f words k → piece_cells ≤ k → 0 < (s.note o).count → May h piece_cells s (Arrives x.setting.mover o f false true)
   arrive_may o f k words e full some =
       let fits = filling o f words k e in
-      (fits.0.0, fits.0.2, filled_all h piece_cells (s.hand x.setting.mover) words fits.2 (λ i l. fits.1 i (omega arith)), (λ _. some), (λ q. cc))
+      (fits.0.0, fits.0.2, filled_all h piece_cells (s.hand x.setting.mover) words fits.2 (λ i l. fits.1 i (omega arith)), (λ _. some), refl)
 
   pub arrives_not : (o f : ℕ) (q : Program) → (object_at t o).count ≡ 0 → (a : Answer) → taken piece_cells s (Calls (Arrives x.setting.mover o f false true) (λ u. q)) ≡ None
   arrives_not o f q none a = refused_call s (Arrives x.setting.mover o f false true) (λ u. q) (by_test (legal piece_cells s (Arrives x.setting.mover o f false true)) refl)

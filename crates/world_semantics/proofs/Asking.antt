@@ -218,7 +218,7 @@ module _ (owner : ℕ → ℕ) (h : Type 0) (g : Setting) (s : State) (p : Progr
   asks_fill o f words k aiming into is same = asks_if (nat_lt k g.size) _ _
       (λ e. (refl, below k g.size e, into.2))
       (λ e. let far : g.size ≤ k = not_below k g.size e in
-      (refl, (λ _. (aimed o aiming).0), (into.0, into.2, (λ i l. (listed words i, is i (omega arith), λ y. same y i l)), (λ _. (aimed o aiming).1), (λ other. cc))))
+      (refl, (λ _. (aimed o aiming).0), (into.0, into.2, (λ i l. (listed words i, is i (omega arith), λ y. same y i l)), (λ _. (aimed o aiming).1), refl)))
 
   asks_giving_up : (q : Option (ℕ × Hold)) → first_hold p.holds ≡ q → Asks (gives_up p q)
   asks_giving_up None e = tt
