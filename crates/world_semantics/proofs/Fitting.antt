@@ -256,7 +256,7 @@ none_open (suc (suc zero)) = refl
 none_open (suc (suc (suc zero))) = refl
 none_open (suc (suc (suc (suc k)))) = refl
 
-begin_fit : (z : Sizes) (images : ℕ → Image) → AllFit z images (start images)
+pub begin_fit : (z : Sizes) (images : ℕ → Image) → AllFit z images (start images)
 begin_fit z images k =
     let g = setting z images k in
     let p : Program = begun (images k) in

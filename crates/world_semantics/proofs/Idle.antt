@@ -34,7 +34,7 @@ program_stays z (actor.Program j) w u k there stay b = let l : j < z.programs = 
 program_stays z (actor.Evacuator j) w u k there stay b = ap (λ (ps : ℕ → Program). ps k) stay.1
 program_stays z (actor.Fetcher j) w u k there stay b = ap (λ (ps : ℕ → Program). ps k) stay.0
 
-rests_on : (h : Type 0) (z : Sizes) (images : ℕ → Image) (w u : World) (e : Event) → event z images w e ≡ Some u → (h → IsHonest z w e.actor e.answer) → IsSound h z w → Rests z images w → Rests z images u
+pub rests_on : (h : Type 0) (z : Sizes) (images : ℕ → Image) (w u : World) (e : Event) → event z images w e ≡ Some u → (h → IsHonest z w e.actor e.answer) → IsSound h z w → Rests z images w → Rests z images u
 rests_on h z images w u e is honest sound rests =
     let there = (both (is_actor z e.actor) _ (enabled (is_actor z e.actor && in_range z e.choice) (acted z images w e.actor e.choice e.answer) u is).0).0 in
     let step = stepped h z images w u e is honest sound in
@@ -47,6 +47,9 @@ resting : (h : Type 0) (z : Sizes) (images : ℕ → Image) (w v : World) (es : 
 resting h z images w v [] f sound rests = subst (Rests z images) (sym f) rests
 resting h z images w v (e ∷ es) f sound rests = resting h z images f.0 v es f.3 (happened h z images w f.0 e f.1 f.2 sound).sound (rests_on h z images w f.0 e f.1 f.2 sound rests)
 
+pub rests_first : (z : Sizes) (images : ℕ → Image) → Rests z images (start images)
+rests_first z images = record { hands = λ m nobody. refl; programs = λ k b. refl }
+
 -- in every world that is reached
 pub reached_rests : (h : Type 0) (z : Sizes) (images : ℕ → Image) (events : List Event) (v : World) → Follows h z images (start images) events v → Rests z images v
-reached_rests h z images events v f = resting h z images (start images) v events f (starts h z images) (record { hands = λ m nobody. refl; programs = λ k b. refl })
+reached_rests h z images events v f = resting h z images (start images) v events f (starts h z images) (rests_first z images)

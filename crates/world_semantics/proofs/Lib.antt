@@ -15,6 +15,7 @@ pub mod Moving
 pub mod Notes
 pub mod Onward
 pub mod Programs
+pub mod Ranged
 pub mod Reached
 pub mod Schedules
 pub mod Scopes

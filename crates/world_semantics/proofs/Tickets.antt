@@ -1,6 +1,6 @@
 -- each frame that is held has a ticket of its own: of a scope, of an aim that is under way, or of an evacuator
 use Rattle.std.proofs.Common.{◌≡◌, ◌≢◌, ◌⊎◌, inl, inr, ℕ, zero, suc, ◌+◌, ◌-◌, ◌*◌, ◌<◌, ◌≤◌, Bool, true, false, cond, not, ◌&&◌, List, [], ◌∷◌, Option, Some, None, refl, sym, ap, ◌∙◌, subst, arith, ne_eqb}
-use Rattle.std.specs.Prelude.{◌==◌, ◌/◌, ◌%◌, nat_lt}
+use Rattle.std.specs.Prelude.{◌==◌, ◌/◌, ◌%◌}
 use Rattle.std.proofs.Math.Nat.{mod-lt}
 use Rattle.std.proofs.lemmas.Nat.{div-add-mod'}
 use Rattle.std.proofs.lemmas.Bool.Decides.{nat_tests}
@@ -25,7 +25,7 @@ use Rattle.world_semantics.proofs.Enough.{Ticketed, enough}
 use Rattle.world_semantics.proofs.Few.{FewScopes, few_aimed, few_held}
 use Rattle.world_semantics.proofs.Fitting.{AllFit}
 use Rattle.world_semantics.proofs.Idle.{IsNobody, Rests}
-use Rattle.world_semantics.proofs.Moving.{below, not_below}
+use Rattle.world_semantics.proofs.Ranged.{AreRanged, lt_or}
 
 -- ---- what movers have in hand of a frame
 
@@ -196,13 +196,6 @@ is_taken s (Object o) = not (((s.word o).count == 0) && is_here (s.word o).place
 is_taken s (Claimer m) = true
 is_taken s (Freer m) = true
 
-lt_by : (a b : ℕ) (c : Bool) → nat_lt a b ≡ c → (a < b) ⊎ (b ≤ a)
-lt_by a b true e = inl (below a b e)
-lt_by a b false e = inr (not_below a b e)
-
-lt_or : (a b : ℕ) → (a < b) ⊎ (b ≤ a)
-lt_or a b = lt_by a b (nat_lt a b) refl
-
 not_true : (b : Bool) → not b ≡ true → b ≡ false
 not_true true e = cc
 not_true false e = refl
@@ -220,7 +213,7 @@ not_taken false b e = cc
 
 -- ---- tickets
 
-module _ (h : Type 0) (z : Sizes) (images : ℕ → Image) (w : World) (sound : IsSound h z w) (all : AllFit z images w) (rests : Rests z images w) (room : 0 < share z) where
+module _ (h : Type 0) (z : Sizes) (images : ℕ → Image) (w : World) (sound : IsSound h z w) (all : AllFit z images w) (rests : Rests z images w) (ranged : AreRanged z w) (room : 0 < share z) where
   abbrev hands : ℕ → Hand
   hands m = w.lock.hand m
 
@@ -353,15 +346,19 @@ module _ (h : Type 0) (z : Sizes) (images : ℕ → Image) (w : World) (sound : 
 
   -- ---- a frame that isn't taken is unheld
 
-  here_at : (o f : ℕ) (p : Place) → (w.lock.word o).place ≡ p → framed p ≡ Some f → is_here p ≡ true → (w.lock.word o).count ≡ 0 → IsUnheld w.lock f
+  -- an object in a frame is one of the objects
+  framed_below : (o f : ℕ) (k : Bool) → (w.lock.word o).place ≡ Here f k → o < z.objects
+  framed_below o f k e = elim (lt_or o z.objects) [ inl l ↦ l | inr far ↦ (let no : Here f k ≡ Away = sym e ∙ ranged o far in cc) ]
+
+  here_at : (o f : ℕ) (p : Place) → (w.lock.word o).place ≡ p → framed p ≡ Some f → is_here p ≡ true → (w.lock.word o).count ≡ 0 → IsUnheld z w.lock f
   here_at o f Away e there here none = cc
   here_at o f (Coming m) e there here none = cc
   here_at o f (Leaving g m k) e there here none = cc
   here_at o f (Here g k) e there here none =
       let same : g ≡ f = cc in
-      inr (o, k, ap (λ (i : ℕ). counted i (w.lock.word o).place) none ∙ (ap (counted 0) e ∙ ap (λ i. counted 0 (Here i k)) same))
+      inr (o, framed_below o g k e, k, ap (λ (i : ℕ). counted i (w.lock.word o).place) none ∙ (ap (counted 0) e ∙ ap (λ i. counted 0 (Here i k)) same))
 
-  unheld_by : (f : ℕ) (x : Holder) → FrameOk w.lock f x → is_taken w.lock x ≡ false → IsUnheld w.lock f
+  unheld_by : (f : ℕ) (x : Holder) → FrameOk w.lock f x → is_taken w.lock x ≡ false → IsUnheld z w.lock f
   unheld_by f Nobody ok free = inl ok
   unheld_by f (Object o) ok free =
       let b = not_taken ((w.lock.word o).count == 0) (is_here (w.lock.word o).place) free in
@@ -387,7 +384,7 @@ module _ (h : Type 0) (z : Sizes) (images : ℕ → Image) (w : World) (sound : 
       only_brings (hands (suc k)) o f only (subst (λ m. HasFrame (hands (suc m)) f) r.0 has)
   spare k o a only l f t (ByEvacuator e b c has i) q = let m : slot images k a.scope < scopes_below images z.programs = slot_below k a.scope l (aim_below k o a) in absurd (omega arith)
 
-  seeks : (k o : ℕ) → k < z.programs → (w.programs k).mode ≡ Bringing o → need z images ≤ z.frames → (f : ℕ) × (f < z.frames) × IsUnheld w.lock f
+  seeks : (k o : ℕ) → k < z.programs → (w.programs k).mode ≡ Bringing o → need z images ≤ z.frames → (f : ℕ) × (f < z.frames) × IsUnheld z w.lock f
   seeks k o l m fits =
       let has : (f : ℕ) → is_taken w.lock (w.lock.who f) ≡ true → (t : ℕ) × IsTicket f t = λ f e. taken_by f (w.lock.who f) (sound.lock.frame f) e in
       let held : ℕ → Bool = λ f. is_taken w.lock (w.lock.who f) in
@@ -413,6 +410,6 @@ some_share z images w k o all m =
     omega arith
 
 -- where there are enough frames, one is unheld wherever a program seeks one
-pub some_unheld : (h : Type 0) (z : Sizes) (images : ℕ → Image) (w : World) → IsSound h z w → AllFit z images w → Rests z images w → (k o : ℕ) → k < z.programs → (w.programs k).mode ≡ Bringing o → need z images ≤ z.frames
-    → (f : ℕ) × (f < z.frames) × IsUnheld w.lock f
-some_unheld h z images w sound all rests k o l m fits = seeks h z images w sound all rests (some_share z images w k o all m) k o l m fits
+pub some_unheld : (h : Type 0) (z : Sizes) (images : ℕ → Image) (w : World) → IsSound h z w → AllFit z images w → Rests z images w → AreRanged z w → (k o : ℕ) → k < z.programs → (w.programs k).mode ≡ Bringing o → need z images ≤ z.frames
+    → (f : ℕ) × (f < z.frames) × IsUnheld z w.lock f
+some_unheld h z images w sound all rests ranged k o l m fits = seeks h z images w sound all rests ranged (some_share z images w k o all m) k o l m fits

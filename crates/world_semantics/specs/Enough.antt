@@ -1,5 +1,5 @@
 -- How many frames programs and evacuators may need at once.
-use Rattle.std.specs.Prelude.{◌≡◌, ◌⊎◌, ℕ, zero, suc, ◌+◌, Bool}
+use Rattle.std.specs.Prelude.{◌≡◌, ◌⊎◌, ℕ, zero, suc, ◌+◌, ◌<◌, Bool}
 use Rattle.code_form.specs.Form.{Image}
 use Rattle.code_form.specs.Code.{most_scopes}
 use Rattle.pointer_word.specs.Words.{Here, counted}
@@ -15,6 +15,6 @@ scopes_below images (suc k) = scopes_below images k + most_scopes (images k).fun
 abbrev pub need : Sizes → (ℕ → Image) → ℕ
 need z images = scopes_below images z.programs + z.evacuators
 
--- the frame is free, or an object is in it that has no hold and is in no mover's hands
-abbrev pub IsUnheld : State → ℕ → Type 0
-IsUnheld s f = (s.frame f ≡ 0) ⊎ ((o : ℕ) × (k : Bool) × (s.word o ≡ counted 0 (Here f k)))
+-- the frame is free, or one of the objects is in it that has no hold and is in no mover's hands
+abbrev pub IsUnheld : Sizes → State → ℕ → Type 0
+IsUnheld z s f = (s.frame f ≡ 0) ⊎ ((o : ℕ) × (o < z.objects) × (k : Bool) × (s.word o ≡ counted 0 (Here f k)))

@@ -101,10 +101,10 @@ pub fn scopes_follow()
     run_laws();
 }
 
-/// Where there is a frame for each scope of a program and each evacuator, one is free or holds an object with no hold that is in no mover's hands
-/// wherever a program seeks a frame, after any events over any store.
+/// Where there is a frame for each scope of a program and each evacuator, one is free or holds one of the objects with no hold that is in no mover's
+/// hands wherever a program seeks a frame, after any events over any store.
 pub fn enough_frames()
-    ensures { (z : Sizes) (images : ℕ → Image) (events : List Event) (v : World) (k o : ℕ) → 0 < z.cells → Follows ⊥ z images (start images) events v → need z images ≤ z.frames → k < z.programs → (v.programs k).mode ≡ Bringing o → (f : ℕ) × (f < z.frames) × IsUnheld v.lock f }
+    ensures { (z : Sizes) (images : ℕ → Image) (events : List Event) (v : World) (k o : ℕ) → 0 < z.cells → Follows ⊥ z images (start images) events v → need z images ≤ z.frames → k < z.programs → (v.programs k).mode ≡ Bringing o → (f : ℕ) × (f < z.frames) × IsUnheld z v.lock f }
 {
     effect_laws();
     heap_laws();
