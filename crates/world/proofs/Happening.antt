@@ -124,6 +124,7 @@ module _ {C P : Type 0} (content : C → Option (List ℕ)) (h : Type 0) (z : Si
                     (upd-same w.evacuators k r.1 j s.0 ∙ g.2.2.1, mover ∙ ((is.evacuators k x here).1 ∙ ap (λ i. suc (z.programs + i)) (sym s.0)))
                 | inr s ↦ (upd-other w.evacuators k r.1 j s.0 ∙ (is.evacuators j y s.1).0, (is.evacuators j y s.1).1)
               ];
+              fetchers = is.fetchers;
               reached = (is.reached.0 ++ e ∷ [], follows_push h z images (start images) w u is.reached.0 e is.reached.1 happens (λ _. tt));
               cells = is.cells;
               programs_many = is.programs_many;
@@ -196,6 +197,7 @@ module _ {C P : Type 0} (content : C → Option (List ℕ)) (h : Type 0) (z : Si
                 | inr s ↦ (subst (IsProgram y.0) (sym (upd-other w.programs k r.1 j s.0)) (is.programs j y s.1).0, (is.programs j y s.1).1)
               ];
               evacuators = is.evacuators;
+              fetchers = is.fetchers;
               reached = (is.reached.0 ++ e ∷ [], follows_push h z images (start images) w u is.reached.0 e is.reached.1 happens reads);
               cells = is.cells;
               programs_many = length-set seats k (x', p') ∙ is.programs_many;

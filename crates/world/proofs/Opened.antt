@@ -72,13 +72,13 @@ idle_push {P} programs movers movers' y e all none mover =
     ])
 
 -- the opening world
-pub opens_world : {C P : Type 0} (content : C → Option (List ℕ)) (h : Type 0) (images : List RustImage) (frames objects evacuators : ℕ) (t : Tables) (berths : List (Berth C)) (seats : List (Seat × P)) (movers : List (Evacuator × P))
+pub opens_world : {C P : Type 0} (content : C → Option (List ℕ)) (h : Type 0) (images : List RustImage) (frames objects evacuators fetchers : ℕ) (t : Tables) (berths : List (Berth C)) (seats : List (Seat × P)) (movers : List (Evacuator × P))
     → t ≡ record { objects = replicate objects resting; frames = replicate frames free } → objects ≤ 16777216 → frames ≤ 1048576
     → length berths ≡ objects → AreFar content berths (λ _. Never) → length seats ≡ length images → AreBegun images (objects / length images) seats → length movers ≡ evacuators → AreIdle (length images) movers
-    → IsWorld content h (sizes_of (length images) frames objects evacuators) (images_of images) t berths seats movers (start (images_of images))
-opens_world {C} {P} content h images frames objects evacuators t berths seats movers e few few_frames many far seats_many begun_all movers_many idle_all = record {
+    → IsWorld content h (sizes_of (length images) frames objects evacuators fetchers) (images_of images) t berths seats movers (start (images_of images))
+opens_world {C} {P} content h images frames objects evacuators fetchers t berths seats movers e few few_frames many far seats_many begun_all movers_many idle_all = record {
   shows = record {
-    tables = subst (λ (y : Tables). Shown (sizes_of (length images) frames objects evacuators) y (start (images_of images)).lock) (sym e) (record {
+    tables = subst (λ (y : Tables). Shown (sizes_of (length images) frames objects evacuators fetchers) y (start (images_of images)).lock) (sym e) (record {
       objects = λ o. subst (λ (x : Object). IsObject x (counted 0 Away) blank) (sym (same_at objects resting o)) (record { word = refl; count = refl; told = refl; writing = refl });
       frames = λ f. sym (ap (λ (x : Frame). frame_word x.held_for) (same_at frames free f));
       cells = λ f i. zeros_at piece_cells i ∙ sym (ap (λ (x : Frame). listed x.cells i) (same_at frames free f));
@@ -96,6 +96,7 @@ opens_world {C} {P} content h images frames objects evacuators t berths seats mo
     ap (λ (y : Seat). y.setting) is,
   );
   evacuators = λ k x q. let is = idle_all k x q in (sym (ap (option_map (λ (y : RustEviction). eviction_of y x.0.words)) is.0), is.1);
+  fetchers = λ k. refl;
   reached = ([], refl);
   cells = refl;
   programs_many = seats_many;

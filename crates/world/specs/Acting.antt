@@ -89,11 +89,12 @@ module _ {C : Type 0} (content : C → Option (List ℕ)) where
     pub fits : FitsEvacuator piece_cells s.far (s.hand x.mover) (eviction_in x)
 
   -- The world w, of these sizes and with these images, is what code holds: its tables and berths, and its programs and evacuators, each beside
-  -- its way to the store. It was reached by events, over an honest store where h holds
+  -- its way to the store; its fetchers are idle. It was reached by events, over an honest store where h holds
   pub record IsWorld {P : Type 0} (h : Type 0) (z : Sizes) (images : ℕ → Image) (t : Tables) (berths : List (Berth C)) (seats : List (Seat × P)) (movers : List (Evacuator × P)) (w : World) : Type 0 where
     pub shows : Shows z t berths w.lock
     pub programs : (k : ℕ) (x : Seat × P) → slice_get seats k ≡ Some x → IsProgram x.0 (w.programs k) × (x.0.setting ≡ setting z images k)
     pub evacuators : (k : ℕ) (x : Evacuator × P) → slice_get movers k ≡ Some x → (w.evacuators k ≡ eviction_in x.0) × (x.0.mover ≡ suc (z.programs + k))
+    pub fetchers : (k : ℕ) → w.fetchers k ≡ None
     pub reached : (events : List Event) × Follows h z images (start images) events w
     pub cells : z.cells ≡ piece_cells
     pub programs_many : length seats ≡ z.programs

@@ -17,9 +17,10 @@ no_image = record { head = record { texts = []; layouts = [] }; functions = [] }
 abbrev pub images_of : List RustImage → ℕ → Image
 images_of images k = slice_index_or (map image_of images) k no_image
 
--- the sizes of a world of so many programs, frames, objects and evacuators
-abbrev pub sizes_of : ℕ → ℕ → ℕ → ℕ → Sizes
-sizes_of programs frames objects evacuators = record { cells = piece_cells; programs = programs; evacuators = evacuators; frames = frames; objects = objects }
+-- the sizes of a world of so many programs, frames, objects, evacuators and fetchers
+abbrev pub sizes_of : ℕ → ℕ → ℕ → ℕ → ℕ → Sizes
+sizes_of programs frames objects evacuators fetchers =
+    record { cells = piece_cells; programs = programs; evacuators = evacuators; fetchers = fetchers; frames = frames; objects = objects }
 
 -- each program is at its beginning, with its share of the objects
 abbrev pub AreBegun : {P : Type 0} → List RustImage → ℕ → List (Seat × P) → Type 0

@@ -74,8 +74,8 @@ pub fn replay<M: Stores + Drop>(
     requires evacuators { config.now.evacuators ≤ 64 }
     requires fetchers { config.now.fetchers ≡ 0 }
     ensures { MatchResult result
-        (λ report. IsReport M.S.honest M.S.reliable M.S.failures M.S.read_gives (sizes_of (length images.items) config.now.frames config.now.objects config.now.evacuators) (images_of images.items) schedule.now report.ended.items)
-        (λ refused. IsRefusal M.S.honest M.S.reliable M.S.failures M.S.read_gives (sizes_of (length images.items) config.now.frames config.now.objects config.now.evacuators) (images_of images.items) schedule.now refused) }
+        (λ report. IsReport M.S.honest M.S.reliable M.S.failures M.S.read_gives (sizes_of (length images.items) config.now.frames config.now.objects config.now.evacuators config.now.fetchers) (images_of images.items) schedule.now report.ended.items)
+        (λ refused. IsRefusal M.S.honest M.S.reliable M.S.failures M.S.read_gives (sizes_of (length images.items) config.now.frames config.now.objects config.now.evacuators config.now.fetchers) (images_of images.items) schedule.now refused) }
 {
     let Ok(mut world) = World::new(alloc, &images, config) else {
         return Err(Refused::OutOfMemory);

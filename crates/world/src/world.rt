@@ -41,7 +41,7 @@ impl<'a, S: RawStore> World<'a, S> {
         requires objects { (0 < config.now.objects) × (config.now.objects ≤ 16777216) }
         requires evacuators { config.now.evacuators ≤ 64 }
         requires fetchers { config.now.fetchers ≡ 0 }
-        ensures opens { IfOk result (λ world. IsWorld S.content S.honest (sizes_of (length images.now) config.now.frames config.now.objects config.now.evacuators) (images_of images.now)
+        ensures opens { IfOk result (λ world. IsWorld S.content S.honest (sizes_of (length images.now) config.now.frames config.now.objects config.now.evacuators config.now.fetchers) (images_of images.now)
             world.lock.machine world.lock.berths.items world.programs.items world.evacuators.items (start (images_of images.now))) }
         ensures wants { IfErr result (λ want. want ≢ Want.NoObjects) }
     {

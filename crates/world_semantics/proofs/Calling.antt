@@ -8,7 +8,9 @@ use Rattle.pointer_word.specs.Calls.{Call, Opens, Closes, Clears, Stores, Begins
 use Rattle.pointer_word.specs.Sound.{Inv}
 use Rattle.world_semantics.specs.Programs.{Eviction, Copying, Stored, NotStored, Refused, Freed, Mode, Ready, Missing, Bringing, Reading, Filling, Evicting, Releasing, Retreating, Closing, Wanted}
 use Rattle.world_semantics.specs.Steps.{maker}
-use Rattle.world_semantics.specs.InHand.{WasPut, FitsEviction, FitsMode, FitsEvacuator}
+use Rattle.world_semantics.specs.Fetchers as fetching
+use Rattle.world_semantics.specs.Fetchers.{Fetching}
+use Rattle.world_semantics.specs.InHand.{WasPut, FitsEviction, FitsMode, FitsEvacuator, FitsFetcher}
 use Rattle.pointer_word.proofs.Upd.{upd-same, upd-other, upd_kept}
 
 -- the mover m has x in hand, and the store cells are as before
@@ -220,3 +222,11 @@ mode_stays h n j s t x (Wanted w) stay is fits = fits
 pub evacuator_stays : (n j : ℕ) (s t : State) (x : Hand) (e : Option Eviction) → StoresStay j s t → s.hand j ≡ x → FitsEvacuator n s.far x e → FitsEvacuator n t.far x e
 evacuator_stays n j s t x None stay is fits = fits
 evacuator_stays n j s t x (Some e) stay is fits = (fits.0, fits.1, eviction_stays n j s t x e stay is fits.2)
+
+pub fetcher_stays : (h : Type 0) (n j : ℕ) (s t : State) (x : Hand) (d : Option Fetching) → StoresStay j s t → s.hand j ≡ x → FitsFetcher h n s.far x d → FitsFetcher h n t.far x d
+fetcher_stays h n j s t x None stay is fits = fits
+fetcher_stays h n j s t x (Some (fetching.Bringing o)) stay is fits = fits
+fetcher_stays h n j s t x (Some (fetching.Reading o f)) stay is fits = (fits.0, stay.put o fits.1)
+fetcher_stays h n j s t x (Some (fetching.Filling o f words k)) stay is fits = fits
+fetcher_stays h n j s t x (Some (fetching.Releasing o f)) stay is fits = fits
+fetcher_stays h n j s t x (Some (fetching.Retreating o)) stay is fits = fits

@@ -32,7 +32,7 @@ not_mover z (actor.Fetcher k) m there nobody q = cc
 program_stays : (z : Sizes) (who : Actor) (w u : World) (k : ℕ) → is_actor z who ≡ true → OthersStay w u who → z.programs ≤ k → u.programs k ≡ w.programs k
 program_stays z (actor.Program j) w u k there stay b = let l : j < z.programs = below j z.programs there in stay.0 k (λ e. absurd (omega arith))
 program_stays z (actor.Evacuator j) w u k there stay b = ap (λ (ps : ℕ → Program). ps k) stay.1
-program_stays z (actor.Fetcher j) w u k there stay b = ap (λ (ps : ℕ → Program). ps k) stay.0
+program_stays z (actor.Fetcher j) w u k there stay b = ap (λ (ps : ℕ → Program). ps k) stay.1
 
 pub rests_on : (h : Type 0) (z : Sizes) (images : ℕ → Image) (w u : World) (e : Event) → event z images w e ≡ Some u → (h → IsHonest z w e.actor e.answer) → IsSound h z w → Rests z images w → Rests z images u
 rests_on h z images w u e is honest sound rests =

@@ -15,9 +15,10 @@ use Rattle.world_semantics.specs.declared.event.Choice.{Choice}
 use Rattle.world_semantics.specs.Programs.{Eviction, Mode, Program}
 use Rattle.world_semantics.specs.Turns.{Answer, Turn, NotEnabled, Alone, Calls, after_call, taken, evacuator_turn, program_turn}
 use Rattle.world_semantics.specs.Worlds.{Sizes, World, Event, mover_of, setting, start, in_range, is_actor, with_program, with_evacuator, acted, event, IsHonest, Follows}
-use Rattle.world_semantics.specs.InHand.{FitsMode, FitsEvacuator}
+use Rattle.world_semantics.specs.Fetchers.{Fetching}
+use Rattle.world_semantics.specs.InHand.{FitsMode, FitsEvacuator, FitsFetcher}
 use Rattle.world_semantics.specs.Steps.{maker, or_self, OneCall, OthersStay, OtherHandsStay, IsSound, IsStep}
-use Rattle.world_semantics.proofs.Calling.{other_hand, stores_stay, mode_stays, evacuator_stays}
+use Rattle.world_semantics.proofs.Calling.{other_hand, stores_stay, mode_stays, evacuator_stays, fetcher_stays}
 use Rattle.world_semantics.proofs.Moving.{below, granted_may, TurnOk}
 use Rattle.world_semantics.proofs.Programs.{program_ok, evacuator_ok}
 
@@ -67,6 +68,14 @@ other_evacuator h n m s t (inr x) inv j d mode fits =
     let k : FitsEvacuator n (act s c).far (s.hand j) mode = evacuator_stays n j s (act s c) (s.hand j) mode (stores_stay h n j s c x.2 inv not) refl fits in
     subst (λ (y : State). FitsEvacuator n y.far (y.hand j) mode) (sym x.4) (subst (λ y. FitsEvacuator n (act s c).far y mode) (sym (other_hand j s c not)) k)
 
+other_fetcher : (h : Type 0) (n m : ℕ) (s t : State) → OneCall h n m s t → Inv h n s → (j : ℕ) → j ≢ m → (d : Option Fetching) → FitsFetcher h n s.far (s.hand j) d → FitsFetcher h n t.far (t.hand j) d
+other_fetcher h n m s t (inl e) inv j d mode fits = subst (λ (y : State). FitsFetcher h n y.far (y.hand j) mode) (sym e) fits
+other_fetcher h n m s t (inr x) inv j d mode fits =
+    let c : Call = x.0 in
+    let not = not_made c m j x.1 d in
+    let k : FitsFetcher h n (act s c).far (s.hand j) mode = fetcher_stays h n j s (act s c) (s.hand j) mode (stores_stay h n j s c x.2 inv not) refl fits in
+    subst (λ (y : State). FitsFetcher h n y.far (y.hand j) mode) (sym x.4) (subst (λ y. FitsFetcher h n (act s c).far y mode) (sym (other_hand j s c not)) k)
+
 -- ---- an event
 
 -- what an event leads to
@@ -97,10 +106,11 @@ by_program h z images w u k c a (Some r) l e q honest is =
                 (other_mode h n m w.lock r.0 did.call is.lock (suc j) (λ i. d (omega arith)) (w.programs j).mode (is.hands.program j b))
           ];
           evacuator = λ j b. other_evacuator h n m w.lock r.0 did.call is.lock (suc (z.programs + j)) (λ i. absurd (omega arith)) (w.evacuators j) (is.hands.evacuator j b);
+          fetcher = λ j b. other_fetcher h n m w.lock r.0 did.call is.lock (suc (z.programs + z.evacuators + j)) (λ i. absurd (omega arith)) (w.fetchers j) (is.hands.fetcher j b);
         };
       };
       call = did.call;
-      others = ((λ j d. upd-other w.programs k r.1 j d), refl);
+      others = ((λ j d. upd-other w.programs k r.1 j d), refl, refl);
     })
 
 by_evacuator : (h : Type 0) (z : Sizes) (w u : World) (k : ℕ) (c : Choice) (a : Answer) (x : Option (State × Option Eviction)) → k < z.evacuators
@@ -125,10 +135,11 @@ by_evacuator h z w u k c a (Some r) l e q is =
             | inr d ↦ subst (λ (x : Option Eviction). FitsEvacuator n r.0.far (r.0.hand (suc (z.programs + j))) x) (sym (upd-other w.evacuators k r.1 j d))
                 (other_evacuator h n m w.lock r.0 did.call is.lock (suc (z.programs + j)) (λ i. d (omega arith)) (w.evacuators j) (is.hands.evacuator j b))
           ];
+          fetcher = λ j b. other_fetcher h n m w.lock r.0 did.call is.lock (suc (z.programs + z.evacuators + j)) (λ i. absurd (omega arith)) (w.fetchers j) (is.hands.fetcher j b);
         };
       };
       call = did.call;
-      others = ((λ j d. upd-other w.evacuators k r.1 j d), refl);
+      others = ((λ j d. upd-other w.evacuators k r.1 j d), refl, refl);
     })
 
 both : (a b : Bool) → (a && b) ≡ true → (a ≡ true) × (b ≡ true)
@@ -164,7 +175,7 @@ followed h z images w v (e ∷ es) f is = followed h z images f.0 v es f.3 (happ
 pub starts : (h : Type 0) (z : Sizes) (images : ℕ → Image) → IsSound h z (start images)
 starts h z images = record {
   lock = opens_well h z.cells;
-  hands = record { program = λ k l. (refl, refl, (refl, refl)); evacuator = λ k l. (refl, refl, (refl, refl)) };
+  hands = record { program = λ k l. (refl, refl, (refl, refl)); evacuator = λ k l. (refl, refl, (refl, refl)); fetcher = λ k l. (refl, refl, (refl, refl)) };
 }
 
 pub reached : (h : Type 0) (z : Sizes) (images : ℕ → Image) (v : World) (es : List Event) → Follows h z images (start images) es v → IsSound h z v

@@ -1,4 +1,4 @@
--- How many frames programs and evacuators may need at once.
+-- How many frames programs, evacuators and fetchers may need at once.
 use Rattle.std.specs.Prelude.{◌≡◌, ◌⊎◌, ℕ, zero, suc, ◌+◌, ◌<◌, Bool}
 use Rattle.code_form.specs.Form.{Image}
 use Rattle.code_form.specs.Code.{most_scopes}
@@ -11,9 +11,9 @@ abbrev pub scopes_below : (ℕ → Image) → ℕ → ℕ
 scopes_below images zero = 0
 scopes_below images (suc k) = scopes_below images k + most_scopes (images k).functions
 
--- a frame for each scope of a program, and one for each evacuator
+-- a frame for each scope of a program, and one for each evacuator and each fetcher
 abbrev pub need : Sizes → (ℕ → Image) → ℕ
-need z images = scopes_below images z.programs + z.evacuators
+need z images = scopes_below images z.programs + z.evacuators + z.fetchers
 
 -- the frame is free, or one of the objects is in it that has no hold and is in no mover's hands
 abbrev pub IsUnheld : Sizes → State → ℕ → Type 0

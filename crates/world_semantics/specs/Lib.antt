@@ -1,6 +1,7 @@
 pub mod Causes
 pub mod Enabled
 pub mod Enough
+pub mod Fetchers
 pub mod Following
 pub mod Holding
 pub mod InHand

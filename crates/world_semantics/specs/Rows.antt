@@ -81,7 +81,7 @@ answer_of NoReads w = record { stored = true; read = None; grew = true }
 
 -- one program and one evacuator
 abbrev pub sizes : Setup → Sizes
-sizes x = record { cells = 64; programs = 1; evacuators = 1; frames = x.frames; objects = x.objects }
+sizes x = record { cells = 64; programs = 1; evacuators = 1; fetchers = 0; frames = x.frames; objects = x.objects }
 
 -- the world after these lines; none where one of them is refused
 abbrev pub replayed : Setup → Option World → List Line → Option World

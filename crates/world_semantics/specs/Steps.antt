@@ -39,9 +39,9 @@ OneCall h n m s t = (t ≡ s) ⊎ ((c : Call) × (or_self (maker c) m ≡ m) × 
 
 -- every other actor is as it was
 abbrev pub OthersStay : World → World → Actor → Type 0
-OthersStay w u (actor.Program k) = ((j : ℕ) → j ≢ k → u.programs j ≡ w.programs j) × (u.evacuators ≡ w.evacuators)
-OthersStay w u (actor.Evacuator k) = ((j : ℕ) → j ≢ k → u.evacuators j ≡ w.evacuators j) × (u.programs ≡ w.programs)
-OthersStay w u (actor.Fetcher k) = (u.programs ≡ w.programs) × (u.evacuators ≡ w.evacuators)
+OthersStay w u (actor.Program k) = ((j : ℕ) → j ≢ k → u.programs j ≡ w.programs j) × (u.evacuators ≡ w.evacuators) × (u.fetchers ≡ w.fetchers)
+OthersStay w u (actor.Evacuator k) = ((j : ℕ) → j ≢ k → u.evacuators j ≡ w.evacuators j) × (u.programs ≡ w.programs) × (u.fetchers ≡ w.fetchers)
+OthersStay w u (actor.Fetcher k) = ((j : ℕ) → j ≢ k → u.fetchers j ≡ w.fetchers j) × (u.programs ≡ w.programs) × (u.evacuators ≡ w.evacuators)
 
 -- every other mover has in hand what it had
 abbrev pub OtherHandsStay : State → State → ℕ → Type 0

@@ -1,4 +1,4 @@
--- The world: programs and evacuators over one machine of words, frames and cells, and its events.
+-- The world: programs, evacuators and fetchers over one machine of words, frames and cells, and its events.
 use Rattle.std.specs.Prelude.{◌≡◌, ℕ, suc, ◌+◌, ◌*◌, ◌/◌, ◌<◌, cond, ◌&&◌, nat_lt, Bool, true, false, Option, Some, None, List, [], ◌∷◌}
 use Rattle.code_form.specs.Form.{Image}
 use Rattle.pointer_word.specs.Hands.{upd, listed}
@@ -7,22 +7,25 @@ use Rattle.world_semantics.specs.declared.event.Actor.{Actor}
 use Rattle.world_semantics.specs.declared.event.Actor.TheVariants as actor
 use Rattle.world_semantics.specs.declared.event.Choice.{Choice}
 use Rattle.world_semantics.specs.declared.event.Choice.TheVariants as choice
+use Rattle.world_semantics.specs.Fetchers.{Fetching}
 use Rattle.world_semantics.specs.Programs.{Eviction, Mode, Reading, Program, Setting, begun}
 use Rattle.world_semantics.specs.Turns.{Answer, taken, evacuator_turn, program_turn}
 
--- the cells of a piece, and how many programs, evacuators, frames and objects there are
+-- the cells of a piece, and how many programs, evacuators, fetchers, frames and objects there are
 pub record Sizes : Type 0 where
   pub cells : ℕ
   pub programs : ℕ
   pub evacuators : ℕ
+  pub fetchers : ℕ
   pub frames : ℕ
   pub objects : ℕ
 
--- the machine's state, each program, and each evacuator, which is idle or moves an object out
+-- the machine's state; each program; each evacuator, which is idle or moves an object out; and each fetcher, which is idle or brings one in
 pub record World : Type 0 where
   pub lock : State
   pub programs : ℕ → Program
   pub evacuators : ℕ → Option Eviction
+  pub fetchers : ℕ → Option Fetching
 
 -- an actor does what it chooses; the answer is what nobody can know before
 pub record Event : Type 0 where
@@ -46,7 +49,7 @@ setting z images k = record { size = z.cells; base = k * share z; limit = k * sh
 
 -- where everything begins
 abbrev pub start : (ℕ → Image) → World
-start images = record { lock = opening; programs = λ k. begun (images k); evacuators = λ _. None }
+start images = record { lock = opening; programs = λ k. begun (images k); evacuators = λ _. None; fetchers = λ _. None }
 
 -- there are an object and a frame of these numbers
 abbrev pub in_range : Sizes → Choice → Bool
@@ -56,7 +59,7 @@ in_range z (choice.Claim f) = nat_lt f z.frames
 in_range z (choice.Mark o f) = nat_lt o z.objects && nat_lt f z.frames
 in_range z (choice.Begin o) = nat_lt o z.objects
 
--- there is such an actor; there are no fetchers yet
+-- there is such an actor that has events; a fetcher has none yet
 abbrev pub is_actor : Sizes → Actor → Bool
 is_actor z (actor.Program k) = nat_lt k z.programs
 is_actor z (actor.Evacuator k) = nat_lt k z.evacuators

@@ -41,7 +41,7 @@ pub fn worked_schedules()
     ensures failed_itself { row (two_objects NoPuts) failed_itself ≡ (142, Some (record { stop = None; want = Some StoreFailed; word = 0x8_0000; first = 0; second = 0 })) }
 {}
 
-/// Whatever events whichever actors make in whichever order, over any number of programs and evacuators, any images, frames and objects
+/// Whatever events whichever actors make in whichever order, over any number of programs, evacuators and fetchers, any images, frames and objects
 /// and pieces of any size: the machine is sound and each actor has in hand what its mode says, over a store that is honest and
 /// over one that isn't. Each event makes at most one call, which the actor may make and which changes words, frame words and
 /// cells lawfully; and it changes no other actor, whatever the store answers.
@@ -101,8 +101,8 @@ pub fn scopes_follow()
     run_laws();
 }
 
-/// Where there is a frame for each scope of a program and each evacuator, one is free or holds one of the objects with no hold that is in no mover's
-/// hands wherever a program seeks a frame, after any events over any store.
+/// Where there is a frame for each scope of a program, each evacuator and each fetcher, one is free or holds one of the objects with no hold that is in
+/// no mover's hands wherever a program seeks a frame, after any events over any store.
 pub fn enough_frames()
     ensures { (z : Sizes) (images : ℕ → Image) (events : List Event) (v : World) (k o : ℕ) → 0 < z.cells → Follows ⊥ z images (start images) events v → need z images ≤ z.frames → k < z.programs → (v.programs k).mode ≡ Bringing o → (f : ℕ) × (f < z.frames) × IsUnheld z v.lock f }
 {
