@@ -3,7 +3,6 @@ use Rattle.std.proofs.Common.{◌≡◌, ℕ, ◌+◌, ◌<◌, List, [], ◌∷
 use Rattle.std.specs.Prelude.{Option, Some}
 use mathlib.Core.Path.{Path}
 use Rattle.remote_store.specs.declared.berth.Berth.{Berth}
-use Rattle.remote_store.specs.Kept.{piece_cells}
 use Rattle.object_lock.specs.Kept.{berth_keeps}
 use Rattle.object_lock.specs.Telling.{HasPut}
 use Rattle.std.proofs.lemmas.List.{get_or-set_same, get_or-set_other}
@@ -33,7 +32,6 @@ pub moving : {W C : Type 0} (s t : SeatView W C) (o f : ℕ) → CopiesOnly s t 
 moving {W} {C} s t o f same m = (o, ap (λ (x : SeatView W C). x.view.hand.leaving) same ∙ m.0, ap (λ (x : SeatView W C). x.view.hand.source) same ∙ m.1)
 
 -- what was copied and put is what the berth keeps
-pub has_put : {W C : Type 0} (content : C → Option (List ℕ)) (n o : ℕ) (s t : SeatView W C) (ws : List ℕ) → n ≡ piece_cells → IsCopied s.view.hand ws piece_cells → t ≡ record s { taken = t.taken; store = t.store; refusals = t.refusals }
+pub has_put : {W C : Type 0} (content : C → Option (List ℕ)) (n o : ℕ) (s t : SeatView W C) (ws : List ℕ) → IsCopied s.view.hand ws n → t ≡ record s { taken = t.taken; store = t.store; refusals = t.refusals }
     → (b : Berth C) × Path (Option (Berth C)) t.taken (Some b) × berth_keeps content b o ws → HasPut content n o t
-has_put {W} {C} content n o s t ws many copied same k =
-    (k.0, ws, k.1, k.2, λ i l. ap (λ (x : SeatView W C). seen x.view.hand.copied i) same ∙ copied i (let e = many in omega arith))
+has_put {W} {C} content n o s t ws copied same k = (k.0, ws, k.1, k.2, λ i l. ap (λ (x : SeatView W C). seen x.view.hand.copied i) same ∙ copied i l)

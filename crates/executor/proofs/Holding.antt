@@ -31,7 +31,8 @@ holding_with s k x v h l low high wide sizes counts others mine quiet = record {
   wide = let a = h.wide in omega arith;
   small = let a = h.small in omega arith;
   cells = ap (λ (z : Sizes). z.cells) sizes ∙ h.cells;
-  placed = subst (λ b. IsPlaced b (cells_in s) s.firsts s.next) (sym low) h.placed;
+  placed = subst (λ n. IsPlaced n v.low (cells_in s) s.firsts s.next) (sym (ap (λ (z : Sizes). z.cells) sizes))
+      (subst (λ b. IsPlaced s.view.sizes.cells b (cells_in s) s.firsts s.next) (sym low) h.placed);
   held = λ j y e. elim (eqb_tells j k) [
     | inl q ↦ mine y (sym (get_or-set_same s.holds k x None l) ∙ (ap (hold_at (slice_set s.holds k x)) (sym q.1) ∙ e))
     | inr q ↦ let a : hold_at s.holds j ≡ Some y = sym (get_or-set_other s.holds k j x None q.1) ∙ e in others j y q.1 a (h.held j y a)

@@ -33,7 +33,8 @@ module _ (reliable : Type 0) (s t : State) (o : ℕ) (ok : IsHolding s) (own : O
     wide = let a = ok.wide in let b = m.gives.high in let c : length t.view.notes ≡ length s.view.notes = ap length m.gives.notes ∙ length-set s.view.notes o n in omega arith;
     small = let a = ok.small in let b = m.gives.high in omega arith;
     cells = ap (λ (z : Sizes). z.cells) m.gives.sizes ∙ ok.cells;
-    placed = subst (λ b. IsPlaced b (cells_in s) s.firsts s.next) (sym m.gives.low) ok.placed;
+    placed = subst (λ n. IsPlaced n t.view.low (cells_in s) s.firsts s.next) (sym (ap (λ (z : Sizes). z.cells) m.gives.sizes))
+        (subst (λ b. IsPlaced s.view.sizes.cells b (cells_in s) s.firsts s.next) (sym m.gives.low) ok.placed);
     held = λ k h e. still k h e (ok.held k h e);
     counted = λ p y.
         let mine : Owns s.view p = (let a = y.0 in let b = m.gives.low in omega arith, let a = y.1 in let b = m.gives.high in omega arith) in

@@ -14,7 +14,6 @@ use Rattle.code_form.specs.Touches.{cell_option, loaded, resumed}
 use Rattle.code_form.specs.Tracked.{WaitsShut, is_running}
 use Rattle.code_form.specs.declared.touch.Touch.TheVariants as touch
 use Rattle.pointer_word.specs.Hands.{Note, blank, latest_of}
-use Rattle.remote_store.specs.Kept.{piece_cells}
 use Rattle.object_lock.specs.Fresh.{IsFresh}
 use Rattle.object_lock.specs.SeatViews.{SeatView, TableView}
 use Rattle.object_lock.specs.Seats.{View}
@@ -78,7 +77,7 @@ opened_run honest C v n f few =
           wide = f.wide;
           small = f.small;
           cells = f.cells;
-          placed = subst (λ ns. Rattle.executor.specs.Keeping.IsPlaced v.low ns [] v.low) (sym b.none) refl;
+          placed = subst (λ ns. Rattle.executor.specs.Keeping.IsPlaced v.sizes.cells v.low ns [] v.low) (sym b.none) refl;
           held = λ k h e. let z : hold_at (replicate 4 none) k ≡ None = at_all none 4 k in absurd (cc);
           counted = λ o w. none_count o 4 ∙ sym (ap (λ (n : Note). n.count) (f.notes o));
           four = refl;
@@ -91,7 +90,7 @@ opened_run honest C v n f few =
       at = λ q. record {
         core = refl;
         going = λ j less. absurd (omega arith);
-        fits = subst (λ ns. next_object piece_cells v.low ns ≤ v.high) (sym b.none) f.low;
+        fits = subst (λ ns. next_object v.sizes.cells v.low ns ≤ v.high) (sym b.none) f.low;
         heap = record {
           cell = λ r x l. let z : x < cells_of [] r = subst (λ ns. x < cells_of ns r) b.none l in absurd (omega arith);
           fresh = λ o i l m. ap (λ (n : Note). latest_of n.history i) (f.notes o);

@@ -9,9 +9,9 @@ use Rattle.object_lock.specs.SeatViews.{SeatView}
 use Rattle.executor.specs.Taken.{Brings, ClosesAgain, FetchesOr, FilledBelow, FillsOnly, GivesUp, Refused, Takes, TakesOr, seat_of}
 use Rattle.executor.proofs.Filling.{filled_next}
 
-pub filled_from : (honest : Type 0) (promised : List ℕ) (w : Hand) (ws : List ℕ) → w.promised ≡ promised → FilledBelow w.filled ws 64
-    → (honest → (i : ℕ) → i < 64 → listed ws i ≡ listed promised i) → Filled honest 64 w
-filled_from honest promised w ws same h got i l = (listed ws i, h i l, λ t. got t i l ∙ ap (λ (ps : List ℕ). listed ps i) (sym same))
+pub filled_from : (honest : Type 0) (promised : List ℕ) (w : Hand) (ws : List ℕ) (n : ℕ) → w.promised ≡ promised → FilledBelow w.filled ws n
+    → (honest → (i : ℕ) → i < n → listed ws i ≡ listed promised i) → Filled honest n w
+filled_from honest promised w ws n same h got i l = (listed ws i, h i l, λ t. got t i l ∙ ap (λ (ps : List ℕ). listed ps i) (sym same))
 
 taken : (o : ℕ) (v u w : View) (f : ℕ) → (note v o).frame ≡ None → u ≡ with_note v o (opened (note v o) None) → o < length v.notes → Brings o u w f → Takes o v w f
 taken o v u w f away e wide b =
@@ -45,13 +45,13 @@ pub fill_more : {W C : Type 0} (s t u : SeatView W C) (ws : List ℕ) (i : ℕ) 
 fill_more {W} {C} s t u ws i same below e =
     (fill_keeps s t u i (listed ws i) same e, filled_next t.view.hand.filled u.view.hand.filled ws i below (ap (λ (x : SeatView W C). x.view.hand.filled) e))
 
-pub filled_hand : {W C : Type 0} (honest : Type 0) (t u w : SeatView W C) (cells : ℕ) (ws : List ℕ) → cells ≡ 64
+pub filled_hand : {W C : Type 0} (honest : Type 0) (t u w : SeatView W C) (cells : ℕ) (ws : List ℕ)
     → u ≡ record t { store = u.store; refusals = u.refusals } → FillsOnly u w
-    → FilledBelow w.view.hand.filled ws 64 → (honest → (i : ℕ) → i < 64 → listed ws i ≡ listed t.view.hand.promised i) → Filled honest cells w.view.hand
-filled_hand {W} {C} honest t u w cells ws size read fills below got =
+    → FilledBelow w.view.hand.filled ws cells → (honest → (i : ℕ) → i < cells → listed ws i ≡ listed t.view.hand.promised i) → Filled honest cells w.view.hand
+filled_hand {W} {C} honest t u w cells ws read fills below got =
     let promised : SeatView W C → List ℕ = λ x. x.view.hand.promised in
     let same : w.view.hand.promised ≡ t.view.hand.promised = ap promised fills ∙ ap promised read in
-    subst (λ n. Filled honest n w.view.hand) (sym size) (filled_from honest t.view.hand.promised w.view.hand ws same below got)
+    filled_from honest t.view.hand.promised w.view.hand ws cells same below got
 
 -- a hold that was opened is closed again
 given_up : (o : ℕ) (v u w : View) → (note v o).frame ≡ None → u ≡ with_note v o (opened (note v o) None) → o < length v.notes → ClosesAgain o u w → GivesUp o v w

@@ -12,7 +12,7 @@ use Rattle.code_form.specs.declared.touch.Cell.{Cell}
 use Rattle.code_form.specs.declared.touch.Touch.{Touch}
 use Rattle.code_form.specs.declared.touch.Touch.TheVariants as touch
 use Rattle.pointer_word.specs.Hands.{Note, added, blank, latest_of, or_zero}
-use Rattle.remote_store.specs.Kept.{piece_cells}
+use Rattle.std.proofs.Math.Nat.{mod-lt}
 use Rattle.object_lock.specs.Seats.{Owns, View, note, with_note}
 use Rattle.executor.specs.declared.hold.Hold.{Hold}
 use Rattle.executor.specs.State.{AllShut, Matches, State, cells_in, hold_at, latest_in, next_touch, object_of}
@@ -34,7 +34,7 @@ holding_finished t u v e cells h =
       wide = h.wide;
       small = h.small;
       cells = h.cells;
-      placed = subst (λ ns. IsPlaced t.view.low ns t.firsts t.next) (sym same) h.placed;
+      placed = subst (λ ns. IsPlaced t.view.sizes.cells t.view.low ns t.firsts t.next) (sym same) h.placed;
       held = h.held;
       counted = h.counted;
       four = h.four;
@@ -42,18 +42,20 @@ holding_finished t u v e cells h =
       quiet = h.quiet;
     })
 
-object_same : (s u : State) → u.view.low ≡ s.view.low → cells_in u ≡ cells_in s → (a : Cell) → object_of u a ≡ object_of s a
-object_same s u low cells a = ap (λ n. object_at piece_cells n (cells_in u) a.reference a.index) low ∙ ap (λ ns. object_at piece_cells s.view.low ns a.reference a.index) cells
+object_same : (s u : State) → u.view.sizes.cells ≡ s.view.sizes.cells → u.view.low ≡ s.view.low → cells_in u ≡ cells_in s → (a : Cell) → object_of u a ≡ object_of s a
+object_same s u size low cells a =
+    ap (λ c. object_at c u.view.low (cells_in u) a.reference a.index) size ∙
+    (ap (λ n. object_at s.view.sizes.cells n (cells_in u) a.reference a.index) low ∙ ap (λ ns. object_at s.view.sizes.cells s.view.low ns a.reference a.index) cells)
 
-matches_same : (s u : State) → u.view.low ≡ s.view.low → cells_in u ≡ cells_in s → (x : Option Cell) (h : Option Hold) → Matches s x h → Matches u x h
-matches_same s u low cells None None m = tt
-matches_same s u low cells None (Some h) m = m
-matches_same s u low cells (Some a) None m = m
-matches_same s u low cells (Some a) (Some h) m = m ∙ sym (object_same s u low cells a)
+matches_same : (s u : State) → u.view.sizes.cells ≡ s.view.sizes.cells → u.view.low ≡ s.view.low → cells_in u ≡ cells_in s → (x : Option Cell) (h : Option Hold) → Matches s x h → Matches u x h
+matches_same s u size low cells None None m = tt
+matches_same s u size low cells None (Some h) m = m
+matches_same s u size low cells (Some a) None m = m
+matches_same s u size low cells (Some a) (Some h) m = m ∙ sym (object_same s u size low cells a)
 
-safe_with : (s u : State) → IsHolding u → u.view.low ≡ s.view.low → cells_in u ≡ cells_in s → WaitsShut u.core
+safe_with : (s u : State) → IsHolding u → u.view.sizes.cells ≡ s.view.sizes.cells → u.view.low ≡ s.view.low → cells_in u ≡ cells_in s → WaitsShut u.core
     → ((k : ℕ) → Matches s (cell_option (held u.core k)) (hold_at u.holds k)) → IsSafe u
-safe_with s u holding low cells waits scopes = record { holding = holding; scopes = λ k. matches_same s u low cells _ _ (scopes k); waits = waits }
+safe_with s u holding size low cells waits scopes = record { holding = holding; scopes = λ k. matches_same s u size low cells _ _ (scopes k); waits = waits }
 
 -- a program that goes on from t, which differs from s in holds only, goes on from s
 core_of_changed : (s t u : State) (v : ℕ) → t.image ≡ s.image → t.core ≡ s.core → u ≡ finished t v → u.core ≡ resumed (effect s.image s.core) s.core v
@@ -81,7 +83,7 @@ module _ (laws : Laws) (s t u : State) (x : Touch) (v : ℕ) (safe : IsSafe s) (
       let view : u.view ≡ t.view = ap (λ (y : State). y.view) e in
       let holds : u.holds ≡ t.holds = ap (λ (y : State). y.holds) e in
       let cells_t : cells_in u ≡ cells_in t = cells ∙ sym (ap (λ (c : Core). sizes (allocations_of c)) core) in
-      safe_with s u (holding_finished t u v e cells_t ok) (ap (λ (y : View). y.low) view ∙ low) cells did.waits
+      safe_with s u (holding_finished t u v e cells_t ok) (ap (λ (y : View). y.sizes.cells) view ∙ (ok.cells ∙ sym safe.holding.cells)) (ap (λ (y : View). y.low) view ∙ low) cells did.waits
       (λ k. subst (λ hs. Matches s (cell_option (held u.core k)) (hold_at hs k)) (sym holds) (scopes k))
 
 -- ---- holds that stay
@@ -169,16 +171,16 @@ pub scope_low : (s : State) (k : ℕ) → IsHolding s → k < most_scopes s.imag
 scope_low s k h l = let a = h.four in let b = h.few in omega arith
 
 -- a load or a store within the piece, where its object is
-pub cell_low : (s : State) (k : ℕ) (h : Hold) (x : ℕ) → IsHolding s → hold_at s.holds k ≡ Some h → (h.frame < s.view.sizes.frames) × (x % piece_cells < s.view.sizes.cells)
-cell_low s k h x ok e = let a = (ok.held k h e).room in let b = ok.cells in (a, omega arith)
+pub cell_low : (s : State) (k : ℕ) (h : Hold) (x : ℕ) → IsHolding s → hold_at s.holds k ≡ Some h → (h.frame < s.view.sizes.frames) × (x % s.view.sizes.cells < s.view.sizes.cells)
+cell_low s k h x ok e = let b = ok.cells in ((ok.held k h e).room, mod-lt x (omega arith))
 
-pub load_low : (s : State) (k : ℕ) (h : Hold) (x i : ℕ) → IsHolding s → hold_at s.holds k ≡ Some h → i ≡ x % piece_cells → (h.frame < s.view.sizes.frames) × (i < s.view.sizes.cells)
+pub load_low : (s : State) (k : ℕ) (h : Hold) (x i : ℕ) → IsHolding s → hold_at s.holds k ≡ Some h → i ≡ x % s.view.sizes.cells → (h.frame < s.view.sizes.frames) × (i < s.view.sizes.cells)
 load_low s k h x i ok e p = let a = cell_low s k h x ok e in (a.0, subst (λ n. n < s.view.sizes.cells) (sym p) a.1)
 
 pub load_may : (s : State) (k : ℕ) (h : Hold) → IsHolding s → hold_at s.holds k ≡ Some h → Owns s.view h.object × ((note s.view h.object).frame ≡ Some h.frame)
 load_may s k h ok e = let a = ok.held k h e in (a.owns, a.here)
 
-pub save_low : (t : State) (k : ℕ) (h : Hold) (x i : ℕ) → IsHolding t → HasWriter t k h → i ≡ x % piece_cells → (h.frame < t.view.sizes.frames) × (i < t.view.sizes.cells)
+pub save_low : (t : State) (k : ℕ) (h : Hold) (x i : ℕ) → IsHolding t → HasWriter t k h → i ≡ x % t.view.sizes.cells → (h.frame < t.view.sizes.frames) × (i < t.view.sizes.cells)
 save_low t k h x i ok w p = load_low t k (a_hold h.object h.frame true) x i ok w p
 
 pub save_may : (t : State) (k : ℕ) (h : Hold) → IsHolding t → HasWriter t k h → Owns t.view h.object × ((note t.view h.object).frame ≡ Some h.frame) × ((note t.view h.object).writing ≡ true)
@@ -222,7 +224,7 @@ no_match s u None None e m = tt
 no_match s u None (Some h) e m = m
 no_match s u (Some a) h e m = absurd (cc)
 
-pub safe_extended : Laws → (s u : State) (n : ℕ) → IsSafe s → IsNext (touch.Allocs n) s → s.next + pieces piece_cells n ≤ s.view.high → u ≡ extended s n → IsSafe u
+pub safe_extended : Laws → (s u : State) (n : ℕ) → IsSafe s → IsNext (touch.Allocs n) s → s.next + pieces s.view.sizes.cells n ≤ s.view.high → u ≡ extended s n → IsSafe u
 safe_extended laws s u n safe next room e =
     let h = safe.holding in
     let d = does laws s (touch.Allocs n) 0 safe.waits next in
@@ -233,7 +235,7 @@ safe_extended laws s u n safe next room e =
         wide = h.wide;
         small = h.small;
         cells = h.cells;
-        placed = subst (λ ns. IsPlaced s.view.low ns (s.next ∷ s.firsts) (s.next + pieces piece_cells n)) (sym d.tidies) (refl, h.placed);
+        placed = subst (λ ns. IsPlaced s.view.sizes.cells s.view.low ns (s.next ∷ s.firsts) (s.next + pieces s.view.sizes.cells n)) (sym d.tidies) (refl, h.placed);
         held = h.held;
         counted = h.counted;
         four = h.four;
@@ -253,7 +255,7 @@ same_latest v w h o i = ap (λ ps. latest_of ps i) (h o)
 pub moves_plain : (honest : Type 0) (s u : State) → u ≡ finished s 0 → Moves honest touch.Plain s u
 moves_plain honest s u e = subst (λ (y : State). Moves honest touch.Plain s y) (sym e) (record { image = refl; want = refl; refusals = refl; value = 0; core = refl; loads = λ _. tt; stores = λ o i. refl; low = refl; high = refl; seat = refl; completed = refl })
 
-pub moves_loaded : (honest : Type 0) → Laws → (s u : State) (k : ℕ) (a : Cell) (v i : ℕ) (h : Hold) → IsSafe s → IsNext (touch.Loads k a) s → hold_at s.holds k ≡ Some h → i ≡ a.index % piece_cells
+pub moves_loaded : (honest : Type 0) → Laws → (s u : State) (k : ℕ) (a : Cell) (v i : ℕ) (h : Hold) → IsSafe s → IsNext (touch.Loads k a) s → hold_at s.holds k ≡ Some h → i ≡ a.index % s.view.sizes.cells
     → (honest → v ≡ latest_in s.view h.object i) → u ≡ finished s v → Moves honest (touch.Loads k a) s u
 moves_loaded honest laws s u k a v i h safe next e p got f =
     let o = object_is s k a h safe (loads_cell laws s k a safe next) e in
@@ -338,13 +340,13 @@ upd_same f g o x n h p i =
     ]
 
 pub moves_saved : (honest : Type 0) → Laws → (s t v u : State) (k : ℕ) (a : Cell) (n i : ℕ) (h : Hold) → IsSafe s → IsNext (touch.Saves k a n) s → hold_at s.holds k ≡ Some h → IsHolding t → Changes k s t → HasWriter t k h
-    → i ≡ a.index % piece_cells → v ≡ written t h i n → u ≡ finished v 0 → Moves honest (touch.Saves k a n) s u
-moves_saved honest laws s t v u k a n i h safe next e ok ch w p d f =
+    → i ≡ a.index % t.view.sizes.cells → v ≡ written t h i n → u ≡ finished v 0 → Moves honest (touch.Saves k a n) s u
+moves_saved honest laws s t v u k a n i h safe next e ok ch w at d f =
+    let p : i ≡ a.index % s.view.sizes.cells = at ∙ ap (λ c. a.index % c) (ok.cells ∙ sym safe.holding.cells) in
     let image : v.image ≡ s.image = ap (λ (y : State). y.image) d ∙ ch.image in
     let core : v.core ≡ s.core = ap (λ (y : State). y.core) d ∙ ch.core in
     let o = object_is s k a h safe (saves_cell laws s k a n safe next) e in
     let here = owned_here t h.object ok (ok.held k (a_hold h.object h.frame true) w).owns in
-    let place = a.index % piece_cells in
     record {
       image = ap (λ (y : State). y.image) f ∙ image;
       want = ap (λ (y : State). y.want) f ∙ (ap (λ (y : State). y.want) d ∙ ch.want);
@@ -365,6 +367,6 @@ moves_saved honest laws s t v u k a n i h safe next e ok ch w p d f =
 pub loaded_from : (s t u : State) (v : ℕ) → t ≡ s → u ≡ finished t v → u ≡ finished s v
 loaded_from s t u v e f = f ∙ ap (λ (y : State). finished y v) e
 
-pub extended_so : (honest : Type 0) → Laws → (s u : State) (n : ℕ) → IsSafe s → IsNext (touch.Allocs n) s → s.next + pieces piece_cells n ≤ s.view.high → u ≡ extended s n
+pub extended_so : (honest : Type 0) → Laws → (s u : State) (n : ℕ) → IsSafe s → IsNext (touch.Allocs n) s → s.next + pieces s.view.sizes.cells n ≤ s.view.high → u ≡ extended s n
     → IsSafe u × Moves honest (touch.Allocs n) s u
 extended_so honest laws s u n safe next room e = (safe_extended laws s u n safe next room e, moves_extended honest s u n e)

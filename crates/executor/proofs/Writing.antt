@@ -130,28 +130,32 @@ may_open s k o n ok l e own is =
 pub holds_one : (s t : State) (k o : ℕ) → IsHolding s → k < length s.holds → hold_at s.holds k ≡ None → Owns s.view o → Holds k o s t → HoldsObject t k o
 holds_one s t k o ok l e own h = (a_hold o h.frame false, opened_hold s t k o ok l e own h, refl)
 
+-- a piece has cells
+pub some_cells : (s : State) → IsHolding s → 0 < s.view.sizes.cells
+some_cells s ok = let e = ok.cells in omega arith
+
 -- the object of a cell of an allocation is one of the program's own
-pub object_owned : (s : State) (a : Cell) → IsHolding s → IsCell s.core a → Addresses piece_cells s.view.low (cells_in s)
-    → (0 < a.reference) × (a.reference ≤ length s.firsts) × (first_of s.firsts a.reference + a.index / piece_cells ≡ object_of s a) × Owns s.view (object_of s a) × (object_of s a < 16777216)
+pub object_owned : (s : State) (a : Cell) → IsHolding s → IsCell s.core a → Addresses s.view.sizes.cells s.view.low (cells_in s)
+    → (0 < a.reference) × (a.reference ≤ length s.firsts) × (first_of s.firsts a.reference + a.index / s.view.sizes.cells ≡ object_of s a) × Owns s.view (object_of s a) × (object_of s a < 16777216)
 object_owned s a ok l ad =
     let z = known (cells_in s) a.reference a.index l in
-    let many = same_length s.view.low (cells_in s) s.firsts s.next ok.placed in
-    let first = first_is s.view.low (cells_in s) s.firsts s.next a.reference ok.placed z.0 z.1 in
-    let low = first_low s.view.low (cells_in s) a.reference in
+    let many = same_length s.view.sizes.cells s.view.low (cells_in s) s.firsts s.next ok.placed in
+    let first = first_is s.view.sizes.cells s.view.low (cells_in s) s.firsts s.next a.reference ok.placed z.0 z.1 in
+    let low = first_low s.view.sizes.cells s.view.low (cells_in s) a.reference in
     let inside = ad.inside a.reference a.index l in
-    let next = next_is s.view.low (cells_in s) s.firsts s.next ok.placed in
+    let next = next_is s.view.sizes.cells s.view.low (cells_in s) s.firsts s.next ok.placed in
     let room = ok.room in
     let small = ok.small in
     let b = z.1 in
-    let there : first_of s.firsts a.reference + a.index / piece_cells ≡ object_of s a = ap (λ n. n + a.index / piece_cells) first in
+    let there : first_of s.firsts a.reference + a.index / s.view.sizes.cells ≡ object_of s a = ap (λ n. n + a.index / s.view.sizes.cells) first in
     (z.0, omega arith, there, (omega arith, omega arith), omega arith)
 
 pub reference_known : (s : State) (a : Cell) → IsHolding s → IsCell s.core a → (0 < a.reference) × (a.reference ≤ length s.firsts)
 reference_known s a ok l =
     let z = known (cells_in s) a.reference a.index l in
-    let many = same_length s.view.low (cells_in s) s.firsts s.next ok.placed in
+    let many = same_length s.view.sizes.cells s.view.low (cells_in s) s.firsts s.next ok.placed in
     let b = z.1 in
     (z.0, omega arith)
 
-pub placed_at : (s : State) (a : Cell) (n : ℕ) → n ≡ first_of s.firsts a.reference → first_of s.firsts a.reference + a.index / piece_cells ≡ object_of s a → n + a.index / 64 ≡ object_of s a
-placed_at s a n e h = ap (λ k. k + a.index / 64) e ∙ h
+pub placed_at : (s : State) (a : Cell) (n : ℕ) → IsHolding s → n ≡ first_of s.firsts a.reference → first_of s.firsts a.reference + a.index / s.view.sizes.cells ≡ object_of s a → n + a.index / piece_cells ≡ object_of s a
+placed_at s a n ok e h = ap (λ k. k + a.index / piece_cells) e ∙ (ap (λ c. first_of s.firsts a.reference + a.index / c) (sym ok.cells) ∙ h)

@@ -19,12 +19,12 @@ use Rattle.executor.specs.declared.hold.Hold.{Hold}
 use Rattle.executor.specs.Taken.{GivesUp, IsQuiet, Refused, Takes, seat_of}
 use Rattle.executor.specs.State.{AllShut, Caused, IsAt, IsGoing, SameProgram, ScopesHold, State, cells_in, hold_at, latest_in, next_touch, object_of}
 
--- allocations, the newest first, take their objects one behind the other, from low on; next is the object behind them
-abbrev pub IsPlaced : ℕ → List ℕ → List ℕ → ℕ → Type 0
-IsPlaced low [] [] next = next ≡ low
-IsPlaced low [] (f ∷ fs) next = ⊥
-IsPlaced low (n ∷ older) [] next = ⊥
-IsPlaced low (n ∷ older) (f ∷ fs) next = (next ≡ f + pieces piece_cells n) × IsPlaced low older fs f
+-- allocations in pieces of `size` cells, the newest first, take their objects one behind the other, from low on; next is the object behind them
+abbrev pub IsPlaced : ℕ → ℕ → List ℕ → List ℕ → ℕ → Type 0
+IsPlaced size low [] [] next = next ≡ low
+IsPlaced size low [] (f ∷ fs) next = ⊥
+IsPlaced size low (n ∷ older) [] next = ⊥
+IsPlaced size low (n ∷ older) (f ∷ fs) next = (next ≡ f + pieces size n) × IsPlaced size low older fs f
 
 -- the first object of allocation r
 abbrev pub first_of : List ℕ → ℕ → ℕ
@@ -55,7 +55,7 @@ pub record IsHolding (s : State) : Type 0 where
   pub wide : s.view.high ≤ length s.view.notes
   pub small : s.view.high ≤ 16777216
   pub cells : s.view.sizes.cells ≡ piece_cells
-  pub placed : IsPlaced s.view.low (cells_in s) s.firsts s.next
+  pub placed : IsPlaced s.view.sizes.cells s.view.low (cells_in s) s.firsts s.next
   pub held : (k : ℕ) (h : Hold) → hold_at s.holds k ≡ Some h → IsHeld s.view h
   pub counted : (o : ℕ) → Owns s.view o → count_of o s.holds ≡ (note s.view o).count
   pub four : length s.holds ≡ 4
@@ -97,12 +97,12 @@ IsSimple _ = Unit {0}
 
 -- what the latest stores became
 abbrev pub Stores : Touch → State → State → Type 0
-Stores (touch.Saves k a v) s t = (o i : ℕ) → latest_in t.view o i ≡ upd (latest_in s.view) (object_of s a) (upd (latest_in s.view (object_of s a)) (a.index % piece_cells) v) o i
+Stores (touch.Saves k a v) s t = (o i : ℕ) → latest_in t.view o i ≡ upd (latest_in s.view) (object_of s a) (upd (latest_in s.view (object_of s a)) (a.index % s.view.sizes.cells) v) o i
 Stores _ s t = (o i : ℕ) → latest_in t.view o i ≡ latest_in s.view o i
 
 -- what was loaded
 abbrev pub Loads : Touch → State → ℕ → Type 0
-Loads (touch.Loads k a) s w = w ≡ latest_in s.view (object_of s a) (a.index % piece_cells)
+Loads (touch.Loads k a) s w = w ≡ latest_in s.view (object_of s a) (a.index % s.view.sizes.cells)
 Loads _ s w = Unit {0}
 
 -- one instruction, which touches x, was completed
@@ -152,7 +152,7 @@ finished s v = record s { core = resumed (effect s.image s.core) s.core v; compl
 
 -- the allocation of n cells is done
 abbrev pub extended : State → ℕ → State
-extended s n = record s { core = resumed (effect s.image s.core) s.core 0; firsts = s.next ∷ s.firsts; next = s.next + pieces piece_cells n; completed = s.completed + 1 }
+extended s n = record s { core = resumed (effect s.image s.core) s.core 0; firsts = s.next ∷ s.firsts; next = s.next + pieces s.view.sizes.cells n; completed = s.completed + 1 }
 
 -- the program wants something
 abbrev pub wants : State → Want → State
@@ -223,8 +223,8 @@ Went reliable s t (Wanted w) = SameProgram s t × (t.completed ≡ s.completed) 
 
 -- why an allocation of n cells wants something
 abbrev pub AllocCause : State → ℕ → Want → Type 0
-AllocCause s n NoObjects = s.view.high < s.next + pieces piece_cells n
-AllocCause s n OutOfMemory = s.next + pieces piece_cells n ≤ s.view.high
+AllocCause s n NoObjects = s.view.high < s.next + pieces s.view.sizes.cells n
+AllocCause s n OutOfMemory = s.next + pieces s.view.sizes.cells n ≤ s.view.high
 AllocCause s n StoreFailed = ⊥
 
 -- an allocation of n cells was made, or something is wanted and nothing changed

@@ -15,7 +15,6 @@ use Rattle.code_form.specs.declared.touch.Cell.{Cell}
 use Rattle.code_form.specs.declared.touch.Touch.{Touch}
 use Rattle.code_form.specs.declared.touch.Touch.TheVariants as touch
 use Rattle.pointer_word.specs.Hands.{latest_of}
-use Rattle.remote_store.specs.Kept.{piece_cells}
 use Rattle.object_lock.specs.Seats.{View, note}
 use Rattle.executor.specs.declared.hold.Hold.{Hold}
 use Rattle.executor.specs.Taken.{Refused, seat_of}
@@ -44,7 +43,7 @@ latest_in v o i = latest_of (note v o).history i
 
 -- the object of a cell
 abbrev pub object_of : State → Cell → ℕ
-object_of s a = object_at piece_cells s.view.low (cells_in s) a.reference a.index
+object_of s a = object_at s.view.sizes.cells s.view.low (cells_in s) a.reference a.index
 
 -- what the next instruction touches
 abbrev pub next_touch : State → Touch
@@ -74,8 +73,8 @@ ScopesHold s = (k : ℕ) → Matches s (cell_option (held s.core k)) (hold_at s.
 pub record IsAt (s : State) : Type 0 where
   pub core : s.core ≡ (code_run (code s.image) s.completed).0
   pub going : (n : ℕ) → n < s.completed → stop_of (code_run (code s.image) n).0 ≡ None
-  pub fits : next_object piece_cells s.view.low (cells_in s) ≤ s.view.high
-  pub heap : SameHeap piece_cells s.view.low s.view.high (cells_in s) (latest_in s.view) (code_run (code s.image) s.completed).1
+  pub fits : next_object s.view.sizes.cells s.view.low (cells_in s) ≤ s.view.high
+  pub heap : SameHeap s.view.sizes.cells s.view.low s.view.high (cells_in s) (latest_in s.view) (code_run (code s.image) s.completed).1
 
 -- the program has not stopped, and wants nothing
 abbrev pub IsGoing : State → Type 0
@@ -87,14 +86,14 @@ IsHalted s = (next_touch s ≡ touch.Wrong) ⊎ ((next_touch s ≡ touch.Nothing
 
 -- the pieces of an allocation that is touched fit in what is left of the share
 abbrev pub HasRoom : State → Touch → Type 0
-HasRoom s (touch.Allocs n) = next_object piece_cells s.view.low (cells_in s) + pieces piece_cells n ≤ s.view.high
+HasRoom s (touch.Allocs n) = next_object s.view.sizes.cells s.view.low (cells_in s) + pieces s.view.sizes.cells n ≤ s.view.high
 HasRoom s _ = Unit {0}
 
 -- Why a want is answered, where so many calls had been refused before. NoObjects: the pieces of the allocation that is next don't fit in
 -- what is left of the share. OutOfMemory: memory was refused to an instruction for which it may have to grow, and an allocation's pieces would fit. StoreFailed: one call was refused through the session's own port;
 -- or none was, and the code is halted
 abbrev pub Caused : Type 0 → ℕ → State → Want → Type 0
-Caused reliable before s NoObjects = (s.refusals ≡ before) × ((n : ℕ) × (next_touch s ≡ touch.Allocs n) × (s.view.high < next_object piece_cells s.view.low (cells_in s) + pieces piece_cells n))
+Caused reliable before s NoObjects = (s.refusals ≡ before) × ((n : ℕ) × (next_touch s ≡ touch.Allocs n) × (s.view.high < next_object s.view.sizes.cells s.view.low (cells_in s) + pieces s.view.sizes.cells n))
 Caused reliable before s OutOfMemory = (s.refusals ≡ before) × (may_grow (next_touch s) (rest_of s.core) ≡ true) × HasRoom s (next_touch s)
 Caused reliable before s StoreFailed = Refused reliable before s.refusals ⊎ ((s.refusals ≡ before) × IsHalted s)
 

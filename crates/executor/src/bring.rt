@@ -1,12 +1,11 @@
 //! How a hold of an object is opened, and the object brought into a frame.
-ghost use Rattle.std.specs.Prelude.{◌≡◌, ◌≢◌, ◌<◌, ◌≤◌, ℕ, None, Some, false, IfOk, IfSome, MatchOption, MatchResult, length};
+ghost use Rattle.std.specs.Prelude.{◌≡◌, ◌≢◌, ◌<◌, ◌≤◌, ℕ, None, Some, false, IfOk, IfSome, MatchBool, MatchResult, length};
 ghost use Rattle.executor.specs.Taken.{AreTaken, BringsOr, Claims, ClaimsOne, ClaimsOr, FilledBelow, FillsOnly, FetchesOr, HandOnly, HasOnly, IsQuiet, Refused, StillBrings, TakesOr};
 ghost use Rattle.object_lock.specs.Plays.{IsLook};
 ghost use Rattle.object_lock.specs.SeatViews.{IsSeat};
 ghost use Rattle.object_lock.specs.Telling.{Claimed};
 ghost use Rattle.object_lock.specs.Seats.{Owns, note};
 ghost use Rattle.pointer_word.specs.Hands.{listed};
-ghost use Rattle.remote_store.specs.Kept.{piece_cells};
 
 use crate::room::make_room;
 use object_lock::{Begin, Held, ObjectTable, OwnerSeat};
@@ -158,21 +157,23 @@ fn claim<R: Wait, S: RawStore>(
     unreachable!()
 }
 
-/// The words that the berth of the object keeps that is being brought in: zeros where nothing was put there. `None` where the store
-/// refuses.
-fn read<S: RawStore>(owner: &mut OwnerSeat<S>, obj: usize) -> Option<[u64; PIECE_CELLS]>
+/// Reads the words that the berth of the object keeps that is being brought in over zeros, which stay where nothing was put there. False
+/// where the store refuses.
+fn read<S: RawStore>(owner: &mut OwnerSeat<S>, obj: usize, words: &mut [u64]) -> bool
     requires brings { owner.old.view.hand.bringing ≡ Some obj }
+    requires words { length words.old ≡ PIECE_CELLS }
+    requires zeros { (i : ℕ) → listed words.old i ≡ 0 }
     ensures same { owner.new ≡ record owner.old { store = owner.new.store; refusals = owner.new.refusals } }
-    ensures told { MatchOption result (Refused S.reliable owner.old.refusals owner.new.refusals)
-        (λ words. (owner.new.refusals ≡ owner.old.refusals) × (length words ≡ PIECE_CELLS) × (S.honest → (i : ℕ) → i < piece_cells → listed words i ≡ listed owner.old.view.hand.promised i)) }
+    ensures length { length words.new ≡ length words.old }
+    ensures told { MatchBool result ((owner.new.refusals ≡ owner.old.refusals) × (S.honest → (i : ℕ) → i < length words.old → listed words.new i ≡ listed owner.old.view.hand.promised i))
+        (Refused S.reliable owner.old.refusals owner.new.refusals) }
 {
-    let mut words = [0u64; PIECE_CELLS];
     if !owner.stored(obj) {
-        return Some(words);
+        return true;
     }
-    match owner.get(obj, &mut words) {
-        Ok(()) => Some(words),
-        Err(_refusal) => None,
+    match owner.get(obj, words) {
+        Ok(()) => true,
+        Err(_refusal) => false,
     }
 }
 
@@ -181,12 +182,12 @@ fn fill<S: RawStore>(table: &ObjectTable<S>, owner: &mut OwnerSeat<S>, frame: us
     requires table { IsSeat table.now owner.old }
     requires low { frame < table.now.sizes.frames }
     requires claimed { owner.old.view.hand.claimed ≡ Some frame }
-    requires words { length words.now ≡ PIECE_CELLS }
+    requires words { length words.now ≡ table.now.sizes.cells }
     ensures table { IsSeat table.now owner.new }
     ensures same { FillsOnly owner.old owner.new }
-    ensures filled { FilledBelow owner.new.view.hand.filled words.now piece_cells }
+    ensures filled { FilledBelow owner.new.view.hand.filled words.now table.now.sizes.cells }
 {
-    for i in 0..PIECE_CELLS {
+    for i in 0..words.len() {
         table.fill(owner, frame, i, words[i]);
     }
 }
@@ -209,14 +210,16 @@ fn bring<R: Wait, S: RawStore>(
         table.retreat(owner, obj);
         return None;
     };
-    let Some(words) = read(owner, obj) else {
+    let mut words = [0; PIECE_CELLS];
+    if read(owner, obj, &mut words) {
+        fill(table, owner, frame, &words);
+        table.arrive(owner, obj, frame);
+        Some(frame)
+    } else {
         table.release(owner, frame);
         table.retreat(owner, obj);
-        return None;
-    };
-    fill(table, owner, frame, &words);
-    table.arrive(owner, obj, frame);
-    Some(frame)
+        None
+    }
 }
 
 /// Waits until the object is in a frame, and brings it in where nobody else does. `None` where the store failed.

@@ -1,9 +1,9 @@
 //! Each kind of instruction, by what it touches.
 ghost use Rattle.code_form.specs.declared.touch.Touch.TheVariants.{Aims, Allocs, Ends, Leaves, Loads, Plain, Saves};
 ghost use Rattle.code_form.specs.Growth.{may_grow, rest_of};
-ghost use Rattle.executor.specs.Keeping.{Allocated, IsNext, IsSafe, IsSimple, Made, Moves};
+ghost use Rattle.code_form.specs.Placed.{pieces as pieces_of};
+ghost use Rattle.executor.specs.Keeping.{Allocated, IsHolding, IsNext, IsSafe, IsSimple, Made, Moves};
 ghost use Rattle.executor.specs.State.{next_touch};
-ghost use Rattle.remote_store.specs.Kept.{piece_cells};
 ghost use Rattle.std.specs.Prelude.{◌≡◌, ◌+◌, ◌%◌, ◌<◌, ◌^◌, MatchResult, true};
 
 use crate::machine::{Machine, pieces};
@@ -13,14 +13,23 @@ use remote_store::{PIECE_CELLS, RawStore};
 use std::alloc::AllocError;
 use std::sync::Wait;
 
-/// The place of a cell in its piece.
-fn place(cell: Cell) -> usize
-    ensures { result ≡ cell.index % piece_cells }
-{
-    (cell.index % PIECE_CELLS as u64) as usize
-}
-
 impl<'a, S: RawStore> Machine<'a, S> {
+    /// The place of a cell in its piece.
+    fn place(&self, cell: Cell) -> usize
+        requires { IsHolding self.now }
+        ensures { result ≡ cell.index % self.now.view.sizes.cells }
+    {
+        (cell.index % PIECE_CELLS as u64) as usize
+    }
+
+    /// How many pieces this many cells are.
+    fn pieces(&self, cells: u64) -> u64
+        requires { IsHolding self.now }
+        ensures { result ≡ pieces_of self.now.view.sizes.cells cells }
+    {
+        pieces(cells)
+    }
+
     /// Completes an instruction that touches nothing. `Err` where memory is refused: then nothing is changed.
     pub(crate) fn complete_plain(&mut self) -> Result<(), AllocError>
         requires safe { IsSafe self.old }
@@ -73,7 +82,8 @@ impl<'a, S: RawStore> Machine<'a, S> {
     {
         effect_laws();
         let hold = self.held(scope);
-        let value = self.load_cell(hold, place(cell));
+        let index = self.place(cell);
+        let value = self.load_cell(hold, index);
         self.finish(value);
     }
 
@@ -87,7 +97,8 @@ impl<'a, S: RawStore> Machine<'a, S> {
         effect_laws();
         let hold = self.held(scope);
         self.make_writable(scope, hold);
-        self.store_cell(hold, place(cell), value);
+        let index = self.place(cell);
+        self.store_cell(hold, index, value);
         self.finish(0);
     }
 
@@ -112,7 +123,7 @@ impl<'a, S: RawStore> Machine<'a, S> {
         ensures { Allocated S.honest cells self.old self.new result }
     {
         effect_laws();
-        let many = pieces(cells);
+        let many = self.pieces(cells);
         if self.end() - self.next() < many {
             return Some(Want::NoObjects);
         }

@@ -241,7 +241,7 @@ impl<'a, S: RawStore> Machine<'a, S> {
     pub(crate) fn extend(&mut self, cells: u64, many: u64) -> Result<(), AllocError>
         requires next { next_touch self.old ≡ Allocs cells }
         requires room { self.old.completed + 1 < 2 ^ 64 }
-        requires many { many ≡ pieces_of piece_cells cells }
+        requires many { many ≡ pieces_of self.old.view.sizes.cells cells }
         requires end { self.old.next + many < 2 ^ 64 }
         ensures { MatchResult result (λ _. self.new ≡ extended self.old cells) (λ _. self.new ≡ self.old) }
     {

@@ -5,33 +5,32 @@ ghost use Rattle.object_lock.specs.SeatViews.{IsSeat};
 ghost use Rattle.object_lock.specs.Seats.{Owns};
 ghost use Rattle.object_lock.specs.Telling.{HasPut};
 ghost use Rattle.pointer_word.specs.Ordered.{IsCopied};
-ghost use Rattle.remote_store.specs.Kept.{piece_cells};
 
 use object_lock::{ObjectTable, OwnerSeat};
 use remote_store::{Failed, PIECE_CELLS, RawStore};
 
-/// The cells of the frame, which the owner has marked.
+/// Copies the cells of the frame, which the owner has marked.
 fn copy<S: RawStore>(
     table: &ObjectTable<S>,
     owner: &mut OwnerSeat<S>,
     obj: usize,
     frame: usize,
-) -> [u64; PIECE_CELLS]
+    words: &mut [u64],
+)
     requires table { IsSeat table.now owner.old }
     requires low { frame < table.now.sizes.frames }
     requires hands { MovesOut obj frame owner.old.view.hand }
+    requires words { length words.old ≡ table.now.sizes.cells }
     ensures table { IsSeat table.now owner.new }
     ensures same { CopiesOnly owner.old owner.new }
-    ensures length { length result ≡ PIECE_CELLS }
-    ensures copied { IsCopied owner.new.view.hand result piece_cells }
+    ensures length { length words.new ≡ table.now.sizes.cells }
+    ensures copied { IsCopied owner.new.view.hand words.new table.now.sizes.cells }
 {
     // For the proof alone: the clauses speak of the object that is moved out.
     let _ = obj;
-    let mut words = [0; PIECE_CELLS];
-    for i in 0..PIECE_CELLS {
+    for i in 0..words.len() {
         words[i] = table.copy_word(owner, frame, i);
     }
-    words
 }
 
 /// Lets the object go whose cells were put into its berth: it leaves the frame, which is free then, or stays where it has changed
@@ -76,7 +75,8 @@ fn move_out<S: RawStore>(
     ensures brings { StillBrings owner.old.view.hand owner.new.view.hand }
     ensures told { MatchResult result (λ _. owner.new.refusals ≡ owner.old.refusals) (λ _. Refused S.reliable owner.old.refusals owner.new.refusals) }
 {
-    let words = copy(table, owner, obj, frame);
+    let mut words = [0; PIECE_CELLS];
+    copy(table, owner, obj, frame, &mut words);
     match owner.put(obj, &words) {
         Ok(()) => Ok(let_go(table, owner, obj, frame)),
         Err(failed) => {

@@ -84,8 +84,8 @@ impl<S: RawStore> MoverSeat<S> {
         ensures sure { S.reliable → IsOk result }
         ensures counted { MatchResult result (λ _. (self.new.refusals ≡ self.old.refusals) × (S.failures self.new.store ≡ S.failures self.old.store))
             (λ why. (words.new ≡ words.old) × (self.new.refusals ≡ (self.old.refusals + 1) % 18446744073709551616) × (why ≡ Refusal.Failed → S.failures self.new.store ≡ (S.failures self.old.store + 1) % 18446744073709551616)) }
-        ensures read { (b : _) × (self.old.brought ≡ Some b) × MatchResult result (λ _. Took (λ row. S.read_gives self.old.store b.cell row self.new.store) b.version obj words.new)
-            (λ why. RefusedFor (S.failures self.new.store ≡ (S.failures self.old.store + 1) % 18446744073709551616)
+        ensures read { (b : _) × (self.old.brought ≡ Some b) × MatchResult result (λ _. Took piece_cells (λ row. S.read_gives self.old.store b.cell row self.new.store) b.version obj words.new)
+            (λ why. RefusedFor piece_cells (S.failures self.new.store ≡ (S.failures self.old.store + 1) % 18446744073709551616)
             (λ row. S.read_gives self.old.store b.cell row self.new.store × (S.failures self.new.store ≡ S.failures self.old.store)) b.version obj why) }
     {
         match &self.brought {

@@ -21,11 +21,11 @@ Keeps n version held o ws = ((version ≡ 0) × ((i : ℕ) → i < n → slice_i
 abbrev pub next_version : ℕ → ℕ
 next_version v = cond (v == 18446744073709551615) 1 (v + 1)
 
--- a get took the words of the object o at this version: a row that was read has their header, and they follow it
-abbrev pub Took : (List ℕ → Type 0) → ℕ → ℕ → List ℕ → Type 0
-Took gave version o ws = (row : List ℕ) × gave row × (row ≡ o ∷ version ∷ piece_cells ∷ ws)
+-- a get took the words of the object o at this version, the cells of a piece of n: a row that was read has their header, and they follow it
+abbrev pub Took : ℕ → (List ℕ → Type 0) → ℕ → ℕ → List ℕ → Type 0
+Took n gave version o ws = (row : List ℕ) × gave row × (row ≡ o ∷ version ∷ n ∷ ws)
 
--- why a get of the object o at this version was refused: a read failed, or a row that was read has another header
-abbrev pub RefusedFor : Type 0 → (List ℕ → Type 0) → ℕ → ℕ → Refusal → Type 0
-RefusedFor failed gave version o R.Failed = failed
-RefusedFor failed gave version o R.Wrong = (row : List ℕ) × gave row × (take 3 row ≢ o ∷ version ∷ piece_cells ∷ [])
+-- why a get of the object o at this version, of a piece of n cells, was refused: a read failed, or a row that was read has another header
+abbrev pub RefusedFor : ℕ → Type 0 → (List ℕ → Type 0) → ℕ → ℕ → Refusal → Type 0
+RefusedFor n failed gave version o R.Failed = failed
+RefusedFor n failed gave version o R.Wrong = (row : List ℕ) × gave row × (take 3 row ≢ o ∷ version ∷ n ∷ [])

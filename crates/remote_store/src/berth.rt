@@ -66,8 +66,8 @@ impl<C: Drop> Berth<C> {
         ensures got { IfOk result (λ _. S.honest → (ws : List ℕ) → Keeps piece_cells self.now.version (S.content self.now.cell) obj ws → words.new ≡ ws) }
         ensures counted { MatchResult result (λ _. (port.new.refusals ≡ port.old.refusals) × (S.failures port.new.store ≡ S.failures port.old.store))
             (λ why. (words.new ≡ words.old) × (port.new.refusals ≡ (port.old.refusals + 1) % 18446744073709551616) × (why ≡ Refusal.Failed → S.failures port.new.store ≡ (S.failures port.old.store + 1) % 18446744073709551616)) }
-        ensures read { MatchResult result (λ _. Took (λ row. S.read_gives port.old.store self.now.cell row port.new.store) self.now.version obj words.new)
-            (λ why. RefusedFor (S.failures port.new.store ≡ (S.failures port.old.store + 1) % 18446744073709551616)
+        ensures read { MatchResult result (λ _. Took piece_cells (λ row. S.read_gives port.old.store self.now.cell row port.new.store) self.now.version obj words.new)
+            (λ why. RefusedFor piece_cells (S.failures port.new.store ≡ (S.failures port.old.store + 1) % 18446744073709551616)
             (λ row. S.read_gives port.old.store self.now.cell row port.new.store × (S.failures port.new.store ≡ S.failures port.old.store)) self.now.version obj why) }
     {
         let mut row = [0; ROW_WORDS];

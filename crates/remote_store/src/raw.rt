@@ -9,7 +9,7 @@ use std::alloc::Global;
 pub const PIECE_CELLS: usize = 64;
 
 /// The words of a store cell: an object, a version and the number of cells, and then the cells.
-pub const ROW_WORDS: usize = 67;
+pub const ROW_WORDS: usize = PIECE_CELLS + 3;
 
 /// One mover's way to the store. `content` is what a cell holds: the words of the last write of it, where that
 /// succeeded. An `honest` store reads back those words, or words of another header. `failures` counts the calls

@@ -29,11 +29,11 @@ put_asks o f k words l full =
     let many : length (take k words) ≡ length words = ap length (take_all k words (omega arith)) in
     ap (λ b. cond b Nothing (Puts o)) (below_false (length (take k words)) piece_cells (omega arith))
 
-module _ {S C : Type 0} (reliable : Type 0) (failures : S → ℕ) (gives : S → C → List ℕ → S → Type 0) (berths : List (Berth C)) (p q : Port S C) (far : ℕ → Far) (a : Answer) where
+module _ {S C : Type 0} (reliable : Type 0) (failures : S → ℕ) (gives : S → C → List ℕ → S → Type 0) (n : ℕ) (berths : List (Berth C)) (p q : Port S C) (far : ℕ → Far) (a : Answer) where
   -- where nothing is asked, nothing happens
-  pub unasked : (x : Asked) → x ≡ Nothing → q ≡ p → AnswersSo reliable failures gives berths p q far x a
-  unasked x e same = subst (λ (y : Asked). AnswersSo reliable failures gives berths p q far y a) (sym e) same
+  pub unasked : (x : Asked) → x ≡ Nothing → q ≡ p → AnswersSo reliable failures gives n berths p q far x a
+  unasked x e same = subst (λ (y : Asked). AnswersSo reliable failures gives n berths p q far y a) (sym e) same
 
   -- the same question
-  pub asked_as : (x y : Asked) → y ≡ x → AnswersSo reliable failures gives berths p q far x a → AnswersSo reliable failures gives berths p q far y a
-  asked_as x y e told = subst (λ (k : Asked). AnswersSo reliable failures gives berths p q far k a) (sym e) told
+  pub asked_as : (x y : Asked) → y ≡ x → AnswersSo reliable failures gives n berths p q far x a → AnswersSo reliable failures gives n berths p q far y a
+  asked_as x y e told = subst (λ (k : Asked). AnswersSo reliable failures gives n berths p q far k a) (sym e) told

@@ -230,8 +230,8 @@ module _ {C : Type 0} (content : C → Option (List ℕ)) (h : Type 0) (z : Size
   asked_as_mode mode e = ap (asked_in piece_cells) (mode_is mode e)
 
   pub unasked_in : {S : Type 0} (reliable : Type 0) (failures : S → ℕ) (gives : S → C → List ℕ → S → Type 0) (q : Port S C) (a : Answer) (mode : RustMode) → x.mode ≡ mode → asked_in piece_cells (mode_of mode x.words) ≡ Nothing
-      → AnswersSo reliable failures gives berths q q s.far (asked_in piece_cells p.mode) a
-  unasked_in reliable failures gives q a mode e none = unasked reliable failures gives berths q q s.far a (asked_in piece_cells p.mode) (asked_as_mode mode e ∙ none) refl
+      → AnswersSo reliable failures gives piece_cells berths q q s.far (asked_in piece_cells p.mode) a
+  unasked_in reliable failures gives q a mode e none = unasked reliable failures gives piece_cells berths q q s.far a (asked_in piece_cells p.mode) (asked_as_mode mode e ∙ none) refl
 
   pub reads : (o f : ℕ) (words : List ℕ) (x' : Seat) (told : Answer → Type 0) → told (reading true words) → x.mode ≡ m.Reading o f → (h → IsHonestRead piece_cells (s.far o) (Some words)) → x' ≡ record x { words = words; mode = m.Filling o f 0 }
       → TurnsToSo told (λ a. Alone (in_mode p (read_so o f a.read))) t berths x'

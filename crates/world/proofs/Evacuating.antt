@@ -70,13 +70,13 @@ turn_on x s c e honest Q q k l =
 
 -- what it asks of the store: an evacuator that is idle nothing, else what its moving out asks
 module _ {S C : Type 0} (reliable : Type 0) (failures : S → ℕ) (gives : S → C → List ℕ → S → Type 0) (berths : List (Berth C)) where
-  pub told_idle : (p : Port S C) (far : ℕ → Far) (a : Answer) (x : Evacuator) → None ≡ x.eviction → AnswersSo reliable failures gives berths p p far (asked_idly piece_cells (eviction_in x)) a
-  told_idle p far a x e = subst (λ (d : Option RustEviction). AnswersSo reliable failures gives berths p p far (asked_idly piece_cells (option_map (λ y. eviction_of y x.words) d)) a) e refl
+  pub told_idle : (p : Port S C) (far : ℕ → Far) (a : Answer) (x : Evacuator) → None ≡ x.eviction → AnswersSo reliable failures gives piece_cells berths p p far (asked_idly piece_cells (eviction_in x)) a
+  told_idle p far a x e = subst (λ (d : Option RustEviction). AnswersSo reliable failures gives piece_cells berths p p far (asked_idly piece_cells (option_map (λ y. eviction_of y x.words) d)) a) e refl
 
-  pub told_on : (p q : Port S C) (far : ℕ → Far) (a : Answer) (x : Evacuator) (e : RustEviction) → Some e ≡ x.eviction → AnswersSo reliable failures gives berths p q far (asked_out piece_cells (eviction_of e x.words)) a
-      → AnswersSo reliable failures gives berths p q far (asked_idly piece_cells (eviction_in x)) a
-  told_on p q far a x e k told = subst (λ (d : Option RustEviction). AnswersSo reliable failures gives berths p q far (asked_idly piece_cells (option_map (λ y. eviction_of y x.words) d)) a) k told
+  pub told_on : (p q : Port S C) (far : ℕ → Far) (a : Answer) (x : Evacuator) (e : RustEviction) → Some e ≡ x.eviction → AnswersSo reliable failures gives piece_cells berths p q far (asked_out piece_cells (eviction_of e x.words)) a
+      → AnswersSo reliable failures gives piece_cells berths p q far (asked_idly piece_cells (eviction_in x)) a
+  told_on p q far a x e k told = subst (λ (d : Option RustEviction). AnswersSo reliable failures gives piece_cells berths p q far (asked_idly piece_cells (option_map (λ y. eviction_of y x.words) d)) a) k told
 
   pub told_all : (p q : Port S C) (far : ℕ → Far) (x : Evacuator) (e : RustEviction) → Some e ≡ x.eviction → (a : Answer)
-      → UnreadSo (AnswersSo reliable failures gives berths p q far (asked_out piece_cells (eviction_of e x.words))) a → UnreadSo (AnswersSo reliable failures gives berths p q far (asked_idly piece_cells (eviction_in x))) a
+      → UnreadSo (AnswersSo reliable failures gives piece_cells berths p q far (asked_out piece_cells (eviction_of e x.words))) a → UnreadSo (AnswersSo reliable failures gives piece_cells berths p q far (asked_idly piece_cells (eviction_in x))) a
   told_all p q far x e k a so = (so.0, told_on p q far a x e k so.1)

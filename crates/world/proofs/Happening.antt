@@ -229,18 +229,20 @@ port_set {A} {P} xs k x' p' y q e = elim (got_set xs k (x', p') k (y, q) e) [ in
 
 module _ {S C : Type 0} (reliable : Type 0) (failures : S → ℕ) (gives : S → C → List ℕ → S → Type 0) (berths : List (Berth C)) (z : Sizes) (w : World) (seats : List (Seat × Port S C)) (movers : List (Evacuator × Port S C)) (k : ℕ) where
   -- the same answer by the same ways, to the same question
-  so_told : (p q p' q' : Port S C) (x y : Asked) (a : Answer) → p' ≡ p → q' ≡ q → y ≡ x → AnswersSo reliable failures gives berths p q w.lock.far x a → AnswersSo reliable failures gives berths p' q' w.lock.far y a
-  so_told p q p' q' x y a e f d told =
-      subst (λ (i : Port S C). AnswersSo reliable failures gives berths i q' w.lock.far y a) (sym e)
-      (subst (λ (i : Port S C). AnswersSo reliable failures gives berths p i w.lock.far y a) (sym f) (subst (λ (i : Asked). AnswersSo reliable failures gives berths p q w.lock.far i a) (sym d) told))
+  so_told : (p q p' q' : Port S C) (x y : Asked) (a : Answer) → z.cells ≡ piece_cells → p' ≡ p → q' ≡ q → y ≡ x → AnswersSo reliable failures gives piece_cells berths p q w.lock.far x a
+      → AnswersSo reliable failures gives z.cells berths p' q' w.lock.far y a
+  so_told p q p' q' x y a cells e f d told =
+      subst (λ (n : ℕ). AnswersSo reliable failures gives n berths p' q' w.lock.far y a) (sym cells)
+      (subst (λ (i : Port S C). AnswersSo reliable failures gives piece_cells berths i q' w.lock.far y a) (sym e)
+      (subst (λ (i : Port S C). AnswersSo reliable failures gives piece_cells berths p i w.lock.far y a) (sym f) (subst (λ (i : Asked). AnswersSo reliable failures gives piece_cells berths p q w.lock.far i a) (sym d) told)))
 
-  pub program_told : (x : Seat × Port S C) (x' : Seat) (p' : Port S C) → z.cells ≡ piece_cells → slice_get seats k ≡ Some x → (a : Answer) → AnswersSo reliable failures gives berths x.1 p' w.lock.far (asked_in piece_cells (w.programs k).mode) a
+  pub program_told : (x : Seat × Port S C) (x' : Seat) (p' : Port S C) → z.cells ≡ piece_cells → slice_get seats k ≡ Some x → (a : Answer) → AnswersSo reliable failures gives piece_cells berths x.1 p' w.lock.far (asked_in piece_cells (w.programs k).mode) a
       → StoreTold reliable failures gives z w berths seats movers (set seats k (x', p')) movers (actor.Program k) a
   program_told x x' p' cells here a told = λ p q from to.
-      so_told x.1 p' p q (asked_in piece_cells (w.programs k).mode) (asked_in z.cells (w.programs k).mode) a (port_at seats k x from.0 p here from.1) (port_set seats k x' p' to.0 q to.1) (ap (λ n. asked_in n (w.programs k).mode) cells) told
+      so_told x.1 p' p q (asked_in piece_cells (w.programs k).mode) (asked_in z.cells (w.programs k).mode) a cells (port_at seats k x from.0 p here from.1) (port_set seats k x' p' to.0 q to.1) (ap (λ n. asked_in n (w.programs k).mode) cells) told
 
   pub evacuator_told : (x : Evacuator × Port S C) (x' : Evacuator) (p' : Port S C) → z.cells ≡ piece_cells → slice_get movers k ≡ Some x → w.evacuators k ≡ eviction_in x.0 → (a : Answer)
-      → UnreadSo (AnswersSo reliable failures gives berths x.1 p' w.lock.far (asked_idly piece_cells (eviction_in x.0))) a → StoreTold reliable failures gives z w berths seats movers seats (set movers k (x', p')) (actor.Evacuator k) a
+      → UnreadSo (AnswersSo reliable failures gives piece_cells berths x.1 p' w.lock.far (asked_idly piece_cells (eviction_in x.0))) a → StoreTold reliable failures gives z w berths seats movers seats (set movers k (x', p')) (actor.Evacuator k) a
   evacuator_told x x' p' cells here is a told = λ p q from to.
-      so_told x.1 p' p q (asked_idly piece_cells (eviction_in x.0)) (asked_idly z.cells (w.evacuators k)) a (port_at movers k x from.0 p here from.1) (port_set movers k x' p' to.0 q to.1)
+      so_told x.1 p' p q (asked_idly piece_cells (eviction_in x.0)) (asked_idly z.cells (w.evacuators k)) a cells (port_at movers k x from.0 p here from.1) (port_set movers k x' p' to.0 q to.1)
       (ap (λ n. asked_idly n (w.evacuators k)) cells ∙ ap (asked_idly piece_cells) is) told.1

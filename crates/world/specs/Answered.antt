@@ -76,21 +76,21 @@ module _ {S C : Type 0} (reliable : Type 0) (failures : S → ℕ) (gives : S �
   PutSo true p q = NoneRefused p q
   PutSo false p q = IsCounted p q × HasFailed p q
 
-  -- a get from the berth of the object o takes the words that the store gave behind the berth's header, or the store failed, or gave another header
-  abbrev pub GetSo : ℕ → Berth C → Option (List ℕ) → Port S C → Port S C → Type 0
-  GetSo o b (Some words) p q = NoneRefused p q × Took (λ row. gives p.store b.cell row q.store) b.version o words
-  GetSo o b None p q = IsCounted p q × ((why : Refusal) × RefusedFor (HasFailed p q) (λ row. gives p.store b.cell row q.store × (failures q.store ≡ failures p.store)) b.version o why)
+  -- a get from the berth of the object o, of a piece of n cells, takes the words that the store gave behind the berth's header, or the store failed, or gave another header
+  abbrev pub GetSo : ℕ → ℕ → Berth C → Option (List ℕ) → Port S C → Port S C → Type 0
+  GetSo n o b (Some words) p q = NoneRefused p q × Took n (λ row. gives p.store b.cell row q.store) b.version o words
+  GetSo n o b None p q = IsCounted p q × ((why : Refusal) × RefusedFor n (HasFailed p q) (λ row. gives p.store b.cell row q.store × (failures q.store ≡ failures p.store)) b.version o why)
 
-  -- The store with these berths answered so, by the actor's way to it before and after. A reliable store refuses no put, and no get of what was put
-  abbrev pub AnswersSo : List (Berth C) → Port S C → Port S C → (ℕ → Far) → Asked → Answer → Type 0
-  AnswersSo berths p q far Nothing a = q ≡ p
-  AnswersSo berths p q far (Puts o) a = PutSo a.stored p q × (reliable → a.stored ≡ true)
-  AnswersSo berths p q far (Gets o) a = ((b : Berth C) → slice_get berths o ≡ Some b → GetSo o b a.read p q) × (reliable → (words : List ℕ) → far o ≡ Kept words → a.read ≢ None)
+  -- The store with these berths, of pieces of n cells, answered so, by the actor's way to it before and after. A reliable store refuses no put, and no get of what was put
+  abbrev pub AnswersSo : ℕ → List (Berth C) → Port S C → Port S C → (ℕ → Far) → Asked → Answer → Type 0
+  AnswersSo n berths p q far Nothing a = q ≡ p
+  AnswersSo n berths p q far (Puts o) a = PutSo a.stored p q × (reliable → a.stored ≡ true)
+  AnswersSo n berths p q far (Gets o) a = ((b : Berth C) → slice_get berths o ≡ Some b → GetSo n o b a.read p q) × (reliable → (words : List ℕ) → far o ≡ Kept words → a.read ≢ None)
 
   -- the store answered so to an actor of the world w, whose programs and evacuators stand each beside its way to the store
   abbrev pub StoreTold : Sizes → World → List (Berth C) → (seats : List (Seat × Port S C)) → (movers : List (Evacuator × Port S C)) → (seats' : List (Seat × Port S C)) → (movers' : List (Evacuator × Port S C)) → Actor → Answer → Type 0
   StoreTold z w berths seats movers seats' movers' actor a =
-      (p q : Port S C) → IsPortOf seats movers actor p → IsPortOf seats' movers' actor q → AnswersSo berths p q w.lock.far (asked_by z w actor) a
+      (p q : Port S C) → IsPortOf seats movers actor p → IsPortOf seats' movers' actor q → AnswersSo z.cells berths p q w.lock.far (asked_by z w actor) a
 
 -- the answer to a put
 abbrev pub storing : Bool → Answer

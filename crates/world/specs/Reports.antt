@@ -66,7 +66,7 @@ module _ {S C : Type 0} (honest reliable : Type 0) (failures : S → ℕ) (gives
     pub after : Port S C
     pub from : IsPortOf x.programs x.evacuators actor before
     pub to : IsPortOf y.programs y.evacuators actor after
-    pub answered : AnswersSo reliable failures gives x.berths before after w.lock.far (asked_by z w actor) a
+    pub answered : AnswersSo reliable failures gives z.cells x.berths before after w.lock.far (asked_by z w actor) a
 
   -- these lines lead from one world to another, as the store answered to each
   abbrev pub LinesLead : Sizes → (ℕ → Image) → World → Ways S C → List Line → World → Ways S C → Type 0

@@ -139,7 +139,7 @@ impl<'a> Program<'a> {
         requires mode { self.old.mode ≡ Mode.Reading object frame }
         requires steady { IsSteady (next_touch self.old) }
         ensures { TurnsTold S.content (λ z. Unit {0}) S.honest lock.now.machine lock.now.machine lock.now.berths.items lock.now.berths.items self.old self.new
-            (AnswersSo S.reliable S.failures S.read_gives lock.now.berths.items port.old port.new) (λ s p a. Alone (in_mode p (read_so object frame a.read))) (Unit {0}) Step.Took }
+            (AnswersSo S.reliable S.failures S.read_gives piece_cells lock.now.berths.items port.old port.new) (λ s p a. Alone (in_mode p (read_so object frame a.read))) (Unit {0}) Step.Took }
     {
         if self.get(lock, port, object) {
             self.set_mode(Mode::Filling(object, frame, 0));
@@ -201,7 +201,7 @@ impl<'a> Program<'a> {
         requires mode { self.old.mode ≡ Mode.Evicting object eviction }
         requires steady { IsSteady (next_touch self.old) }
         ensures { TurnsTold S.content (λ z. Unit {0}) S.honest lock.old.machine lock.new.machine lock.old.berths.items lock.new.berths.items self.old self.new
-            (AnswersSo S.reliable S.failures S.read_gives lock.old.berths.items port.old port.new)
+            (AnswersSo S.reliable S.failures S.read_gives piece_cells lock.old.berths.items port.old port.new)
             (λ s p a. evicts piece_cells self.old.setting.mover a (eviction_of eviction self.old.words) (λ d. in_mode p (Evicting object d)) (in_mode p (Bringing object)) (in_mode p (Retreating object))) (Unit {0}) Step.Took }
     {
         let mode = self.evict(lock, port, eviction).mode(object);

@@ -69,7 +69,7 @@ impl Evacuator {
         ensures mover { self.new.mover ≡ self.old.mover }
         ensures leads { (z : Sizes) (s : State) → Evacuates S.content S.honest z lock.old.machine lock.old.berths.items self.old s
             → Leads s (λ a. evicts piece_cells self.old.mover a (eviction_of eviction self.old.words) Some None None)
-            (UnreadSo (AnswersSo S.reliable S.failures S.read_gives lock.old.berths.items port.old port.new s.far (asked_out piece_cells (eviction_of eviction self.old.words)))) (λ u d. Shows S.content z lock.new.machine lock.new.berths.items u × (d ≡ eviction_in self.new)) }
+            (UnreadSo (AnswersSo S.reliable S.failures S.read_gives piece_cells lock.old.berths.items port.old port.new s.far (asked_out piece_cells (eviction_of eviction self.old.words)))) (λ u d. Shows S.content z lock.new.machine lock.new.berths.items u × (d ≡ eviction_in self.new)) }
     {
         self.eviction = evict(lock, port, self.mover, eviction, &mut self.words).eviction();
     }
@@ -84,7 +84,7 @@ impl Evacuator {
         ensures mover { self.new.mover ≡ self.old.mover }
         ensures goes { (z : Sizes) (s : State) → in_range z choice ≡ true → Evacuates S.content S.honest z lock.old.machine lock.old.berths.items self.old s
             → Goes s (λ a. evacuator_turn piece_cells self.old.mover (eviction_in self.old) choice a)
-            (UnreadSo (AnswersSo S.reliable S.failures S.read_gives lock.old.berths.items port.old port.new s.far (asked_idly piece_cells (eviction_in self.old)))) (λ u d. Shows S.content z lock.new.machine lock.new.berths.items u × (d ≡ eviction_in self.new))
+            (UnreadSo (AnswersSo S.reliable S.failures S.read_gives piece_cells lock.old.berths.items port.old port.new s.far (asked_idly piece_cells (eviction_in self.old)))) (λ u d. Shows S.content z lock.new.machine lock.new.berths.items u × (d ≡ eviction_in self.new))
             ((lock.new ≡ lock.old) × (port.new ≡ port.old) × (self.new ≡ self.old)) result }
     {
         match self.eviction() {

@@ -101,7 +101,7 @@ fn put<S: RawStore>(
     requires { (length words.now ≡ piece_cells) × (piece_cells ≤ copied) }
     ensures { (m : ℕ) (z : Sizes) (s : State) → let e = eviction_of (Eviction.Copying object frame copied) words.now in
         Moves S.content S.honest z lock.old.machine lock.old.berths.items m e s → Leads s (λ a. evicts piece_cells m a e On Done Failed)
-        (UnreadSo (AnswersSo S.reliable S.failures S.read_gives lock.old.berths.items port.old port.new s.far (Puts object)))
+        (UnreadSo (AnswersSo S.reliable S.failures S.read_gives piece_cells lock.old.berths.items port.old port.new s.far (Puts object)))
         (λ u r. Shows S.content z lock.new.machine lock.new.berths.items u × (r ≡ outcome_of result words.now)) }
 {
     if lock.put(port, object, words) {
@@ -153,7 +153,7 @@ pub(crate) fn evict<S: RawStore>(
     ensures length { length words.new ≡ piece_cells }
     ensures leads { (z : Sizes) (s : State) → let e = eviction_of eviction words.old in
         Moves S.content S.honest z lock.old.machine lock.old.berths.items mover e s → Leads s (λ a. evicts piece_cells mover a e On Done Failed)
-        (UnreadSo (AnswersSo S.reliable S.failures S.read_gives lock.old.berths.items port.old port.new s.far (asked_out piece_cells e)))
+        (UnreadSo (AnswersSo S.reliable S.failures S.read_gives piece_cells lock.old.berths.items port.old port.new s.far (asked_out piece_cells e)))
         (λ u r. Shows S.content z lock.new.machine lock.new.berths.items u × (r ≡ outcome_of result words.new)) }
 {
     match eviction {

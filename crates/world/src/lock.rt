@@ -28,7 +28,7 @@ impl<S: RawStore> Lock<S> {
         ensures far { (far : ℕ → Far) → AreFar S.content self.old.berths.items far → object < length self.old.berths.items
             → AreFar S.content self.new.berths.items (upd far object (put_of result words.now)) }
         ensures answered { (far : ℕ → Far) → object < length self.old.berths.items
-            → AnswersSo S.reliable S.failures S.read_gives self.old.berths.items port.old port.new far (Puts object) (storing result) }
+            → AnswersSo S.reliable S.failures S.read_gives piece_cells self.old.berths.items port.old port.new far (Puts object) (storing result) }
     {
         if object < self.berths.len() {
             let berth = &mut self.berths[object];
@@ -55,7 +55,7 @@ impl<S: RawStore> Lock<S> {
         ensures length { length words.new ≡ piece_cells }
         ensures got { result ≡ true → (far : ℕ → Far) → AreFar S.content self.now.berths.items far → S.honest → IsHonestRead piece_cells (far object) (Some words.new) }
         ensures answered { (far : ℕ → Far) → AreFar S.content self.now.berths.items far → WasPut (far object)
-            → AnswersSo S.reliable S.failures S.read_gives self.now.berths.items port.old port.new far (Gets object) (reading result words.new) }
+            → AnswersSo S.reliable S.failures S.read_gives piece_cells self.now.berths.items port.old port.new far (Gets object) (reading result words.new) }
     {
         if object < self.berths.len() && self.berths[object].version > 0 {
             self.berths[object].get(port, object, words).is_ok()

@@ -170,7 +170,7 @@ impl<'a> Program<'a> {
         ensures after { self.new ≡ record self.old { words = self.new.words } }
         ensures got { result ≡ true → (far : ℕ → Far) → AreFar S.content lock.now.berths.items far → S.honest → IsHonestRead piece_cells (far object) (Some self.new.words) }
         ensures answered { (far : ℕ → Far) → AreFar S.content lock.now.berths.items far → WasPut (far object)
-            → AnswersSo S.reliable S.failures S.read_gives lock.now.berths.items port.old port.new far (Gets object) (reading result self.new.words) }
+            → AnswersSo S.reliable S.failures S.read_gives piece_cells lock.now.berths.items port.old port.new far (Gets object) (reading result self.new.words) }
     {
         lock.get(port, object, &mut self.words)
     }
@@ -185,7 +185,7 @@ impl<'a> Program<'a> {
         ensures after { self.new ≡ record self.old { words = self.new.words } }
         ensures leads { (z : Sizes) (s : State) → let e = eviction_of eviction self.old.words in
             Moves S.content S.honest z lock.old.machine lock.old.berths.items self.old.setting.mover e s → Leads s (λ a. evicts piece_cells self.old.setting.mover a e On Done Failed)
-            (UnreadSo (AnswersSo S.reliable S.failures S.read_gives lock.old.berths.items port.old port.new s.far (asked_out piece_cells e)))
+            (UnreadSo (AnswersSo S.reliable S.failures S.read_gives piece_cells lock.old.berths.items port.old port.new s.far (asked_out piece_cells e)))
             (λ u r. Shows S.content z lock.new.machine lock.new.berths.items u × (r ≡ outcome_of result self.new.words)) }
     {
         evict(lock, port, self.mover, eviction, &mut self.words)

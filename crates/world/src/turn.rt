@@ -63,7 +63,7 @@ impl<'a> Program<'a> {
         requires mode { self.old.mode ≡ mode }
         requires waits { Waits mode (next_touch self.old) }
         ensures { TurnsTold S.content (λ z. Unit {0}) S.honest lock.old.machine lock.new.machine lock.old.berths.items lock.new.berths.items self.old self.new
-            (AnswersSo S.reliable S.failures S.read_gives lock.old.berths.items port.old port.new)
+            (AnswersSo S.reliable S.failures S.read_gives piece_cells lock.old.berths.items port.old port.new)
             (λ s p a. by_mode self.old.setting s p (mode_of mode self.old.words) Choice.Next a) ((lock.new ≡ lock.old) × (port.new ≡ port.old) × (self.new ≡ self.old)) result }
     {
         match mode {
@@ -100,7 +100,7 @@ impl<'a> Program<'a> {
         choice: Choice,
     ) -> Step
         ensures { TurnsTold S.content (λ z. in_range z choice ≡ true) S.honest lock.old.machine lock.new.machine lock.old.berths.items lock.new.berths.items self.old self.new
-            (AnswersSo S.reliable S.failures S.read_gives lock.old.berths.items port.old port.new)
+            (AnswersSo S.reliable S.failures S.read_gives piece_cells lock.old.berths.items port.old port.new)
             (λ s p a. program_turn self.old.setting s p choice a) ((lock.new ≡ lock.old) × (port.new ≡ port.old) × (self.new ≡ self.old)) result }
     {
         match self.mode() {

@@ -1,7 +1,12 @@
+use Rattle.std.proofs.Common.{◌<◌, subst}
+use Rattle.executor.proofs.Filling.{zeros}
 use Rattle.executor.proofs.Taking.{filled_hand}
 use Rattle.executor.proofs.bring.bring.Goals as goal
 
+pub read-requires-clause-zeros : goal.read-requires-clause-zeros
+read-requires-clause-zeros g c κs within = zeros 64
+
 pub arrive-requires-clause-filled : goal.arrive-requires-clause-filled
 arrive-requires-clause-filled g c κs within =
-    filled_hand g.S.RawStore.honest c.claim.new.owner c.read.new.owner c.fill.new.owner c.args.table.now.sizes.cells c.in-Some.words
-    c.requires.table.4.2 c.read.ensures.same c.fill.ensures.same c.fill.ensures.filled c.in-Some.ensures.told.2
+    filled_hand g.S.RawStore.honest c.claim.new.owner c.read.new.owner c.fill.new.owner c.args.table.now.sizes.cells c.read.new.words
+    c.read.ensures.same c.fill.ensures.same c.fill.ensures.filled (λ t i l. c.if-read.ensures.told.1 t i (subst (λ n. i < n) c.requires.table.4.2 l))

@@ -8,6 +8,8 @@ copy_word-requires-clause-leaves g c κs within = moving c.args.owner.now c.loop
 
 pub loop-i-preserved : goal.loop-i-preserved
 loop-i-preserved g c =
-    let many : length c.loop-i.words ≡ 64 = c.loop-i.invariant.2 in let low : c.loop-i.i < 64 = c.loop-i-test.true in
+    let many : length c.loop-i.words ≡ c.args.table.now.sizes.cells = c.loop-i.invariant.2 in
+    let low = c.loop-i-test.true in
+    let end = c.requires.words in
     let more = copy_more c.args.owner.now c.loop-i.owner c.copy_word.new.mover c.loop-i.words c.loop-i.i c.copy_word.result (omega arith) c.loop-i.invariant.1 c.loop-i.invariant.3 c.copy_word.ensures.copied in
     (c.copy_word.ensures.table, more.0, length-set c.loop-i.words c.loop-i.i c.copy_word.result ∙ many, more.1)

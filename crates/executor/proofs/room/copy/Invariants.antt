@@ -5,4 +5,4 @@ use Rattle.pointer_word.specs.Ordered.{IsCopied}
 use Rattle.executor.proofs.room.copy.Given as goal
 
 abbrev pub invariant-loop-i : goal.invariant-loop-i
-invariant-loop-i g l = IsSeat l.table l.owner × CopiesOnly l.initial.owner l.owner × (length l.words ≡ 64) × IsCopied l.owner.view.hand l.words l.i
+invariant-loop-i g l = IsSeat l.table l.owner × CopiesOnly l.initial.owner l.owner × (length l.words ≡ l.table.sizes.cells) × IsCopied l.owner.view.hand l.words l.i

@@ -4,6 +4,7 @@ use Rattle.code_form.specs.Code.{Covered}
 use Rattle.code_form.specs.Form as form
 use Rattle.executor.specs.State.{State}
 use Rattle.object_lock.specs.Fresh.{IsFreshOwner}
+use Rattle.object_lock.specs.Seats.{Sizes, View}
 use Rattle.image_run.proofs.Ending.{executed, last_of_all}
 use Rattle.image_run.proofs.execution.execute.Goals as goal
 
@@ -28,5 +29,6 @@ returns g c =
     let low = same.1 ∙ ap (λ (s : State). s.view.low) begins in
     let high = same.2 ∙ ap (λ (s : State). s.view.high) begins in
     let share = high ∙ (seat.2 ∙ ap (λ l. l + 65536) (sym low)) in
+    let cells = ap (λ (v : View). v.sizes.cells) same.3 ∙ (ap (λ (s : State). s.view.sizes.cells) begins ∙ (ap (λ (z : Sizes). z.cells) seat.0.0.1 ∙ seat.0.0.4.2)) in
     let cover = subst Covered (sym (ap (λ (s : State). s.image) begins)) c.requires in
-    executed (Unit {0}) _ (form.image_of c.args.image.now) c.run_to_end-run.new.session c.in_ok-output.output c.run_to_end-run.result c.completed.result image share (c.run_to_end-run.ensures.at tt) (copied ∙ c.output.ensures) c.completed.ensures c.run_to_end-run.ensures.over (c.run_to_end-run.ensures.covered tt tt cover)
+    executed (Unit {0}) _ (form.image_of c.args.image.now) c.run_to_end-run.new.session c.in_ok-output.output c.run_to_end-run.result c.completed.result image cells share (c.run_to_end-run.ensures.at tt) (copied ∙ c.output.ensures) c.completed.ensures c.run_to_end-run.ensures.over (c.run_to_end-run.ensures.covered tt tt cover)

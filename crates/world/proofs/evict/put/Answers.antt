@@ -1,4 +1,5 @@
 use Rattle.std.proofs.Common.{ℕ, Bool, true, false, ◌<◌, length, subst, sym, take}
+use Rattle.remote_store.specs.Kept.{piece_cells}
 use Rattle.world.specs.Acting.{On}
 use Rattle.world.specs.Answered.{AnswersSo, Puts}
 use Rattle.world_semantics.specs.Programs.{Copying, Stored, NotStored}
@@ -15,7 +16,7 @@ returns-then-put g c m z s is =
     let f = c.args.frame in
     let words = c.args.words.now in
     let now = c.put.new.self in
-    let told : Answer → Type 0 = AnswersSo g.S.RawStore.reliable g.S.RawStore.failures g.S.RawStore.read_gives old.berths.items c.args.port.now c.put.new.port s.far (Puts o) in
+    let told : Answer → Type 0 = AnswersSo g.S.RawStore.reliable g.S.RawStore.failures g.S.RawStore.read_gives piece_cells old.berths.items c.args.port.now c.put.new.port s.far (Puts o) in
     subst (λ (t : Tables). LeadsSo g.S.RawStore.content h z old.machine old.berths.items m s told (Copying o f (take c.args.copied words)) t now.berths.items (On (Stored o f))) (sym c.put.ensures.machine)
     (put_out g.S.RawStore.content h z old.machine old.berths.items m s o f c.args.copied words true told now.berths.items is c.requires.0 c.requires.1 (c.if-put.ensures.answered s.far) (c.if-put.ensures.far s.far is.shows.far) c.put.ensures.many)
 
@@ -27,6 +28,6 @@ returns-else-put g c m z s is =
     let f = c.args.frame in
     let words = c.args.words.now in
     let now = c.put.new.self in
-    let told : Answer → Type 0 = AnswersSo g.S.RawStore.reliable g.S.RawStore.failures g.S.RawStore.read_gives old.berths.items c.args.port.now c.put.new.port s.far (Puts o) in
+    let told : Answer → Type 0 = AnswersSo g.S.RawStore.reliable g.S.RawStore.failures g.S.RawStore.read_gives piece_cells old.berths.items c.args.port.now c.put.new.port s.far (Puts o) in
     subst (λ (t : Tables). LeadsSo g.S.RawStore.content h z old.machine old.berths.items m s told (Copying o f (take c.args.copied words)) t now.berths.items (On (NotStored o f))) (sym c.put.ensures.machine)
     (put_out g.S.RawStore.content h z old.machine old.berths.items m s o f c.args.copied words false told now.berths.items is c.requires.0 c.requires.1 (c.if-put.ensures.answered s.far) (c.if-put.ensures.far s.far is.shows.far) c.put.ensures.many)

@@ -9,7 +9,7 @@ held-hold-requires-clause-held g c κs within =
 
 pub load_cell-value-requires-clause-low : goal.load_cell-value-requires-clause-low
 load_cell-value-requires-clause-low g c κs within =
-    load_low c.args.self.now c.args.scope c.held-hold.result c.args.cell.index _ c.requires.safe.holding c.held-hold.ensures c.place.ensures
+    load_low c.args.self.now c.args.scope c.held-hold.result c.args.cell.index _ c.requires.safe.holding c.held-hold.ensures c.place-index.ensures
 
 pub load_cell-value-requires-clause-hold : goal.load_cell-value-requires-clause-hold
 load_cell-value-requires-clause-hold g c κs within =
@@ -23,4 +23,4 @@ returns-clause-safe g c =
 pub returns-clause-moves : goal.returns-clause-moves
 returns-clause-moves g c =
     let laws : Laws = record { tidy = c.effect_laws.ensures.tidy; tracked = c.effect_laws.ensures.tracked; waits = c.effect_laws.ensures.waits; ends = c.effect_laws.ensures.ends } in
-    moves_loaded g.S.RawStore.honest laws c.args.self.now c.finish.new.self c.args.scope c.args.cell c.load_cell-value.result _ c.held-hold.result c.requires.safe c.requires.next c.held-hold.ensures c.place.ensures c.load_cell-value.ensures.value (loaded_from c.args.self.now c.load_cell-value.new.self c.finish.new.self c.load_cell-value.result c.load_cell-value.ensures.same c.finish.ensures)
+    moves_loaded g.S.RawStore.honest laws c.args.self.now c.finish.new.self c.args.scope c.args.cell c.load_cell-value.result _ c.held-hold.result c.requires.safe c.requires.next c.held-hold.ensures c.place-index.ensures c.load_cell-value.ensures.value (loaded_from c.args.self.now c.load_cell-value.new.self c.finish.new.self c.load_cell-value.result c.load_cell-value.ensures.same c.finish.ensures)

@@ -9,7 +9,7 @@ held-hold-requires-clause-held g c κs within =
 
 pub store_cell-requires-clause-low : goal.store_cell-requires-clause-low
 store_cell-requires-clause-low g c κs within =
-    save_low c.make_writable.new.self c.args.scope c.held-hold.result c.args.cell.index _ c.make_writable.ensures.holding c.make_writable.ensures.writer c.place.ensures
+    save_low c.make_writable.new.self c.args.scope c.held-hold.result c.args.cell.index _ c.make_writable.ensures.holding c.make_writable.ensures.writer c.place-index.ensures
 
 pub store_cell-requires-clause-hold : goal.store_cell-requires-clause-hold
 store_cell-requires-clause-hold g c κs within =
@@ -23,4 +23,4 @@ returns-clause-safe g c =
 pub returns-clause-moves : goal.returns-clause-moves
 returns-clause-moves g c =
     let laws : Laws = record { tidy = c.effect_laws.ensures.tidy; tracked = c.effect_laws.ensures.tracked; waits = c.effect_laws.ensures.waits; ends = c.effect_laws.ensures.ends } in
-    moves_saved g.S.RawStore.honest laws c.args.self.now c.make_writable.new.self c.store_cell.new.self c.finish.new.self c.args.scope c.args.cell c.args.value _ c.held-hold.result c.requires.safe c.requires.next c.held-hold.ensures c.make_writable.ensures.holding c.make_writable.ensures.changes c.make_writable.ensures.writer c.place.ensures c.store_cell.ensures c.finish.ensures
+    moves_saved g.S.RawStore.honest laws c.args.self.now c.make_writable.new.self c.store_cell.new.self c.finish.new.self c.args.scope c.args.cell c.args.value _ c.held-hold.result c.requires.safe c.requires.next c.held-hold.ensures c.make_writable.ensures.holding c.make_writable.ensures.changes c.make_writable.ensures.writer c.place-index.ensures c.store_cell.ensures c.finish.ensures

@@ -16,9 +16,9 @@ returns-then-get g c z s p _ is =
     let f = c.args.frame in
     let words = c.get.new.self.words in
     let mode = m.Filling o f 0 in
-    let told : Answer → Type 0 = AnswersSo g.S.RawStore.reliable g.S.RawStore.failures g.S.RawStore.read_gives old.berths.items c.args.port.now c.get.new.port s.far (asked_in piece_cells p.mode) in
+    let told : Answer → Type 0 = AnswersSo g.S.RawStore.reliable g.S.RawStore.failures g.S.RawStore.read_gives piece_cells old.berths.items c.args.port.now c.get.new.port s.far (asked_in piece_cells p.mode) in
     let answered : told (reading true words) =
-    asked_as g.S.RawStore.reliable g.S.RawStore.failures g.S.RawStore.read_gives old.berths.items c.args.port.now c.get.new.port s.far (reading true words) (Gets o) (asked_in piece_cells p.mode)
+    asked_as g.S.RawStore.reliable g.S.RawStore.failures g.S.RawStore.read_gives piece_cells old.berths.items c.args.port.now c.get.new.port s.far (reading true words) (Gets o) (asked_in piece_cells p.mode)
     (asked_as_mode g.S.RawStore.content g.S.RawStore.honest z old.machine old.berths.items x s p is (m.Reading o f) c.requires.mode)
     (c.if-get.ensures.answered s.far is.shows.far (was_put g.S.RawStore.content g.S.RawStore.honest z old.machine old.berths.items x s p is o f c.requires.mode)) in
     reads g.S.RawStore.content g.S.RawStore.honest z old.machine old.berths.items x s p is o f words c.set_mode.new.self told answered c.requires.mode
@@ -32,9 +32,9 @@ returns-else-get g c z s p _ is =
     let f = c.args.frame in
     let words = c.get.new.self.words in
     let mode = m.Releasing o f in
-    let told : Answer → Type 0 = AnswersSo g.S.RawStore.reliable g.S.RawStore.failures g.S.RawStore.read_gives old.berths.items c.args.port.now c.get.new.port s.far (asked_in piece_cells p.mode) in
+    let told : Answer → Type 0 = AnswersSo g.S.RawStore.reliable g.S.RawStore.failures g.S.RawStore.read_gives piece_cells old.berths.items c.args.port.now c.get.new.port s.far (asked_in piece_cells p.mode) in
     let answered : told (reading false words) =
-    asked_as g.S.RawStore.reliable g.S.RawStore.failures g.S.RawStore.read_gives old.berths.items c.args.port.now c.get.new.port s.far (reading false words) (Gets o) (asked_in piece_cells p.mode)
+    asked_as g.S.RawStore.reliable g.S.RawStore.failures g.S.RawStore.read_gives piece_cells old.berths.items c.args.port.now c.get.new.port s.far (reading false words) (Gets o) (asked_in piece_cells p.mode)
     (asked_as_mode g.S.RawStore.content g.S.RawStore.honest z old.machine old.berths.items x s p is (m.Reading o f) c.requires.mode)
     (c.if-get.ensures.answered s.far is.shows.far (was_put g.S.RawStore.content g.S.RawStore.honest z old.machine old.berths.items x s p is o f c.requires.mode)) in
     reads_not g.S.RawStore.content g.S.RawStore.honest z old.machine old.berths.items x s p is o f words c.set_mode-else-get.new.self told answered
