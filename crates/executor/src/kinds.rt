@@ -6,14 +6,14 @@ ghost use Rattle.executor.specs.Keeping.{Allocated, IsHolding, IsNext, IsSafe, I
 ghost use Rattle.executor.specs.State.{next_touch};
 ghost use Rattle.std.specs.Prelude.{◌≡◌, ◌+◌, ◌%◌, ◌<◌, ◌^◌, MatchResult, true};
 
-use crate::machine::{Machine, pieces};
+use crate::program::{Program, pieces};
 use cells::Want;
 use code_form::{Cell, Touch, effect_laws};
 use remote_store::{PIECE_CELLS, RawStore};
 use std::alloc::AllocError;
 use std::sync::Wait;
 
-impl<'a, S: RawStore> Machine<'a, S> {
+impl<'a, S: RawStore> Program<'a, S> {
     /// The place of a cell in its piece.
     fn place(&self, cell: Cell) -> usize
         requires { IsHolding self.now }

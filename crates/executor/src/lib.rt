@@ -4,7 +4,7 @@
 mod bring;
 mod hold;
 mod kinds;
-mod machine;
+mod program;
 mod room;
 mod run;
 mod session;

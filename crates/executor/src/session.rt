@@ -10,7 +10,7 @@ ghost use Rattle.executor.specs.Taken.{IsQuiet, Refused};
 ghost use Rattle.object_lock.specs.Fresh.{IsFresh};
 ghost use Rattle.std.specs.Prelude.{◌≡◌, ◌≢◌, ◌⊎◌, ◌+◌, ◌<◌, ◌≤◌, ◌^◌, IfOk, MatchResult, Some};
 
-use crate::machine::Machine;
+use crate::program::Program;
 use cells::{Run, Want};
 use code_form::{Image, effect_laws, heap_laws, run_laws};
 use object_lock::{ObjectTable, OwnerSeat};
@@ -23,7 +23,7 @@ use std::sync::Wait;
 /// hold, what its seat knows, how many instructions it completed, and what it wants, if it wants anything.
 #[derive(Drop)]
 pub struct Session<'a, S: RawStore> {
-    machine: Machine<'a, S>,
+    program: Program<'a, S>,
 }
 
 impl<'a, S: RawStore> Model for Session<'a, S> {
@@ -33,9 +33,9 @@ impl<'a, S: RawStore> Model for Session<'a, S> {
 
     ghost Value = { State };
 
-    ghost view = { λ s. s.machine };
+    ghost view = { λ s. s.program };
 
-    ghost invariant = { λ s. IsSession S.honest s.machine };
+    ghost invariant = { λ s. IsSession S.honest s.program };
 }
 
 impl<'a, S: RawStore> Session<'a, S> {
@@ -53,8 +53,8 @@ impl<'a, S: RawStore> Session<'a, S> {
         ensures begins { MatchResult result (λ s. s ≡ begin (image_of image.now) seat.view seat.refusals) (λ want. want ≡ OutOfMemory) }
         ensures at { IfOk result (λ s. S.honest → IsAt s) }
     {
-        match Machine::new(alloc, table, image, seat) {
-            Ok(machine) => Ok(Session { machine }),
+        match Program::new(alloc, table, image, seat) {
+            Ok(program) => Ok(Session { program }),
             Err(_) => Err(Want::OutOfMemory),
         }
     }
@@ -81,7 +81,7 @@ impl<'a, S: RawStore> Session<'a, S> {
         effect_laws();
         heap_laws();
         run_laws();
-        match self.machine.run(rt, limit) {
+        match self.program.run(rt, limit) {
             Ok(run) => run,
             Err(_refused) => Run::Wanted(Want::OutOfMemory),
         }
@@ -91,13 +91,13 @@ impl<'a, S: RawStore> Session<'a, S> {
     pub fn output(&self) -> &[u8]
         ensures { result.now ≡ output_of self.now.core }
     {
-        self.machine.output()
+        self.program.output()
     }
 
     /// How many instructions were completed.
     pub fn completed(&self) -> u64
         ensures { result ≡ self.now.completed }
     {
-        self.machine.completed()
+        self.program.completed()
     }
 }

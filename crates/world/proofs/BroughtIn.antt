@@ -17,9 +17,9 @@ use Rattle.pointer_word.proofs.Upd.{upd-same}
 use Rattle.remote_store.specs.Kept.{piece_cells}
 use Rattle.remote_store.specs.declared.berth.Berth.{Berth}
 use Rattle.remote_store.specs.declared.port.Port.{Port}
-use Rattle.world.specs.declared.machine.Object.{Object}
-use Rattle.world.specs.declared.machine.Place.{Place as RustPlace}
-use Rattle.world.specs.declared.machine.Place.TheVariants as placed
+use Rattle.world.specs.declared.memory.Object.{Object}
+use Rattle.world.specs.declared.memory.Place.{Place as RustPlace}
+use Rattle.world.specs.declared.memory.Place.TheVariants as placed
 use Rattle.world.specs.declared.program.Eviction.{Eviction as RustEviction}
 use Rattle.world.specs.declared.program.Mode.{Mode as RustMode}
 use Rattle.world.specs.declared.program.Mode.TheVariants as m

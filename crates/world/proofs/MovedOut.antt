@@ -14,9 +14,9 @@ use Rattle.pointer_word.proofs.Legal.{may_legal}
 use Rattle.pointer_word.proofs.Upd.{upd-same}
 use Rattle.remote_store.specs.Kept.{piece_cells}
 use Rattle.remote_store.specs.declared.berth.Berth.{Berth}
-use Rattle.world.specs.declared.machine.Object.{Object}
-use Rattle.world.specs.declared.machine.Place.{Place as RustPlace}
-use Rattle.world.specs.declared.machine.Place.TheVariants as p
+use Rattle.world.specs.declared.memory.Object.{Object}
+use Rattle.world.specs.declared.memory.Place.{Place as RustPlace}
+use Rattle.world.specs.declared.memory.Place.TheVariants as p
 use Rattle.world.specs.Acting.{Leads, Moves, Outcome, On, Done, Failed, Shows, Unread, UnreadSo, resumes}
 use Rattle.world.specs.Answered.{storing}
 use Rattle.world_semantics.specs.InHand.{FitsEviction, MovesOut}

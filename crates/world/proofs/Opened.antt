@@ -11,8 +11,8 @@ use Rattle.pointer_word.specs.Sound.{Inv, FrameOk, PlaceOk}
 use Rattle.remote_store.specs.Kept.{piece_cells}
 use Rattle.remote_store.specs.declared.berth.Berth.{Berth}
 use Rattle.world.specs.declared.evacuator.Evacuator.{Evacuator}
-use Rattle.world.specs.declared.machine.Frame.{Frame}
-use Rattle.world.specs.declared.machine.Object.{Object}
+use Rattle.world.specs.declared.memory.Frame.{Frame}
+use Rattle.world.specs.declared.memory.Object.{Object}
 use Rattle.world.specs.declared.program.Eviction.{Eviction as RustEviction}
 use Rattle.world.specs.Acting.{IsProgram, IsWorld}
 use Rattle.cells.specs.declared.ending.Ended.{Ended}

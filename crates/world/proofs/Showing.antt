@@ -9,8 +9,8 @@ use Rattle.pointer_word.specs.Hands.{Note, upd, listed, known, opened, closed, w
 use Rattle.pointer_word.specs.Machine.{State, after_open, after_close, after_clear, after_told}
 use Rattle.pointer_word.proofs.Upd.{upd-same, upd-other, same_or}
 use Rattle.remote_store.specs.Kept.{piece_cells}
-use Rattle.world.specs.declared.machine.Object.{Object}
-use Rattle.world.specs.declared.machine.Frame.{Frame}
+use Rattle.world.specs.declared.memory.Object.{Object}
+use Rattle.world.specs.declared.memory.Frame.{Frame}
 use Rattle.world.specs.Tables.{Tables, cells_at, frame_at, frame_word, free, object_at, place_of, resting, with_cell, with_frame, with_object, word_of}
 use Rattle.world_semantics.specs.Worlds.{Sizes}
 use Rattle.world.specs.Shown.{IsObject, AreTables, Shown}

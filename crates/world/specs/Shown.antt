@@ -5,7 +5,7 @@ use Rattle.pointer_word.specs.Hands.{Note, listed}
 use Rattle.pointer_word.specs.Machine.{Far, Never, Kept, Unknown, State}
 use Rattle.remote_store.specs.Kept.{piece_cells}
 use Rattle.remote_store.specs.declared.berth.Berth.{Berth}
-use Rattle.world.specs.declared.machine.Object.{Object}
+use Rattle.world.specs.declared.memory.Object.{Object}
 use Rattle.world_semantics.specs.InHand.{WasPut}
 use Rattle.world_semantics.specs.Worlds.{Sizes}
 use Rattle.world.specs.Tables.{Tables, cells_at, frame_at, frame_word, object_at, word_of}

@@ -2,10 +2,10 @@
 use Rattle.std.specs.Prelude.{◌≡◌, ℕ, suc, ◌<◌, Bool, true, false, ◌&&◌, ◌==◌, Option, Some, None, List, [], slice_index_or, slice_set, replicate}
 use Rattle.pointer_word.specs.Words as words
 use Rattle.remote_store.specs.Kept.{piece_cells}
-use Rattle.world.specs.declared.machine.Place.{Place}
-use Rattle.world.specs.declared.machine.Place.TheVariants as p
-use Rattle.world.specs.declared.machine.Object.{Object}
-use Rattle.world.specs.declared.machine.Frame.{Frame}
+use Rattle.world.specs.declared.memory.Place.{Place}
+use Rattle.world.specs.declared.memory.Place.TheVariants as p
+use Rattle.world.specs.declared.memory.Object.{Object}
+use Rattle.world.specs.declared.memory.Frame.{Frame}
 
 -- an object's word with what its owner knows, and a frame's word with its cells, by their numbers
 pub record Tables : Type 0 where

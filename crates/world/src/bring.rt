@@ -14,7 +14,7 @@ ghost use Rattle.world_semantics.specs.Worlds.{in_range};
 
 use crate::evict::mark;
 use crate::lock::Lock;
-use crate::machine::Place;
+use crate::memory::Place;
 use crate::program::{Eviction, Mode, Program};
 use remote_store::{Port, RawStore};
 use world_semantics::event::{Choice, Step};
@@ -36,19 +36,19 @@ impl<'a> Program<'a> {
     pub(crate) fn begin<S: RawStore>(&mut self, lock: &mut Lock<S>, object: usize) -> Step
         requires mode { self.old.mode ≡ Mode.Missing object }
         requires steady { IsSteady (next_touch self.old) }
-        ensures { Turns S.content S.honest lock.old.machine lock.new.machine lock.old.berths.items lock.new.berths.items self.old self.new
+        ensures { Turns S.content S.honest lock.old.memory lock.new.memory lock.old.berths.items lock.new.berths.items self.old self.new
             (λ s p a. Calls (Begins self.old.setting.mover object (s.note object).count true) (began self.old.setting p object)) ((lock.new ≡ lock.old) × (self.new ≡ self.old)) result }
     {
-        let row = lock.machine.object(object);
+        let row = lock.memory.object(object);
         if row.count == 0 {
             Step::NotEnabled
         } else if row.is_away() {
             let mover = self.mover();
-            lock.machine.put_place(object, Place::Coming(mover));
+            lock.memory.put_place(object, Place::Coming(mover));
             self.set_mode(Mode::Bringing(object));
             Step::Took
         } else {
-            lock.machine.tell(object);
+            lock.memory.tell(object);
             self.find(object, row.place.frame());
             Step::Took
         }
@@ -61,9 +61,13 @@ impl<'a> Program<'a> {
         ensures starts { (far : Far) (p : Defined) → IsNew is_new far → IsProgram self.old p → IsProgram self.new (in_mode p (to_fill object frame far)) }
     {
         if is_new {
-            self.set_mode(Mode::Clearing(object, frame, 0));
+            self.set_mode(Mode::Clearing {
+                object,
+                frame,
+                at: 0,
+            });
         } else {
-            self.set_mode(Mode::Reading(object, frame));
+            self.set_mode(Mode::Reading { object, frame });
         }
     }
 
@@ -71,11 +75,11 @@ impl<'a> Program<'a> {
     fn claim<S: RawStore>(&mut self, lock: &mut Lock<S>, object: usize, frame: usize) -> Step
         requires mode { self.old.mode ≡ Mode.Bringing object }
         requires steady { IsSteady (next_touch self.old) }
-        ensures { TurnsIn S.content (λ z. frame < z.frames) S.honest lock.old.machine lock.new.machine lock.old.berths.items lock.new.berths.items self.old self.new
+        ensures { TurnsIn S.content (λ z. frame < z.frames) S.honest lock.old.memory lock.new.memory lock.old.berths.items lock.new.berths.items self.old self.new
             (λ s p a. Calls (Claims self.old.setting.mover object frame) (claimed_so self.old.setting p object frame)) ((lock.new ≡ lock.old) × (self.new ≡ self.old)) result }
     {
-        if lock.machine.is_free(frame) {
-            lock.machine.hold_frame(frame, Some(object));
+        if lock.memory.is_free(frame) {
+            lock.memory.hold_frame(frame, Some(object));
             let is_new = lock.is_new(object);
             self.start(object, frame, is_new);
             Step::Took
@@ -94,12 +98,19 @@ impl<'a> Program<'a> {
     ) -> Step
         requires mode { self.old.mode ≡ Mode.Bringing object }
         requires steady { IsSteady (next_touch self.old) }
-        ensures { TurnsIn S.content (λ z. other < z.objects) S.honest lock.old.machine lock.new.machine lock.old.berths.items lock.new.berths.items self.old self.new
+        ensures { TurnsIn S.content (λ z. other < z.objects) S.honest lock.old.memory lock.new.memory lock.old.berths.items lock.new.berths.items self.old self.new
             (λ s p a. Calls (Marks self.old.setting.mover other frame) (marked_so self.old.setting p object other frame)) ((lock.new ≡ lock.old) × (self.new ≡ self.old)) result }
     {
         let mover = self.mover();
         if mark(lock, mover, other, frame) {
-            self.set_mode(Mode::Evicting(object, Eviction::Copying(other, frame, 0)));
+            self.set_mode(Mode::Evicting {
+                object,
+                eviction: Eviction::Copying {
+                    object: other,
+                    frame,
+                    at: 0,
+                },
+            });
             Step::Took
         } else {
             Step::Took
@@ -115,7 +126,7 @@ impl<'a> Program<'a> {
     ) -> Step
         requires mode { self.old.mode ≡ Mode.Bringing object }
         requires steady { IsSteady (next_touch self.old) }
-        ensures { TurnsIn S.content (λ z. in_range z choice ≡ true) S.honest lock.old.machine lock.new.machine lock.old.berths.items lock.new.berths.items self.old self.new
+        ensures { TurnsIn S.content (λ z. in_range z choice ≡ true) S.honest lock.old.memory lock.new.memory lock.old.berths.items lock.new.berths.items self.old self.new
             (λ s p a. seeks self.old.setting p object choice) ((lock.new ≡ lock.old) × (self.new ≡ self.old)) result }
     {
         match choice {
@@ -138,13 +149,17 @@ impl<'a> Program<'a> {
     )
         requires mode { self.old.mode ≡ Mode.Reading object frame }
         requires steady { IsSteady (next_touch self.old) }
-        ensures { TurnsTold S.content (λ z. Unit {0}) S.honest lock.now.machine lock.now.machine lock.now.berths.items lock.now.berths.items self.old self.new
+        ensures { TurnsTold S.content (λ z. Unit {0}) S.honest lock.now.memory lock.now.memory lock.now.berths.items lock.now.berths.items self.old self.new
             (AnswersSo S.reliable S.failures S.read_gives piece_cells lock.now.berths.items port.old port.new) (λ s p a. Alone (in_mode p (read_so object frame a.read))) (Unit {0}) Step.Took }
     {
         if self.get(lock, port, object) {
-            self.set_mode(Mode::Filling(object, frame, 0));
+            self.set_mode(Mode::Filling {
+                object,
+                frame,
+                at: 0,
+            });
         } else {
-            self.set_mode(Mode::Releasing(object, frame));
+            self.set_mode(Mode::Releasing { object, frame });
         }
     }
 
@@ -157,14 +172,14 @@ impl<'a> Program<'a> {
     ) -> Step
         requires steady { IsSteady (next_touch self.old) }
         ensures { (words : List ℕ) (k : ℕ) → mode_of self.old.mode self.old.words ≡ Filling object frame words k → piece_cells ≤ k
-            → Turns S.content S.honest lock.old.machine lock.new.machine lock.old.berths.items lock.new.berths.items self.old self.new
+            → Turns S.content S.honest lock.old.memory lock.new.memory lock.old.berths.items lock.new.berths.items self.old self.new
             (λ s p a. Calls (Arrives self.old.setting.mover object frame false true) (λ t. finished_as self.old.setting p 0)) ((lock.new ≡ lock.old) × (self.new ≡ self.old)) result }
     {
-        if lock.machine.object(object).count == 0 {
+        if lock.memory.object(object).count == 0 {
             Step::NotEnabled
         } else {
-            lock.machine.put_place(object, Place::Here(frame));
-            lock.machine.tell(object);
+            lock.memory.put_place(object, Place::Here(frame));
+            lock.memory.tell(object);
             self.finish(0);
             Step::Took
         }
@@ -183,10 +198,10 @@ impl<'a> Program<'a> {
         requires steady { Waits next (next_touch self.old) }
         requires index { index < piece_cells }
         ensures { (words : List ℕ) → mode_of self.old.mode self.old.words ≡ Filling object frame words index → value ≡ listed words index → Filling object frame words (suc index) ≡ mode_of next self.old.words
-            → Turns S.content S.honest lock.old.machine lock.new.machine lock.old.berths.items lock.new.berths.items self.old self.new
+            → Turns S.content S.honest lock.old.memory lock.new.memory lock.old.berths.items lock.new.berths.items self.old self.new
             (λ s p a. Calls (Fills self.old.setting.mover frame index (listed words index)) (λ t. in_mode p (Filling object frame words (suc index)))) (Unit {0}) Step.Took }
     {
-        lock.machine.put_cell(frame, index, value);
+        lock.memory.put_cell(frame, index, value);
         self.set_mode(next);
     }
 
@@ -200,7 +215,7 @@ impl<'a> Program<'a> {
     )
         requires mode { self.old.mode ≡ Mode.Evicting object eviction }
         requires steady { IsSteady (next_touch self.old) }
-        ensures { TurnsTold S.content (λ z. Unit {0}) S.honest lock.old.machine lock.new.machine lock.old.berths.items lock.new.berths.items self.old self.new
+        ensures { TurnsTold S.content (λ z. Unit {0}) S.honest lock.old.memory lock.new.memory lock.old.berths.items lock.new.berths.items self.old self.new
             (AnswersSo S.reliable S.failures S.read_gives piece_cells lock.old.berths.items port.old port.new)
             (λ s p a. evicts piece_cells self.old.setting.mover a (eviction_of eviction self.old.words) (λ d. in_mode p (Evicting object d)) (in_mode p (Bringing object)) (in_mode p (Retreating object))) (Unit {0}) Step.Took }
     {
@@ -211,20 +226,20 @@ impl<'a> Program<'a> {
     /// Gives up the frame that it claimed.
     pub(crate) fn release<S: RawStore>(&mut self, lock: &mut Lock<S>, object: usize, frame: usize)
         requires { self.old.mode ≡ Mode.Releasing object frame }
-        ensures { Turns S.content S.honest lock.old.machine lock.new.machine lock.old.berths.items lock.new.berths.items self.old self.new
+        ensures { Turns S.content S.honest lock.old.memory lock.new.memory lock.old.berths.items lock.new.berths.items self.old self.new
             (λ s p a. Calls (Unclaims self.old.setting.mover frame) (λ t. in_mode p (Retreating object))) (Unit {0}) Step.Took }
     {
-        lock.machine.hold_frame(frame, None);
+        lock.memory.hold_frame(frame, None);
         self.set_mode(Mode::Retreating(object));
     }
 
     /// Gives up the object that it brings in.
     pub(crate) fn retreat<S: RawStore>(&mut self, lock: &mut Lock<S>, object: usize)
         requires { self.old.mode ≡ Mode.Retreating object }
-        ensures { Turns S.content S.honest lock.old.machine lock.new.machine lock.old.berths.items lock.new.berths.items self.old self.new
+        ensures { Turns S.content S.honest lock.old.memory lock.new.memory lock.old.berths.items lock.new.berths.items self.old self.new
             (λ s p a. Calls (Retreats self.old.setting.mover object) (λ t. in_mode p Closing)) (Unit {0}) Step.Took }
     {
-        lock.machine.put_place(object, Place::Away);
+        lock.memory.put_place(object, Place::Away);
         self.set_mode(Mode::Closing);
     }
 }

@@ -23,8 +23,8 @@ impl Mode {
             Mode::Wanted(want) => Some(want),
             Mode::Ready | Mode::Closing => None,
             Mode::Missing(_) | Mode::Bringing(_) | Mode::Retreating(_) => None,
-            Mode::Reading(_, _) | Mode::Releasing(_, _) | Mode::Evicting(_, _) => None,
-            Mode::Filling(_, _, _) | Mode::Clearing(_, _, _) => None,
+            Mode::Reading { .. } | Mode::Releasing { .. } | Mode::Evicting { .. } => None,
+            Mode::Filling { .. } | Mode::Clearing { .. } => None,
         }
     }
 }
@@ -60,7 +60,7 @@ impl<'a, S: RawStore> World<'a, S> {
     /// output or the text of an error.
     pub fn ended(&self, alloc: Global, program: usize) -> Result<Ended, AllocError>
         requires { program < length self.now.programs.items }
-        ensures { IfOk result (λ e. (z : Sizes) (images : ℕ → Image) (w : DefinedWorld) → IsWorld S.content S.honest z images self.now.lock.machine self.now.lock.berths.items self.now.programs.items self.now.evacuators.items w
+        ensures { IfOk result (λ e. (z : Sizes) (images : ℕ → Image) (w : DefinedWorld) → IsWorld S.content S.honest z images self.now.lock.memory self.now.lock.berths.items self.now.programs.items self.now.evacuators.items w
             → IsEnded (w.programs program) e) }
     {
         end_of(alloc, &self.programs[program].0)
@@ -75,7 +75,7 @@ impl<'a, S: RawStore> World<'a, S> {
 
     /// The same of each program, in order.
     pub(crate) fn ends(&self, alloc: Global) -> Result<Vec<Ended>, AllocError>
-        ensures { IfOk result (λ v. (z : Sizes) (images : ℕ → Image) (w : DefinedWorld) → IsWorld S.content S.honest z images self.now.lock.machine self.now.lock.berths.items self.now.programs.items self.now.evacuators.items w
+        ensures { IfOk result (λ v. (z : Sizes) (images : ℕ → Image) (w : DefinedWorld) → IsWorld S.content S.honest z images self.now.lock.memory self.now.lock.berths.items self.now.programs.items self.now.evacuators.items w
             → (length v.items ≡ z.programs) × AreEnds w.programs 0 v.items) }
     {
         let mut ends = Vec::new(alloc);

@@ -46,8 +46,8 @@ impl Evacuator {
     fn seek<S: RawStore>(&mut self, lock: &mut Lock<S>, choice: Choice) -> Step
         requires { self.old.eviction ≡ None }
         ensures mover { self.new.mover ≡ self.old.mover }
-        ensures goes { (z : Sizes) (s : State) → in_range z choice ≡ true → Evacuates S.content S.honest z lock.old.machine lock.old.berths.items self.old s
-            → Goes s (λ a. evacuator_idle self.old.mover choice) Unread (λ u d. Shows S.content z lock.new.machine lock.new.berths.items u × (d ≡ eviction_in self.new))
+        ensures goes { (z : Sizes) (s : State) → in_range z choice ≡ true → Evacuates S.content S.honest z lock.old.memory lock.old.berths.items self.old s
+            → Goes s (λ a. evacuator_idle self.old.mover choice) Unread (λ u d. Shows S.content z lock.new.memory lock.new.berths.items u × (d ≡ eviction_in self.new))
             ((lock.new ≡ lock.old) × (self.new ≡ self.old)) result }
     {
         match choice {
@@ -55,7 +55,11 @@ impl Evacuator {
             Choice::Mark(object, frame) => {
                 let (object, frame) = (object as usize, frame as usize);
                 if mark(lock, self.mover, object, frame) {
-                    self.eviction = Some(Eviction::Copying(object, frame, 0));
+                    self.eviction = Some(Eviction::Copying {
+                        object,
+                        frame,
+                        at: 0,
+                    });
                 }
                 Step::Took
             }
@@ -67,9 +71,9 @@ impl Evacuator {
     fn go_on<S: RawStore>(&mut self, lock: &mut Lock<S>, port: &mut Port<S>, eviction: Eviction)
         requires { self.old.eviction ≡ Some eviction }
         ensures mover { self.new.mover ≡ self.old.mover }
-        ensures leads { (z : Sizes) (s : State) → Evacuates S.content S.honest z lock.old.machine lock.old.berths.items self.old s
+        ensures leads { (z : Sizes) (s : State) → Evacuates S.content S.honest z lock.old.memory lock.old.berths.items self.old s
             → Leads s (λ a. evicts piece_cells self.old.mover a (eviction_of eviction self.old.words) Some None None)
-            (UnreadSo (AnswersSo S.reliable S.failures S.read_gives piece_cells lock.old.berths.items port.old port.new s.far (asked_out piece_cells (eviction_of eviction self.old.words)))) (λ u d. Shows S.content z lock.new.machine lock.new.berths.items u × (d ≡ eviction_in self.new)) }
+            (UnreadSo (AnswersSo S.reliable S.failures S.read_gives piece_cells lock.old.berths.items port.old port.new s.far (asked_out piece_cells (eviction_of eviction self.old.words)))) (λ u d. Shows S.content z lock.new.memory lock.new.berths.items u × (d ≡ eviction_in self.new)) }
     {
         self.eviction = evict(lock, port, self.mover, eviction, &mut self.words).eviction();
     }
@@ -82,9 +86,9 @@ impl Evacuator {
         choice: Choice,
     ) -> Step
         ensures mover { self.new.mover ≡ self.old.mover }
-        ensures goes { (z : Sizes) (s : State) → in_range z choice ≡ true → Evacuates S.content S.honest z lock.old.machine lock.old.berths.items self.old s
+        ensures goes { (z : Sizes) (s : State) → in_range z choice ≡ true → Evacuates S.content S.honest z lock.old.memory lock.old.berths.items self.old s
             → Goes s (λ a. evacuator_turn piece_cells self.old.mover (eviction_in self.old) choice a)
-            (UnreadSo (AnswersSo S.reliable S.failures S.read_gives piece_cells lock.old.berths.items port.old port.new s.far (asked_idly piece_cells (eviction_in self.old)))) (λ u d. Shows S.content z lock.new.machine lock.new.berths.items u × (d ≡ eviction_in self.new))
+            (UnreadSo (AnswersSo S.reliable S.failures S.read_gives piece_cells lock.old.berths.items port.old port.new s.far (asked_idly piece_cells (eviction_in self.old)))) (λ u d. Shows S.content z lock.new.memory lock.new.berths.items u × (d ≡ eviction_in self.new))
             ((lock.new ≡ lock.old) × (port.new ≡ port.old) × (self.new ≡ self.old)) result }
     {
         match self.eviction() {

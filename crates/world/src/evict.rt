@@ -15,7 +15,7 @@ ghost use Rattle.world_semantics.specs.Turns.{evicts};
 ghost use Rattle.world_semantics.specs.Worlds.{Sizes};
 
 use crate::lock::Lock;
-use crate::machine::Place;
+use crate::memory::Place;
 use crate::program::{Eviction, Mode};
 use remote_store::{PIECE_CELLS, Port, RawStore};
 
@@ -49,7 +49,7 @@ impl Evicted {
         ensures waits { (x : Touch) → IsSteady x → Waits result x }
     {
         match self {
-            Evicted::On(eviction) => Mode::Evicting(object, eviction),
+            Evicted::On(eviction) => Mode::Evicting { object, eviction },
             Evicted::Done => Mode::Bringing(object),
             Evicted::Failed => Mode::Retreating(object),
         }
@@ -58,12 +58,12 @@ impl Evicted {
 
 /// Tries to mark the object in the frame, to move it out. False where it isn't there, or is held, or moves already.
 pub(crate) fn mark<S: RawStore>(lock: &mut Lock<S>, mover: u16, object: usize, frame: usize) -> bool
-    ensures marks { (z : Sizes) (s : State) → object < z.objects → (s.hand mover).leaving ≡ None → Shows S.content z lock.old.machine lock.old.berths.items s
-        → let t = act s (Marks mover object frame) in Shows S.content z lock.new.machine lock.new.berths.items t × (holds (t.hand mover).leaving object ≡ result) }
+    ensures marks { (z : Sizes) (s : State) → object < z.objects → (s.hand mover).leaving ≡ None → Shows S.content z lock.old.memory lock.old.berths.items s
+        → let t = act s (Marks mover object frame) in Shows S.content z lock.new.memory lock.new.berths.items t × (holds (t.hand mover).leaving object ≡ result) }
     ensures refused { result ≡ false → lock.new ≡ lock.old }
 {
-    if lock.machine.object(object).is_at_rest(frame) {
-        lock.machine
+    if lock.memory.object(object).is_at_rest(frame) {
+        lock.memory
             .put_place(object, Place::Leaving(frame, mover, true));
         true
     } else {
@@ -82,11 +82,15 @@ fn copy<S: RawStore>(
     requires { (length words.old ≡ piece_cells) × (copied < piece_cells) }
     ensures length { length words.new ≡ piece_cells }
     ensures leads { (m : ℕ) (z : Sizes) (s : State) → let e = eviction_of (Eviction.Copying object frame copied) words.old in
-        Moves S.content S.honest z lock.now.machine lock.now.berths.items m e s → Leads s (λ a. evicts piece_cells m a e On Done Failed) Unread
-        (λ u r. Shows S.content z lock.now.machine lock.now.berths.items u × (r ≡ outcome_of result words.new)) }
+        Moves S.content S.honest z lock.now.memory lock.now.berths.items m e s → Leads s (λ a. evicts piece_cells m a e On Done Failed) Unread
+        (λ u r. Shows S.content z lock.now.memory lock.now.berths.items u × (r ≡ outcome_of result words.new)) }
 {
-    words[copied] = lock.machine.cell(frame, copied);
-    Evicted::On(Eviction::Copying(object, frame, copied + 1))
+    words[copied] = lock.memory.cell(frame, copied);
+    Evicted::On(Eviction::Copying {
+        object,
+        frame,
+        at: copied + 1,
+    })
 }
 
 /// Puts the words that were copied.
@@ -100,45 +104,45 @@ fn put<S: RawStore>(
 ) -> Evicted
     requires { (length words.now ≡ piece_cells) × (piece_cells ≤ copied) }
     ensures { (m : ℕ) (z : Sizes) (s : State) → let e = eviction_of (Eviction.Copying object frame copied) words.now in
-        Moves S.content S.honest z lock.old.machine lock.old.berths.items m e s → Leads s (λ a. evicts piece_cells m a e On Done Failed)
+        Moves S.content S.honest z lock.old.memory lock.old.berths.items m e s → Leads s (λ a. evicts piece_cells m a e On Done Failed)
         (UnreadSo (AnswersSo S.reliable S.failures S.read_gives piece_cells lock.old.berths.items port.old port.new s.far (Puts object)))
-        (λ u r. Shows S.content z lock.new.machine lock.new.berths.items u × (r ≡ outcome_of result words.now)) }
+        (λ u r. Shows S.content z lock.new.memory lock.new.berths.items u × (r ≡ outcome_of result words.now)) }
 {
     if lock.put(port, object, words) {
-        Evicted::On(Eviction::Stored(object, frame))
+        Evicted::On(Eviction::Stored { object, frame })
     } else {
-        Evicted::On(Eviction::NotStored(object, frame))
+        Evicted::On(Eviction::NotStored { object, frame })
     }
 }
 
 /// Tries to commit: the object is away where its mark still stands and it has no hold.
 fn commit<S: RawStore>(lock: &mut Lock<S>, mover: u16, object: usize, frame: usize) -> Evicted
     ensures { (words : List ℕ) (z : Sizes) (s : State) → let e = eviction_of (Eviction.Stored object frame) words in
-        Moves S.content S.honest z lock.old.machine lock.old.berths.items mover e s → Leads s (λ a. evicts piece_cells mover a e On Done Failed) Unread
-        (λ u r. Shows S.content z lock.new.machine lock.new.berths.items u × (r ≡ outcome_of result words)) }
+        Moves S.content S.honest z lock.old.memory lock.old.berths.items mover e s → Leads s (λ a. evicts piece_cells mover a e On Done Failed) Unread
+        (λ u r. Shows S.content z lock.new.memory lock.new.berths.items u × (r ≡ outcome_of result words)) }
 {
-    if lock.machine.object(object).is_marked(frame, mover) {
-        lock.machine.put_place(object, Place::Away);
+    if lock.memory.object(object).is_marked(frame, mover) {
+        lock.memory.put_place(object, Place::Away);
         Evicted::On(Eviction::Freed(frame))
     } else {
-        Evicted::On(Eviction::Refused(object, frame))
+        Evicted::On(Eviction::Refused { object, frame })
     }
 }
 
 /// Gives the object's berth back: it stays in its frame.
 fn abort<S: RawStore>(lock: &mut Lock<S>, object: usize, frame: usize)
-    ensures { (m : ℕ) (z : Sizes) (s : State) → Inv S.honest piece_cells s → MovesOut object frame (s.hand m) → Shows S.content z lock.old.machine lock.old.berths.items s
-        → Shows S.content z lock.new.machine lock.new.berths.items (act s (Aborts m object frame)) }
+    ensures { (m : ℕ) (z : Sizes) (s : State) → Inv S.honest piece_cells s → MovesOut object frame (s.hand m) → Shows S.content z lock.old.memory lock.old.berths.items s
+        → Shows S.content z lock.new.memory lock.new.berths.items (act s (Aborts m object frame)) }
 {
-    lock.machine.put_place(object, Place::Here(frame));
+    lock.memory.put_place(object, Place::Here(frame));
 }
 
 /// Gives the freed frame back.
 fn release<S: RawStore>(lock: &mut Lock<S>, frame: usize)
-    ensures { (m : ℕ) (z : Sizes) (s : State) → Inv S.honest piece_cells s → (s.hand m).freed ≡ Some frame → Shows S.content z lock.old.machine lock.old.berths.items s
-        → Shows S.content z lock.new.machine lock.new.berths.items (act s (Releases m frame)) }
+    ensures { (m : ℕ) (z : Sizes) (s : State) → Inv S.honest piece_cells s → (s.hand m).freed ≡ Some frame → Shows S.content z lock.old.memory lock.old.berths.items s
+        → Shows S.content z lock.new.memory lock.new.berths.items (act s (Releases m frame)) }
 {
-    lock.machine.hold_frame(frame, None);
+    lock.memory.hold_frame(frame, None);
 }
 
 /// An event of a mover that moves an object out. It is always enabled.
@@ -152,24 +156,24 @@ pub(crate) fn evict<S: RawStore>(
     requires { length words.old ≡ piece_cells }
     ensures length { length words.new ≡ piece_cells }
     ensures leads { (z : Sizes) (s : State) → let e = eviction_of eviction words.old in
-        Moves S.content S.honest z lock.old.machine lock.old.berths.items mover e s → Leads s (λ a. evicts piece_cells mover a e On Done Failed)
+        Moves S.content S.honest z lock.old.memory lock.old.berths.items mover e s → Leads s (λ a. evicts piece_cells mover a e On Done Failed)
         (UnreadSo (AnswersSo S.reliable S.failures S.read_gives piece_cells lock.old.berths.items port.old port.new s.far (asked_out piece_cells e)))
-        (λ u r. Shows S.content z lock.new.machine lock.new.berths.items u × (r ≡ outcome_of result words.new)) }
+        (λ u r. Shows S.content z lock.new.memory lock.new.berths.items u × (r ≡ outcome_of result words.new)) }
 {
     match eviction {
-        Eviction::Copying(object, frame, copied) => {
-            if copied < PIECE_CELLS {
-                copy(lock, object, frame, copied, words)
+        Eviction::Copying { object, frame, at } => {
+            if at < PIECE_CELLS {
+                copy(lock, object, frame, at, words)
             } else {
-                put(lock, port, object, frame, copied, words)
+                put(lock, port, object, frame, at, words)
             }
         }
-        Eviction::Stored(object, frame) => commit(lock, mover, object, frame),
-        Eviction::NotStored(object, frame) => {
+        Eviction::Stored { object, frame } => commit(lock, mover, object, frame),
+        Eviction::NotStored { object, frame } => {
             abort(lock, object, frame);
             Evicted::Failed
         }
-        Eviction::Refused(object, frame) => {
+        Eviction::Refused { object, frame } => {
             abort(lock, object, frame);
             Evicted::Done
         }

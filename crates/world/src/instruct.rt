@@ -22,13 +22,13 @@ use world_semantics::hold::Hold;
 impl<'a> Program<'a> {
     /// Closes what the scope holds.
     fn close_hold<S: RawStore>(&mut self, lock: &mut Lock<S>, scope: usize, hold: Hold) -> Step
-        ensures { Turns S.content S.honest lock.old.machine lock.new.machine lock.old.berths.items lock.new.berths.items self.old self.new
+        ensures { Turns S.content S.honest lock.old.memory lock.new.memory lock.old.berths.items lock.new.berths.items self.old self.new
             (λ s p a. closes p scope hold) ((lock.new ≡ lock.old) × (self.new ≡ self.old)) result }
     {
-        if lock.machine.object(hold.object).count == 0 {
+        if lock.memory.object(hold.object).count == 0 {
             Step::NotEnabled
         } else {
-            lock.machine.close(hold.object);
+            lock.memory.close(hold.object);
             self.set_hold(scope, None);
             Step::Took
         }
@@ -38,12 +38,12 @@ impl<'a> Program<'a> {
     fn open_hold<S: RawStore>(&mut self, lock: &mut Lock<S>, scope: usize, object: usize) -> Step
         requires steady { IsSteady (next_touch self.old) }
         requires own { object < self.old.setting.limit }
-        ensures { Turns S.content S.honest lock.old.machine lock.new.machine lock.old.berths.items lock.new.berths.items self.old self.new
+        ensures { Turns S.content S.honest lock.old.memory lock.new.memory lock.old.berths.items lock.new.berths.items self.old self.new
             (λ s p a. aims_at self.old.setting p scope None (Some object)) ((lock.new ≡ lock.old) × (self.new ≡ self.old)) result }
     {
-        let row = lock.machine.object(object);
+        let row = lock.memory.object(object);
         if row.count < 4 {
-            lock.machine.open(object);
+            lock.memory.open(object);
             self.set_hold(
                 scope,
                 Some(Hold {
@@ -61,7 +61,7 @@ impl<'a> Program<'a> {
     /// The aim completes.
     fn complete<S: RawStore>(&mut self, lock: &mut Lock<S>) -> Step
         requires { IsSteady (next_touch self.old) }
-        ensures { Turns S.content S.honest lock.old.machine lock.new.machine lock.old.berths.items lock.new.berths.items self.old self.new
+        ensures { Turns S.content S.honest lock.old.memory lock.new.memory lock.old.berths.items lock.new.berths.items self.old self.new
             (λ s p a. Alone (finished_as self.old.setting p 0)) ((lock.new ≡ lock.old) × (self.new ≡ self.old)) result }
     {
         self.finish(0);
@@ -77,7 +77,7 @@ impl<'a> Program<'a> {
     ) -> Step
         requires steady { IsSteady (next_touch self.old) }
         requires own { IfSome object (λ o. o < self.old.setting.limit) }
-        ensures { Turns S.content S.honest lock.old.machine lock.new.machine lock.old.berths.items lock.new.berths.items self.old self.new
+        ensures { Turns S.content S.honest lock.old.memory lock.new.memory lock.old.berths.items lock.new.berths.items self.old self.new
             (λ s p a. aims_at self.old.setting p scope (hold_at self.old.holds scope) object) ((lock.new ≡ lock.old) × (self.new ≡ self.old)) result }
     {
         match self.hold(scope) {
@@ -108,7 +108,7 @@ impl<'a> Program<'a> {
     ) -> Step
         requires steady { IsSteady (next_touch self.old) }
         requires index { index < piece_cells }
-        ensures { Turns S.content S.honest lock.old.machine lock.new.machine lock.old.berths.items lock.new.berths.items self.old self.new
+        ensures { Turns S.content S.honest lock.old.memory lock.new.memory lock.old.berths.items lock.new.berths.items self.old self.new
             (λ s p a. loads_by self.old.setting s p (hold_at self.old.holds scope) object index) ((lock.new ≡ lock.old) × (self.new ≡ self.old)) result }
     {
         match self.hold(scope) {
@@ -127,13 +127,13 @@ impl<'a> Program<'a> {
     fn load_told<S: RawStore>(&mut self, lock: &mut Lock<S>, object: usize, index: usize) -> Step
         requires steady { IsSteady (next_touch self.old) }
         requires index { index < piece_cells }
-        ensures { Turns S.content S.honest lock.old.machine lock.new.machine lock.old.berths.items lock.new.berths.items self.old self.new
+        ensures { Turns S.content S.honest lock.old.memory lock.new.memory lock.old.berths.items lock.new.berths.items self.old self.new
             (λ s p a. loads_from self.old.setting s p (s.note object).frame index) ((lock.new ≡ lock.old) × (self.new ≡ self.old)) result }
     {
-        match lock.machine.object(object).told {
+        match lock.memory.object(object).told {
             None => Step::NotEnabled,
             Some(frame) => {
-                let value = lock.machine.cell(frame, index);
+                let value = lock.memory.cell(frame, index);
                 self.finish(value);
                 Step::Took
             }
@@ -151,7 +151,7 @@ impl<'a> Program<'a> {
     ) -> Step
         requires steady { IsSteady (next_touch self.old) }
         requires index { index < piece_cells }
-        ensures { Turns S.content S.honest lock.old.machine lock.new.machine lock.old.berths.items lock.new.berths.items self.old self.new
+        ensures { Turns S.content S.honest lock.old.memory lock.new.memory lock.old.berths.items lock.new.berths.items self.old self.new
             (λ s p a. stores_by self.old.setting s p scope (hold_at self.old.holds scope) object index value) ((lock.new ≡ lock.old) × (self.new ≡ self.old)) result }
     {
         match self.hold(scope) {
@@ -180,15 +180,15 @@ impl<'a> Program<'a> {
     ) -> Step
         requires steady { IsSteady (next_touch self.old) }
         requires index { index < piece_cells }
-        ensures { Turns S.content S.honest lock.old.machine lock.new.machine lock.old.berths.items lock.new.berths.items self.old self.new
+        ensures { Turns S.content S.honest lock.old.memory lock.new.memory lock.old.berths.items lock.new.berths.items self.old self.new
             (λ s p a. stores_to self.old.setting p (s.note object).frame object index value) ((lock.new ≡ lock.old) × (self.new ≡ self.old)) result }
     {
-        let row = lock.machine.object(object);
+        let row = lock.memory.object(object);
         match row.told {
             None => Step::NotEnabled,
             Some(frame) => {
                 if row.writing {
-                    lock.machine.put_cell(frame, index, value);
+                    lock.memory.put_cell(frame, index, value);
                     self.finish(0);
                     Step::Took
                 } else {
@@ -200,13 +200,13 @@ impl<'a> Program<'a> {
 
     /// The scope begins to write.
     fn begin_write<S: RawStore>(&mut self, lock: &mut Lock<S>, scope: usize, object: usize) -> Step
-        ensures { Turns S.content S.honest lock.old.machine lock.new.machine lock.old.berths.items lock.new.berths.items self.old self.new
+        ensures { Turns S.content S.honest lock.old.memory lock.new.memory lock.old.berths.items lock.new.berths.items self.old self.new
             (λ s p a. Calls (Clears object) (λ t. holding p scope (Some (record { object = object; writes = true })))) ((lock.new ≡ lock.old) × (self.new ≡ self.old)) result }
     {
-        if lock.machine.object(object).count == 0 {
+        if lock.memory.object(object).count == 0 {
             Step::NotEnabled
         } else {
-            lock.machine.clear(object);
+            lock.memory.clear(object);
             self.set_hold(
                 scope,
                 Some(Hold {
@@ -221,16 +221,16 @@ impl<'a> Program<'a> {
     /// Shuts the scope.
     fn leave<S: RawStore>(&mut self, lock: &mut Lock<S>, scope: usize) -> Step
         requires { IsSteady (next_touch self.old) }
-        ensures { Turns S.content S.honest lock.old.machine lock.new.machine lock.old.berths.items lock.new.berths.items self.old self.new
+        ensures { Turns S.content S.honest lock.old.memory lock.new.memory lock.old.berths.items lock.new.berths.items self.old self.new
             (λ s p a. leaves_by self.old.setting p scope (hold_at self.old.holds scope)) ((lock.new ≡ lock.old) × (self.new ≡ self.old)) result }
     {
         match self.hold(scope) {
             None => self.complete(lock),
             Some(hold) => {
-                if lock.machine.object(hold.object).count == 0 {
+                if lock.memory.object(hold.object).count == 0 {
                     Step::NotEnabled
                 } else {
-                    lock.machine.close(hold.object);
+                    lock.memory.close(hold.object);
                     self.set_hold(scope, None);
                     self.finish(0);
                     Step::Took
@@ -255,7 +255,7 @@ impl<'a> Program<'a> {
     fn aim<S: RawStore>(&mut self, lock: &mut Lock<S>, scope: usize, wanted: Option<Cell>) -> Step
         requires steady { IsSteady (next_touch self.old) }
         requires cell { IsCellOrNone self.old.core wanted }
-        ensures { Turns S.content S.honest lock.old.machine lock.new.machine lock.old.berths.items lock.new.berths.items self.old self.new
+        ensures { Turns S.content S.honest lock.old.memory lock.new.memory lock.old.berths.items lock.new.berths.items self.old self.new
             (λ s p a. ready self.old.setting s p a (touch.Aims scope wanted)) ((lock.new ≡ lock.old) × (self.new ≡ self.old)) result }
     {
         if scope < self.scopes() {
@@ -270,7 +270,7 @@ impl<'a> Program<'a> {
     fn load_cell<S: RawStore>(&mut self, lock: &mut Lock<S>, scope: usize, cell: Cell) -> Step
         requires steady { IsSteady (next_touch self.old) }
         requires cell { IsCell self.old.core cell }
-        ensures { Turns S.content S.honest lock.old.machine lock.new.machine lock.old.berths.items lock.new.berths.items self.old self.new
+        ensures { Turns S.content S.honest lock.old.memory lock.new.memory lock.old.berths.items lock.new.berths.items self.old self.new
             (λ s p a. ready self.old.setting s p a (touch.Loads scope cell)) ((lock.new ≡ lock.old) × (self.new ≡ self.old)) result }
     {
         let object = self.object_of(cell);
@@ -288,7 +288,7 @@ impl<'a> Program<'a> {
     ) -> Step
         requires steady { IsSteady (next_touch self.old) }
         requires cell { IsCell self.old.core cell }
-        ensures { Turns S.content S.honest lock.old.machine lock.new.machine lock.old.berths.items lock.new.berths.items self.old self.new
+        ensures { Turns S.content S.honest lock.old.memory lock.new.memory lock.old.berths.items lock.new.berths.items self.old self.new
             (λ s p a. ready self.old.setting s p a (touch.Saves scope cell value)) ((lock.new ≡ lock.old) × (self.new ≡ self.old)) result }
     {
         let object = self.object_of(cell);
@@ -299,7 +299,7 @@ impl<'a> Program<'a> {
     /// The next instruction is completed, which touches nothing, or memory is refused to it.
     fn go_plain<S: RawStore>(&mut self, lock: &mut Lock<S>) -> Step
         requires { next_touch self.old ≡ touch.Plain }
-        ensures { Turns S.content S.honest lock.old.machine lock.new.machine lock.old.berths.items lock.new.berths.items self.old self.new
+        ensures { Turns S.content S.honest lock.old.memory lock.new.memory lock.old.berths.items lock.new.berths.items self.old self.new
             (λ s p a. Alone (grows self.old.setting p a)) ((lock.new ≡ lock.old) × (self.new ≡ self.old)) result }
     {
         match self.proceed() {
@@ -314,7 +314,7 @@ impl<'a> Program<'a> {
     /// The next instruction is completed, which stops the program.
     fn go_on<S: RawStore>(&mut self, lock: &mut Lock<S>) -> Step
         requires { IsSteady (next_touch self.old) }
-        ensures { Turns S.content S.honest lock.old.machine lock.new.machine lock.old.berths.items lock.new.berths.items self.old self.new
+        ensures { Turns S.content S.honest lock.old.memory lock.new.memory lock.old.berths.items lock.new.berths.items self.old self.new
             (λ s p a. Alone (grows self.old.setting p a)) ((lock.new ≡ lock.old) × (self.new ≡ self.old)) result }
     {
         self.finish(0);
@@ -324,7 +324,7 @@ impl<'a> Program<'a> {
     /// An allocation of this many cells.
     fn allocate<S: RawStore>(&mut self, lock: &mut Lock<S>, cells: u64) -> Step
         requires { next_touch self.old ≡ touch.Allocs cells }
-        ensures { Turns S.content S.honest lock.old.machine lock.new.machine lock.old.berths.items lock.new.berths.items self.old self.new
+        ensures { Turns S.content S.honest lock.old.memory lock.new.memory lock.old.berths.items lock.new.berths.items self.old self.new
             (λ s p a. ready self.old.setting s p a (touch.Allocs cells)) ((lock.new ≡ lock.old) × (self.new ≡ self.old)) result }
     {
         if self.next() + pieces(cells) <= self.limit() {
@@ -344,7 +344,7 @@ impl<'a> Program<'a> {
     /// Stops, behind a close for each hold.
     fn end<S: RawStore>(&mut self, lock: &mut Lock<S>) -> Step
         requires { IsSteady (next_touch self.old) }
-        ensures { Turns S.content S.honest lock.old.machine lock.new.machine lock.old.berths.items lock.new.berths.items self.old self.new
+        ensures { Turns S.content S.honest lock.old.memory lock.new.memory lock.old.berths.items lock.new.berths.items self.old self.new
             (λ s p a. ready self.old.setting s p a touch.Ends) ((lock.new ≡ lock.old) × (self.new ≡ self.old)) result }
     {
         match self.first_hold() {
@@ -355,7 +355,7 @@ impl<'a> Program<'a> {
 
     /// The next instruction.
     pub(crate) fn instruct<S: RawStore>(&mut self, lock: &mut Lock<S>) -> Step
-        ensures { Turns S.content S.honest lock.old.machine lock.new.machine lock.old.berths.items lock.new.berths.items self.old self.new
+        ensures { Turns S.content S.honest lock.old.memory lock.new.memory lock.old.berths.items lock.new.berths.items self.old self.new
             (λ s p a. cond (is_blocked_in p.core) NotEnabled (ready self.old.setting s p a (touch_next self.old.setting p))) ((lock.new ≡ lock.old) × (self.new ≡ self.old)) result }
     {
         if self.is_blocked() {
@@ -375,7 +375,7 @@ impl<'a> Program<'a> {
 
     /// Its store failed: it closes the lowest of its holds, and with the last wants that.
     pub(crate) fn give_up<S: RawStore>(&mut self, lock: &mut Lock<S>) -> Step
-        ensures { Turns S.content S.honest lock.old.machine lock.new.machine lock.old.berths.items lock.new.berths.items self.old self.new
+        ensures { Turns S.content S.honest lock.old.memory lock.new.memory lock.old.berths.items lock.new.berths.items self.old self.new
             (λ s p a. gives_up p (first_hold p.holds)) ((lock.new ≡ lock.old) × (self.new ≡ self.old)) result }
     {
         match self.first_hold() {
@@ -384,10 +384,10 @@ impl<'a> Program<'a> {
                 Step::Took
             }
             Some((scope, hold)) => {
-                if lock.machine.object(hold.object).count == 0 {
+                if lock.memory.object(hold.object).count == 0 {
                     Step::NotEnabled
                 } else {
-                    lock.machine.close(hold.object);
+                    lock.memory.close(hold.object);
                     self.set_hold(scope, None);
                     self.want_closed();
                     Step::Took

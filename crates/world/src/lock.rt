@@ -1,4 +1,4 @@
-//! The machine with its berths, and a mover's calls of the store.
+//! The memory with its berths, and a mover's calls of the store.
 ghost use Rattle.std.specs.Prelude.{◌≡◌, ◌≢◌, ◌<◌, ℕ, IfOk, List, Some, MatchBool, length, slice_get, true};
 ghost use Rattle.pointer_word.specs.Hands.{upd};
 ghost use Rattle.pointer_word.specs.Machine.{Far};
@@ -9,13 +9,13 @@ ghost use Rattle.world_semantics.specs.InHand.{WasPut};
 ghost use Rattle.world_semantics.specs.Turns.{put_of};
 ghost use Rattle.world_semantics.specs.Worlds.{IsHonestRead};
 
-use crate::machine::Machine;
+use crate::memory::Memory;
 use remote_store::{Berth, PIECE_CELLS, Port, RawStore};
 
-/// The machine's tables, and the berth of each object.
+/// The words, frames and cells, and the berth of each object.
 #[derive(Drop)]
 pub(crate) struct Lock<S: RawStore> {
-    pub(crate) machine: Machine,
+    pub(crate) memory: Memory,
     pub(crate) berths: Vec<Berth<S::Cell>>,
 }
 
@@ -23,7 +23,7 @@ impl<S: RawStore> Lock<S> {
     /// Puts the object's words into its berth. False where the store failed.
     pub(crate) fn put(&mut self, port: &mut Port<S>, object: usize, words: &[u64]) -> bool
         requires { length words.now ≡ piece_cells }
-        ensures machine { self.new.machine ≡ self.old.machine }
+        ensures memory { self.new.memory ≡ self.old.memory }
         ensures many { length self.new.berths.items ≡ length self.old.berths.items }
         ensures far { (far : ℕ → Far) → AreFar S.content self.old.berths.items far → object < length self.old.berths.items
             → AreFar S.content self.new.berths.items (upd far object (put_of result words.now)) }

@@ -30,19 +30,32 @@ use world_semantics::hold::Hold;
 /// How far a mover is that moves an object out of a frame.
 #[derive(Clone, Copy, PartialEq, Eq, Debug)]
 pub(crate) enum Eviction {
-    /// It has copied so many cells.
-    Copying(usize, usize, usize),
+    /// It copies the cells, from the one at `at` on.
+    Copying {
+        object: usize,
+        frame: usize,
+        at: usize,
+    },
     /// The store has the words.
-    Stored(usize, usize),
+    Stored {
+        object: usize,
+        frame: usize,
+    },
     /// The store failed.
-    NotStored(usize, usize),
+    NotStored {
+        object: usize,
+        frame: usize,
+    },
     /// The object was held or written meanwhile.
-    Refused(usize, usize),
+    Refused {
+        object: usize,
+        frame: usize,
+    },
     /// The object is away, and the frame is not released yet.
     Freed(usize),
 }
 
-/// Where a program is within its next instruction, by the object, the frame and how many cells are filled.
+/// Where a program is within its next instruction.
 #[derive(Clone, Copy, PartialEq, Eq, Debug)]
 pub(crate) enum Mode {
     /// It has nothing in hand, and waits for no object.
@@ -52,15 +65,32 @@ pub(crate) enum Mode {
     /// It brings the object in, and seeks a frame.
     Bringing(usize),
     /// It has claimed the frame, and is to read the store.
-    Reading(usize, usize),
-    /// It fills the frame with what it has read.
-    Filling(usize, usize, usize),
-    /// It fills the frame with zeros.
-    Clearing(usize, usize, usize),
+    Reading {
+        object: usize,
+        frame: usize,
+    },
+    /// It fills the frame with what it has read, from the cell at `at` on.
+    Filling {
+        object: usize,
+        frame: usize,
+        at: usize,
+    },
+    /// It fills the frame with zeros, from the cell at `at` on.
+    Clearing {
+        object: usize,
+        frame: usize,
+        at: usize,
+    },
     /// It moves another object out, for the sake of the frame.
-    Evicting(usize, Eviction),
+    Evicting {
+        object: usize,
+        eviction: Eviction,
+    },
     /// Its store failed, and it gives up the frame that it claimed.
-    Releasing(usize, usize),
+    Releasing {
+        object: usize,
+        frame: usize,
+    },
     /// Its store failed, and it gives up the object that it brings in.
     Retreating(usize),
     /// Its store failed, and it closes its holds.
@@ -184,9 +214,9 @@ impl<'a> Program<'a> {
     ) -> Evicted
         ensures after { self.new ≡ record self.old { words = self.new.words } }
         ensures leads { (z : Sizes) (s : State) → let e = eviction_of eviction self.old.words in
-            Moves S.content S.honest z lock.old.machine lock.old.berths.items self.old.setting.mover e s → Leads s (λ a. evicts piece_cells self.old.setting.mover a e On Done Failed)
+            Moves S.content S.honest z lock.old.memory lock.old.berths.items self.old.setting.mover e s → Leads s (λ a. evicts piece_cells self.old.setting.mover a e On Done Failed)
             (UnreadSo (AnswersSo S.reliable S.failures S.read_gives piece_cells lock.old.berths.items port.old port.new s.far (asked_out piece_cells e)))
-            (λ u r. Shows S.content z lock.new.machine lock.new.berths.items u × (r ≡ outcome_of result self.new.words)) }
+            (λ u r. Shows S.content z lock.new.memory lock.new.berths.items u × (r ≡ outcome_of result self.new.words)) }
     {
         evict(lock, port, self.mover, eviction, &mut self.words)
     }

@@ -34,10 +34,10 @@ pub enum Refused {
 
 /// Does the lines of a schedule in turn. The number of the first that can't be read or is not enabled, if there is one.
 pub(crate) fn follow<S: RawStore>(world: &mut World<'_, S>, schedule: &[u8]) -> Option<u64>
-    ensures { (z : Sizes) (images : ℕ → ImageOf) (w : Defined) → IsWorld S.content S.honest z images world.old.lock.machine world.old.lock.berths.items world.old.programs.items world.old.evacuators.items w
+    ensures { (z : Sizes) (images : ℕ → ImageOf) (w : Defined) → IsWorld S.content S.honest z images world.old.lock.memory world.old.lock.berths.items world.old.programs.items world.old.evacuators.items w
         → MatchOption result ((v : Defined) × HasLed S.honest S.reliable S.failures S.read_gives z images w (record { berths = world.old.lock.berths.items; programs = world.old.programs.items; evacuators = world.old.evacuators.items })
         schedule.now v (record { berths = world.new.lock.berths.items; programs = world.new.programs.items; evacuators = world.new.evacuators.items })
-        × IsWorld S.content S.honest z images world.new.lock.machine world.new.lock.berths.items world.new.programs.items world.new.evacuators.items v)
+        × IsWorld S.content S.honest z images world.new.lock.memory world.new.lock.berths.items world.new.programs.items world.new.evacuators.items v)
         (λ line. IsRefusedLine S.honest S.reliable S.failures S.read_gives z images w (record { berths = world.old.lock.berths.items; programs = world.old.programs.items; evacuators = world.old.evacuators.items }) schedule.now line) }
 {
     let mut rest = schedule;

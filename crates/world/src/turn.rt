@@ -23,12 +23,16 @@ impl<'a> Program<'a> {
     ) -> Step
         requires mode { self.old.mode ≡ Mode.Filling object frame index }
         requires steady { IsSteady (next_touch self.old) }
-        ensures { Turns S.content S.honest lock.old.machine lock.new.machine lock.old.berths.items lock.new.berths.items self.old self.new
+        ensures { Turns S.content S.honest lock.old.memory lock.new.memory lock.old.berths.items lock.new.berths.items self.old self.new
             (λ s p a. fills self.old.setting p object frame self.old.words index) ((lock.new ≡ lock.old) × (self.new ≡ self.old)) result }
     {
         if index < PIECE_CELLS {
             let value = self.word(index);
-            let next = Mode::Filling(object, frame, index + 1);
+            let next = Mode::Filling {
+                object,
+                frame,
+                at: index + 1,
+            };
             self.fill(lock, object, frame, index, value, next);
             Step::Took
         } else {
@@ -46,11 +50,15 @@ impl<'a> Program<'a> {
     ) -> Step
         requires mode { self.old.mode ≡ Mode.Clearing object frame index }
         requires steady { IsSteady (next_touch self.old) }
-        ensures { Turns S.content S.honest lock.old.machine lock.new.machine lock.old.berths.items lock.new.berths.items self.old self.new
+        ensures { Turns S.content S.honest lock.old.memory lock.new.memory lock.old.berths.items lock.new.berths.items self.old self.new
             (λ s p a. fills self.old.setting p object frame [] index) ((lock.new ≡ lock.old) × (self.new ≡ self.old)) result }
     {
         if index < PIECE_CELLS {
-            let next = Mode::Clearing(object, frame, index + 1);
+            let next = Mode::Clearing {
+                object,
+                frame,
+                at: index + 1,
+            };
             self.fill(lock, object, frame, index, 0, next);
             Step::Took
         } else {
@@ -62,24 +70,24 @@ impl<'a> Program<'a> {
     fn advance<S: RawStore>(&mut self, lock: &mut Lock<S>, port: &mut Port<S>, mode: Mode) -> Step
         requires mode { self.old.mode ≡ mode }
         requires waits { Waits mode (next_touch self.old) }
-        ensures { TurnsTold S.content (λ z. Unit {0}) S.honest lock.old.machine lock.new.machine lock.old.berths.items lock.new.berths.items self.old self.new
+        ensures { TurnsTold S.content (λ z. Unit {0}) S.honest lock.old.memory lock.new.memory lock.old.berths.items lock.new.berths.items self.old self.new
             (AnswersSo S.reliable S.failures S.read_gives piece_cells lock.old.berths.items port.old port.new)
             (λ s p a. by_mode self.old.setting s p (mode_of mode self.old.words) Choice.Next a) ((lock.new ≡ lock.old) × (port.new ≡ port.old) × (self.new ≡ self.old)) result }
     {
         match mode {
             Mode::Ready => self.instruct(lock),
             Mode::Missing(object) => self.begin(lock, object),
-            Mode::Reading(object, frame) => {
+            Mode::Reading { object, frame } => {
                 self.read(lock, port, object, frame);
                 Step::Took
             }
-            Mode::Filling(object, frame, index) => { self.fill_next(lock, object, frame, index) }
-            Mode::Clearing(object, frame, index) => { self.clear_next(lock, object, frame, index) }
-            Mode::Evicting(object, eviction) => {
+            Mode::Filling { object, frame, at } => self.fill_next(lock, object, frame, at),
+            Mode::Clearing { object, frame, at } => self.clear_next(lock, object, frame, at),
+            Mode::Evicting { object, eviction } => {
                 self.move_out(lock, port, object, eviction);
                 Step::Took
             }
-            Mode::Releasing(object, frame) => {
+            Mode::Releasing { object, frame } => {
                 self.release(lock, object, frame);
                 Step::Took
             }
@@ -99,7 +107,7 @@ impl<'a> Program<'a> {
         port: &mut Port<S>,
         choice: Choice,
     ) -> Step
-        ensures { TurnsTold S.content (λ z. in_range z choice ≡ true) S.honest lock.old.machine lock.new.machine lock.old.berths.items lock.new.berths.items self.old self.new
+        ensures { TurnsTold S.content (λ z. in_range z choice ≡ true) S.honest lock.old.memory lock.new.memory lock.old.berths.items lock.new.berths.items self.old self.new
             (AnswersSo S.reliable S.failures S.read_gives piece_cells lock.old.berths.items port.old port.new)
             (λ s p a. program_turn self.old.setting s p choice a) ((lock.new ≡ lock.old) × (port.new ≡ port.old) × (self.new ≡ self.old)) result }
     {

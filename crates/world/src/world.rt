@@ -1,4 +1,4 @@
-//! The world: a machine, programs and evacuators, and its events.
+//! The world: its memory, programs and evacuators, and its events.
 ghost use Rattle.std.specs.Prelude.{◌≡◌, ◌≢◌, ◌<◌, ◌≤◌, ℕ, IfOk, IfErr, length, true};
 ghost use Rattle.code_form.specs.Form.{Image as ImageOf};
 ghost use Rattle.remote_store.specs.Kept.{piece_cells};
@@ -10,8 +10,8 @@ ghost use Rattle.world_semantics.specs.Worlds.{Sizes, World as Defined, in_range
 
 use crate::evacuator::Evacuator;
 use crate::lock::Lock;
-use crate::machine::Machine;
 use crate::make::{new_berths, new_evacuators, new_programs};
+use crate::memory::Memory;
 use crate::program::Program;
 use cells::Want;
 use code_form::Image;
@@ -20,7 +20,7 @@ use remote_store::{Config, Port, RawStore, Stores};
 use std::alloc::Global;
 use world_semantics::event::{Actor, Choice, Step};
 
-/// A world as code keeps it: the machine with its berths, and each actor with its way to the store.
+/// A world as code keeps it: its memory with the berths, and each actor with its way to the store.
 #[derive(Drop)]
 pub struct World<'a, S: RawStore> {
     pub(crate) lock: Lock<S>,
@@ -42,11 +42,11 @@ impl<'a, S: RawStore> World<'a, S> {
         requires evacuators { config.now.evacuators ≤ 64 }
         requires fetchers { config.now.fetchers ≡ 0 }
         ensures opens { IfOk result (λ world. IsWorld S.content S.honest (sizes_of (length images.now) config.now.frames config.now.objects config.now.evacuators config.now.fetchers) (images_of images.now)
-            world.lock.machine world.lock.berths.items world.programs.items world.evacuators.items (start (images_of images.now))) }
+            world.lock.memory world.lock.berths.items world.programs.items world.evacuators.items (start (images_of images.now))) }
         ensures wants { IfErr result (λ want. want ≢ Want.NoObjects) }
     {
         let objects = config.objects as usize;
-        let Ok(machine) = Machine::new(alloc, objects, config.frames as usize) else {
+        let Ok(memory) = Memory::new(alloc, objects, config.frames as usize) else {
             return Err(Want::OutOfMemory);
         };
         let store = config.stores.one(alloc)?;
@@ -56,7 +56,7 @@ impl<'a, S: RawStore> World<'a, S> {
         let count = config.evacuators as usize;
         let evacuators = new_evacuators(alloc, &config.stores, images.len(), count)?;
         Ok(World {
-            lock: Lock { machine, berths },
+            lock: Lock { memory, berths },
             programs,
             evacuators,
         })
@@ -64,30 +64,30 @@ impl<'a, S: RawStore> World<'a, S> {
 
     /// An object's word.
     pub fn word(&self, object: u32) -> Word
-        ensures { (z : Sizes) (images : ℕ → ImageOf) (w : Defined) → IsWorld S.content S.honest z images self.now.lock.machine self.now.lock.berths.items self.now.programs.items self.now.evacuators.items w
+        ensures { (z : Sizes) (images : ℕ → ImageOf) (w : Defined) → IsWorld S.content S.honest z images self.now.lock.memory self.now.lock.berths.items self.now.programs.items self.now.evacuators.items w
             → result.bits ≡ pack (w.lock.word object) }
     {
-        self.lock.machine.object(object as usize).word()
+        self.lock.memory.object(object as usize).word()
     }
 
     /// The cell of this index of the frame where the object is, if it is in one.
     pub fn cell(&self, object: u32, index: usize) -> Option<u64>
         requires { index < piece_cells }
-        ensures { (z : Sizes) (images : ℕ → ImageOf) (w : Defined) → IsWorld S.content S.honest z images self.now.lock.machine self.now.lock.berths.items self.now.programs.items self.now.evacuators.items w
+        ensures { (z : Sizes) (images : ℕ → ImageOf) (w : Defined) → IsWorld S.content S.honest z images self.now.lock.memory self.now.lock.berths.items self.now.programs.items self.now.evacuators.items w
             → result ≡ cell_of w.lock object index }
     {
-        match self.lock.machine.object(object as usize).place.frame() {
-            Some(frame) => Some(self.lock.machine.cell(frame, index)),
+        match self.lock.memory.object(object as usize).place.frame() {
+            Some(frame) => Some(self.lock.memory.cell(frame, index)),
             None => None,
         }
     }
 
     /// Whether there are an object and a frame of these numbers.
     fn is_in_range(&self, choice: Choice) -> bool
-        ensures { (z : Sizes) → (length self.now.lock.machine.objects ≡ z.objects) → (length self.now.lock.machine.frames ≡ z.frames) → result ≡ in_range z choice }
+        ensures { (z : Sizes) → (length self.now.lock.memory.objects ≡ z.objects) → (length self.now.lock.memory.frames ≡ z.frames) → result ≡ in_range z choice }
     {
-        let objects = self.lock.machine.objects();
-        let frames = self.lock.machine.frames();
+        let objects = self.lock.memory.objects();
+        let frames = self.lock.memory.frames();
         match choice {
             Choice::Next => true,
             Choice::Look(frame) | Choice::Claim(frame) => (frame as usize) < frames,
@@ -100,8 +100,8 @@ impl<'a, S: RawStore> World<'a, S> {
 
     /// An evacuator does what it chooses, where that is in range.
     fn step_evacuator(&mut self, number: usize, choice: Choice) -> Step
-        ensures { (z : Sizes) (images : ℕ → ImageOf) (w : Defined) → in_range z choice ≡ true → IsWorld S.content S.honest z images self.old.lock.machine self.old.lock.berths.items self.old.programs.items self.old.evacuators.items w
-            → Stepped S.content S.honest z images self.new.lock.machine self.new.lock.berths.items self.new.programs.items self.new.evacuators.items w (Actor.Evacuator number) choice
+        ensures { (z : Sizes) (images : ℕ → ImageOf) (w : Defined) → in_range z choice ≡ true → IsWorld S.content S.honest z images self.old.lock.memory self.old.lock.berths.items self.old.programs.items self.old.evacuators.items w
+            → Stepped S.content S.honest z images self.new.lock.memory self.new.lock.berths.items self.new.programs.items self.new.evacuators.items w (Actor.Evacuator number) choice
             (StoreTold S.reliable S.failures S.read_gives z w self.old.lock.berths.items self.old.programs.items self.old.evacuators.items self.new.programs.items self.new.evacuators.items (Actor.Evacuator number))
             ((self.new.lock ≡ self.old.lock) × (self.new.programs.items ≡ self.old.programs.items) × (self.new.evacuators.items ≡ self.old.evacuators.items)) result }
     {
@@ -115,8 +115,8 @@ impl<'a, S: RawStore> World<'a, S> {
 
     /// A program does what it chooses, where that is in range.
     fn step_program(&mut self, number: usize, choice: Choice) -> Step
-        ensures { (z : Sizes) (images : ℕ → ImageOf) (w : Defined) → in_range z choice ≡ true → IsWorld S.content S.honest z images self.old.lock.machine self.old.lock.berths.items self.old.programs.items self.old.evacuators.items w
-            → Stepped S.content S.honest z images self.new.lock.machine self.new.lock.berths.items self.new.programs.items self.new.evacuators.items w (Actor.Program number) choice
+        ensures { (z : Sizes) (images : ℕ → ImageOf) (w : Defined) → in_range z choice ≡ true → IsWorld S.content S.honest z images self.old.lock.memory self.old.lock.berths.items self.old.programs.items self.old.evacuators.items w
+            → Stepped S.content S.honest z images self.new.lock.memory self.new.lock.berths.items self.new.programs.items self.new.evacuators.items w (Actor.Program number) choice
             (StoreTold S.reliable S.failures S.read_gives z w self.old.lock.berths.items self.old.programs.items self.old.evacuators.items self.new.programs.items self.new.evacuators.items (Actor.Program number))
             ((self.new.lock ≡ self.old.lock) × (self.new.programs.items ≡ self.old.programs.items) × (self.new.evacuators.items ≡ self.old.evacuators.items)) result }
     {
@@ -130,8 +130,8 @@ impl<'a, S: RawStore> World<'a, S> {
 
     /// An actor does what it chooses. Took exactly where the world has that step, which is then made; else nothing changes.
     pub fn step(&mut self, actor: Actor, choice: Choice) -> Step
-        ensures { (z : Sizes) (images : ℕ → ImageOf) (w : Defined) → IsWorld S.content S.honest z images self.old.lock.machine self.old.lock.berths.items self.old.programs.items self.old.evacuators.items w
-            → Stepped S.content S.honest z images self.new.lock.machine self.new.lock.berths.items self.new.programs.items self.new.evacuators.items w actor choice
+        ensures { (z : Sizes) (images : ℕ → ImageOf) (w : Defined) → IsWorld S.content S.honest z images self.old.lock.memory self.old.lock.berths.items self.old.programs.items self.old.evacuators.items w
+            → Stepped S.content S.honest z images self.new.lock.memory self.new.lock.berths.items self.new.programs.items self.new.evacuators.items w actor choice
             (StoreTold S.reliable S.failures S.read_gives z w self.old.lock.berths.items self.old.programs.items self.old.evacuators.items self.new.programs.items self.new.evacuators.items actor)
             ((self.new.lock ≡ self.old.lock) × (self.new.programs.items ≡ self.old.programs.items) × (self.new.evacuators.items ≡ self.old.evacuators.items)) result }
     {

@@ -3,7 +3,7 @@ use Rattle.world.proofs.evict.abort.Goals as goal
 
 pub returns : goal.returns
 returns g c m z s inv moves shows = record {
-  tables = c.put_place.ensures z s shows.tables (leaving_inside g.S.RawStore.honest z c.args.lock.now.machine s m c.args.object inv shows.tables moves.0);
+  tables = c.put_place.ensures z s shows.tables (leaving_inside g.S.RawStore.honest z c.args.lock.now.memory s m c.args.object inv shows.tables moves.0);
   far = shows.far;
   many = shows.many;
   objects_few = shows.objects_few;

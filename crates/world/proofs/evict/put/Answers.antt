@@ -17,8 +17,8 @@ returns-then-put g c m z s is =
     let words = c.args.words.now in
     let now = c.put.new.self in
     let told : Answer → Type 0 = AnswersSo g.S.RawStore.reliable g.S.RawStore.failures g.S.RawStore.read_gives piece_cells old.berths.items c.args.port.now c.put.new.port s.far (Puts o) in
-    subst (λ (t : Tables). LeadsSo g.S.RawStore.content h z old.machine old.berths.items m s told (Copying o f (take c.args.copied words)) t now.berths.items (On (Stored o f))) (sym c.put.ensures.machine)
-    (put_out g.S.RawStore.content h z old.machine old.berths.items m s o f c.args.copied words true told now.berths.items is c.requires.0 c.requires.1 (c.if-put.ensures.answered s.far) (c.if-put.ensures.far s.far is.shows.far) c.put.ensures.many)
+    subst (λ (t : Tables). LeadsSo g.S.RawStore.content h z old.memory old.berths.items m s told (Copying o f (take c.args.copied words)) t now.berths.items (On (Stored o f))) (sym c.put.ensures.memory)
+    (put_out g.S.RawStore.content h z old.memory old.berths.items m s o f c.args.copied words true told now.berths.items is c.requires.0 c.requires.1 (c.if-put.ensures.answered s.far) (c.if-put.ensures.far s.far is.shows.far) c.put.ensures.many)
 
 pub returns-else-put : goal.returns-else-put
 returns-else-put g c m z s is =
@@ -29,5 +29,5 @@ returns-else-put g c m z s is =
     let words = c.args.words.now in
     let now = c.put.new.self in
     let told : Answer → Type 0 = AnswersSo g.S.RawStore.reliable g.S.RawStore.failures g.S.RawStore.read_gives piece_cells old.berths.items c.args.port.now c.put.new.port s.far (Puts o) in
-    subst (λ (t : Tables). LeadsSo g.S.RawStore.content h z old.machine old.berths.items m s told (Copying o f (take c.args.copied words)) t now.berths.items (On (NotStored o f))) (sym c.put.ensures.machine)
-    (put_out g.S.RawStore.content h z old.machine old.berths.items m s o f c.args.copied words false told now.berths.items is c.requires.0 c.requires.1 (c.if-put.ensures.answered s.far) (c.if-put.ensures.far s.far is.shows.far) c.put.ensures.many)
+    subst (λ (t : Tables). LeadsSo g.S.RawStore.content h z old.memory old.berths.items m s told (Copying o f (take c.args.copied words)) t now.berths.items (On (NotStored o f))) (sym c.put.ensures.memory)
+    (put_out g.S.RawStore.content h z old.memory old.berths.items m s o f c.args.copied words false told now.berths.items is c.requires.0 c.requires.1 (c.if-put.ensures.answered s.far) (c.if-put.ensures.far s.far is.shows.far) c.put.ensures.many)

@@ -15,7 +15,7 @@ pub returns-clause-covered : goal.returns-clause-covered
 returns-clause-covered g c =
     let laws : Laws = record { tidy = c.effect_laws.ensures.tidy; tracked = c.effect_laws.ensures.tracked; waits = c.effect_laws.ensures.waits; ends = c.effect_laws.ensures.ends } in
     let heaps : HeapLaws = record { saved = c.heap_laws.ensures.saved; allocated = c.heap_laws.ensures.allocated; next = c.run_laws.ensures.next } in
-    let m = c.self.inside.machine in
+    let m = c.self.inside.program in
     let rel = g.S.RawStore.reliable in
     elim c.match-run.branch [
       | in-Ok w ↦ λ q cover going e.
@@ -31,7 +31,7 @@ returns-clause-shut g c = λ x e. stopped_shut g.S.RawStore.honest c.run.new.sel
 
 pub returns-clause-told : goal.returns-clause-told
 returns-clause-told g c =
-    let m = c.self.inside.machine in
+    let m = c.self.inside.program in
     let rel = g.S.RawStore.reliable in
     elim c.match-run.branch [
       | in-Ok w ↦ inl (subst (λ r. Ran rel c.args.limit c.args.self.now c.run.new.self r) (sym w.result-is)

@@ -11,5 +11,5 @@ returns-clause-leads g c z s is =
     let old = c.args.lock.now in
     let x = c.args.self.now in
     let now = c.evict.new.lock in
-    leads_on x.mover s (eviction_of c.args.eviction x.words) _ Some None None (Shows g.S.RawStore.content z now.machine now.berths.items) (outcome_of c.evict.result c.evict.new.words) _
-    (sym (c.eviction-self.ensures c.evict.new.words)) (c.evict.ensures.leads z s (moves g.S.RawStore.content h z old.machine old.berths.items x s is c.args.eviction c.requires))
+    leads_on x.mover s (eviction_of c.args.eviction x.words) _ Some None None (Shows g.S.RawStore.content z now.memory now.berths.items) (outcome_of c.evict.result c.evict.new.words) _
+    (sym (c.eviction-self.ensures c.evict.new.words)) (c.evict.ensures.leads z s (moves g.S.RawStore.content h z old.memory old.berths.items x s is c.args.eviction c.requires))

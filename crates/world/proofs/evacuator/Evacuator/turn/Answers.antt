@@ -24,6 +24,6 @@ returns-in-Next-clause-goes g c z s inside is =
     let berths = c.args.lock.now.berths.items in
     goes_with s (λ a. evacuator_turn piece_cells x.mover (eviction_in x) c.args.choice a) (UnreadSo (AnswersSo g.S.RawStore.reliable g.S.RawStore.failures g.S.RawStore.read_gives piece_cells berths p q s.far (asked_out piece_cells (eviction_of e x.words))))
     (UnreadSo (AnswersSo g.S.RawStore.reliable g.S.RawStore.failures g.S.RawStore.read_gives piece_cells berths p q s.far (asked_idly piece_cells (eviction_in x))))
-    (λ u d. Shows g.S.RawStore.content z c.go_on.new.lock.machine c.go_on.new.lock.berths.items u × (d ≡ eviction_in c.go_on.new.self)) (Unit {0}) step.Took
+    (λ u d. Shows g.S.RawStore.content z c.go_on.new.lock.memory c.go_on.new.lock.berths.items u × (d ≡ eviction_in c.go_on.new.self)) (Unit {0}) step.Took
     (told_all g.S.RawStore.reliable g.S.RawStore.failures g.S.RawStore.read_gives berths p q s.far x e c.in-Some.ensures)
     (turn_on x s c.args.choice e _ _ c.in-Next.is c.in-Some.ensures (c.go_on.ensures.leads z s is))

@@ -19,9 +19,9 @@ returns-then-get g c z s p _ is =
     let told : Answer → Type 0 = AnswersSo g.S.RawStore.reliable g.S.RawStore.failures g.S.RawStore.read_gives piece_cells old.berths.items c.args.port.now c.get.new.port s.far (asked_in piece_cells p.mode) in
     let answered : told (reading true words) =
     asked_as g.S.RawStore.reliable g.S.RawStore.failures g.S.RawStore.read_gives piece_cells old.berths.items c.args.port.now c.get.new.port s.far (reading true words) (Gets o) (asked_in piece_cells p.mode)
-    (asked_as_mode g.S.RawStore.content g.S.RawStore.honest z old.machine old.berths.items x s p is (m.Reading o f) c.requires.mode)
-    (c.if-get.ensures.answered s.far is.shows.far (was_put g.S.RawStore.content g.S.RawStore.honest z old.machine old.berths.items x s p is o f c.requires.mode)) in
-    reads g.S.RawStore.content g.S.RawStore.honest z old.machine old.berths.items x s p is o f words c.set_mode.new.self told answered c.requires.mode
+    (asked_as_mode g.S.RawStore.content g.S.RawStore.honest z old.memory old.berths.items x s p is (m.Reading o f) c.requires.mode)
+    (c.if-get.ensures.answered s.far is.shows.far (was_put g.S.RawStore.content g.S.RawStore.honest z old.memory old.berths.items x s p is o f c.requires.mode)) in
+    reads g.S.RawStore.content g.S.RawStore.honest z old.memory old.berths.items x s p is o f words c.set_mode.new.self told answered c.requires.mode
     (c.get.ensures.got c.if-get.true s.far is.shows.far) (c.set_mode.ensures ∙ ap (λ (y : Seat). record y { mode = mode }) c.get.ensures.after)
 
 pub returns-else-get : goal.returns-else-get
@@ -35,7 +35,7 @@ returns-else-get g c z s p _ is =
     let told : Answer → Type 0 = AnswersSo g.S.RawStore.reliable g.S.RawStore.failures g.S.RawStore.read_gives piece_cells old.berths.items c.args.port.now c.get.new.port s.far (asked_in piece_cells p.mode) in
     let answered : told (reading false words) =
     asked_as g.S.RawStore.reliable g.S.RawStore.failures g.S.RawStore.read_gives piece_cells old.berths.items c.args.port.now c.get.new.port s.far (reading false words) (Gets o) (asked_in piece_cells p.mode)
-    (asked_as_mode g.S.RawStore.content g.S.RawStore.honest z old.machine old.berths.items x s p is (m.Reading o f) c.requires.mode)
-    (c.if-get.ensures.answered s.far is.shows.far (was_put g.S.RawStore.content g.S.RawStore.honest z old.machine old.berths.items x s p is o f c.requires.mode)) in
-    reads_not g.S.RawStore.content g.S.RawStore.honest z old.machine old.berths.items x s p is o f words c.set_mode-else-get.new.self told answered
+    (asked_as_mode g.S.RawStore.content g.S.RawStore.honest z old.memory old.berths.items x s p is (m.Reading o f) c.requires.mode)
+    (c.if-get.ensures.answered s.far is.shows.far (was_put g.S.RawStore.content g.S.RawStore.honest z old.memory old.berths.items x s p is o f c.requires.mode)) in
+    reads_not g.S.RawStore.content g.S.RawStore.honest z old.memory old.berths.items x s p is o f words c.set_mode-else-get.new.self told answered
     (c.set_mode-else-get.ensures ∙ ap (λ (y : Seat). record y { mode = mode }) c.get.ensures.after)

@@ -13,7 +13,7 @@ returns-in-Bringing g c z s p inside is =
     let old = c.args.lock.now in
     let x = c.args.self.now in
     goes_with s _ _ _ _ _ c.seek.result
-    (λ a k. (k, unasked_in g.S.RawStore.content g.S.RawStore.honest z old.machine old.berths.items x s p is g.S.RawStore.reliable g.S.RawStore.failures g.S.RawStore.read_gives c.args.port.now a (m.Bringing c.in-Bringing.object) (sym c.in-Bringing.ensures.value) refl))
+    (λ a k. (k, unasked_in g.S.RawStore.content g.S.RawStore.honest z old.memory old.berths.items x s p is g.S.RawStore.reliable g.S.RawStore.failures g.S.RawStore.read_gives c.args.port.now a (m.Bringing c.in-Bringing.object) (sym c.in-Bringing.ensures.value) refl))
     (goes_same s _ _ _ _ _ c.seek.result (λ k. (k.0, refl, k.1)) (goes_turn s _ _ _ _ _ c.seek.result (λ a. turn_is x s p (m.Bringing c.in-Bringing.object) c.args.choice a is.program c.in-Bringing.ensures.value) (c.seek.ensures z s p inside is)))
 
 pub returns-in-Next : goal.returns-in-Next

@@ -10,5 +10,5 @@ abbrev pub invariant-loop-program : goal.invariant-loop-program
 invariant-loop-program g l =
     (length l.ends.items ≡ l.program)
     × ((z : Sizes) (images : ℕ → Image) (w : DefinedWorld)
-    → IsWorld g.S.RawStore.content g.S.RawStore.honest z images l.self.lock.machine l.self.lock.berths.items l.self.programs.items l.self.evacuators.items w
+    → IsWorld g.S.RawStore.content g.S.RawStore.honest z images l.self.lock.memory l.self.lock.berths.items l.self.programs.items l.self.evacuators.items w
     → AreEnds w.programs 0 l.ends.items)
