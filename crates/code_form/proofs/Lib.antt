@@ -1,14 +1,7 @@
 mod Addresses
-mod Allocated
 mod Computing
 mod Endings
-mod Entering
-mod Few
-mod Growth
 mod Heaps
 mod Runs
-mod Scopes
-mod Texts
 mod Tidy
 mod Tracks
-mod Within

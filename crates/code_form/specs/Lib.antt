@@ -1,12 +1,11 @@
 pub mod Code
-pub mod Commands
 pub mod Computed
-pub mod Decisions
 pub mod Effects
+pub mod Facts
 pub mod Form
 pub mod Growth
 pub mod Laws
 pub mod Placed
-pub mod Statuses
 pub mod Touches
 pub mod Tracked
+pub mod WorkedFacts

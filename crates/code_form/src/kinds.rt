@@ -6,14 +6,14 @@ ghost use Rattle.std.specs.Prelude.{◌≡◌, ◌&&◌, MatchOption, None, Some
 use crate::form::{Image, Kind, Relation};
 
 /// The kind of a register.
-pub(crate) fn kind_at(kinds: &[Kind], register: u32) -> Option<Kind>
+pub fn kind_at(kinds: &[Kind], register: u32) -> Option<Kind>
     ensures { result ≡ slice_get kinds.now register }
 {
     kinds.get(register as usize).copied()
 }
 
 /// Whether two kinds are the same.
-pub(crate) fn is_same(a: Kind, b: Kind) -> bool
+fn is_same(a: Kind, b: Kind) -> bool
     ensures { result ≡ same_kind a b }
 {
     match a {
@@ -28,7 +28,7 @@ pub(crate) fn is_same(a: Kind, b: Kind) -> bool
 }
 
 /// Whether the register is there and has this kind.
-pub(crate) fn has_kind(kinds: &[Kind], register: u32, kind: Kind) -> bool
+pub fn has_kind(kinds: &[Kind], register: u32, kind: Kind) -> bool
     ensures { result ≡ has kinds.now register kind }
 {
     match kind_at(kinds, register) {
@@ -38,7 +38,7 @@ pub(crate) fn has_kind(kinds: &[Kind], register: u32, kind: Kind) -> bool
 }
 
 /// Whether the two registers are there and have the same kind.
-pub(crate) fn have_same_kind(kinds: &[Kind], to: u32, from: u32) -> bool
+pub fn have_same_kind(kinds: &[Kind], to: u32, from: u32) -> bool
     ensures { result ≡ on_kind (λ k. has kinds.now to k) (slice_get kinds.now from) }
 {
     match kind_at(kinds, from) {
@@ -48,21 +48,21 @@ pub(crate) fn have_same_kind(kinds: &[Kind], to: u32, from: u32) -> bool
 }
 
 /// Whether the register is there and is a pointer.
-pub(crate) fn has_pointer(kinds: &[Kind], register: u32) -> bool
+pub fn has_pointer(kinds: &[Kind], register: u32) -> bool
     ensures { result ≡ on_kind is_pointer (slice_get kinds.now register) }
 {
     matches!(kind_at(kinds, register), Some(Kind::Ptr(_)))
 }
 
 /// Whether the register is there and is a pointer or an array.
-pub(crate) fn has_reference(kinds: &[Kind], register: u32) -> bool
+pub fn has_reference(kinds: &[Kind], register: u32) -> bool
     ensures { result ≡ on_kind is_reference (slice_get kinds.now register) }
 {
     matches!(kind_at(kinds, register), Some(Kind::Ptr(_) | Kind::Arr(_)))
 }
 
 /// Whether the second register is an array and the first an offset of its elements.
-pub(crate) fn has_array_of(kinds: &[Kind], offset: u32, register: u32) -> bool
+pub fn has_array_of(kinds: &[Kind], offset: u32, register: u32) -> bool
     ensures { result ≡ is_array_of (slice_get kinds.now offset) (slice_get kinds.now register) }
 {
     match kind_at(kinds, offset) {
@@ -73,14 +73,14 @@ pub(crate) fn has_array_of(kinds: &[Kind], offset: u32, register: u32) -> bool
 }
 
 /// Whether the register is there and is an array.
-pub(crate) fn has_array(kinds: &[Kind], register: u32) -> bool
+pub fn has_array(kinds: &[Kind], register: u32) -> bool
     ensures { result ≡ on_kind is_array (slice_get kinds.now register) }
 {
     matches!(kind_at(kinds, register), Some(Kind::Arr(_)))
 }
 
 /// Whether the three registers are there and hold numbers.
-pub(crate) fn are_numbers(kinds: &[Kind], to: u32, left: u32, right: u32) -> bool
+pub fn are_numbers(kinds: &[Kind], to: u32, left: u32, right: u32) -> bool
     ensures { result ≡ (has kinds.now to Kind.Int && (has kinds.now left Kind.Int && has kinds.now right Kind.Int)) }
 {
     has_kind(kinds, to, Kind::Int)
@@ -105,7 +105,7 @@ fn is_compared_by(relation: Relation, kind: Kind) -> bool
 }
 
 /// Whether the two registers are there, have the same kind, and are compared so.
-pub(crate) fn can_compare(kinds: &[Kind], relation: Relation, left: u32, right: u32) -> bool
+pub fn can_compare(kinds: &[Kind], relation: Relation, left: u32, right: u32) -> bool
     ensures { result ≡ on_kind (λ k. is_compared relation k && has kinds.now right k) (slice_get kinds.now left) }
 {
     match kind_at(kinds, left) {
@@ -115,7 +115,7 @@ pub(crate) fn can_compare(kinds: &[Kind], relation: Relation, left: u32, right: 
 }
 
 /// Whether a scope can be aimed in what the register refers to, with or without an offset.
-pub(crate) fn is_place(kinds: &[Kind], register: u32, offset: Option<u32>) -> bool
+pub fn is_place(kinds: &[Kind], register: u32, offset: Option<u32>) -> bool
     ensures { result ≡ place_fits kinds.now register offset }
 {
     match offset {
@@ -135,12 +135,7 @@ fn layout(kind: Kind) -> Option<u32>
 }
 
 /// The kind of the cell `displacement` of what the register refers to, or of its elements.
-pub(crate) fn kind_of_cell(
-    image: &Image,
-    kinds: &[Kind],
-    register: u32,
-    displacement: u32,
-) -> Option<Kind>
+pub fn kind_of_cell(image: &Image, kinds: &[Kind], register: u32, displacement: u32) -> Option<Kind>
     ensures { result ≡ cell_kind (image_of image.now).head kinds.now register displacement }
 {
     let number = layout(kind_at(kinds, register)?)?;
@@ -148,7 +143,7 @@ pub(crate) fn kind_of_cell(
 }
 
 /// Whether what a reference of this kind refers to, or each of its elements, has so many cells.
-pub(crate) fn has_size(image: &Image, size: u32, kind: Option<Kind>) -> bool
+pub fn has_size(image: &Image, size: u32, kind: Option<Kind>) -> bool
     ensures { result ≡ size_fits (image_of image.now).head size kind }
 {
     match cells_behind(image, kind) {

@@ -1,23 +1,19 @@
-//! The image of a program, what its instructions mean, and its execution up to the heap.
+//! The image of a program, what its instructions mean, and what they touch.
 #![tactic(auto)]
 
 mod allocation;
-mod call;
-mod calls;
-mod execution;
 mod form;
-mod halt;
 mod kinds;
 mod laws;
-mod operations;
-mod output;
 mod touch;
-mod values;
 
 pub use allocation::Allocation;
-pub use execution::Execution;
 pub use form::{
     Block, Fact, Function, Image, Instruction, Kind, Operation, Relation, UnaryOperator,
 };
-pub use laws::{computed, effect_laws, heap_laws, run_laws, stuck};
+pub use kinds::{
+    are_numbers, can_compare, has_array, has_array_of, has_kind, has_pointer, has_reference,
+    has_size, have_same_kind, is_place, kind_at, kind_of_cell,
+};
+pub use laws::{computed, effect_laws, heap_laws, hinted, run_laws, stuck, worked_facts};
 pub use touch::{Cell, Touch};

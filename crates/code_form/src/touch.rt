@@ -12,6 +12,8 @@ pub struct Cell {
 pub enum Touch {
     /// No scope and no cell.
     Plain,
+    /// No scope and no cell; the piece of this cell will be wanted. None where there is no such cell.
+    Hints(Option<Cell>),
     /// The scope is to hold the piece of this cell, or nothing.
     Aims(usize, Option<Cell>),
     /// The cell is read by the scope.

@@ -3,9 +3,10 @@ mod programs;
 mod runs;
 
 use cells::Stop;
+use code_execution::Execution;
 use code_form::{
-    Block, Cell, Execution, Fact, Function, Image, Instruction, Kind, Operation, Touch, computed,
-    effect_laws, heap_laws, run_laws, stuck,
+    Block, Cell, Fact, Function, Image, Instruction, Kind, Operation, Touch, computed, effect_laws,
+    heap_laws, hinted, run_laws, stuck, worked_facts,
 };
 use std::alloc::{AllocError, Global};
 use std::test::Fail;
@@ -23,6 +24,15 @@ fn aims() -> Instruction {
 /// A new struct into register 0.
 fn allocates() -> Instruction {
     Instruction::Simple(Operation::Alloc { to: 0, layout: 0 })
+}
+
+/// Tells a cell of what register 0 refers to.
+fn prefetches(displacement: u32) -> Instruction {
+    Instruction::Simple(Operation::Prefetch {
+        register: 0,
+        offset: None,
+        displacement,
+    })
 }
 
 /// Writes 5 into a new struct, reads it back and returns it.
@@ -67,6 +77,7 @@ fn step(execution: &mut Execution, loaded: u64) -> Result<(), AllocError> {
     match execution.next() {
         Touch::Allocs(_) => execution.allocate()?,
         Touch::Plain
+        | Touch::Hints(_)
         | Touch::Aims(..)
         | Touch::Loads(..)
         | Touch::Saves(..)
@@ -82,6 +93,8 @@ fn step(execution: &mut Execution, loaded: u64) -> Result<(), AllocError> {
 fn laws(_rt: HostRuntime) -> Result<(), Fail> {
     computed();
     stuck();
+    hinted();
+    worked_facts();
     run_laws();
     effect_laws();
     heap_laws();
@@ -116,6 +129,36 @@ fn touches_in_order(rt: HostRuntime) -> Result<(), Fail> {
     }
     assert_eq!(rt; execution.stop(rt.alloc())?, Some(Stop::Ended(5)));
     assert_eq!(rt; execution.output().len(), 0);
+    Ok(())
+}
+
+#[test]
+fn prefetches_tell_their_cells(rt: HostRuntime) -> Result<(), Fail> {
+    let code = vec![in rt.alloc();
+        prefetches(0),
+        allocates(),
+        allocates(),
+        prefetches(0),
+        prefetches(1),
+    ]?;
+    let image = image_with(rt.alloc(), code)?;
+    let mut execution = Execution::new(rt.alloc(), &image)?;
+    let cell = Cell {
+        reference: 2,
+        index: 0,
+    };
+    let touches = [
+        Touch::Hints(None),
+        Touch::Allocs(1),
+        Touch::Allocs(1),
+        Touch::Hints(Some(cell)),
+        Touch::Hints(None),
+        Touch::Wrong,
+    ];
+    for touch in touches {
+        assert_eq!(rt; execution.next(), touch);
+        step(&mut execution, 0)?;
+    }
     Ok(())
 }
 

@@ -7,8 +7,8 @@ use Rattle.std.proofs.lemmas.Option.{get_or_from_slice_get, slice_get_within}
 use Rattle.code_form.specs.declared.allocation.Allocation.{Allocation}
 use Rattle.code_form.specs.declared.form.Kind.TheVariants as kind
 use Rattle.code_form.specs.Form.{Instruction, Simple, Aim, Load, Store, Leave, Call, Jump, Branch, Return, ReturnVoid, Error, Block, Function, Image}
-use Rattle.code_form.specs.Effects.{Effect, Plain, Aims, Loads, Saves, Leaves, Allocs, Ends, Wrong, Nothing, Heap, code_run, run_effect, step, steps}
-use Rattle.code_form.specs.Code.{if_zero, has, on_kind, place_fits, Did, Goes, Sets, Makes, Prints, Stops, Fails, op_did, text_at, Scope, Shut, Aimed, Stale, Frame, Core, Running, Stopped, Stuck, entry, on, set_to, scoped, written, after, can_use, load_by, store_by, jumps, call_fits, enters_at, calls, gives, returns, errs, act, code, effect, begins, entered, all_shut, needs_shut, is_blocked_at, IsStuck, opens_of, IsCovered, most_scopes, Covered}
+use Rattle.code_form.specs.Effects.{Effect, Plain, Hints, Aims, Loads, Saves, Leaves, Allocs, Ends, Wrong, Nothing, Heap, code_run, run_effect, step, steps}
+use Rattle.code_form.specs.Code.{if_zero, has, on_kind, place_fits, Did, Goes, Tells, Sets, Makes, Prints, Stops, Fails, op_did, text_at, Scope, Shut, Aimed, Stale, Frame, Core, Running, Stopped, Stuck, entry, on, set_to, scoped, written, after, can_use, load_by, store_by, jumps, call_fits, enters_at, calls, gives, returns, errs, act, code, effect, begins, entered, all_shut, needs_shut, is_blocked_at, IsStuck, opens_of, IsCovered, most_scopes, Covered}
 use Rattle.middle_form.specs.Form.{Program}
 use Rattle.codegen.specs.Correct.{Keeps}
 use Rattle.codegen.specs.Generated.{generated}
@@ -66,6 +66,7 @@ Good gs (Stuck al o) = Unit {0}
 -- what an effect leads to
 abbrev Next : List Function → Effect Core → Type 0
 Next gs (Plain d) = Good gs d
+Next gs (Hints w d) = Good gs d
 Next gs (Aims s w d) = Good gs d
 Next gs (Loads s r x k) = (v : ℕ) → Good gs (k v)
 Next gs (Saves s r x v d) = Good gs d
@@ -77,6 +78,7 @@ Next gs Nothing = Unit {0}
 
 run_good : (gs : List Function) (x : Effect Core) (c : Core) (h : Heap) → Next gs x → Good gs c → Good gs (run_effect x c h).0
 run_good gs (Plain d) c h n g = n
+run_good gs (Hints w d) c h n g = n
 run_good gs (Aims s w d) c h n g = n
 run_good gs (Loads s r x k) c h n g = n (h r x)
 run_good gs (Saves s r x v d) c h n g = n
@@ -115,6 +117,7 @@ module _ (C : Image) (all : All IsBracketedFunction C.functions) (rest : List In
 
   after_good : (d : Did) → IsBracketed is_open rest → So (after d rest f st al o)
   after_good Goes b = (is_open, on_kept C.functions is_open f rest K b, W)
+  after_good (Tells w) b = (is_open, on_kept C.functions is_open f rest K b, W)
   after_good (Sets d v) b = (is_open, set_kept C.functions is_open f rest d v K b, W)
   after_good (Makes d a) b = (is_open, set_kept C.functions is_open f rest d (suc (length al)) K b, W)
   after_good (Prints bytes) b = (is_open, on_kept C.functions is_open f rest K b, W)

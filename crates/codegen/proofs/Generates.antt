@@ -6,7 +6,7 @@ use Rattle.code_form.specs.declared.form.Operation.{Operation}
 use Rattle.code_form.specs.Form.{Instruction, Simple, Aim, Load, Store, Leave, Call, Jump, Branch, Error, Image}
 use Rattle.code_form.specs.Form as image
 use Rattle.code_form.specs.Effects.{Loads, Saves, Wrong, run_effect, saved, step, steps}
-use Rattle.code_form.specs.Code.{Did, Goes, Sets, Makes, Prints, Stops, Fails, Aimed, Core, Frame, Running, Scope, Shut, after, aims_at, call_fits, can_use, code, errs, has, if_zero, jumps, offset, op_did, place_fits, set_to, scoped, text_at, written}
+use Rattle.code_form.specs.Code.{Did, Goes, Tells, Sets, Makes, Prints, Stops, Fails, Aimed, Core, Frame, Running, Scope, Shut, after, aims_at, call_fits, can_use, code, errs, has, if_zero, jumps, offset, op_did, place_fits, set_to, scoped, text_at, written}
 use Rattle.code_form.specs.Code as machine
 use Rattle.middle_form.specs.Form.{Code, Nothing, Do, Fetch, Keep, Invoke, Fail, Then, Choose, Loop, Block, Exit, Function, Program}
 use Rattle.middle_form.specs.Meaning.{Outcome, Done, Stopped, Cut, Stuck, Left, Registers, State, behind, failed, falls, gives, invoked, loop, on, operated, run, then_do, turn, where_so}
@@ -85,6 +85,7 @@ module _ (C : Image) (fn : image.Function) (dest : Option ℕ) (st : List Frame)
     where
       by_did : (e : Did) → steps (code C) 1 (at fn dest st (Simple o ∷ next) rs s) ≡ run_effect (after e next (plain_frame fn dest (Simple o ∷ next) rs) st s.allocations s.output) (at fn dest st (Simple o ∷ next) rs s).0 s.heap → Lands C (there next exits) (at fn dest st (Simple o ∷ next) rs s) s.turns (operated e rs s)
       by_did Goes z = moves C _ _ s.turns 1 z
+      by_did (Tells w) z = moves C _ _ s.turns 1 z
       by_did (Sets d v) z = moves C _ _ s.turns 1 (z ∙ set_step d v next (Simple o ∷ next) rs s)
       by_did (Makes d a) z = moves C _ _ s.turns 1 (z ∙ set_step d (suc (length s.allocations)) next (Simple o ∷ next) rs (record s { allocations = a ∷ s.allocations }))
       by_did (Prints b) z = moves C _ _ s.turns 1 z

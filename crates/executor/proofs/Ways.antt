@@ -98,6 +98,12 @@ safe_plain laws s u safe next e =
     let d = did laws s s u touch.Plain 0 safe next safe.holding refl refl refl e in
     safe_after laws s s u touch.Plain 0 safe next safe.holding refl refl refl e d.tidies (λ k. same_match s u.core k _ (d.tracks k) refl (safe.scopes k))
 
+pub safe_hinted : Laws → (s u : State) (w : Option Cell) → IsSafe s → IsNext (touch.Hints w) s → u ≡ finished s 0 → IsSafe u
+safe_hinted laws s u w safe next e =
+    let x = touch.Hints w in
+    let d = did laws s s u x 0 safe next safe.holding refl refl refl e in
+    safe_after laws s s u x 0 safe next safe.holding refl refl refl e d.tidies (λ k. same_match s u.core k _ (d.tracks k) refl (safe.scopes k))
+
 pub safe_loaded : Laws → (s u : State) (k : ℕ) (a : Cell) (v : ℕ) → IsSafe s → IsNext (touch.Loads k a) s → u ≡ finished s v → IsSafe u
 safe_loaded laws s u k a v safe next e =
     let x = touch.Loads k a in
@@ -254,6 +260,9 @@ same_latest v w h o i = ap (λ ps. latest_of ps i) (h o)
 
 pub moves_plain : (honest : Type 0) (s u : State) → u ≡ finished s 0 → Moves honest touch.Plain s u
 moves_plain honest s u e = subst (λ (y : State). Moves honest touch.Plain s y) (sym e) (record { image = refl; want = refl; refusals = refl; value = 0; core = refl; loads = λ _. tt; stores = λ o i. refl; low = refl; high = refl; seat = refl; completed = refl })
+
+pub moves_hinted : (honest : Type 0) (s u : State) (w : Option Cell) → u ≡ finished s 0 → Moves honest (touch.Hints w) s u
+moves_hinted honest s u w e = subst (λ (y : State). Moves honest (touch.Hints w) s y) (sym e) (record { image = refl; want = refl; refusals = refl; value = 0; core = refl; loads = λ _. tt; stores = λ o i. refl; low = refl; high = refl; seat = refl; completed = refl })
 
 pub moves_loaded : (honest : Type 0) → Laws → (s u : State) (k : ℕ) (a : Cell) (v i : ℕ) (h : Hold) → IsSafe s → IsNext (touch.Loads k a) s → hold_at s.holds k ≡ Some h → i ≡ a.index % s.view.sizes.cells
     → (honest → v ≡ latest_in s.view h.object i) → u ≡ finished s v → Moves honest (touch.Loads k a) s u

@@ -86,7 +86,7 @@ pub record IsNext (x : Touch) (s : State) : Type 0 where
   pub free : is_blocked s.core ≡ false
   pub within : IsWithin (most_scopes s.image.functions) s.core x
 
--- an instruction that touches this uses a scope
+-- an instruction that touches this uses a scope, or tells a cell
 abbrev pub IsSimple : Touch → Type 0
 IsSimple touch.Plain = ⊥
 IsSimple (touch.Allocs n) = ⊥

@@ -1,5 +1,5 @@
 //! Each kind of instruction, by what it touches.
-ghost use Rattle.code_form.specs.declared.touch.Touch.TheVariants.{Aims, Allocs, Ends, Leaves, Loads, Plain, Saves};
+ghost use Rattle.code_form.specs.declared.touch.Touch.TheVariants.{Aims, Allocs, Ends, Hints, Leaves, Loads, Plain, Saves};
 ghost use Rattle.code_form.specs.Growth.{may_grow, rest_of};
 ghost use Rattle.code_form.specs.Placed.{pieces as pieces_of};
 ghost use Rattle.executor.specs.Keeping.{Allocated, IsHolding, IsNext, IsSafe, IsSimple, Made, Moves};
@@ -43,6 +43,18 @@ impl<'a, S: RawStore> Program<'a, S> {
             Ok(()) => Ok(()),
             Err(error) => Err(error),
         }
+    }
+
+    /// Completes an instruction that tells a cell: nothing is fetched for it.
+    fn hints(&mut self, wanted: Option<Cell>)
+        requires safe { IsSafe self.old }
+        requires next { IsNext (Hints wanted) self.old }
+        requires room { self.old.completed + 1 < 2 ^ 64 }
+        ensures safe { IsSafe self.new }
+        ensures moves { Moves S.honest (Hints wanted) self.old self.new }
+    {
+        effect_laws();
+        self.finish(0);
     }
 
     /// False where the store failed.
@@ -133,7 +145,7 @@ impl<'a, S: RawStore> Program<'a, S> {
         }
     }
 
-    /// Completes an instruction that uses a scope. False where the store failed.
+    /// Completes an instruction that uses a scope, or tells a cell. False where the store failed.
     pub(crate) fn make<R: Wait>(&mut self, rt: &R, touch: Touch) -> bool
         requires safe { IsSafe self.old }
         requires next { IsNext touch self.old }
@@ -146,6 +158,7 @@ impl<'a, S: RawStore> Program<'a, S> {
             Touch::Loads(scope, cell) => self.loads(scope, cell),
             Touch::Saves(scope, cell, value) => self.saves(scope, cell, value),
             Touch::Leaves(scope) => self.leaves(scope),
+            Touch::Hints(wanted) => self.hints(wanted),
             Touch::Plain => unreachable!(),
             Touch::Allocs(_) => unreachable!(),
             Touch::Ends => unreachable!(),

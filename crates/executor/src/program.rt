@@ -17,7 +17,8 @@ ghost use Rattle.std.specs.Prelude.{◌≡◌, ◌≢◌, ◌+◌, ◌-◌, ◌/
 use crate::bring::take;
 use crate::hold::Hold;
 use cells::{Stop, Want};
-use code_form::{Cell, Execution, Image, Touch, heap_laws};
+use code_execution::Execution;
+use code_form::{Cell, Image, Touch, heap_laws};
 use object_lock::{ObjectTable, OwnerSeat};
 use remote_store::{PIECE_CELLS, RawStore};
 use std::alloc::{AllocError, Global};
@@ -212,7 +213,7 @@ impl<'a, S: RawStore> Program<'a, S> {
         self.table.load(&mut self.owner, object, frame, index)
     }
 
-    /// Does what is left of the next instruction, which is no allocation and uses a scope or ends the program.
+    /// Does what is left of the next instruction, which is no allocation and uses a scope, tells a cell or ends the program.
     pub(crate) fn finish(&mut self, loaded: u64)
         requires next { cells_asked (next_touch self.old) ≡ None }
         requires other { next_touch self.old ≢ Plain }

@@ -5,7 +5,7 @@ use Rattle.cells.specs.Stops.{Stop, Ended, ErrorCalled}
 use Rattle.code_form.specs.declared.allocation.Allocation.{Allocation}
 use Rattle.code_form.specs.declared.form.Kind.{Kind}
 use Rattle.code_form.specs.declared.form.Kind.TheVariants as kind
-use Rattle.code_form.specs.Code.{Did, Goes, Sets, Makes, Prints, Stops, Fails, call_fits, can_use, has, if_zero, int_of, offset, op_did, place_fits, text_at}
+use Rattle.code_form.specs.Code.{Did, Goes, Tells, Sets, Makes, Prints, Stops, Fails, call_fits, can_use, has, if_zero, int_of, offset, op_did, place_fits, text_at}
 use Rattle.code_form.specs.Effects.{Heap, saved}
 use Rattle.code_form.specs.Form.{Head}
 use Rattle.middle_form.specs.Form.{Code, Nothing, Do, Fetch, Keep, Invoke, Fail, Then, Choose, Loop, Block, Exit, Function, Program}
@@ -69,6 +69,7 @@ behind (suc k, rs) s = Done (k, rs) s
 -- what a simple instruction comes to
 abbrev pub operated : Did → Registers → State → Outcome Left
 operated Goes rs s = on rs s
+operated (Tells w) rs s = on rs s
 operated (Sets d v) rs s = on (slice_set rs d v) s
 operated (Makes d a) rs s = on (slice_set rs d (suc (length s.allocations))) (record s { allocations = a ∷ s.allocations })
 operated (Prints bytes) rs s = on rs (record s { output = s.output ++ bytes })

@@ -5,7 +5,8 @@ use Rattle.code_form.specs.declared.touch.Touch.TheVariants as touch
 use Rattle.code_form.specs.Form.{Image}
 use Rattle.code_form.specs.Code.{Core, allocations_of, code, effect, sizes}
 use Rattle.code_form.specs.Placed.{pieces}
-use Rattle.code_form.specs.Touches.{Progress, resumed, touch_of}
+use Rattle.code_execution.specs.Statuses.{Progress}
+use Rattle.code_form.specs.Touches.{resumed, touch_of}
 use Rattle.remote_store.specs.Kept.{piece_cells}
 use Rattle.world.specs.declared.program.Eviction.{Eviction as RustEviction}
 use Rattle.world.specs.declared.program.Eviction.TheVariants as e
@@ -50,7 +51,7 @@ mode_of (m.Wanted w) words = Wanted w
 abbrev pub next_touch : Seat → Touch
 next_touch x = touch_of (effect x.setting.image x.core)
 
--- an instruction that uses a scope or ends the program, or there is none
+-- an instruction that uses a scope, tells a cell or ends the program, or there is none
 abbrev pub IsSteady : Touch → Type 0
 IsSteady touch.Plain = ⊥
 IsSteady (touch.Allocs n) = ⊥

@@ -58,7 +58,7 @@ impl<'a> Program<'a> {
         }
     }
 
-    /// The aim completes.
+    /// The instruction completes.
     fn complete<S: RawStore>(&mut self, lock: &mut Lock<S>) -> Step
         requires { IsSteady (next_touch self.old) }
         ensures { Turns S.content S.honest lock.old.memory lock.new.memory lock.old.berths.items lock.new.berths.items self.old self.new
@@ -363,6 +363,7 @@ impl<'a> Program<'a> {
         }
         match self.touch() {
             Touch::Plain => self.go_plain(lock),
+            Touch::Hints(_) => self.complete(lock),
             Touch::Aims(scope, wanted) => self.aim(lock, scope, wanted),
             Touch::Loads(scope, cell) => self.load_cell(lock, scope, cell),
             Touch::Saves(scope, cell, value) => self.store_cell(lock, scope, cell, value),

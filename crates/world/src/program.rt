@@ -21,7 +21,8 @@ ghost use Rattle.world_semantics.specs.Worlds.{IsHonestRead, Sizes};
 use crate::evict::{Evicted, evict};
 use crate::lock::Lock;
 use cells::{Stop, Want};
-use code_form::{Cell, Execution, Image, Touch, effect_laws, heap_laws};
+use code_execution::Execution;
+use code_form::{Cell, Image, Touch, effect_laws, heap_laws};
 use remote_store::{PIECE_CELLS, Port, RawStore};
 use std::alloc::{AllocError, Global};
 use std::marker::Model;
@@ -318,7 +319,7 @@ impl<'a> Program<'a> {
         (first + cell.index / PIECE_CELLS as u64) as usize
     }
 
-    /// Completes the next instruction, which uses a scope or ends the program; `loaded` is what it loads, if it loads something.
+    /// Completes the next instruction, which uses a scope, tells a cell or ends the program; `loaded` is what it loads, if it loads something.
     pub(crate) fn finish(&mut self, loaded: u64)
         requires { IsSteady (next_touch self.old) }
         ensures { self.new ≡ finished self.old loaded }

@@ -69,6 +69,7 @@ module _ (h : Type 0) (g : Setting) (s : State) (p : Program) (a b : Answer) whe
 
   ready_same : (x : Touch) → able g.size s (ready g s p a x) ≡ able g.size s (ready g s p b x)
   ready_same touch.Plain = refl
+  ready_same (touch.Hints w) = refl
   ready_same (touch.Aims k w) = refl
   ready_same (touch.Loads k x) = refl
   ready_same (touch.Saves k x v) = refl

@@ -193,6 +193,7 @@ module _ (owner : ℕ → ℕ) (h : Type 0) (g : Setting) (s : State) (p : Progr
 
   asks_ready : (x : Touch) → IsNext g p x → ToldFit s p Ready → Asks (ready g s p a x)
   asks_ready touch.Plain is told = tt
+  asks_ready (touch.Hints w) is told = tt
   asks_ready (touch.Aims k w) is told = asks_if (nat_lt k (length p.holds)) _ _ (λ l. asks_aims k w (below k (length p.holds) l) is) (λ _. tt)
   asks_ready (touch.Loads k x) is told = asks_load (hold_at p.holds k) (s.note (object_of g p x)).frame (object_of g p x) (x.index % g.size) refl
   asks_ready (touch.Saves k x v) is told = asks_store k (hold_at p.holds k) (object_of g p x) (x.index % g.size) v told refl (mod-lt x.index some)

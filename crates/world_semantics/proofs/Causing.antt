@@ -86,6 +86,7 @@ module _ (g : Setting) (s : State) (p : Program) (a : Answer) where
 
   ready_so : (x : Touch) → next_touch g p ≡ x → p.mode ≡ Ready → Leads s Q (ready g s p a x)
   ready_so touch.Plain is e = grows_so
+  ready_so (touch.Hints w) is e = tt
   ready_so (touch.Aims k w) is e = leads_cond s Q (nat_lt k (length p.holds)) _ _ (λ _. aims_so k (hold_at p.holds k) (object_or_none g p w) e) (λ _. tt)
   ready_so (touch.Loads k x) is e = loads_so (hold_at p.holds k) (object_of g p x) (x.index % g.size)
   ready_so (touch.Saves k x v) is e = stores_so k (hold_at p.holds k) (object_of g p x) (x.index % g.size) v e

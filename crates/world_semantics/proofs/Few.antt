@@ -8,8 +8,8 @@ use Rattle.code_form.specs.declared.form.Kind.TheVariants as kind
 use Rattle.code_form.specs.declared.touch.Cell.{Cell}
 use Rattle.code_form.specs.declared.touch.Touch.TheVariants as touch
 use Rattle.code_form.specs.Form.{Block, Function, Image, Instruction, Simple, Aim, Load, Store, Leave, Call, Jump, Branch, Return, ReturnVoid, Error}
-use Rattle.code_form.specs.Effects.{Effect, Plain, Aims, Loads, Saves, Leaves, Allocs, Ends, Wrong, Nothing}
-use Rattle.code_form.specs.Code.{if_zero, has, on_kind, place_fits, Frame, Core, Running, Stopped, Stuck, Did, Goes, Sets, Makes, Prints, Stops, Fails, op_did, text_at, Scope, Shut, Aimed, Stale, on, gives, written, act, after, begins, calls, can_use, call_fits, effect, entered, enters_at, held, held_by, jumps, load_by, most_scopes, offset, returns, errs, store_by}
+use Rattle.code_form.specs.Effects.{Effect, Plain, Hints, Aims, Loads, Saves, Leaves, Allocs, Ends, Wrong, Nothing}
+use Rattle.code_form.specs.Code.{if_zero, has, on_kind, place_fits, Frame, Core, Running, Stopped, Stuck, Did, Goes, Tells, Sets, Makes, Prints, Stops, Fails, op_did, text_at, Scope, Shut, Aimed, Stale, on, gives, written, act, after, begins, calls, can_use, call_fits, effect, entered, enters_at, held, held_by, jumps, load_by, most_scopes, offset, returns, errs, store_by}
 use Rattle.code_form.specs.Touches.{resumed, touch_of}
 
 -- none of these calls has more scopes than n
@@ -26,6 +26,7 @@ FewScopes n (Stuck al o) = Unit {0}
 -- an instruction leads to no more, and aims no scope at n or above
 abbrev FewAfter : ℕ → Effect Core → Type 0
 FewAfter n (Plain d) = FewScopes n d
+FewAfter n (Hints w d) = FewScopes n d
 FewAfter n (Aims s w d) = (s < n) × FewScopes n d
 FewAfter n (Loads s r x k) = (v : ℕ) → FewScopes n (k v)
 FewAfter n (Saves s r x v d) = FewScopes n d
@@ -55,6 +56,7 @@ module _ (C : Image) (rest : List Instruction) (f : Frame) (st : List Frame) (al
 
   after_few : (d : Did) → So (after d rest f st al o)
   after_few Goes = (few, waits)
+  after_few (Tells w) = (few, waits)
   after_few (Sets d v) = let e : length (map (written d) f.scopes) ≡ length f.scopes = length-map f.scopes (written d) in (omega arith, waits)
   after_few (Makes d a) = let e : length (map (written d) f.scopes) ≡ length f.scopes = length-map f.scopes (written d) in (omega arith, waits)
   after_few (Prints b) = (few, waits)
@@ -128,6 +130,7 @@ few_after C (Stuck al o) few = tt
 
 few_on : (n : ℕ) (e : Effect Core) (c : Core) (v : ℕ) → FewScopes n c → FewAfter n e → FewScopes n (resumed e c v)
 few_on n (Plain d) c v here few = few
+few_on n (Hints w d) c v here few = few
 few_on n (Aims s w d) c v here few = few.1
 few_on n (Loads s r x k) c v here few = few v
 few_on n (Saves s r x u d) c v here few = few
@@ -143,6 +146,7 @@ few_resumed C c v few = few_on (most_scopes C.functions) (effect C c) c v few (f
 
 aimed_below : (n : ℕ) (e : Effect Core) (s : ℕ) (w : Option Cell) → FewAfter n e → touch_of e ≡ touch.Aims s w → s < n
 aimed_below n (Plain d) s w few e = cc
+aimed_below n (Hints u d) s w few e = cc
 aimed_below n (Aims k u d) s w few e = let same : k ≡ s = cc in let l : k < n = few.0 in omega arith
 aimed_below n (Loads k r x u) s w few e = cc
 aimed_below n (Saves k r x u d) s w few e = cc

@@ -5,7 +5,7 @@ use Rattle.std.proofs.Math.Nat.{mod-lt, mul-le-mul_right}
 use Rattle.code_form.specs.declared.touch.Touch.{Touch}
 use Rattle.code_form.specs.declared.touch.Touch.TheVariants as touch
 use Rattle.code_form.specs.Form.{Image}
-use Rattle.code_form.specs.Effects.{Effect, Plain, Aims, Loads, Saves, Leaves, Allocs, Ends, Wrong, Nothing, Heap, code_run, run_effect, saved}
+use Rattle.code_form.specs.Effects.{Effect, Plain, Hints, Aims, Loads, Saves, Leaves, Allocs, Ends, Wrong, Nothing, Heap, code_run, run_effect, saved}
 use Rattle.code_form.specs.Code.{Core, allocations_of, cells_of, code, effect, most_scopes, sizes}
 use Rattle.code_form.specs.Laws.{StepsSuc}
 use Rattle.code_form.specs.Placed.{HaveAddresses, HeapAllocated, HeapSaved, SameHeap, first_object, next_object, object_at}
@@ -66,6 +66,7 @@ base_object n base cells r x = let k : base ≤ first_object n base cells r = ba
 
 parts : (e : Effect Core) (c : Core) (h : Heap) → run_effect e c h ≡ (resumed e c (loaded h (touch_of e)), heap_after h (touch_of e))
 parts (Plain d) c h = refl
+parts (Hints w d) c h = refl
 parts (Aims s w d) c h = refl
 parts (Loads s r x k) c h = refl
 parts (Saves s r x v d) c h = refl
@@ -82,6 +83,7 @@ SameValue _ v w = Unit {0}
 
 same_value : (e : Effect Core) (c : Core) (v w : ℕ) → SameValue (touch_of e) v w → resumed e c v ≡ resumed e c w
 same_value (Plain d) c v w q = refl
+same_value (Hints a d) c v w q = refl
 same_value (Aims s a d) c v w q = refl
 same_value (Loads s r x k) c v w q = ap k q
 same_value (Saves s r x n d) c v w q = refl
@@ -109,6 +111,7 @@ Tidies _ c d = sizes (allocations_of d) ≡ sizes (allocations_of c)
 
 tidies : (C : Image) (c : Core) (e : Effect Core) (v : ℕ) → IsTidy (code C) c e → Tidies (touch_of e) c (resumed e c v)
 tidies C c (Plain d) v t = t
+tidies C c (Hints w d) v t = t
 tidies C c (Aims s w d) v t = t
 tidies C c (Loads s r x k) v t = (t.0 v, t.1)
 tidies C c (Saves s r x w d) v t = (t.0, t.1)
@@ -144,6 +147,7 @@ module _ (laws : Laws) (g : Setting) (some : 0 < g.size) (s : State) (p : Progra
   heap_moves : (x : Touch) (h : Heap) → IsMoving x → Tidies x p.core q.core → StoresSo g s p t x → RoomFor g p x
       → SameHeap g.size g.base g.limit (cells_in p) (latest s) h → SameHeap g.size g.base g.limit (cells_in q) (latest t) (heap_after h x)
   heap_moves touch.Plain h m tidy st room ok = heap_along g.size _ _ _ _ _ _ h tidy st ok
+  heap_moves (touch.Hints a) h m tidy st room ok = heap_along g.size _ _ _ _ _ _ h tidy st ok
   heap_moves (touch.Aims k a) h m tidy st room ok = heap_along g.size _ _ _ _ _ _ h tidy st ok
   heap_moves (touch.Loads k a) h m tidy st room ok = heap_along g.size _ _ _ _ _ _ h tidy.0 st ok
   heap_moves (touch.Saves k a v) h m tidy st room ok =
@@ -156,6 +160,7 @@ module _ (laws : Laws) (g : Setting) (some : 0 < g.size) (s : State) (p : Progra
 
   room_after : (x : Touch) → IsMoving x → Tidies x p.core q.core → RoomFor g p x → next_free g p ≤ g.limit → next_free g q ≤ g.limit
   room_after touch.Plain m tidy room k = subst (λ (z : List ℕ). next_object g.size g.base z ≤ g.limit) (sym tidy) k
+  room_after (touch.Hints a) m tidy room k = subst (λ (z : List ℕ). next_object g.size g.base z ≤ g.limit) (sym tidy) k
   room_after (touch.Aims s a) m tidy room k = subst (λ (z : List ℕ). next_object g.size g.base z ≤ g.limit) (sym tidy) k
   room_after (touch.Loads s a) m tidy room k = subst (λ (z : List ℕ). next_object g.size g.base z ≤ g.limit) (sym tidy.0) k
   room_after (touch.Saves s a v) m tidy room k = subst (λ (z : List ℕ). next_object g.size g.base z ≤ g.limit) (sym tidy.0) k
@@ -168,6 +173,7 @@ module _ (laws : Laws) (g : Setting) (some : 0 < g.size) (s : State) (p : Progra
   -- what the machine loads is what the code's run loads
   value_is : (h : Type 0) → h → Inv h g.size s → (x : Touch) (heap : Heap) (v : ℕ) → LoadsSo g s p x v → Tidies x p.core q.core → SameHeap g.size g.base g.limit (cells_in p) (latest s) heap → SameValue x v (loaded heap x)
   value_is h sure inv touch.Plain heap v l tidy ok = tt
+  value_is h sure inv (touch.Hints a) heap v l tidy ok = tt
   value_is h sure inv (touch.Aims k a) heap v l tidy ok = tt
   value_is h sure inv (touch.Loads k a) heap v l tidy ok =
       l.2 ∙ (load_is_latest h g.size s (object_of g p a) l.0 (a.index % g.size) l.1 (mod-lt a.index some) sure inv ∙ ok.cell a.reference a.index tidy.1)
@@ -239,6 +245,7 @@ module _ (laws : Laws) (g : Setting) (some : 0 < g.size) (s : State) (p : Progra
 
   outside : (x : Touch) → Tidies x p.core q.core → StoresSo g s p t x → next_free g p ≤ g.limit → (o i : ℕ) → (o < g.base) ⊎ (g.limit ≤ o) → latest t o i ≡ latest s o i
   outside touch.Plain tidy st room o i out = st o i
+  outside (touch.Hints a) tidy st room o i out = st o i
   outside (touch.Aims k a) tidy st room o i out = st o i
   outside (touch.Loads k a) tidy st room o i out = st o i
   outside (touch.Saves k a v) tidy st room o i out =

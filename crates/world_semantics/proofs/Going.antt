@@ -111,6 +111,7 @@ module _ (g : Setting) (s : State) (p : Program) (a : Answer) where
 
   plain : (x : Touch) → IsNext g p x → IsPlain x → (t : State) → ((o i : ℕ) → latest t o i ≡ latest s o i) → (hs : List (Option Hold)) → Q t (finished g (record p { holds = hs }) 0)
   plain touch.Plain is ok t same hs = inr (record { touch = touch.Plain; is = is; moving = tt; value = 0; core = refl; completed = refl; ready = refl; loads = tt; stores = same; room = tt })
+  plain (touch.Hints w) is ok t same hs = inr (record { touch = touch.Hints w; is = is; moving = tt; value = 0; core = refl; completed = refl; ready = refl; loads = tt; stores = same; room = tt })
   plain (touch.Aims k w) is ok t same hs = inr (record { touch = touch.Aims k w; is = is; moving = tt; value = 0; core = refl; completed = refl; ready = refl; loads = tt; stores = same; room = tt })
   plain (touch.Leaves k) is ok t same hs = inr (record { touch = touch.Leaves k; is = is; moving = tt; value = 0; core = refl; completed = refl; ready = refl; loads = tt; stores = same; room = tt })
   plain touch.Ends is ok t same hs = inr (record { touch = touch.Ends; is = is; moving = tt; value = 0; core = refl; completed = refl; ready = refl; loads = tt; stores = same; room = tt })
@@ -225,6 +226,7 @@ module _ (g : Setting) (s : State) (p : Program) (a : Answer) where
 
   ready_to : (x : Touch) → IsNext g p x → p.mode ≡ Ready → Leads s Q (ready g s p a x)
   ready_to touch.Plain is e = grows_to s touch.Plain (plain touch.Plain is tt s still p.holds)
+  ready_to (touch.Hints w) is e = plain (touch.Hints w) is tt s still p.holds
   ready_to (touch.Aims k w) is e = leads_cond s Q (nat_lt k (length p.holds)) _ _ (λ l. aims_to k w is (below_so k (length p.holds) l) e) (λ _. tt)
     where
       below_so : (n m : ℕ) → nat_lt n m ≡ true → n < m

@@ -7,7 +7,7 @@ use Rattle.code_form.specs.declared.touch.Cell.{Cell}
 use Rattle.code_form.specs.declared.touch.Touch.{Touch}
 use Rattle.code_form.specs.declared.touch.Touch.TheVariants as touch
 use Rattle.code_form.specs.declared.allocation.Allocation.{Allocation}
-use Rattle.code_form.specs.Effects.{Effect, Plain, Aims, Loads, Saves, Leaves, Allocs, Ends, Wrong, Nothing}
+use Rattle.code_form.specs.Effects.{Effect, Plain, Hints, Aims, Loads, Saves, Leaves, Allocs, Ends, Wrong, Nothing}
 use Rattle.code_form.specs.Code.{Core, Running, Stopped, Stuck, Scope, Shut, Aimed, Stale, allocations_of, cells_of, code, effect, held, held_by, is_blocked, sizes}
 use Rattle.code_form.specs.Placed.{pieces}
 use Rattle.code_form.specs.Touches.{cell, cell_option, touch_of}
@@ -77,6 +77,7 @@ aimed_at s d cells (Some a) k w h t e =
 effect_there : (x : Effect Core) (cells : List ℕ) (k : ℕ) (w : Cell) → touch_of x ≡ touch.Aims k (Some w)
     → ((s : ℕ) (v : Option (ℕ × ℕ)) (d : Core) → x ≡ Aims s v d → (held d s ≡ v) × (sizes (allocations_of d) ≡ cells)) → w.index < cells_of cells w.reference
 effect_there (Plain d) cells k w e so = cc
+effect_there (Hints v d) cells k w e so = cc
 effect_there (Aims s v d) cells k w e so = let b = so s v d refl in aimed_at s d cells v k w b.0 b.1 e
 effect_there (Loads s r x n) cells k w e so = cc
 effect_there (Saves s r x v d) cells k w e so = cc
@@ -167,6 +168,7 @@ module _ (g : Setting) (s : State) (p : Program) (a : Answer) (there : (k : ℕ)
 
   ready_h : (x : Touch) → IsNext g p x → Leads s Q (ready g s p a x)
   ready_h touch.Plain is = grows_h
+  ready_h (touch.Hints w) is = same _ refl
   ready_h (touch.Aims k w) is = leads_cond s Q (nat_lt k (length p.holds)) _ _ (λ l. aims_h k w (less k (length p.holds) l) is) (λ _. tt)
   ready_h (touch.Loads k x) is = loads_h (hold_at p.holds k) (object_of g p x) (x.index % g.size)
   ready_h (touch.Saves k x v) is = stores_h k (hold_at p.holds k) (object_of g p x) (x.index % g.size) v refl

@@ -6,7 +6,7 @@ use Rattle.code_form.specs.declared.touch.Cell.{Cell}
 use Rattle.code_form.specs.declared.touch.Touch.{Touch}
 use Rattle.code_form.specs.declared.touch.Touch.TheVariants as touch
 use Rattle.code_form.specs.Form.{Image}
-use Rattle.code_form.specs.Effects.{Effect, Plain, Aims, Loads, Saves, Leaves, Allocs, Ends, Wrong, Nothing}
+use Rattle.code_form.specs.Effects.{Effect, Plain, Hints, Aims, Loads, Saves, Leaves, Allocs, Ends, Wrong, Nothing}
 use Rattle.code_form.specs.Code.{Core, effect, held, is_blocked}
 use Rattle.code_form.specs.Placed.{pieces}
 use Rattle.code_form.specs.Touches.{cell, cell_option, touch_of}
@@ -44,6 +44,7 @@ below_so a b l = grind (arith, nat_tests)
 held_load : (c : Core) (e : Effect Core) (k : ℕ) (x : Cell) → touch_of e ≡ touch.Loads k x → IsTracked c e → cell_option (held c k) ≡ Some x
 held_load c (Loads s r i n) k x e t = let same : s ≡ k = cc in let also : cell r i ≡ x = cc in ap (λ j. cell_option (held c j)) (sym same) ∙ (ap cell_option t.0 ∙ ap Some also)
 held_load c (Plain d) k x e t = cc
+held_load c (Hints w d) k x e t = cc
 held_load c (Aims s w d) k x e t = cc
 held_load c (Saves s r i v d) k x e t = cc
 held_load c (Leaves s d) k x e t = cc
@@ -55,6 +56,7 @@ held_load c Nothing k x e t = cc
 held_store : (c : Core) (e : Effect Core) (k : ℕ) (x : Cell) (v : ℕ) → touch_of e ≡ touch.Saves k x v → IsTracked c e → cell_option (held c k) ≡ Some x
 held_store c (Saves s r i u d) k x v e t = let same : s ≡ k = cc in let also : cell r i ≡ x = cc in ap (λ j. cell_option (held c j)) (sym same) ∙ (ap cell_option t.0 ∙ ap Some also)
 held_store c (Plain d) k x v e t = cc
+held_store c (Hints w d) k x v e t = cc
 held_store c (Aims s w d) k x v e t = cc
 held_store c (Loads s r i n) k x v e t = cc
 held_store c (Leaves s d) k x v e t = cc
@@ -111,6 +113,7 @@ module _ (laws : Laws) (g : Setting) (s : State) (p : Program) (a : Answer) (is 
 
   ready_turn : (x : Touch) → IsNext g p x → CanGo x → is_turn (ready g s p a x) ≡ true
   ready_turn touch.Plain next can = refl
+  ready_turn (touch.Hints w) next can = refl
   ready_turn (touch.Aims k w) next can =
       let l : k < length p.holds = omega arith in
       first (nat_lt k (length p.holds)) _ NotEnabled (below_so k (length p.holds) l) (aim_turn k (hold_at p.holds k) (object_or_none g p w))

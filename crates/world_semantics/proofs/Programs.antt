@@ -93,6 +93,7 @@ module _ (h : Type 0) (g : Setting) (s : State) (p : Program) (a : Answer) (inv 
 
     ready_ok : (x : Touch) → p.mode ≡ Ready → Ok (ready g s p a x)
     ready_ok touch.Plain e = grows_ok
+    ready_ok (touch.Hints w) e = free
     ready_ok (touch.Aims k w) e = turn_cond h g.size s g.mover Fits (nat_lt k (length p.holds)) _ _ (λ _. aims_ok k (hold_at p.holds k) (object_or_none g p w) e) (λ _. tt)
     ready_ok (touch.Loads k x) e = loads_ok (hold_at p.holds k) (object_of g p x) (x.index % g.size)
     ready_ok (touch.Saves k x v) e = stores_ok k (hold_at p.holds k) (object_of g p x) (x.index % g.size) v e

@@ -7,7 +7,7 @@ use Rattle.cells.specs.declared.ending.Want.TheVariants.{OutOfMemory}
 use Rattle.code_form.specs.declared.touch.Cell.{Cell}
 use Rattle.code_form.specs.declared.touch.Touch.{Touch}
 use Rattle.code_form.specs.declared.touch.Touch.TheVariants as touch
-use Rattle.code_form.specs.Effects.{Effect, Plain, Aims, Loads, Saves, Leaves, Allocs, Ends, Wrong, Nothing}
+use Rattle.code_form.specs.Effects.{Effect, Plain, Hints, Aims, Loads, Saves, Leaves, Allocs, Ends, Wrong, Nothing}
 use Rattle.code_form.specs.Code.{Core, effect, held, is_blocked}
 use Rattle.code_form.specs.Placed.{pieces, object_at}
 use Rattle.code_form.specs.Touches.{cell_option, resumed, touch_of}
@@ -57,6 +57,7 @@ none_in (Some x) e = cc
 
 abbrev Tracks : Touch → Core → Core → Type 0
 Tracks touch.Plain c d = HoldsSame d c
+Tracks (touch.Hints w) c d = HoldsSame d c
 Tracks (touch.Aims k w) c d = (cell_option (held d k) ≡ w) × HoldsSameBut k d c
 Tracks (touch.Loads k x) c d = HoldsSame d c
 Tracks (touch.Saves k x v) c d = HoldsSame d c
@@ -68,6 +69,7 @@ Tracks touch.Nothing c d = Unit {0}
 
 tracks : (c : Core) (e : Effect Core) (v : ℕ) → IsTracked c e → Tracks (touch_of e) c (resumed e c v)
 tracks c (Plain d) v t = t
+tracks c (Hints w d) v t = t
 tracks c (Aims s w d) v t = (ap cell_option t.0, t.1)
 tracks c (Loads s r x k) v t = t.1 v
 tracks c (Saves s r x w d) v t = t.1
@@ -141,6 +143,9 @@ module _ (laws : Laws) (g : Setting) (some : 0 < g.size) (s : State) (p : Progra
 
     done_plain : IsNext g p touch.Plain → Q s (finished g p 0)
     done_plain next k = inl (as_same (Done p.holds 0) k (tidied touch.Plain p.holds 0 next) (tracked touch.Plain p.holds 0 next k) refl (settled touch.Plain next k (λ x. x) (before k)))
+
+    done_hints : (w : Option Cell) → IsNext g p (touch.Hints w) → Q s (finished g p 0)
+    done_hints w next k = inl (as_same (Done p.holds 0) k (tidied (touch.Hints w) p.holds 0 next) (tracked (touch.Hints w) p.holds 0 next k) refl (settled (touch.Hints w) next k (λ x. x) (before k)))
 
     done_load : (k : ℕ) (x : Cell) (v : ℕ) → IsNext g p (touch.Loads k x) → Q s (finished g p v)
     done_load k x v next j = inl (as_same (Done p.holds v) j (tidied (touch.Loads k x) p.holds v next).0 (tracked (touch.Loads k x) p.holds v next j) refl (settled (touch.Loads k x) next j (λ x. x) (before j)))
@@ -240,6 +245,7 @@ module _ (laws : Laws) (g : Setting) (some : 0 < g.size) (s : State) (p : Progra
 
     ready_s : (x : Touch) → IsNext g p x → p.mode ≡ Ready → Leads s Q (ready g s p a x)
     ready_s touch.Plain next m = grows_s (done_plain next)
+    ready_s (touch.Hints w) next m = done_hints w next
     ready_s (touch.Aims k w) next m = leads_cond s Q (nat_lt k (length p.holds)) _ _ (λ l. aims_s k w (below k (length p.holds) l) next m) (λ _. tt)
     ready_s (touch.Loads k x) next m = loads_s k x (hold_at p.holds k) (object_of g p x) (x.index % g.size) next
     ready_s (touch.Saves k x v) next m = stores_s k x v v (hold_at p.holds k) (object_of g p x) (x.index % g.size) refl next m

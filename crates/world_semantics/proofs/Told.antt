@@ -135,6 +135,7 @@ module _ (h : Type 0) (g : Setting) (s : State) (p : Program) (a : Answer) (inv 
 
     ready_t : (x : Touch) → Leads s Q (ready g s p a x)
     ready_t touch.Plain = grows_t
+    ready_t (touch.Hints w) = same (finished g p 0) refl
     ready_t (touch.Aims k w) = leads_cond s Q (nat_lt k (length p.holds)) _ _ (λ l. aims_t k (object_or_none g p w) (below k (length p.holds) l)) (λ _. tt)
     ready_t (touch.Loads k x) = loads_t (hold_at p.holds k) (object_of g p x) (x.index % g.size)
     ready_t (touch.Saves k x v) = stores_t k (hold_at p.holds k) (object_of g p x) (x.index % g.size) v refl

@@ -141,6 +141,7 @@ ends_by g p a (Some q) = closes p q.0 q.1
 -- the next instruction, by what it touches
 abbrev pub ready : Setting → State → Program → Answer → Touch → Turn Program
 ready g s p a touch.Plain = Alone (grows g p a)
+ready g s p a (touch.Hints w) = Alone (finished g p 0)
 ready g s p a (touch.Aims k w) = cond (nat_lt k (length p.holds)) (aims_at g p k (hold_at p.holds k) (object_or_none g p w)) NotEnabled
 ready g s p a (touch.Loads k x) = loads_by g s p (hold_at p.holds k) (object_of g p x) (x.index % g.size)
 ready g s p a (touch.Saves k x v) = stores_by g s p k (hold_at p.holds k) (object_of g p x) (x.index % g.size) v

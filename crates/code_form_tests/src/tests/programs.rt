@@ -1,6 +1,7 @@
 //! Programs that are run to their end over a heap of cells. What they print and how they end is by the rules of C0.
 use cells::Stop;
-use code_form::{Block, Cell, Execution, Function, Image, Instruction, Kind, Operation, Touch};
+use code_execution::Execution;
+use code_form::{Block, Cell, Function, Image, Instruction, Kind, Operation, Touch};
 use std::alloc::{AllocError, Global};
 
 /// What a program printed, and how it ended.
@@ -106,6 +107,7 @@ fn step(
             save(heap, cell, value);
         }
         Touch::Plain
+        | Touch::Hints(_)
         | Touch::Aims(..)
         | Touch::Leaves(_)
         | Touch::Ends

@@ -1,0 +1,5 @@
+mod Entering
+mod Few
+mod Growth
+mod Scopes
+mod Within

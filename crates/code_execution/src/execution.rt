@@ -1,0 +1,320 @@
+//! The execution of an image up to its heap.
+ghost use Rattle.cells.specs.Stops.{stop_of as stop_read};
+ghost use Rattle.code_execution.specs.Decisions.{decided, growth_touch, makes, refuses};
+ghost use Rattle.code_execution.specs.Statuses.{allocated, core_of, followed};
+ghost use Rattle.code_form.specs.Code.{Frame, Running, Stuck, entry, begins, code, effect, most_scopes, output_of, stop_of, is_blocked as is_blocked_in};
+ghost use Rattle.code_form.specs.declared.allocation.Allocation.{Allocation};
+ghost use Rattle.code_form.specs.Form.{block_of, function_of, image_of};
+ghost use Rattle.code_form.specs.Growth.{has_text, may_grow, rest_of};
+ghost use Rattle.code_form.specs.Touches.{IsWithin, cells_asked, resumed, touch_of};
+ghost use Rattle.code_form.specs.declared.touch.Touch.TheVariants.{Ends, Plain};
+ghost use Rattle.std.specs.Prelude.{◌≡◌, ◌≢◌, ◌∷◌, ℕ, suc, [], false, IfOk, List, MatchOption, MatchResult, None, length, Some, map, option_map, reverse, slice_get, true};
+
+use crate::call::{Call, Decision, Scope};
+use crate::calls::Calls;
+use crate::halt::Halt;
+use cells::Stop;
+use code_form::{Block, Function, Image, Touch};
+use code_operations::{Allocations, Command, are_small, number};
+use std::alloc::{AllocError, Global};
+use std::marker::Model;
+
+/// Where a run is.
+#[derive(Drop)]
+pub(crate) enum Status<'a> {
+    Running(Calls<'a>),
+    Stopped(Halt<'a>),
+    Stuck,
+}
+
+/// All that a run of an image has beside its heap: the calls that run or wait, the allocations, the output, and how the program has
+/// stopped. A contract sees it as the image and a state of the definitions.
+#[derive(Drop)]
+pub struct Execution<'a> {
+    alloc: Global,
+    image: &'a Image,
+    status: Status<'a>,
+    allocations: Allocations,
+    output: Vec<u8>,
+}
+
+impl<'a> Model for Execution<'a> {
+    ghost use Rattle.code_execution.specs.Statuses.{IsExecution, Progress, core_of};
+    ghost use Rattle.code_form.specs.Form.{image_of};
+
+    ghost Value = { Progress };
+
+    ghost view = { λ e. record { image = image_of e.image.now; core = core_of e.status e.allocations e.output.items } };
+
+    ghost invariant = { λ e. IsExecution (image_of e.image.now) (core_of e.status e.allocations e.output.items) };
+}
+
+impl<'a> Decision<'a> {
+    /// What it touches, where so many calls wait.
+    fn touch(self, allocations: &Allocations, waiting: usize) -> Touch
+        ensures { (f : Frame) (st : List Frame) (o : List ℕ) → length st ≡ waiting → result ≡ touch_of (decided f st allocations.now o self.entry) }
+    {
+        match self {
+            Decision::Does(command) => command.touch(),
+            Decision::Aims { scope, aim } => Touch::Aims(scope as usize, aim.cell(allocations)),
+            Decision::Loads { scope, cell, .. } => Touch::Loads(scope as usize, cell),
+            Decision::Saves { scope, cell, value } => Touch::Saves(scope as usize, cell, value),
+            Decision::Leaves { scope } => Touch::Leaves(scope as usize),
+            Decision::Calls { .. } | Decision::Jumps(_) => Touch::Plain,
+            Decision::Returns { .. } => if waiting == 0 {
+                Touch::Ends
+            } else {
+                Touch::Plain
+            },
+            Decision::Errs(_) => Touch::Ends,
+            Decision::Fails => Touch::Wrong,
+        }
+    }
+
+    /// How it stops the program, where so many calls wait, if it does. `Err` where memory is refused for the text of an error.
+    fn stop(self, alloc: Global, waiting: usize) -> Result<Option<Stop>, AllocError>
+        ensures { (f : Frame) (st : List Frame) (al : List Allocation) (o : List ℕ) → length st ≡ waiting → MatchResult result
+            (λ s. option_map stop_read s ≡ stop_of (resumed (decided f st al o self.entry) (Running f st al o) 0))
+            (λ _. refuses self.entry ≡ true) }
+    {
+        match self {
+            Decision::Does(Command::Stops(fault)) => Ok(Some(fault.stop())),
+            Decision::Returns { value } if waiting == 0 => Ok(Some(Stop::Ended(number(value)))),
+            Decision::Errs(text) => Ok(Some(Stop::ErrorCalled(String::from_str(alloc, text)?))),
+            _ => Ok(None),
+        }
+    }
+}
+
+impl<'a> Status<'a> {
+    /// Does what was decided, where that is no allocation; a load's value is given. `Err` where memory is refused: then nothing is
+    /// changed.
+    fn follow(
+        &mut self,
+        alloc: Global,
+        output: &mut Vec<u8>,
+        decision: Decision<'a>,
+        loaded: u64,
+    ) -> Result<(), AllocError>
+        requires { makes decision ≡ false }
+        ensures { (al : List Allocation) → MatchResult result
+            (λ _. core_of self.new al output.new.items ≡ followed self.old al output.old.items decision.entry loaded)
+            (λ _. (core_of self.new al output.new.items ≡ core_of self.old al output.old.items) × (refuses decision.entry ≡ true) × (growth_touch decision.entry ≡ Plain)) }
+    {
+        let Status::Running(calls) = self else {
+            return Ok(());
+        };
+        match decision {
+            Decision::Does(command) => return self.obey(alloc, output, command),
+            Decision::Saves { .. } => calls.advance(),
+            Decision::Aims { scope, aim } => calls.change_scope(scope, Scope::Aimed(aim)),
+            Decision::Loads { to, .. } => calls.write(to, loaded),
+            Decision::Leaves { scope } => calls.change_scope(scope, Scope::Shut),
+            Decision::Jumps(block) => calls.go_to(block),
+            Decision::Calls {
+                to,
+                function,
+                block,
+                arguments,
+            } => calls.enter(alloc, to, function, block, arguments)?,
+            Decision::Returns { value } => {
+                if !calls.leave(value) {
+                    *self = Status::Stopped(Halt::Ended(number(value)));
+                }
+            }
+            Decision::Errs(text) => *self = Status::Stopped(Halt::ErrorCalled(text)),
+            Decision::Fails => *self = Status::Stuck,
+        }
+        Ok(())
+    }
+
+    /// Does what a simple instruction is to do, where that is no allocation. `Err` where memory is refused: then nothing is changed.
+    fn obey(
+        &mut self,
+        alloc: Global,
+        output: &mut Vec<u8>,
+        command: Command<'a>,
+    ) -> Result<(), AllocError>
+        requires { makes (Decision.Does command) ≡ false }
+        ensures { (al : List Allocation) (v : ℕ) → MatchResult result
+            (λ _. core_of self.new al output.new.items ≡ followed self.old al output.old.items (Decision.Does command.entry) v)
+            (λ _. (core_of self.new al output.new.items ≡ core_of self.old al output.old.items) × (refuses (Decision.Does command.entry) ≡ true) × (growth_touch (Decision.Does command.entry) ≡ Plain)) }
+    {
+        let Status::Running(calls) = self else {
+            return Ok(());
+        };
+        match command {
+            Command::Goes | Command::Tells(_) => calls.advance(),
+            Command::Sets { to, value } => calls.write(to, value),
+            Command::Makes { .. } => (),
+            Command::Prints(printed) => {
+                printed.print(alloc, output)?;
+                calls.advance();
+            }
+            Command::Stops(fault) => *self = Status::Stopped(Halt::Failed(fault)),
+            Command::Fails => *self = Status::Stuck,
+        }
+        Ok(())
+    }
+
+    /// Goes behind the next instruction, which allocates; `number` is that of the allocation.
+    fn get(&mut self, to: u32, number: u64)
+        ensures { (a : Allocation) (al : List Allocation) (o : List ℕ) → number ≡ suc (length al)
+            → core_of self.new (a ∷ al) o ≡ allocated self.old to a al o }
+    {
+        if let Status::Running(calls) = self {
+            calls.write(to, number);
+        }
+    }
+}
+
+/// `main` and its first block.
+fn first_block(image: &Image) -> Option<(&Function, &Block)>
+    ensures { MatchOption result
+        (begins (slice_get (image_of image.now).functions 0) ≡ Stuck [] [])
+        (λ p. (slice_get (image_of image.now).functions 0 ≡ Some (function_of p.0.now)) × (slice_get (function_of p.0.now).blocks 0 ≡ Some (block_of p.1.now))) }
+{
+    let function = image.functions.first()?;
+    let block = function.blocks.first()?;
+    Some((function, block))
+}
+
+/// The call of `main` alone. `Err` where memory is refused.
+fn first_call<'a>(
+    alloc: Global,
+    function: &'a Function,
+    block: &'a Block,
+) -> Result<Calls<'a>, AllocError>
+    ensures { IfOk result (λ c. (c.top ≡ entry (function_of function.now) [] None (block_of block.now)) × (c.waiting.items ≡ [])) }
+{
+    let registers = Vec::from_elem(alloc, 0u64, function.kinds.len())?;
+    Ok(Calls {
+        top: Call::new(alloc, function, block, registers, None)?,
+        waiting: Vec::new(alloc),
+    })
+}
+
+/// Where a run begins. `Err` where memory is refused.
+fn begin<'a>(alloc: Global, image: &'a Image) -> Result<Status<'a>, AllocError>
+    ensures { IfOk result (λ s. core_of s [] [] ≡ begins (slice_get (image_of image.now).functions 0)) }
+{
+    match first_block(image) {
+        Some((function, block)) => Ok(Status::Running(first_call(alloc, function, block)?)),
+        None => Ok(Status::Stuck),
+    }
+}
+
+impl<'a> Execution<'a> {
+    /// What the next instruction touches.
+    pub fn next(&self) -> Touch
+        ensures value { result ≡ touch_of (effect self.now.image self.now.core) }
+        ensures within { IsWithin (most_scopes self.now.image.functions) self.now.core result }
+    {
+        match &self.status {
+            Status::Running(calls) => calls
+                .top
+                .decide(self.image, &self.allocations)
+                .touch(&self.allocations, calls.count()),
+            _ => Touch::Nothing,
+        }
+    }
+
+    /// Does the next instruction, which is no allocation; `loaded` is what the cell holds that it loads, if it loads one. `Err`
+    /// where memory is refused for what is printed, or for a call: then nothing is changed.
+    pub fn proceed(&mut self, loaded: u64) -> Result<(), AllocError>
+        requires { cells_asked (touch_of (effect self.old.image self.old.core)) ≡ None }
+        ensures { MatchResult result
+            (λ _. self.new ≡ record self.old { core = resumed (effect self.old.image self.old.core) self.old.core loaded })
+            (λ _. (self.new ≡ self.old) × (touch_of (effect self.old.image self.old.core) ≡ Plain) × (may_grow Plain (rest_of self.old.core) ≡ true)) }
+    {
+        if let Status::Running(calls) = &self.status {
+            let decision = calls.top.decide(self.image, &self.allocations);
+            self.status
+                .follow(self.alloc, &mut self.output, decision, loaded)?;
+        }
+        Ok(())
+    }
+
+    /// What was printed.
+    pub fn output(&self) -> &[u8]
+        ensures { result.now ≡ output_of self.now.core }
+    {
+        &self.output
+    }
+
+    /// How the program has stopped, if it has. `Err` where memory is refused for the text of an error.
+    pub fn stop(&self, alloc: Global) -> Result<Option<Stop>, AllocError>
+        ensures { MatchResult result
+            (λ s. option_map stop_read s ≡ stop_of self.now.core)
+            (λ _. has_text (stop_of self.now.core) ≡ true) }
+    {
+        match &self.status {
+            Status::Stopped(halt) => Ok(Some(halt.stop(alloc)?)),
+            _ => Ok(None),
+        }
+    }
+
+    /// How the next instruction stops the program. `Err` where memory is refused for the text of an
+    /// error.
+    pub fn stop_ahead(&self, alloc: Global) -> Result<Option<Stop>, AllocError>
+        requires { touch_of (effect self.now.image self.now.core) ≡ Ends }
+        ensures { MatchResult result
+            (λ s. option_map stop_read s ≡ stop_of (resumed (effect self.now.image self.now.core) self.now.core 0))
+            (λ _. may_grow (touch_of (effect self.now.image self.now.core)) (rest_of self.now.core) ≡ true) }
+    {
+        match &self.status {
+            Status::Running(calls) => calls
+                .top
+                .decide(self.image, &self.allocations)
+                .stop(alloc, calls.count()),
+            _ => Ok(None),
+        }
+    }
+
+    /// Whether the next instruction needs all scopes shut and one is open.
+    pub fn is_blocked(&self) -> bool
+        ensures { result ≡ is_blocked_in self.now.core }
+    {
+        match &self.status {
+            Status::Running(calls) => calls.top.is_blocked(),
+            _ => false,
+        }
+    }
+
+    /// Does the next instruction, which is an allocation; the number of the new one is that of the allocations. `Err` where memory
+    /// is refused: then nothing is changed.
+    pub fn allocate(&mut self) -> Result<(), AllocError>
+        requires { cells_asked (touch_of (effect self.old.image self.old.core)) ≢ None }
+        ensures { MatchResult result
+            (λ _. self.new ≡ record self.old { core = resumed (effect self.old.image self.old.core) self.old.core 0 })
+            (λ _. self.new ≡ self.old) }
+    {
+        let Status::Running(calls) = &self.status else {
+            return Ok(());
+        };
+        if let Decision::Does(Command::Makes { to, allocation }) = calls
+            .top
+            .decide(self.image, &self.allocations)
+        {
+            self.allocations.push(allocation)?;
+            self.status.get(to, self.allocations.count());
+        }
+        Ok(())
+    }
+
+    /// The execution of an image at the beginning of `main`. `Err` where memory is refused, or where a layout has 2^32 cells or more.
+    pub fn new(alloc: Global, image: &'a Image) -> Result<Execution<'a>, AllocError>
+        ensures { IfOk result (λ e. e ≡ record { image = image_of image.now; core = (code (image_of image.now)).start }) }
+    {
+        if !are_small(&image.layouts) {
+            return Err(AllocError);
+        }
+        Ok(Execution {
+            alloc,
+            image,
+            status: begin(alloc, image)?,
+            allocations: Allocations::new(alloc),
+            output: Vec::new(alloc),
+        })
+    }
+}

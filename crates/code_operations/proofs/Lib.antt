@@ -1,0 +1,3 @@
+mod Allocated
+pub mod Placing
+mod Texts
