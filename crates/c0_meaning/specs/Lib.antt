@@ -1,2 +1,3 @@
+pub mod Pendings
 pub mod PlainStates
 pub mod Run

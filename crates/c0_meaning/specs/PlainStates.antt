@@ -12,8 +12,6 @@ use Rattle.c0_meaning.specs.declared.heap.Tree.{Tree, Leaf, Node', Row_of-Tree, 
 use Rattle.c0_meaning.specs.declared.heap.Spot.{Spot}
 use Rattle.c0_meaning.specs.declared.plain_state.Halt.{Halt}
 use Rattle.c0_meaning.specs.declared.plain_state.Halt.TheVariants.{Stopped, Cut, Memory}
-use Rattle.c0_meaning.specs.declared.plain_state.Way.{Way}
-use Rattle.c0_meaning.specs.declared.plain_state.Way.TheVariants.{Next, Returned}
 use Rattle.c0_meaning.specs.declared.plain_state.PlainState.{PlainState}
 
 -- a number that is not below 0
@@ -60,11 +58,6 @@ module _ (texts : Texts) where
   abbrev pub state_of : PlainState → m.State
   state_of a = record { turns = a.turns; heap = map tree_of a.heap.items; locals = map value_of a.locals.items; output = a.output.items }
 
--- how a statement is left
-abbrev pub way_of : Way → m.Way
-way_of Next = m.Next
-way_of Returned = m.Returned
-
 -- what is left to the next statement
 abbrev pub next_of : Unit {0} → m.Way
 next_of x = m.Next
@@ -84,6 +77,10 @@ prints out vs s = o.Done v.Void (record s { output = s.output ++ m.printed out v
 -- a place
 abbrev pub spot_of : Spot → v.Spot
 spot_of at = record { allocation = suc at.index; path = at.path.items }
+
+-- a place, and a field of it
+abbrev pub field_of : v.Spot → ℕ → v.Spot
+field_of at k = record at { path = at.path ++ k ∷ [] }
 
 -- The answer is the outcome's, and the state is the outcome's. Where memory ran out, nothing is said
 abbrev pub Agrees : {T A : Type 0} → (T → A) → Result T Halt → m.Outcome A → m.State → Type 0

@@ -9,7 +9,7 @@ use Rattle.cells.specs.Outcomes as o
 use Rattle.c0_typed.specs.Values as v
 use Rattle.c0_typed.specs.Trees as t
 use Rattle.c0_typed.specs.Meaning as m
-use Rattle.c0_typed.specs.Views.{program_of, texts_of}
+use Rattle.c0_typed.specs.Views.{texts_of}
 use Rattle.c0_meaning.specs.declared.value.Value.{Value}
 use Rattle.c0_meaning.specs.declared.context.Context.{Context}
 use Rattle.c0_meaning.specs.declared.plain_state.Halt.{Halt}
@@ -34,19 +34,9 @@ texts_in c = texts_of c.program.now
 abbrev pub structs_in : Context → List v.Tree
 structs_in c = map (tree_of (texts_in c)) c.structs.now
 
--- its calls
-abbrev pub calls_in : Context → Calls
-calls_in c = calls_over (structs_in c) c.checks (program_of c.program.now) c.depth
-
 -- values in order
 abbrev pub values_of : Texts → Vec Value Global → List v.Value
 values_of texts vs = map (value_of texts) vs.items
-
--- the outcome of a function's conditions and body, with local 0 as its value
-abbrev pub runs : Bool → List v.Tree → Calls → t.Function → m.State → m.Outcome v.Value
-runs checks structs call f s =
-    o.then_do (m.and_then (m.checked checks structs call f.requires s) (m.exec checks structs call f.body)) (λ way t.
-    o.then_do (m.checked checks structs call f.ensures t) (λ way u. o.Done (m.local 0 u) u))
 
 -- how a program ended
 abbrev pub ended_of : Option RustStop → Option Stop

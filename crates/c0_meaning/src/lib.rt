@@ -3,13 +3,18 @@
 
 mod calls;
 mod context;
+mod effects;
 mod expressions;
 mod heap;
+mod operations;
 mod operators;
+mod pending;
+mod perform;
 mod places;
 mod plain_state;
 mod run;
 mod statements;
+mod task;
 mod value;
 
 pub use run::{Meant, mean};

@@ -1,33 +1,87 @@
 //! The plain run of places.
-ghost use Rattle.c0_typed.specs.Meaning.{locate as locate_of};
-ghost use Rattle.c0_typed.specs.Views.{place_of};
-ghost use Rattle.c0_meaning.specs.PlainStates.{Agrees, spot_of, state_of};
-ghost use Rattle.c0_meaning.specs.Run.{calls_in, structs_in, texts_in};
+ghost use Rattle.std.specs.Prelude.{ℕ};
+ghost use Rattle.c0_typed.specs.Trees.{Deref, Exp, Field, Index, Place as PlaceTree, Read, Ty};
+ghost use Rattle.c0_meaning.specs.Pendings.{Combines, Performs, Reaches};
+ghost use Rattle.c0_meaning.specs.declared.context.Context.{Context as ContextOf};
+ghost use Rattle.c0_meaning.specs.declared.task.Task.TheVariants as task;
 
 use crate::context::Context;
-use crate::expressions::evaluate;
-use crate::heap::Spot;
-use crate::plain_state::{Halt, PlainState, at_field, pointed};
+use crate::pending::PlainRun;
+use crate::plain_state::{Halt, at_field, pointed};
+use crate::task::Task;
 use c0_typed::Place;
 
-/// Where a place is, with its checks.
-#[cycle(run)]
-pub(crate) fn locate(context: &Context, state: &mut PlainState, place: &Place) -> Result<Spot, Halt>
-    ensures { Agrees spot_of result (locate_of (structs_in context.now) (calls_in context.now) (place_of (texts_in context.now) place.now) (state_of (texts_in context.now) state.old)) (state_of (texts_in context.now) state.new) }
-{
-    match place {
-        Place::Deref(_, pointer) => {
-            let pointer = evaluate(context, state, pointer)?;
-            pointed(context.alloc, pointer)
+impl<'p> PlainRun<'p> {
+    /// Where a place is, with its checks.
+    pub(crate) fn locate(&mut self, place: &'p Place) -> Result<(), Halt>
+        ensures { (c : ContextOf) → Performs c (task.Locate place.entry) self.old result self.new }
+    {
+        match place {
+            Place::Deref(_, pointer) => self.then_two(Task::Evaluate(pointer), Task::Reach(place)),
+            Place::Index(_, array, index) => self.then_three(
+                Task::Evaluate(array),
+                Task::Evaluate(index),
+                Task::Reach(place),
+            ),
+            Place::Field(_, outer, _) => self.then_two(Task::Locate(outer), Task::Reach(place)),
         }
-        Place::Index(_, array, index) => {
-            let array = evaluate(context, state, array)?;
-            let index = evaluate(context, state, index)?;
-            state.element(context.alloc, array, index)
+    }
+
+    /// Where a place is, where what it stands on is given.
+    pub(crate) fn reach(&mut self, context: &Context<'p>, place: &'p Place) -> Result<(), Halt>
+        ensures { Performs context.now (task.Reach place.entry) self.old result self.new }
+    {
+        match place {
+            Place::Deref(_, _) => self.deref(context),
+            Place::Index(_, _, _) => self.index(context),
+            Place::Field(_, _, field) => self.field(*field),
         }
-        Place::Field(_, place, field) => {
-            let spot = locate(context, state, place)?;
-            at_field(spot, *field as usize)
-        }
+    }
+
+    /// The place that the value points to.
+    fn deref(&mut self, context: &Context<'p>) -> Result<(), Halt>
+        ensures { (ty : Ty) (a : Exp) → Reaches context.now (Deref ty a) self.old result self.new }
+    {
+        let pointer = self.take()?;
+        let place = pointed(context.alloc, pointer)?;
+        self.give_place(place)
+    }
+
+    /// The element of an array at an index.
+    fn index(&mut self, context: &Context<'p>) -> Result<(), Halt>
+        ensures { (ty : Ty) (a b : Exp) → Reaches context.now (Index ty a b) self.old result self.new }
+    {
+        let index = self.take()?;
+        let array = self.take()?;
+        let place = self.state.element(context.alloc, array, index)?;
+        self.give_place(place)
+    }
+
+    /// The field of the struct at the place.
+    fn field(&mut self, field: u32) -> Result<(), Halt>
+        ensures { (c : ContextOf) (j : ℕ) (p : PlaceTree) → Reaches c (Field j p field) self.old result self.new }
+    {
+        let place = self.take_place()?;
+        let inner = at_field(place, field as usize)?;
+        self.give_place(inner)
+    }
+
+    /// What stands at the place.
+    pub(crate) fn load(&mut self) -> Result<(), Halt>
+        ensures { (c : ContextOf) (ty : Ty) (p : PlaceTree) → Combines c (Read ty p) self.old result self.new }
+    {
+        let place = self.take_place()?;
+        let value = self.state.load(&place);
+        self.give(value)
+    }
+
+    /// What stands at the place, which stays.
+    pub(crate) fn peek(&mut self) -> Result<(), Halt>
+        ensures { (c : ContextOf) → Performs c task.Peek self.old result self.new }
+    {
+        let place = self.take_place()?;
+        let value = self.state.load(&place);
+        self.give_place(place)?;
+        self.give(value)
     }
 }

@@ -1,11 +1,12 @@
 //! What the plain run changes.
-ghost use Rattle.std.specs.Prelude.{◌≡◌, ◌++◌, [], ◌∷◌, map, pos, string_bytes, IfSome};
+ghost use Rattle.std.specs.Prelude.{◌≡◌, ◌++◌, [], ◌∷◌, map, pos, string_bytes, IfErr, IfOk, IfSome};
 ghost use Rattle.c0_typed.specs.Values.{Number, Void, array_length, as_number, as_ref, as_text, load, store};
 ghost use Rattle.c0_typed.specs.Meaning.{State, allocate as allocate_of, allocate_array, default, element as element_of, holds, local as local_of, pointed as pointed_of, printed as printed_of, set_local as set_local_of, stop};
 ghost use Rattle.c0_typed.specs.Views.{output_of, text_at as text_of, texts_of, type_of};
 ghost use Rattle.cells.specs.Outcomes.{Done};
 ghost use Rattle.cells.specs.Stops.{ErrorCalled};
-ghost use Rattle.c0_meaning.specs.PlainStates.{Agrees, TakesTurn, Texts, next_of, nothing_of, opening, prints, spot_of, state_of, tree_of, value_of, way_of};
+ghost use Rattle.c0_meaning.specs.declared.plain_state.Halt.TheVariants.{Memory};
+ghost use Rattle.c0_meaning.specs.PlainStates.{Agrees, TakesTurn, Texts, field_of, next_of, nothing_of, opening, prints, spot_of, state_of, tree_of, value_of};
 
 use crate::heap::{Spot, Tree, copies, default_tree, part, part_count, stored};
 use crate::value::Value;
@@ -22,13 +23,6 @@ pub(crate) enum Halt {
     Cut,
     /// A growth was refused.
     Memory,
-}
-
-/// How a statement is left.
-#[derive(Clone, Copy, PartialEq, Eq, Debug)]
-pub(crate) enum Way {
-    Next,
-    Returned,
 }
 
 /// The turns that are left, the heap, the locals of the running call, and what was printed.
@@ -66,7 +60,8 @@ pub(crate) fn pointed(alloc: Global, pointer: Value) -> Result<Spot, Halt>
 
 /// The place of a field of the struct at a place.
 pub(crate) fn at_field(mut spot: Spot, field: usize) -> Result<Spot, Halt>
-    ensures { (s : State) → Agrees spot_of result (Done (record (spot_of spot) { path = (spot_of spot).path ++ field ∷ [] }) s) s }
+    ensures ok { IfOk result (λ inner. spot_of inner ≡ field_of (spot_of spot) field) }
+    ensures err { IfErr result (λ h. h ≡ Memory) }
 {
     let Ok(()) = spot.path.push(field) else {
         return Err(Halt::Memory);
@@ -107,14 +102,14 @@ fn printed(alloc: Global, texts: &[String], output: Output, value: Value) -> Opt
     Some(bytes)
 }
 
-/// Stops the program with a text.
-pub(crate) fn error_called(alloc: Global, program: &Typed, value: Value) -> Result<Way, Halt>
-    ensures { (s : State) → Agrees way_of result (stop (ErrorCalled (as_text (value_of (texts_of program.now) value))) s) s }
+/// How the program stops with a text.
+pub(crate) fn error_called(alloc: Global, program: &Typed, value: Value) -> Halt
+    ensures { (s : State) → Agrees (value_of (texts_of program.now)) (Err result) (stop (ErrorCalled (as_text (value_of (texts_of program.now) value))) s) s }
 {
-    let Ok(text) = String::from_str(alloc, text_at(&program.texts, value.text())) else {
-        return Err(Halt::Memory);
-    };
-    Err(Halt::Stopped(Stop::ErrorCalled(text)))
+    match String::from_str(alloc, text_at(&program.texts, value.text())) {
+        Ok(text) => Halt::Stopped(Stop::ErrorCalled(text)),
+        Err(_) => Halt::Memory,
+    }
 }
 
 impl PlainState {

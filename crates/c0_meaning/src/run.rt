@@ -4,10 +4,10 @@ ghost use Rattle.c0_typed.specs.Meaning.{mean as mean_of};
 ghost use Rattle.c0_typed.specs.Views.{program_of};
 ghost use Rattle.c0_meaning.specs.Run.{Tells, meant_of};
 
-use crate::calls::call;
 use crate::context::Context;
 use crate::heap::default_structs;
-use crate::plain_state::{Halt, PlainState};
+use crate::pending::PlainRun;
+use crate::plain_state::Halt;
 use crate::value::Value;
 use c0_typed::Typed;
 use cells::{Stop, Want};
@@ -41,7 +41,7 @@ fn tell(came: Result<Value, Halt>, output: Vec<u8>) -> Result<Meant, Want>
 
 /// The bounded meaning of a program: how it ends within this many turns, and what it prints. The call of `main` is the
 /// first turn. `checks` tells whether contracts are checked. `Err` is `OutOfMemory`, where a growth was refused. Calls of
-/// the program nest as calls of this code.
+/// the program nest as deep as memory allows.
 pub fn mean(alloc: Global, program: &Typed, checks: bool, turns: u64) -> Result<Meant, Want>
     ensures meant { IfOk result (λ r. meant_of r ≡ mean_of (program_of program.now) checks turns) }
     ensures want { IfErr result (λ w. w ≡ Want.OutOfMemory) }
@@ -54,9 +54,9 @@ pub fn mean(alloc: Global, program: &Typed, checks: bool, turns: u64) -> Result<
         program,
         structs: &structs,
         checks,
-        depth: turns,
     };
-    let mut state = PlainState::begin(alloc, turns);
-    let came = call(&context, &mut state, program.main, Vec::new(alloc));
+    let mut run = PlainRun::begin(alloc, turns);
+    let came = run.run_main(&context);
+    let state = run.into_state();
     tell(came, state.output)
 }

@@ -1,4 +1,4 @@
-//! From a text to what it means, over a stack that is as deep as its calls may nest.
+//! From a text to what it means.
 
 ghost use Rattle.std.specs.Prelude.{◌≡◌, ◌⊎◌, ℕ, Bool, false, IfErr, IfOk, MatchResult};
 ghost use Rattle.c0_source.specs.declared.fault.FaultKind.TheVariants.{OutOfMemory};
@@ -19,13 +19,9 @@ use std::alloc::Global;
 use std::snapshot::Snapshot;
 use std::thread::{Builder, Promise, Threads};
 
-/// Enough for a program of one call, however deep its tree.
-const LEAST_STACK: u64 = 16 * 1024 * 1024;
-/// More than a call of a program's function takes: 3 KiB were measured where it stands alone, and 260 KiB as the index of 190 reads of
-/// arrays, one in another.
-const STACK_OF_A_CALL: u64 = 512 * 1024;
-/// The largest stack that is asked for; the system gives it page by page.
-const GREATEST_STACK: u64 = 4 * 1024 * 1024 * 1024;
+/// The stack of the thread that runs a program. Calls do not nest on it, but a struct is read by what it holds, and structs may hold one another
+/// as deeply as a text of 1 MiB tells: some 40,000 of them, of at most 1 KiB each.
+const STACK: usize = 64 * 1024 * 1024;
 
 /// What a run of a program promises of its result.
 #[derive(Drop)]
@@ -39,15 +35,7 @@ impl Promise<Result<Meant, Want>> for MeaningOf {
     ghost kept_by = { λ p r. IsMeant p.program.value p.checks p.turns r };
 }
 
-/// The stack for so many turns: no more calls nest than there are turns.
-fn stack_for(turns: u64) -> usize {
-    let wanted = turns
-        .saturating_mul(STACK_OF_A_CALL)
-        .saturating_add(LEAST_STACK);
-    wanted.min(GREATEST_STACK) as usize
-}
-
-/// The bounded meaning of a program, by a thread of its own with a stack for its calls.
+/// The bounded meaning of a program, by a thread of its own.
 fn mean_apart<R: Threads>(
     alloc: Global,
     rt: &R,
@@ -63,15 +51,15 @@ fn mean_apart<R: Threads>(
         turns,
     };
     let run = move || mean(alloc, &program, checks, turns);
-    let stack = Builder::new().stack_size(stack_for(turns));
-    match stack.spawn_with(rt, promise, run) {
+    let builder = Builder::new().stack_size(STACK);
+    match builder.spawn_with(rt, promise, run) {
         Ok(thread) => thread.join(rt),
         Err(_refused) => Err(Want::OutOfMemory),
     }
 }
 
 /// What the program of a text means within this many turns: how it ends, and what it prints. `checks` tells whether contracts are
-/// checked. The fault is of the first stage that refuses the text, or 50, where memory runs out, for the stack too.
+/// checked. The fault is of the first stage that refuses the text, or 50, where memory runs out, or where the thread can't be made.
 pub fn mean_text<R: Threads>(
     alloc: Global,
     rt: &R,

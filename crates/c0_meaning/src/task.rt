@@ -1,0 +1,52 @@
+//! What a plain run may still have to do.
+use crate::value::Value;
+use c0_typed::{Expression, Output, Place, Statement};
+
+/// What is called.
+#[derive(Clone, Copy)]
+pub(crate) enum Callee {
+    /// The function with this number.
+    Function(u32),
+    Library(Output),
+}
+
+/// How far a statement is.
+#[derive(Clone, Copy)]
+pub(crate) enum Progress {
+    /// It begins.
+    Begun,
+    /// What it evaluates first is given.
+    Given,
+    /// A loop before its invariants, with the turns that it may take at most.
+    Again(u64),
+    /// A loop whose condition is given, with these turns.
+    Tested(u64),
+}
+
+/// A task. The values and places that it takes are those that were given last by the tasks before it.
+#[derive(Drop)]
+pub(crate) enum Task<'p> {
+    /// Gives the value of an expression.
+    Evaluate(&'p Expression),
+    /// The same, where what it evaluates first is given.
+    Combine(&'p Expression),
+    /// Gives the place that is meant.
+    Locate(&'p Place),
+    /// The same, where what it stands on is given.
+    Reach(&'p Place),
+    Execute(&'p Statement, Progress),
+    /// Statements in order.
+    ExecuteAll(&'p [Statement]),
+    /// Conditions of a contract, where contracts are checked.
+    Check(&'p [Expression]),
+    /// Stops the program where the value is false.
+    Assert,
+    /// The value is an argument: those that are still to be evaluated, the values of those before it, and what is called.
+    Argument(&'p [Expression], Vec<Value>, Callee),
+    /// Gives what stands at the place, which stays.
+    Peek,
+    /// What a `return` goes to.
+    EndBody,
+    /// The end of a call, with the locals of its caller, and how many calls might be under way besides.
+    EndCall(Vec<Value>, u64),
+}
