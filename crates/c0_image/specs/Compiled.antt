@@ -6,7 +6,7 @@ use Rattle.c0_typed.specs.Views.{program_of}
 use Rattle.c0_typed.specs.declared.tree.Typed.{Typed}
 use Rattle.code_form.specs.Form.{Image}
 use Rattle.code_form.specs.Code.{Covered}
-use Rattle.lower.specs.Gathered.{singles_of}
+use Rattle.lower_tables.specs.Gathered.{singles_of}
 use Rattle.lower.specs.Lowered.{lowered}
 use Rattle.codegen.specs.Generated.{generated}
 use Rattle.c0_image.specs.Correct.{Behaves}

@@ -21,11 +21,13 @@ use Rattle.c0_rules.proofs.Rules.{some_has}
 use Rattle.code_form.specs.declared.form.Kind.{Kind}
 use Rattle.code_form.specs.Form as image
 use Rattle.middle_form.specs.Form as f
-use Rattle.lower.specs.Gathered.{singles_of, types_of_functions}
-use Rattle.lower.specs.Kinds as k
-use Rattle.lower.specs.Kinds.{layouts_of}
+use Rattle.lower_tables.specs.Gathered.{singles_of, types_of_functions}
+use Rattle.lower_tables.specs.Kinds as k
+use Rattle.lower_tables.specs.Kinds.{layouts_of}
+use Rattle.lower_expressions.specs.Expressions as parts
 use Rattle.lower.specs.Lowered as l
-use Rattle.lower.specs.Lowered.{checked, constant_kind, lowered, result_kind, unary_kind, with_main_first}
+use Rattle.lower.specs.Lowered.{lowered, result_kind, with_main_first}
+use Rattle.lower_expressions.specs.Expressions.{checked, constant_kind, unary_kind}
 use Rattle.lower.proofs.Layouts.{layouts_length}
 use Rattle.codegen.specs.Generated.{all_shut, block_with, blocks, function_of, generated, scopes_of, uses_cells}
 use Rattle.c0_well_formed.specs.Laws.{ImagesAreConsistent, IsCellKind, IsConsistent, IsConsistentFunction, IsResultKind, NamesFact, NamesNumbers, names_layout}
@@ -61,16 +63,16 @@ module _ (structs : List (List Ty)) (singles : List Kind) (texts : List (List �
   unary_named u.Not = refl
 
   abbrev exp_kinds : Expression → List Kind
-  exp_kinds a = l.exp_kinds structs singles texts functions main a
+  exp_kinds a = parts.exp_kinds structs singles texts functions main a
 
   abbrev row_kinds : {m : _} → Row_of-Expression m → List Kind
-  row_kinds es = l.row_kinds structs singles texts functions main es
+  row_kinds es = parts.row_kinds structs singles texts functions main es
 
   abbrev place_kinds : Place → List Kind
-  place_kinds q = l.place_kinds structs singles texts functions main q
+  place_kinds q = parts.place_kinds structs singles texts functions main q
 
   abbrev conditions_kinds : List Expression → List Kind
-  conditions_kinds es = l.conditions_kinds structs singles texts functions main es
+  conditions_kinds es = parts.conditions_kinds structs singles texts functions main es
 
   abbrev stmt_kinds : Statement → List Kind
   stmt_kinds a = l.stmt_kinds structs singles texts functions main checks a
@@ -93,7 +95,7 @@ module _ (structs : List (List Ty)) (singles : List Kind) (texts : List (List �
     exp_named (Or' w a s b) = (refl, each_append Named (exp_kinds a) (exp_kinds b) (exp_named a) (exp_named b))
     exp_named (Choose' ty w a q b s e) =
         (here ty, each_append Named (exp_kinds a) (exp_kinds b ++ exp_kinds e) (exp_named a) (each_append Named (exp_kinds b) (exp_kinds e) (exp_named b) (exp_named e)))
-    exp_named (Call' i shape es) = ((kind_good n singles (l.type_given structs singles texts functions main functions i)).0, row_named es)
+    exp_named (Call' i shape es) = ((kind_good n singles (parts.type_given structs singles texts functions main functions i)).0, row_named es)
     exp_named (Print' out shape es) = (refl, row_named es)
     exp_named (Read' ty w q) = (here ty, place_named q)
     exp_named (Alloc ty) = (number ty, tt)
@@ -154,7 +156,7 @@ module _ (structs : List (List Ty)) (singles : List Kind) (texts : List (List �
   blocks_named n (b ∷ bs) h = (each_all NamesNumbers b h.0, blocks_named n bs h.1)
 
   abbrev kind_at : ValueType → Kind
-  kind_at ty = l.kind_at structs singles texts functions main ty
+  kind_at ty = parts.kind_at structs singles texts functions main ty
 
   locals_named : (ts : List ValueType) → Each Named (map kind_at ts)
   locals_named [] = tt

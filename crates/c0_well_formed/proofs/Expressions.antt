@@ -22,16 +22,18 @@ use Rattle.code_form.specs.Code.{and_then, call_fits, cell_kind, has, has_size, 
 use Rattle.code_form.specs.Form.{Head}
 use Rattle.middle_form.specs.Form.{Code}
 use Rattle.middle_form.specs.Form as f
-use Rattle.middle_form.specs.WellFormed.{access_fits, invocation_fits}
+use Rattle.middle_form.specs.WellFormed.{access_fits, callee_fits}
 use Rattle.lower.specs.Coded.{type_offset}
-use Rattle.lower.specs.Kinds as k
-use Rattle.lower.specs.Known.{IsKnown, Knows, KnowsPlace, KnowsRow}
-use Rattle.lower.specs.Lowered as l
-use Rattle.lower.specs.Lowered.{code_relation, constant_code, constant_kind, layout_at, lowered, moved, number_among, print_code, result_kind, result_register, sequence, swapped, unary_kind, unary_operator, value_at}
+use Rattle.lower_tables.specs.Kinds as k
+use Rattle.lower_tables.specs.Known.{IsKnown, Knows, KnowsPlace, KnowsRow}
+use Rattle.lower_expressions.specs.Expressions as parts
+use Rattle.lower_tables.specs.Texts.{number_among}
+use Rattle.lower.specs.Lowered.{lowered, result_kind}
+use Rattle.lower_expressions.specs.Expressions.{code_relation, constant_code, constant_kind, layout_at, moved, print_code, result_register, sequence, swapped, unary_kind, unary_operator, value_at}
 use Rattle.lower.proofs.Calling.{function_at, its_code}
 use Rattle.lower.proofs.Layouts.{kind_there, number_known, type_offset_on}
 use Rattle.lower.proofs.Registers.{At, and_true, at_head, at_left, at_right, at_tail, has_it}
-use Rattle.lower.proofs.TextNumbers.{text_in}
+use Rattle.lower_tables.proofs.TextNumbers.{text_in}
 use Rattle.lower.proofs.Values.{AreOf, LocalsAt, given_type, row_of_kinds, value_kind}
 use Rattle.c0_well_formed.proofs.Fits.{AllFit, fit_append, fit_none, fit_one, fit_then}
 use Rattle.c0_well_formed.proofs.Operators.{arguments_fit, compared_fits, print_fits, result_fits_there, unary_fits}
@@ -53,34 +55,34 @@ module _ (typed : Typed) (singles : List Kind) (checks : Bool) (fp : FitsProgram
   texts = texts_of typed
 
   abbrev pub kinds : Expression → List Kind
-  kinds a = l.exp_kinds p.structs singles (texts_of typed) typed.functions.items typed.main a
+  kinds a = parts.exp_kinds p.structs singles (texts_of typed) typed.functions.items typed.main a
 
   abbrev kinds_row : {i : _} → Row_of-Expression i → List Kind
-  kinds_row es = l.row_kinds p.structs singles (texts_of typed) typed.functions.items typed.main es
+  kinds_row es = parts.row_kinds p.structs singles (texts_of typed) typed.functions.items typed.main es
 
   abbrev pub kinds_place : Place → List Kind
-  kinds_place q = l.place_kinds p.structs singles (texts_of typed) typed.functions.items typed.main q
+  kinds_place q = parts.place_kinds p.structs singles (texts_of typed) typed.functions.items typed.main q
 
   abbrev pub code : Expression → ℕ → List Code
-  code a d = l.exp_code p.structs singles (texts_of typed) typed.functions.items typed.main locals a d
+  code a d = parts.exp_code p.structs singles (texts_of typed) typed.functions.items typed.main locals a d
 
   abbrev code_row : {i : _} → Row_of-Expression i → ℕ → List Code
-  code_row es d = l.row_code p.structs singles (texts_of typed) typed.functions.items typed.main locals es d
+  code_row es d = parts.row_code p.structs singles (texts_of typed) typed.functions.items typed.main locals es d
 
   abbrev pub code_place : Place → ℕ → List Code
-  code_place q d = l.place_code p.structs singles (texts_of typed) typed.functions.items typed.main locals q d
+  code_place q d = parts.place_code p.structs singles (texts_of typed) typed.functions.items typed.main locals q d
 
   abbrev at_row : {i : _} → Row_of-Expression i → ℕ → List ℕ
-  at_row es d = l.row_at p.structs singles (texts_of typed) typed.functions.items typed.main locals es d
+  at_row es d = parts.row_at p.structs singles (texts_of typed) typed.functions.items typed.main locals es d
 
   abbrev pub base : Place → ℕ → ℕ
-  base q d = l.base_at p.structs singles (texts_of typed) typed.functions.items typed.main locals q d
+  base q d = parts.base_at p.structs singles (texts_of typed) typed.functions.items typed.main locals q d
 
   abbrev pub off : Place → ℕ → Option ℕ
-  off q d = l.offset_at p.structs singles (texts_of typed) typed.functions.items typed.main locals q d
+  off q d = parts.offset_at p.structs singles (texts_of typed) typed.functions.items typed.main locals q d
 
   abbrev pub shift : Place → ℕ
-  shift q = l.displacement p.structs singles (texts_of typed) typed.functions.items typed.main locals q
+  shift q = parts.displacement p.structs singles (texts_of typed) typed.functions.items typed.main locals q
 
   abbrev layout : ValueType → ℕ
   layout ty = layout_at p.structs singles (texts_of typed) typed.functions.items typed.main ty
@@ -167,10 +169,10 @@ module _ (typed : Typed) (singles : List Kind) (checks : Bool) (fp : FitsProgram
 
   -- a call fits
   call_fits_there : (i : ℕ) (es : List ℕ) (d : ℕ) (g : t.Function) → slice_get p.functions i ≡ Some g → slice_get ks d ≡ Some (k.kind_of n singles g.result) → AreOf typed singles types locals ks g.parameters es
-      → invocation_fits P ks (slice_get P.functions (swapped typed.main i)) (result_register (l.type_given p.structs singles (texts_of typed) typed.functions.items typed.main typed.functions.items i) d) es ≡ true
+      → callee_fits P ks (slice_get P.functions (swapped typed.main i)) (result_register (parts.type_given p.structs singles (texts_of typed) typed.functions.items typed.main typed.functions.items i) d) es ≡ true
   call_fits_there i es d g e kd are =
       let there = function_at typed singles checks i g fp.main.0 fp.main.1 e in
-      ap (λ o. invocation_fits P ks o (result_register (l.type_given p.structs singles (texts_of typed) typed.functions.items typed.main typed.functions.items i) d) es) there.3
+      ap (λ o. callee_fits P ks o (result_register (parts.type_given p.structs singles (texts_of typed) typed.functions.items typed.main typed.functions.items i) d) es) there.3
       ∙ ap (λ z. call_fits ks (its_code typed singles checks there.0).result (its_code typed singles checks there.0).parameters (its_code typed singles checks there.0).kinds (result_register z d) es)
       (given_type typed singles types locals ks typed.functions.items i g e)
       ∙ and_true _ _ (arguments_fit typed singles types locals ks there.0.parameters.items _ es (subst (λ (z : t.Function). AreOf typed singles types locals ks z.parameters es) there.2 are))
@@ -252,7 +254,7 @@ module _ (typed : Typed) (singles : List Kind) (checks : Bool) (fp : FitsProgram
           (and_true _ _ (moved_fits b (type_of w) (suc d + length (kinds a)) d (exp_fits b (type_of w) (suc d + length (kinds a)) second known.1 h.2) second h.2 here).fits
           (moved_fits e (type_of w) (suc d + length (kinds a) + length (kinds b)) d (exp_fits e (type_of w) (suc d + length (kinds a) + length (kinds b)) third known.2 h.3) third h.3 here).fits)))
       exp_fits (Call' i shape es) ty d at known h =
-          let result = l.type_given p.structs singles (texts_of typed) typed.functions.items typed.main typed.functions.items i in
+          let result = parts.type_given p.structs singles (texts_of typed) typed.functions.items typed.main typed.functions.items i in
           let behind = at_tail ks d (k.kind_of n singles result) (kinds_row es) at in
           let here = at_head ks d (k.kind_of n singles result) (kinds_row es) at ∙ ap (λ z. Some (k.kind_of n singles z)) (given_type typed singles types locals ks typed.functions.items i h.0 h.1) in
           fit_append P ks around (code_row es (suc d)) _ (row_fits es h.0.parameters (suc d) behind known h.3)

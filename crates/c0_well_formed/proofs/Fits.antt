@@ -4,7 +4,7 @@ use Rattle.c0_rules.proofs.Rules.{both_true}
 use Rattle.code_form.specs.declared.form.Kind.{Kind}
 use Rattle.middle_form.specs.Form.{Code, Program}
 use Rattle.middle_form.specs.WellFormed.{code_fits}
-use Rattle.lower.specs.Lowered.{sequence}
+use Rattle.lower_expressions.specs.Expressions.{sequence}
 use Rattle.lower.proofs.Registers.{and_true}
 
 module _ (P : Program) (ks : List Kind) (around : ℕ) where

@@ -16,13 +16,15 @@ use Rattle.code_form.specs.Code.{call_fits, has}
 use Rattle.middle_form.specs.Form.{Code}
 use Rattle.middle_form.specs.Form as f
 use Rattle.middle_form.specs.WellFormed.{all_fit, function_fits, is_well_formed, main_fits}
-use Rattle.lower.specs.Gathered.{all_learned, singles_of, types_of_functions}
-use Rattle.lower.specs.Kinds as k
-use Rattle.lower.specs.Known.{KnowsFunction, KnowsFunctions}
+use Rattle.lower_tables.specs.Gathered.{all_learned, singles_of, types_of_functions}
+use Rattle.lower_tables.specs.Kinds as k
+use Rattle.lower_tables.specs.Known.{KnowsFunction, KnowsFunctions}
+use Rattle.lower_expressions.specs.Expressions as parts
 use Rattle.lower.specs.Lowered as l
-use Rattle.lower.specs.Lowered.{checked, lowered, result_kind, with_main_first}
+use Rattle.lower.specs.Lowered.{lowered, result_kind, with_main_first}
+use Rattle.lower_expressions.specs.Expressions.{checked}
 use Rattle.lower.proofs.Calling.{its_code}
-use Rattle.lower.proofs.CodeKnown.{all_known, knows_functions}
+use Rattle.lower_tables.proofs.CodeKnown.{all_known, knows_functions}
 use Rattle.lower.proofs.Entry.{at_behind, locals_kinds}
 use Rattle.lower.proofs.Order.{first}
 use Rattle.lower.proofs.Registers.{At, and_true, at_left, at_right, at_tail, has_it}
@@ -65,16 +67,16 @@ module _ (typed : Typed) (singles : List Kind) (checks : Bool) (fp : FitsProgram
     ks = (its_code typed singles checks h).kinds
 
     abbrev before : List Kind
-    before = l.conditions_kinds p.structs singles (texts_of typed) typed.functions.items typed.main (checked checks h.preconditions.items)
+    before = parts.conditions_kinds p.structs singles (texts_of typed) typed.functions.items typed.main (checked checks h.preconditions.items)
 
     abbrev inside : List Kind
     inside = l.body_kinds p.structs singles (texts_of typed) typed.functions.items typed.main checks h.body.items
 
     abbrev behind : List Kind
-    behind = l.conditions_kinds p.structs singles (texts_of typed) typed.functions.items typed.main (checked checks h.postconditions.items)
+    behind = parts.conditions_kinds p.structs singles (texts_of typed) typed.functions.items typed.main (checked checks h.postconditions.items)
 
     abbrev kind_here : Kind
-    kind_here = l.kind_at p.structs singles (texts_of typed) typed.functions.items typed.main h.result
+    kind_here = parts.kind_at p.structs singles (texts_of typed) typed.functions.items typed.main h.result
 
     locals_at : LocalsAt typed singles types locals ks
     locals_at = locals_kinds typed singles h (before ++ (inside ++ behind))
@@ -88,9 +90,9 @@ module _ (typed : Typed) (singles : List Kind) (checks : Bool) (fp : FitsProgram
     at_body : At ks (suc locals + length before) (inside ++ behind)
     at_body = at_right ks (suc locals) before (inside ++ behind) at_rest
 
-    code_here : AllFit P ks 0 (l.conditions_code p.structs singles (texts_of typed) typed.functions.items typed.main locals (checked checks h.preconditions.items) (suc locals)
-        ++ (f.Block (l.sequence (l.body_code p.structs singles (texts_of typed) typed.functions.items typed.main locals checks h.body.items (suc locals + length before)))
-        ∷ l.conditions_code p.structs singles (texts_of typed) typed.functions.items typed.main locals (checked checks h.postconditions.items) (suc locals + length before + length inside)))
+    code_here : AllFit P ks 0 (parts.conditions_code p.structs singles (texts_of typed) typed.functions.items typed.main locals (checked checks h.preconditions.items) (suc locals)
+        ++ (f.Block (parts.sequence (l.body_code p.structs singles (texts_of typed) typed.functions.items typed.main locals checks h.body.items (suc locals + length before)))
+        ∷ parts.conditions_code p.structs singles (texts_of typed) typed.functions.items typed.main locals (checked checks h.postconditions.items) (suc locals + length before + length inside)))
     code_here =
         fit_append P ks 0 _ _ (s.checked_fit typed singles checks fp types locals ks locals_at 0 h.preconditions.items (suc locals) entered known.0 fits.3)
         (fit_then P ks 0 _ _ (s.body_fits typed singles checks fp types locals ks locals_at h.body.items (suc locals + length before) (at_left ks (suc locals + length before) inside behind at_body) known.1 fits.5).fits
@@ -98,10 +100,10 @@ module _ (typed : Typed) (singles : List Kind) (checks : Bool) (fp : FitsProgram
 
     few : (its_code typed singles checks h).parameters < suc (length ks)
     few =
-        let first : List Kind = map (λ ty. l.kind_at p.structs singles (texts_of typed) typed.functions.items typed.main ty) h.parameters.items in
-        let rest : List Kind = map (λ ty. l.kind_at p.structs singles (texts_of typed) typed.functions.items typed.main ty) h.locals.items ++ (kind_here ∷ (before ++ (inside ++ behind))) in
+        let first : List Kind = map (λ ty. parts.kind_at p.structs singles (texts_of typed) typed.functions.items typed.main ty) h.parameters.items in
+        let rest : List Kind = map (λ ty. parts.kind_at p.structs singles (texts_of typed) typed.functions.items typed.main ty) h.locals.items ++ (kind_here ∷ (before ++ (inside ++ behind))) in
         let long : length (first ++ rest) ≡ length first + length rest = length-append first rest in
-        let same : length first ≡ length h.parameters.items = length-map h.parameters.items (λ ty. l.kind_at p.structs singles (texts_of typed) typed.functions.items typed.main ty) in
+        let same : length first ≡ length h.parameters.items = length-map h.parameters.items (λ ty. parts.kind_at p.structs singles (texts_of typed) typed.functions.items typed.main ty) in
         omega (arith, long, same)
 
     pub function_ok : function_fits P (its_code typed singles checks h) ≡ true

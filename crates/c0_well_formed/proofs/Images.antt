@@ -5,7 +5,7 @@ use Rattle.c0_typed.specs.Views.{program_of}
 use Rattle.c0_rules.specs.Programs.{typed_program}
 use Rattle.c0_rules.proofs.Programs.{elaborated_fits}
 use Rattle.c0_rules.proofs.Rules.{some_has}
-use Rattle.lower.specs.Gathered.{singles_of}
+use Rattle.lower_tables.specs.Gathered.{singles_of}
 use Rattle.lower.specs.Lowered.{lowered}
 use Rattle.codegen.specs.WellFormed.{IsWellFormed}
 use Rattle.codegen.proofs.WellFormed.{well_formed}

@@ -17,8 +17,10 @@ use Rattle.code_form.specs.Form.{Instruction}
 use Rattle.code_form.specs.declared.form.Kind.{Kind}
 use Rattle.middle_form.specs.Form.{Code}
 use Rattle.middle_form.specs.Form as f
+use Rattle.lower_expressions.specs.Expressions as parts
 use Rattle.lower.specs.Lowered as l
-use Rattle.lower.specs.Lowered.{checked, lowered, moved, print_code, sequence, value_at}
+use Rattle.lower.specs.Lowered.{lowered}
+use Rattle.lower_expressions.specs.Expressions.{checked, moved, print_code, sequence, value_at}
 use Rattle.codegen.specs.Generated as g
 use Rattle.codegen.specs.Generated.{blocks, extra, first, function_of as image_of, last}
 use Rattle.c0_well_formed.specs.Laws.{NamesNumber, NamesNumbers}
@@ -30,9 +32,9 @@ use Rattle.c0_well_formed.proofs.CellKinds.{Each, each_append}
 abbrev pub CodeNames : Code → Type 0
 CodeNames f.Nothing = Unit {0}
 CodeNames (f.Do x) = NamesNumber x
-CodeNames (f.Fetch to r off disp) = Unit {0}
-CodeNames (f.Keep r off disp from) = Unit {0}
-CodeNames (f.Invoke to i args) = Unit {0}
+CodeNames (f.Load to r off disp) = Unit {0}
+CodeNames (f.Store r off disp from) = Unit {0}
+CodeNames (f.Call to i args) = Unit {0}
 CodeNames (f.Fail a) = Unit {0}
 CodeNames (f.Then a b) = CodeNames a × CodeNames b
 CodeNames (f.Choose r a b) = CodeNames a × CodeNames b
@@ -50,9 +52,9 @@ mutual
   first_names : (a : Code) (b : ℕ) (next : List Instruction) (exits : List ℕ) → CodeNames a → Each NamesNumbers next → Each NamesNumbers (first a b next exits)
   first_names f.Nothing b next exits h k = k
   first_names (f.Do x) b next exits h k = (h, k)
-  first_names (f.Fetch to r off disp) b next exits h k = (tt, (tt, (tt, k)))
-  first_names (f.Keep r off disp from) b next exits h k = (tt, (tt, (tt, k)))
-  first_names (f.Invoke to i args) b next exits h k = (tt, k)
+  first_names (f.Load to r off disp) b next exits h k = (tt, (tt, (tt, k)))
+  first_names (f.Store r off disp from) b next exits h k = (tt, (tt, (tt, k)))
+  first_names (f.Call to i args) b next exits h k = (tt, k)
   first_names (f.Fail a) b next exits h k = (tt, tt)
   first_names (f.Then a d) b next exits h k = first_names a (b + g.count d) (first d b next exits) exits h.0 (first_names d b next exits h.1 k)
   first_names (f.Choose r a d) b next exits h k = (tt, tt)
@@ -63,9 +65,9 @@ mutual
 extra_names : (a : Code) (b : ℕ) (next : List Instruction) (exits : List ℕ) → CodeNames a → Each NamesNumbers next → Each (Each NamesNumbers) (extra a b next exits)
 extra_names f.Nothing b next exits h k = tt
 extra_names (f.Do x) b next exits h k = tt
-extra_names (f.Fetch to r off disp) b next exits h k = tt
-extra_names (f.Keep r off disp from) b next exits h k = tt
-extra_names (f.Invoke to i args) b next exits h k = tt
+extra_names (f.Load to r off disp) b next exits h k = tt
+extra_names (f.Store r off disp from) b next exits h k = tt
+extra_names (f.Call to i args) b next exits h k = tt
 extra_names (f.Fail a) b next exits h k = tt
 extra_names (f.Then a d) b next exits h k =
     each_append (Each NamesNumbers) (extra d b next exits) (extra a (b + g.count d) (first d b next exits) exits) (extra_names d b next exits h.1 k) (extra_names a (b + g.count d) (first d b next exits) exits h.0 (first_names d b next exits h.1 k))
@@ -101,7 +103,7 @@ blocks_names x h = (first_names x.body 1 (last x) [] h (last_names x), extra_nam
 
 -- ---- expressions and statements
 
-constant_names : (texts : List (List ℕ)) (p : Program) (types : List Ty) (x : ConstantValue) (ty : Ty) (d : ℕ) → Has p types (exp_of texts (Constant x)) ty → NamesNumber (l.constant_code texts x d)
+constant_names : (texts : List (List ℕ)) (p : Program) (types : List Ty) (x : ConstantValue) (ty : Ty) (d : ℕ) → Has p types (exp_of texts (Constant x)) ty → NamesNumber (parts.constant_code texts x d)
 constant_names texts p types (c.Number z) ty d h = h.1
 constant_names texts p types (c.Truth b) ty d h = tt
 constant_names texts p types (c.Letter x) ty d h = h.1
@@ -128,16 +130,16 @@ module _ (typed : Typed) (singles : List Kind) (checks : Bool) (types : List Ty)
   texts = texts_of typed
 
   abbrev kinds : Expression → List Kind
-  kinds a = l.exp_kinds p.structs singles (texts_of typed) typed.functions.items typed.main a
+  kinds a = parts.exp_kinds p.structs singles (texts_of typed) typed.functions.items typed.main a
 
   abbrev code : Expression → ℕ → List Code
-  code a d = l.exp_code p.structs singles (texts_of typed) typed.functions.items typed.main locals a d
+  code a d = parts.exp_code p.structs singles (texts_of typed) typed.functions.items typed.main locals a d
 
   abbrev code_row : {i : _} → Row_of-Expression i → ℕ → List Code
-  code_row es d = l.row_code p.structs singles (texts_of typed) typed.functions.items typed.main locals es d
+  code_row es d = parts.row_code p.structs singles (texts_of typed) typed.functions.items typed.main locals es d
 
   abbrev code_place : Place → ℕ → List Code
-  code_place q d = l.place_code p.structs singles (texts_of typed) typed.functions.items typed.main locals q d
+  code_place q d = parts.place_code p.structs singles (texts_of typed) typed.functions.items typed.main locals q d
 
   moved_names : (a : Expression) (d r : ℕ) → Each CodeNames (code a d) → CodeNames (sequence (moved locals a (code a d) d r))
   moved_names a d r h = in_sequence (moved locals a (code a d) d r) (each_append CodeNames (code a d) _ h (tt, tt))
@@ -185,13 +187,13 @@ module _ (typed : Typed) (singles : List Kind) (checks : Bool) (types : List Ty)
     place_names (Field' j v q i) ty d h = place_names q (StructTy j) d h.0
 
   abbrev kinds_place : Place → List Kind
-  kinds_place q = l.place_kinds p.structs singles (texts_of typed) typed.functions.items typed.main q
+  kinds_place q = parts.place_kinds p.structs singles (texts_of typed) typed.functions.items typed.main q
 
   abbrev kinds_all : List Expression → List Kind
-  kinds_all es = l.conditions_kinds p.structs singles (texts_of typed) typed.functions.items typed.main es
+  kinds_all es = parts.conditions_kinds p.structs singles (texts_of typed) typed.functions.items typed.main es
 
   abbrev code_all : List Expression → ℕ → List Code
-  code_all es d = l.conditions_code p.structs singles (texts_of typed) typed.functions.items typed.main locals es d
+  code_all es d = parts.conditions_code p.structs singles (texts_of typed) typed.functions.items typed.main locals es d
 
   abbrev kinds_stmt : Statement → List Kind
   kinds_stmt a = l.stmt_kinds p.structs singles (texts_of typed) typed.functions.items typed.main checks a
@@ -268,6 +270,6 @@ function_names typed singles checks h fits =
     let locals = length h.parameters.items + length h.locals.items in
     let inside = l.behind_entry (program_of typed).structs singles (texts_of typed) typed.functions.items typed.main checks h in
     in_sequence _
-    (each_append CodeNames (l.conditions_code (program_of typed).structs singles (texts_of typed) typed.functions.items typed.main locals (checked checks h.preconditions.items) (suc locals)) _
+    (each_append CodeNames (parts.conditions_code (program_of typed).structs singles (texts_of typed) typed.functions.items typed.main locals (checked checks h.preconditions.items) (suc locals)) _
     (checked_names typed singles checks types locals h.preconditions.items (suc locals) fits.3)
     (in_sequence _ (body_names typed singles checks types locals h.body.items inside fits.5), checked_names typed singles checks types locals h.postconditions.items _ fits.4))

@@ -17,8 +17,9 @@ use Rattle.code_form.specs.declared.form.Kind.TheVariants as kind
 use Rattle.code_form.specs.declared.form.Operation.TheVariants as op
 use Rattle.code_form.specs.Code.{args_fit, has, is_compared, op_fits, result_fits}
 use Rattle.code_form.specs.Form.{Head}
-use Rattle.lower.specs.Kinds.{kind_of}
-use Rattle.lower.specs.Lowered.{code_relation, kind_at, print_code, result_kind, result_register, unary_kind, unary_operator}
+use Rattle.lower_tables.specs.Kinds.{kind_of}
+use Rattle.lower.specs.Lowered.{result_kind}
+use Rattle.lower_expressions.specs.Expressions.{code_relation, kind_at, print_code, result_register, unary_kind, unary_operator}
 use Rattle.lower.proofs.Registers.{and_true, has_it}
 use Rattle.lower.proofs.Values.{AreOf}
 

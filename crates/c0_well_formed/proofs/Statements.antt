@@ -14,10 +14,12 @@ use Rattle.code_form.specs.declared.form.Kind.TheVariants as kind
 use Rattle.code_form.specs.Code.{has}
 use Rattle.middle_form.specs.Form.{Code}
 use Rattle.middle_form.specs.Form as f
-use Rattle.lower.specs.Kinds as k
-use Rattle.lower.specs.Known.{Knows, KnowsAll, KnowsBlock, KnowsBody, KnowsStatement}
+use Rattle.lower_tables.specs.Kinds as k
+use Rattle.lower_tables.specs.Known.{Knows, KnowsAll, KnowsBlock, KnowsBody, KnowsStatement}
+use Rattle.lower_expressions.specs.Expressions as parts
 use Rattle.lower.specs.Lowered as l
-use Rattle.lower.specs.Lowered.{checked, local_register, lowered, value_at}
+use Rattle.lower.specs.Lowered.{lowered}
+use Rattle.lower_expressions.specs.Expressions.{checked, local_register, value_at}
 use Rattle.lower.proofs.Registers.{At, and_true, at_head, at_left, at_right, at_tail, has_it}
 use Rattle.lower.proofs.Values.{LocalsAt}
 use Rattle.c0_well_formed.proofs.Fits.{AllFit, fit_append, fit_none, fit_one, fit_then}
@@ -49,10 +51,10 @@ module _ (typed : Typed) (singles : List Kind) (checks : Bool) (fp : FitsProgram
   code_place q d = e.code_place typed singles checks fp types locals ks locals_at q d
 
   abbrev pub kinds_all : List Expression → List Kind
-  kinds_all es = l.conditions_kinds p.structs singles (texts_of typed) typed.functions.items typed.main es
+  kinds_all es = parts.conditions_kinds p.structs singles (texts_of typed) typed.functions.items typed.main es
 
   abbrev pub code_all : List Expression → ℕ → List Code
-  code_all es d = l.conditions_code p.structs singles (texts_of typed) typed.functions.items typed.main locals es d
+  code_all es d = parts.conditions_code p.structs singles (texts_of typed) typed.functions.items typed.main locals es d
 
   abbrev kinds_stmt : Statement → List Kind
   kinds_stmt a = l.stmt_kinds p.structs singles (texts_of typed) typed.functions.items typed.main checks a

@@ -13,7 +13,7 @@ use Rattle.code_form.specs.declared.form.Operation.TheVariants as op
 use Rattle.code_form.specs.Code.{is_array_of, is_pointer, on_kind, place_fits}
 use Rattle.code_form.specs.Form.{Simple, Instruction, Block, Function, Image}
 use Rattle.middle_form.specs.WellFormed.{is_well_formed}
-use Rattle.lower.specs.Gathered.{singles_of}
+use Rattle.lower_tables.specs.Gathered.{singles_of}
 use Rattle.lower.specs.Lowered.{lowered}
 use Rattle.codegen.specs.WellFormed.{IsWellFormed}
 use Rattle.c0_image.specs.Compiled.{IsCompiled}

@@ -6,7 +6,8 @@ use Rattle.code_form.specs.declared.form.Kind.{Kind}
 use Rattle.code_form.specs.Form.{Instruction, Simple, Aim, Load, Store, Leave, Call, Jump, Branch, Return, ReturnVoid, Error}
 use Rattle.code_form.specs.Form as image
 use Rattle.code_form.specs.Code.{most_scopes}
-use Rattle.middle_form.specs.Form.{Code, Nothing, Do, Fetch, Keep, Invoke, Fail, Then, Choose, Loop, Block, Exit, Function, Program}
+use Rattle.middle_form.specs.Form.{Code, Nothing, Do, Fail, Then, Choose, Loop, Block, Exit, Function, Program}
+use Rattle.middle_form.specs.Form as middle
 use Rattle.codegen.specs.Generated.{block_with, blocks, count, extra, first, function_of, generated, last, scopes_of, uses_cells}
 
 -- Instructions of a function with one scope, which may be open at their beginning or is shut: while it may be open, only aims, loads, stores and its leave come
@@ -37,9 +38,9 @@ code_bracketed : (a : Code) (b : ℕ) (next : List Instruction) (exits : List �
     → IsBracketed false (first a b next exits) × All IsShutBracketed (extra a b next exits)
 code_bracketed Nothing b next exits n = (n, All-nil IsShutBracketed)
 code_bracketed (Do o) b next exits n = ((refl, n), All-nil IsShutBracketed)
-code_bracketed (Fetch to r off disp) b next exits n = ((refl, n), All-nil IsShutBracketed)
-code_bracketed (Keep r off disp from) b next exits n = ((refl, n), All-nil IsShutBracketed)
-code_bracketed (Invoke to g args) b next exits n = ((refl, n), All-nil IsShutBracketed)
+code_bracketed (middle.Load to r off disp) b next exits n = ((refl, n), All-nil IsShutBracketed)
+code_bracketed (middle.Store r off disp from) b next exits n = ((refl, n), All-nil IsShutBracketed)
+code_bracketed (middle.Call to g args) b next exits n = ((refl, n), All-nil IsShutBracketed)
 code_bracketed (Fail a) b next exits n = (refl, All-nil IsShutBracketed)
 code_bracketed (Then a c) b next exits n =
     let behind = code_bracketed c b next exits n in

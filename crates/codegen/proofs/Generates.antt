@@ -8,17 +8,18 @@ use Rattle.code_form.specs.Form as image
 use Rattle.code_form.specs.Effects.{Loads, Saves, Wrong, run_effect, saved, step, steps}
 use Rattle.code_form.specs.Code.{Did, Goes, Tells, Sets, Makes, Prints, Stops, Fails, Aimed, Core, Frame, Running, Scope, Shut, after, aims_at, call_fits, can_use, code, errs, has, if_zero, jumps, offset, op_did, place_fits, set_to, scoped, text_at, written}
 use Rattle.code_form.specs.Code as machine
-use Rattle.middle_form.specs.Form.{Code, Nothing, Do, Fetch, Keep, Invoke, Fail, Then, Choose, Loop, Block, Exit, Function, Program}
-use Rattle.middle_form.specs.Meaning.{Outcome, Done, Stopped, Cut, Stuck, Left, Registers, State, behind, failed, falls, gives, invoked, loop, on, operated, run, then_do, turn, where_so}
+use Rattle.middle_form.specs.Form.{Code, Nothing, Do, Fail, Then, Choose, Loop, Block, Exit, Function, Program}
+use Rattle.middle_form.specs.Form as middle
+use Rattle.middle_form.specs.Meaning.{Outcome, Done, Stopped, Cut, Stuck, Left, Registers, State, behind, failed, falls, gives, called, loop, on, operated, run, then_do, turn, where_so}
 use Rattle.codegen.specs.Generated.{block_with, count, extra, first, uses_cells}
 use Rattle.codegen.proofs.Lands.{HasBlocks, IsRunning, Lands, Machine, at, blocks_back, blocks_front, comes_on, lands_after, moves, plain_frame, then_lands, turns_on}
 
 pub length-extra : (s : Code) (b : ℕ) (next : List Instruction) (exits : List ℕ) → length (extra s b next exits) ≡ count s
 length-extra Nothing b next exits = refl
 length-extra (Do o) b next exits = refl
-length-extra (Fetch to r off disp) b next exits = refl
-length-extra (Keep r off disp from) b next exits = refl
-length-extra (Invoke to f args) b next exits = refl
+length-extra (middle.Load to r off disp) b next exits = refl
+length-extra (middle.Store r off disp from) b next exits = refl
+length-extra (middle.Call to f args) b next exits = refl
 length-extra (Fail a) b next exits = refl
 length-extra (Then a c) b next exits =
     length-append (extra c b next exits) (extra a (b + count c) (first c b next exits) exits)
@@ -111,11 +112,11 @@ module _ (C : Image) (fn : image.Function) (dest : Option ℕ) (st : List Frame)
     shut_lands : (is next : List Instruction) (exits : List ℕ) (rs : Registers) (s : State) (m : Outcome Left) → Lands C (there next exits) (aiming Shut is rs s) s.turns m → Lands C (there next exits) (at fn dest st is rs s) s.turns m
     shut_lands is next exits rs s m h = subst (λ (c : Machine). Lands C (there next exits) c s.turns m) (shut_is is rs s) h
 
-    fetch_lands : (to r : ℕ) (off : Option ℕ) (disp : ℕ) (next : List Instruction) (exits : List ℕ) (rs : Registers) (s : State) (placed fits : Bool) → place_fits fn.kinds r off ≡ placed → can_use C.head fn.kinds s.allocations to r disp (slice_index rs r) (offset rs off + disp) ≡ fits
+    load_lands : (to r : ℕ) (off : Option ℕ) (disp : ℕ) (next : List Instruction) (exits : List ℕ) (rs : Registers) (s : State) (placed fits : Bool) → place_fits fn.kinds r off ≡ placed → can_use C.head fn.kinds s.allocations to r disp (slice_index rs r) (offset rs off + disp) ≡ fits
         → Lands C (there next exits) (aiming Shut (Aim 0 r off disp ∷ Load to 0 ∷ Leave 0 ∷ next) rs s) s.turns (where_so (placed && fits) (on (slice_set rs to (s.heap (slice_index rs r) (offset rs off + disp))) s))
-    fetch_lands to r off disp next exits rs s false fits h k = tt
-    fetch_lands to r off disp next exits rs s true false h k = tt
-    fetch_lands to r off disp next exits rs s true true h k =
+    load_lands to r off disp next exits rs s false fits h k = tt
+    load_lands to r off disp next exits rs s true false h k = tt
+    load_lands to r off disp next exits rs s true true h k =
         let q : ℕ = slice_index rs r in
         let x : ℕ = offset rs off + disp in
         let f : Frame = frame_with (Aimed r off disp q x ∷ []) (Load to 0 ∷ Leave 0 ∷ next) rs in
@@ -124,11 +125,11 @@ module _ (C : Image) (fn : image.Function) (dest : Option ℕ) (st : List Frame)
         ∙ ap (λ b. steps (code C) 1 (run_effect (cond b (Loads 0 q x (λ v. Running (set_to f (Leave 0 ∷ next) to v) st s.allocations s.output)) (Wrong (machine.Stuck s.allocations s.output))) c s.heap)) k
         ∙ shut_is next (slice_set rs to (s.heap q x)) s)
 
-    keep_lands : (r : ℕ) (off : Option ℕ) (disp from : ℕ) (next : List Instruction) (exits : List ℕ) (rs : Registers) (s : State) (placed fits : Bool) → place_fits fn.kinds r off ≡ placed → can_use C.head fn.kinds s.allocations from r disp (slice_index rs r) (offset rs off + disp) ≡ fits
+    store_lands : (r : ℕ) (off : Option ℕ) (disp from : ℕ) (next : List Instruction) (exits : List ℕ) (rs : Registers) (s : State) (placed fits : Bool) → place_fits fn.kinds r off ≡ placed → can_use C.head fn.kinds s.allocations from r disp (slice_index rs r) (offset rs off + disp) ≡ fits
         → Lands C (there next exits) (aiming Shut (Aim 0 r off disp ∷ Store 0 from ∷ Leave 0 ∷ next) rs s) s.turns (where_so (placed && fits) (on rs (record s { heap = saved s.heap (slice_index rs r) (offset rs off + disp) (slice_index rs from) })))
-    keep_lands r off disp from next exits rs s false fits h k = tt
-    keep_lands r off disp from next exits rs s true false h k = tt
-    keep_lands r off disp from next exits rs s true true h k =
+    store_lands r off disp from next exits rs s false fits h k = tt
+    store_lands r off disp from next exits rs s true false h k = tt
+    store_lands r off disp from next exits rs s true true h k =
         let q : ℕ = slice_index rs r in
         let x : ℕ = offset rs off + disp in
         let f : Frame = frame_with (Aimed r off disp q x ∷ []) (Store 0 from ∷ Leave 0 ∷ next) rs in
@@ -260,10 +261,10 @@ module _ (C : Image) (fn : image.Function) (dest : Option ℕ) (st : List Frame)
   module _ (P : Program) (head_is : P.head ≡ C.head) (call : ℕ → List ℕ → State → Outcome ℕ) (depth : ℕ)
       (calls_run : (to : Option ℕ) (f : ℕ) (args : List ℕ) (g : Function) → slice_get P.functions f ≡ Some g → call_fits fn.kinds g.result g.parameters g.kinds to args ≡ true
       → (next : List Instruction) (rs : Registers) (s : State) → s.turns ≤ depth → Lands C (λ v t. at fn dest st next (gives to v rs) t) (at fn dest st (Call to f args ∷ next) rs s) s.turns (call f (map (slice_index rs) args) s)) where
-    invoke_lands : (to : Option ℕ) (f : ℕ) (args : List ℕ) (o : Option Function) → slice_get P.functions f ≡ o → (next : List Instruction) (exits : List ℕ) (rs : Registers) (s : State) → s.turns ≤ depth
-        → Lands C (there next exits) (at fn dest st (Call to f args ∷ next) rs s) s.turns (invoked P call fn.kinds o to f args rs s)
-    invoke_lands to f args None h next exits rs s le = tt
-    invoke_lands to f args (Some g) h next exits rs s le = by_fit (call_fits fn.kinds g.result g.parameters g.kinds to args) refl
+    call_lands : (to : Option ℕ) (f : ℕ) (args : List ℕ) (o : Option Function) → slice_get P.functions f ≡ o → (next : List Instruction) (exits : List ℕ) (rs : Registers) (s : State) → s.turns ≤ depth
+        → Lands C (there next exits) (at fn dest st (Call to f args ∷ next) rs s) s.turns (called P call fn.kinds o to f args rs s)
+    call_lands to f args None h next exits rs s le = tt
+    call_lands to f args (Some g) h next exits rs s le = by_fit (call_fits fn.kinds g.result g.parameters g.kinds to args) refl
       where
         by_fit : (b : Bool) → call_fits fn.kinds g.result g.parameters g.kinds to args ≡ b → Lands C (there next exits) (at fn dest st (Call to f args ∷ next) rs s) s.turns (where_so b (then_do (call f (map (slice_index rs) args) s) (λ v t. on (gives to v rs) t)))
         by_fit false k = tt
@@ -277,13 +278,13 @@ module _ (C : Image) (fn : image.Function) (dest : Option ℕ) (st : List Frame)
     pub code_lands : (a : Code) (b : ℕ) (next : List Instruction) (exits : List ℕ) → HasScope a → HasBlocks fn b (extra a b next exits) → (rs : Registers) (s : State) → s.turns ≤ depth → Lands C (there next exits) (at fn dest st (first a b next exits) rs s) s.turns (run P call fn.kinds a rs s)
     code_lands Nothing b next exits one has' rs s le = moves C _ _ s.turns 0 refl
     code_lands (Do o) b next exits one has' rs s le = do_lands o next exits rs s (op_did P.head fn.kinds s.allocations rs o) (ap (λ H. op_did H fn.kinds s.allocations rs o) (sym head_is))
-    code_lands (Fetch to r off disp) b next exits one has' rs s le =
-        shut_lands (one refl) (first (Fetch to r off disp) b next exits) next exits rs s (run P call fn.kinds (Fetch to r off disp) rs s)
-        (fetch_lands (one refl) to r off disp next exits rs s _ _ refl (ap (λ H. can_use H fn.kinds s.allocations to r disp (slice_index rs r) (offset rs off + disp)) (sym head_is)))
-    code_lands (Keep r off disp from) b next exits one has' rs s le =
-        shut_lands (one refl) (first (Keep r off disp from) b next exits) next exits rs s (run P call fn.kinds (Keep r off disp from) rs s)
-        (keep_lands (one refl) r off disp from next exits rs s _ _ refl (ap (λ H. can_use H fn.kinds s.allocations from r disp (slice_index rs r) (offset rs off + disp)) (sym head_is)))
-    code_lands (Invoke to f args) b next exits one has' rs s le = invoke_lands to f args (slice_get P.functions f) refl next exits rs s le
+    code_lands (middle.Load to r off disp) b next exits one has' rs s le =
+        shut_lands (one refl) (first (middle.Load to r off disp) b next exits) next exits rs s (run P call fn.kinds (middle.Load to r off disp) rs s)
+        (load_lands (one refl) to r off disp next exits rs s _ _ refl (ap (λ H. can_use H fn.kinds s.allocations to r disp (slice_index rs r) (offset rs off + disp)) (sym head_is)))
+    code_lands (middle.Store r off disp from) b next exits one has' rs s le =
+        shut_lands (one refl) (first (middle.Store r off disp from) b next exits) next exits rs s (run P call fn.kinds (middle.Store r off disp from) rs s)
+        (store_lands (one refl) r off disp from next exits rs s _ _ refl (ap (λ H. can_use H fn.kinds s.allocations from r disp (slice_index rs r) (offset rs off + disp)) (sym head_is)))
+    code_lands (middle.Call to f args) b next exits one has' rs s le = call_lands to f args (slice_get P.functions f) refl next exits rs s le
     code_lands (Fail a) b next exits one has' rs s le = fail_lands a next exits rs s _ _ refl (ap (λ H. text_at H (slice_index rs a)) (sym head_is))
     code_lands (Then a c) b next exits one has' rs s le =
         let n = first c b next exits in

@@ -11,8 +11,10 @@ use Rattle.code_form.specs.declared.form.Kind.TheVariants as kind
 use Rattle.code_form.specs.Form.{Instruction, Aim, Branch, Jump, Leave, Load, Return, ReturnVoid, Store}
 use Rattle.code_form.specs.Form as image
 use Rattle.code_form.specs.Code.{cell_kind, has, on_kind, place_fits}
-use Rattle.middle_form.specs.Form.{Code, Nothing, Do, Fetch, Keep, Invoke, Fail, Then, Choose, Loop, Block, Exit, Function, Program}
-use Rattle.middle_form.specs.WellFormed.{all_fit, code_fits, function_fits, invocation_fits, is_well_formed, main_fits, result_fits}
+use Rattle.middle_form.specs.Form.{Code, Nothing, Do, Fail, Then, Choose, Loop, Block, Exit, Function, Program}
+use Rattle.middle_form.specs.Form as middle
+use Rattle.middle_form.specs.WellFormed.{all_fit, code_fits, function_fits, is_well_formed, main_fits, result_fits}
+use Rattle.middle_form.specs.WellFormed as form
 use Rattle.codegen.specs.Generated.{block_with, blocks, count, extra, first, function_of, generated, last, scopes_of, uses_cells}
 use Rattle.codegen.specs.WellFormed.{Aims, IsBlock, IsRest, IsWellFormed, IsWellFormedFunction, callee_fits}
 use Rattle.codegen.specs.WellFormed as here
@@ -34,21 +36,21 @@ module _ (P : Program) (f : image.Function) where
   abbrev C : image.Image
   C = generated P
 
-  fetch_formed : (to r : ℕ) (off : Option ℕ) (disp : ℕ) (next : List Instruction) → place_fits f.kinds r off ≡ true → on_kind (λ k. has f.kinds to k) (cell_kind P.head f.kinds r disp) ≡ true
+  load_formed : (to r : ℕ) (off : Option ℕ) (disp : ℕ) (next : List Instruction) → place_fits f.kinds r off ≡ true → on_kind (λ k. has f.kinds to k) (cell_kind P.head f.kinds r disp) ≡ true
       → IsRest C f (None ∷ []) next → IsRest C f (None ∷ []) (Aim 0 r off disp ∷ Load to 0 ∷ Leave 0 ∷ next)
-  fetch_formed to r off disp next p q n = (p, omega arith, (q, (omega arith, n)))
+  load_formed to r off disp next p q n = (p, omega arith, (q, (omega arith, n)))
 
-  keep_formed : (r : ℕ) (off : Option ℕ) (disp from : ℕ) (next : List Instruction) → place_fits f.kinds r off ≡ true → on_kind (λ k. has f.kinds from k) (cell_kind P.head f.kinds r disp) ≡ true
+  store_formed : (r : ℕ) (off : Option ℕ) (disp from : ℕ) (next : List Instruction) → place_fits f.kinds r off ≡ true → on_kind (λ k. has f.kinds from k) (cell_kind P.head f.kinds r disp) ≡ true
       → IsRest C f (None ∷ []) next → IsRest C f (None ∷ []) (Aim 0 r off disp ∷ Store 0 from ∷ Leave 0 ∷ next)
-  keep_formed r off disp from next p q n = (p, omega arith, (q, (omega arith, n)))
+  store_formed r off disp from next p q n = (p, omega arith, (q, (omega arith, n)))
 
   -- with one scope
   with_scope : (is next : List Instruction) → f.scopes ≡ 1 → (IsRest C f (None ∷ []) next → IsRest C f (None ∷ []) is) → IsRest C f shut next → IsRest C f shut is
   with_scope is next one h = subst (λ n. IsRest C f (replicate n None) next → IsRest C f (replicate n None) is) (sym one) h
 
-  invoke_formed : (to : Option ℕ) (g : ℕ) (args : List ℕ) (o : Option Function) → slice_get P.functions g ≡ o → invocation_fits P f.kinds o to args ≡ true → callee_fits C f (slice_get (generated P).functions g) to args ≡ true
-  invoke_formed to g args None e h = absurd (cc h)
-  invoke_formed to g args (Some F) e h =
+  call_formed : (to : Option ℕ) (g : ℕ) (args : List ℕ) (o : Option Function) → slice_get P.functions g ≡ o → form.callee_fits P f.kinds o to args ≡ true → callee_fits C f (slice_get (generated P).functions g) to args ≡ true
+  call_formed to g args None e h = absurd (cc h)
+  call_formed to g args (Some F) e h =
       ap (λ o. callee_fits C f o to args) (slice_get-map function_of P.functions g ∙ ap (option_map function_of) e) ∙ h
 
   -- the scope that code uses is there
@@ -59,11 +61,11 @@ module _ (P : Program) (f : image.Function) where
       → IsRest C f shut (first a b next exits) × All (IsRest C f shut) (extra a b next exits)
   code_formed Nothing b next exits one fits out n le = (n, All-nil (IsRest C f shut))
   code_formed (Do o) b next exits one fits out n le = ((fits, n), All-nil (IsRest C f shut))
-  code_formed (Fetch to r off disp) b next exits one fits out n le =
-      (with_scope (first (Fetch to r off disp) b next exits) next (one refl) (fetch_formed to r off disp next (and_left _ _ fits) (and_right (place_fits f.kinds r off) _ fits)) n, All-nil (IsRest C f shut))
-  code_formed (Keep r off disp from) b next exits one fits out n le =
-      (with_scope (first (Keep r off disp from) b next exits) next (one refl) (keep_formed r off disp from next (and_left _ _ fits) (and_right (place_fits f.kinds r off) _ fits)) n, All-nil (IsRest C f shut))
-  code_formed (Invoke to g args) b next exits one fits out n le = ((invoke_formed to g args (slice_get P.functions g) refl fits, n), All-nil (IsRest C f shut))
+  code_formed (middle.Load to r off disp) b next exits one fits out n le =
+      (with_scope (first (middle.Load to r off disp) b next exits) next (one refl) (load_formed to r off disp next (and_left _ _ fits) (and_right (place_fits f.kinds r off) _ fits)) n, All-nil (IsRest C f shut))
+  code_formed (middle.Store r off disp from) b next exits one fits out n le =
+      (with_scope (first (middle.Store r off disp from) b next exits) next (one refl) (store_formed r off disp from next (and_left _ _ fits) (and_right (place_fits f.kinds r off) _ fits)) n, All-nil (IsRest C f shut))
+  code_formed (middle.Call to g args) b next exits one fits out n le = ((call_formed to g args (slice_get P.functions g) refl fits, n), All-nil (IsRest C f shut))
   code_formed (Fail a) b next exits one fits out n le = ((fits, refl), All-nil (IsRest C f shut))
   code_formed (Then a c) b next exits one fits out n le =
       let behind = code_formed c b next exits (λ u. one (or_right (uses_cells a) (uses_cells c) u)) (and_right (code_fits P f.kinds (length exits) a) _ fits) out n (omega arith) in

@@ -4,7 +4,7 @@ use Rattle.std.specs.declared.vec.Vec.{Vec}
 use Rattle.std.specs.declared.alloc.Global.{Global}
 use Rattle.code_form.specs.declared.form.Instruction.{Instruction as RustInstruction}
 use Rattle.code_form.specs.Form.{Instruction, instruction_of}
-use Rattle.middle_form.specs.Form.{Code, Do, Fetch, Keep, Invoke, Fail, Exit}
+use Rattle.middle_form.specs.Form.{Code, Do, Load, Store, Call, Fail, Exit}
 use Rattle.codegen.specs.declared.emit.Exits.{Exits, Nowhere, Around'}
 
 -- the instructions of a block that is held last first
@@ -23,9 +23,9 @@ exits_of (Around' out p outer) = out ∷ exits_of outer
 -- code needs no more blocks, and is not in parts
 abbrev pub is_straight : Code → Bool
 is_straight (Do o) = true
-is_straight (Fetch to r off disp) = true
-is_straight (Keep r off disp from) = true
-is_straight (Invoke to f args) = true
+is_straight (Load to r off disp) = true
+is_straight (Store r off disp from) = true
+is_straight (Call to f args) = true
 is_straight (Fail a) = true
 is_straight (Exit k) = true
 is_straight _ = false

@@ -5,15 +5,16 @@ use Rattle.code_form.specs.declared.form.Fact.{Fact}
 use Rattle.code_form.specs.declared.form.Fact.TheVariants as fact
 use Rattle.code_form.specs.Form.{Instruction, Simple, Aim, Load, Store, Leave, Call, Jump, Branch, Return, ReturnVoid, Error, Image}
 use Rattle.code_form.specs.Form as image
-use Rattle.middle_form.specs.Form.{Code, Nothing, Do, Fetch, Keep, Invoke, Fail, Then, Choose, Loop, Block, Exit, Function, Program}
+use Rattle.middle_form.specs.Form.{Code, Nothing, Do, Fail, Then, Choose, Loop, Block, Exit, Function, Program}
+use Rattle.middle_form.specs.Form as middle
 
 -- how many blocks code needs beside its first instructions
 abbrev pub count : Code → ℕ
 count Nothing = 0
 count (Do o) = 0
-count (Fetch to r off disp) = 0
-count (Keep r off disp from) = 0
-count (Invoke to f args) = 0
+count (middle.Load to r off disp) = 0
+count (middle.Store r off disp from) = 0
+count (middle.Call to f args) = 0
 count (Fail a) = 0
 count (Then a c) = count c + count a
 count (Choose r a c) = suc (count a + suc (count c + 1))
@@ -25,9 +26,9 @@ count (Exit k) = 0
 abbrev pub first : Code → ℕ → List Instruction → List ℕ → List Instruction
 first Nothing b next exits = next
 first (Do o) b next exits = Simple o ∷ next
-first (Fetch to r off disp) b next exits = Aim 0 r off disp ∷ Load to 0 ∷ Leave 0 ∷ next
-first (Keep r off disp from) b next exits = Aim 0 r off disp ∷ Store 0 from ∷ Leave 0 ∷ next
-first (Invoke to f args) b next exits = Call to f args ∷ next
+first (middle.Load to r off disp) b next exits = Aim 0 r off disp ∷ Load to 0 ∷ Leave 0 ∷ next
+first (middle.Store r off disp from) b next exits = Aim 0 r off disp ∷ Store 0 from ∷ Leave 0 ∷ next
+first (middle.Call to f args) b next exits = Call to f args ∷ next
 first (Fail a) b next exits = Error a ∷ []
 first (Then a c) b next exits = first a (b + count c) (first c b next exits) exits
 first (Choose r a c) b next exits = Branch r (suc b + count a) (suc (suc b + count a) + count c) ∷ []
@@ -40,9 +41,9 @@ first (Exit k) b next exits = Jump (slice_index exits k) ∷ []
 abbrev pub extra : Code → ℕ → List Instruction → List ℕ → List (List Instruction)
 extra Nothing b next exits = []
 extra (Do o) b next exits = []
-extra (Fetch to r off disp) b next exits = []
-extra (Keep r off disp from) b next exits = []
-extra (Invoke to f args) b next exits = []
+extra (middle.Load to r off disp) b next exits = []
+extra (middle.Store r off disp from) b next exits = []
+extra (middle.Call to f args) b next exits = []
 extra (Fail a) b next exits = []
 extra (Then a c) b next exits = extra c b next exits ++ extra a (b + count c) (first c b next exits) exits
 extra (Choose r a c) b next exits =
@@ -72,9 +73,9 @@ blocks g = first g.body 1 (last g) [] ∷ extra g.body 1 (last g) []
 abbrev pub uses_cells : Code → Bool
 uses_cells Nothing = false
 uses_cells (Do o) = false
-uses_cells (Fetch to r off disp) = true
-uses_cells (Keep r off disp from) = true
-uses_cells (Invoke to f args) = false
+uses_cells (middle.Load to r off disp) = true
+uses_cells (middle.Store r off disp from) = true
+uses_cells (middle.Call to f args) = false
 uses_cells (Fail a) = false
 uses_cells (Then a c) = uses_cells a || uses_cells c
 uses_cells (Choose r a c) = uses_cells a || uses_cells c

@@ -158,19 +158,19 @@ fn emit_straight(
 {
     match code {
         Code::Do(operation) => put(next, Instruction::Simple(*operation)),
-        Code::Fetch {
+        Code::Load {
             to,
             register,
             offset,
             displacement,
         } => put_access(next, *register, *offset, *displacement, load(*to)),
-        Code::Keep {
+        Code::Store {
             register,
             offset,
             displacement,
             from,
         } => put_access(next, *register, *offset, *displacement, store(*from)),
-        Code::Invoke {
+        Code::Call {
             to,
             function,
             arguments,

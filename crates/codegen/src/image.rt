@@ -23,7 +23,7 @@ fn needs_scope(code: &Code) -> bool
             }
             false
         }
-        Code::Fetch { .. } | Code::Keep { .. } => true,
+        Code::Load { .. } | Code::Store { .. } => true,
         Code::Choose {
             then_code,
             else_code,
@@ -31,7 +31,7 @@ fn needs_scope(code: &Code) -> bool
         } => needs_scope(then_code) || needs_scope(else_code),
         Code::Loop { test, body, .. } => needs_scope(test) || needs_scope(body),
         Code::Block(inner) => needs_scope(inner),
-        Code::Do(_) | Code::Invoke { .. } | Code::Fail { .. } | Code::Exit(_) => false,
+        Code::Do(_) | Code::Call { .. } | Code::Fail { .. } | Code::Exit(_) => false,
     }
 }
 

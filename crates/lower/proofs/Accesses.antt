@@ -26,8 +26,8 @@ use Rattle.middle_form.specs.Form.{Code}
 use Rattle.middle_form.specs.Form as f
 use Rattle.middle_form.specs.Meaning as m
 use Rattle.lower.specs.Coded.{Coded, Heaps, inner_path, kept_offset, kept_type, type_offset}
-use Rattle.lower.specs.Kinds as k
-use Rattle.lower.specs.Known.{IsKnown}
+use Rattle.lower_tables.specs.Kinds as k
+use Rattle.lower_tables.specs.Known.{IsKnown}
 use Rattle.lower.specs.Lowered.{lowered}
 use Rattle.lower.proofs.Joint.{Joint, joint_done, run_one}
 use Rattle.lower.proofs.Operators.{coded_array, coded_number}
@@ -124,7 +124,7 @@ module _ (typed : Typed) (singles : List Kind) (checks : Bool) (call : ℕ → L
 
   -- what a load sets
   pub load_runs : HeapFacts p singles H → (pl : Place) (u : Ty) (d to : ℕ) (rs xs : List ℕ) (made : List Kept) (at : Spot) (s : State) (w : m.State) → IsSmall u → slice_get ks to ≡ Some (k.kind_of n singles u) → At pl u d rs made at s (0, xs) w
-      → (cell : ℕ) × (m.run P call' ks (f.Fetch to (base pl d) (off pl d) (shift pl)) xs w ≡ m.on (slice_set xs to cell) w) × Coded H (load s.heap at) cell × Is p made u (load s.heap at)
+      → (cell : ℕ) × (m.run P call' ks (f.Load to (base pl d) (off pl d) (shift pl)) xs w ≡ m.on (slice_set xs to cell) w) × Coded H (load s.heap at) cell × Is p made u (load s.heap at)
   load_runs facts pl u d to rs xs made at s w small ka h = (
     w.heap (slice_index xs (base pl d)) (m.cell_at xs (off pl d) (shift pl)),
     ap (λ z. m.where_so z (m.on (slice_set xs to (w.heap (slice_index xs (base pl d)) (m.cell_at xs (off pl d) (shift pl)))) w)) (accessible facts pl u d to rs xs made at s w small ka h),
@@ -134,7 +134,7 @@ module _ (typed : Typed) (singles : List Kind) (checks : Bool) (call : ℕ → L
 
   -- a load
   pub load_ok : HeapFacts p singles H → (pl : Place) (u : Ty) (d b to : ℕ) (rs xs : List ℕ) (made : List Kept) (at : Spot) (s : State) (w : m.State) → suc locals ≤ to → to ≤ d → to < length rs → IsSmall u → slice_get ks to ≡ Some (k.kind_of n singles u)
-      → At pl u d rs made at s (0, xs) w → Joint made (Gives to u to rs) (Done (load s.heap at) s) (m.run P call' ks (f.Fetch to (base pl d) (off pl d) (shift pl)) xs w)
+      → At pl u d rs made at s (0, xs) w → Joint made (Gives to u to rs) (Done (load s.heap at) s) (m.run P call' ks (f.Load to (base pl d) (off pl d) (shift pl)) xs w)
   load_ok facts pl u d b to rs xs made at s w low le sh small ka h =
       subst (λ z. Joint made (Gives to u to rs) (Done (load s.heap at) s) (m.where_so z (m.on (slice_set xs to (w.heap (slice_index xs (base pl d)) (m.cell_at xs (off pl d) (shift pl)))) w))) (sym (accessible facts pl u d to rs xs made at s w small ka h))
       (joint_done made (Gives to u to rs) (load s.heap at) s (0, slice_set xs to _) w
@@ -144,7 +144,7 @@ module _ (typed : Typed) (singles : List Kind) (checks : Bool) (call : ℕ → L
   -- a store, of a value in a register
   pub store_ok : HeapFacts p singles H → (pl : Place) (u : Ty) (d a : ℕ) (rs xs : List ℕ) (v : Value) (made : List Kept) (at : Spot) (s : State) (w : m.State) → IsSmall u → slice_get ks a ≡ Some (k.kind_of n singles u)
       → (h : At pl u d rs made at s (0, xs) w) → Is p made u v → Coded H v (slice_index xs a)
-      → (y : m.State) × (m.run P call' ks (f.Keep (base pl d) (off pl d) (shift pl) a) xs w ≡ m.on xs y) × Goes d rs made (record s { heap = store s.heap at v }) xs y
+      → (y : m.State) × (m.run P call' ks (f.Store (base pl d) (off pl d) (shift pl) a) xs w ≡ m.on xs y) × Goes d rs made (record s { heap = store s.heap at v }) xs y
   store_ok facts pl u d a rs xs v made at s w small ka h i c = (
     after,
     ap (λ z. m.where_so z (m.on xs after)) (accessible facts pl u d a rs xs made at s w small ka h),

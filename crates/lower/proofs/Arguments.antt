@@ -26,8 +26,9 @@ use Rattle.middle_form.specs.Form.{Code}
 use Rattle.middle_form.specs.Form as f
 use Rattle.middle_form.specs.Meaning as m
 use Rattle.lower.specs.Coded.{Coded}
-use Rattle.lower.specs.Kinds.{kind_of}
-use Rattle.lower.specs.Lowered.{function_code, lowered, print_code, result_kind, result_register, swapped, type_given, with_main_first}
+use Rattle.lower_tables.specs.Kinds.{kind_of}
+use Rattle.lower.specs.Lowered.{function_code, lowered, result_kind, with_main_first}
+use Rattle.lower_expressions.specs.Expressions.{print_code, result_register, swapped, type_given}
 use Rattle.lower.proofs.Joint.{Joint, Lands, joint_done, joint_from, joint_on, run_one}
 use Rattle.lower.proofs.Operators.{coded_number, coded_truth, letter_shown}
 use Rattle.lower.proofs.Registers.{Matched, and_true, has_it, keeps_less, matched_keep}

@@ -19,8 +19,9 @@ use Rattle.code_form.specs.Form.{Head}
 use Rattle.middle_form.specs.Form as f
 use Rattle.middle_form.specs.Meaning as m
 use Rattle.lower.specs.Coded.{Coded}
-use Rattle.lower.specs.Kinds.{kind_of}
-use Rattle.lower.specs.Lowered.{function_code, kind_at, lowered, result_kind, result_register, swapped, type_given, with_main_first}
+use Rattle.lower_tables.specs.Kinds.{kind_of}
+use Rattle.lower.specs.Lowered.{function_code, lowered, result_kind, with_main_first}
+use Rattle.lower_expressions.specs.Expressions.{kind_at, result_register, swapped, type_given}
 use Rattle.lower.proofs.Arguments.{AllCoded, CallsOk, Returned, Rowed}
 use Rattle.lower.proofs.Joint.{Joint, Lands, joint_on}
 use Rattle.lower.proofs.Order.{order}
@@ -90,9 +91,9 @@ module _ (typed : Typed) (singles : List Kind) (checks : Bool) where
     -- a call of a function with these arguments
     pub called_ok : (call : ℕ → List Value → State → Outcome Value) (call' : ℕ → List ℕ → m.State → m.Outcome ℕ) → CallsOk typed singles checks call call' → (main : t.Function) → slice_get p.functions p.main ≡ Some main → (k : ℕ) (g : t.Function) (regs : List ℕ) (d : ℕ) (vs : List Value) (made : List Kept) (s : State) (rs xs : List ℕ) (w : m.State)
         → suc locals ≤ d → d < length rs → slice_get p.functions k ≡ Some g → slice_get ks d ≡ Some (kind_of n singles g.result) → AreOf typed singles types locals ks g.parameters regs → Rowed typed singles checks types locals ks g.parameters regs (suc d) rs made vs s (0, xs) w
-        → Joint made (Valued p H types locals d g.result d rs) (call k vs s) (m.run P call' ks (f.Invoke (result_register (type_given p.structs singles (texts_of typed) typed.functions.items typed.main typed.functions.items k) d) (swapped typed.main k) regs) xs w)
+        → Joint made (Valued p H types locals d g.result d rs) (call k vs s) (m.run P call' ks (f.Call (result_register (type_given p.structs singles (texts_of typed) typed.functions.items typed.main typed.functions.items k) d) (swapped typed.main k) regs) xs w)
     called_ok call call' calls_ok main ism k g regs d vs made s rs xs w low sh e kd are h =
-        subst (λ z. Joint made (Valued p H types locals d g.result d rs) (call k vs s) (m.run P call' ks (f.Invoke (result_register z d) (swapped typed.main k) regs) xs w)) (sym (given_type typed singles types locals ks typed.functions.items k g e))
+        subst (λ z. Joint made (Valued p H types locals d g.result d rs) (call k vs s) (m.run P call' ks (f.Call (result_register z d) (swapped typed.main k) regs) xs w)) (sym (given_type typed singles types locals ks typed.functions.items k g e))
         (subst (λ z. Joint made (Valued p H types locals d g.result d rs) (call k vs s) z) (sym runs)
         (joint_on made (Returned typed singles checks g s) (Valued p H types locals d g.result d rs) (call k vs s) (call' (swapped typed.main k) (map (slice_index xs) regs) w) (λ v y. m.on (m.gives (result_register g.result d) v xs) y)
         (calls_ok k g made vs (map (slice_index xs) regs) s w e h.are h.coded h.going.state.0 h.going.alike)
@@ -106,9 +107,9 @@ module _ (typed : Typed) (singles : List Kind) (checks : Bool) where
             and_true _ _ (args_ok there.0.parameters.items _ regs (subst (λ (z : t.Function). AreOf typed singles types locals ks z.parameters regs) there.2 are))
             (subst (λ (z : t.Function). result_fits ks (result_kind n singles z.result) (result_register g.result d) ≡ true) there.2 (result_ok g.result d kd))
 
-        runs : m.run P call' ks (f.Invoke (result_register g.result d) (swapped typed.main k) regs) xs w ≡ m.then_do (call' (swapped typed.main k) (map (slice_index xs) regs) w) (λ v y. m.on (m.gives (result_register g.result d) v xs) y)
+        runs : m.run P call' ks (f.Call (result_register g.result d) (swapped typed.main k) regs) xs w ≡ m.then_do (call' (swapped typed.main k) (map (slice_index xs) regs) w) (λ v y. m.on (m.gives (result_register g.result d) v xs) y)
         runs =
-            ap (λ z. m.invoked P call' ks z (result_register g.result d) (swapped typed.main k) regs xs w) there.3
+            ap (λ z. m.called P call' ks z (result_register g.result d) (swapped typed.main k) regs xs w) there.3
             ∙ ap (λ z. m.where_so z (m.then_do (call' (swapped typed.main k) (map (slice_index xs) regs) w) (λ v y. m.on (m.gives (result_register g.result d) v xs) y))) fits
 
         behind : (new : List Kept) (v : Value) (u : State) (cell : ℕ) (y : m.State) → Extends made new → Returned typed singles checks g s new v u cell y → Going p H types locals (suc d) rs new u xs y

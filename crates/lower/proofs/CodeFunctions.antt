@@ -9,10 +9,12 @@ use Rattle.c0_typed.specs.Views.{texts_of, type_of}
 use Rattle.c0_typed.specs.declared.tree.Function.{Function}
 use Rattle.code_form.specs.declared.form.Kind.{Kind}
 use Rattle.middle_form.specs.Form as m
+use Rattle.lower_expressions.specs.Expressions as parts
 use Rattle.lower.specs.Lowered as l
-use Rattle.lower.specs.Building.{body_kinds, block_code, conditions_code, conditions_kinds, function_code, kind_at, locals_of, structs_in}
-use Rattle.lower.specs.declared.context.Context.{Context}
-use Rattle.lower.proofs.CodeRows.{body_code_is}
+use Rattle.lower.specs.Building.{body_kinds, block_code, function_code, locals_of}
+use Rattle.lower_expressions.specs.Building.{conditions_code, conditions_kinds, kind_at, structs_in}
+use Rattle.lower_expressions.specs.declared.context.Context.{Context}
+use Rattle.lower.proofs.StatementRows.{body_code_is}
 
 -- registers: parameters, locals, the result, and those of what must hold on entry, of the body and of what must hold at the end
 pub kinds_in_order : (k0 k1 k2 k3 k4 k5 k6 p q a b e : List Kind) (k : Kind) → k0 ≡ [] → k1 ≡ k0 ++ p → k2 ≡ k1 ++ q → k3 ≡ k2 ++ k ∷ [] → k4 ≡ k3 ++ a → k5 ≡ k4 ++ b → k6 ≡ k5 ++ e → k6 ≡ p ++ (q ++ (k ∷ (a ++ (b ++ e))))
@@ -39,9 +41,9 @@ built c n f = record {
   result = l.result_kind (length (structs_in c)) c.singles.now (type_of f.result);
   parameters = length f.parameters.items;
   kinds = map (kind_at c) f.parameters.items ++ (map (kind_at c) f.locals.items ++ (kind_at c f.result ∷ (conditions_kinds c f.preconditions.items ++ (body_kinds c f.body.items ++ conditions_kinds c f.postconditions.items))));
-  body = l.sequence (l.conditions_code (structs_in c) c.singles.now (texts_of c.typed.now) c.typed.now.functions.items c.typed.now.main n (l.checked c.checks f.preconditions.items) (suc n)
-      ++ (m.Block (l.sequence (l.body_code (structs_in c) c.singles.now (texts_of c.typed.now) c.typed.now.functions.items c.typed.now.main n c.checks f.body.items (suc n + length (conditions_kinds c f.preconditions.items))))
-      ∷ l.conditions_code (structs_in c) c.singles.now (texts_of c.typed.now) c.typed.now.functions.items c.typed.now.main n (l.checked c.checks f.postconditions.items) (suc n + length (conditions_kinds c f.preconditions.items) + length (body_kinds c f.body.items))));
+  body = parts.sequence (parts.conditions_code (structs_in c) c.singles.now (texts_of c.typed.now) c.typed.now.functions.items c.typed.now.main n (parts.checked c.checks f.preconditions.items) (suc n)
+      ++ (m.Block (parts.sequence (l.body_code (structs_in c) c.singles.now (texts_of c.typed.now) c.typed.now.functions.items c.typed.now.main n c.checks f.body.items (suc n + length (conditions_kinds c f.preconditions.items))))
+      ∷ parts.conditions_code (structs_in c) c.singles.now (texts_of c.typed.now) c.typed.now.functions.items c.typed.now.main n (parts.checked c.checks f.postconditions.items) (suc n + length (conditions_kinds c f.preconditions.items) + length (body_kinds c f.body.items))));
   value = n;
 }
 
@@ -51,14 +53,14 @@ function_is c f e = ap (λ n. built c n f) e
 -- from its parts
 pub parts_are : (c : Context) (f : Function) (g : m.Function) → g.result ≡ l.result_kind (length (structs_in c)) c.singles.now (type_of f.result) → g.parameters ≡ length f.parameters.items
     → g.kinds ≡ map (kind_at c) f.parameters.items ++ (map (kind_at c) f.locals.items ++ (kind_at c f.result ∷ (conditions_kinds c f.preconditions.items ++ (body_kinds c f.body.items ++ conditions_kinds c f.postconditions.items))))
-    → g.body ≡ l.sequence (conditions_code c f.preconditions.items (suc c.locals) ++ (m.Block (l.sequence (block_code c f.body.items (suc c.locals + length (conditions_kinds c f.preconditions.items)) 0))
+    → g.body ≡ parts.sequence (conditions_code c f.preconditions.items (suc c.locals) ++ (m.Block (parts.sequence (block_code c f.body.items (suc c.locals + length (conditions_kinds c f.preconditions.items)) 0))
     ∷ conditions_code c f.postconditions.items (suc c.locals + length (conditions_kinds c f.preconditions.items) + length (body_kinds c f.body.items))))
     → g.value ≡ c.locals → g ≡ built c c.locals f
 parts_are c f g er ep ek eb ev =
     let w = built c c.locals f in
     let d = suc c.locals + length (conditions_kinds c f.preconditions.items) in
     let last = conditions_code c f.postconditions.items (d + length (body_kinds c f.body.items)) in
-    let body : g.body ≡ w.body = eb ∙ ap (λ b. l.sequence (conditions_code c f.preconditions.items (suc c.locals) ++ (m.Block (l.sequence b) ∷ last))) (sym (body_code_is c f.body.items d)) in
+    let body : g.body ≡ w.body = eb ∙ ap (λ b. parts.sequence (conditions_code c f.preconditions.items (suc c.locals) ++ (m.Block (parts.sequence b) ∷ last))) (sym (body_code_is c f.body.items d)) in
     ap (λ x. let y : m.Function = record { result = x; parameters = g.parameters; kinds = g.kinds; body = g.body; value = g.value } in y) er
     ∙ ap (λ x. let y : m.Function = record { result = w.result; parameters = x; kinds = g.kinds; body = g.body; value = g.value } in y) ep
     ∙ ap (λ x. let y : m.Function = record { result = w.result; parameters = w.parameters; kinds = x; body = g.body; value = g.value } in y) ek

@@ -14,8 +14,8 @@ use Rattle.c0_typed.specs.declared.tree.Typed.{Typed}
 use Rattle.code_form.specs.declared.form.Kind.{Kind}
 use Rattle.code_form.specs.Form.{Head}
 use Rattle.lower.specs.Coded.{Coded}
-use Rattle.lower.specs.Kinds.{kind_of}
-use Rattle.lower.specs.Lowered.{kind_at, local_register}
+use Rattle.lower_tables.specs.Kinds.{kind_of}
+use Rattle.lower_expressions.specs.Expressions.{kind_at, local_register}
 use Rattle.lower.proofs.Arguments.{AllCoded}
 use Rattle.lower.proofs.Defaults.{blank_coded}
 use Rattle.lower.proofs.Registers.{At, at_right, at_tail, Matched}

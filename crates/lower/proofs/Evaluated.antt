@@ -28,9 +28,10 @@ use Rattle.middle_form.specs.Form.{Code}
 use Rattle.middle_form.specs.Form as f
 use Rattle.middle_form.specs.Meaning as m
 use Rattle.lower.specs.Coded.{Coded}
-use Rattle.lower.specs.Kinds as k
-use Rattle.lower.specs.Known.{Knows, KnowsPlace, KnowsRow}
-use Rattle.lower.specs.Lowered.{code_relation, layout_at, local_register, lowered, moved, place_code, place_kinds, print_code, result_register, row_at, row_code, row_kinds, sequence, swapped, type_given, value_at}
+use Rattle.lower_tables.specs.Kinds as k
+use Rattle.lower_tables.specs.Known.{Knows, KnowsPlace, KnowsRow}
+use Rattle.lower.specs.Lowered.{lowered}
+use Rattle.lower_expressions.specs.Expressions.{code_relation, layout_at, local_register, moved, place_code, place_kinds, print_code, result_register, row_at, row_code, row_kinds, sequence, swapped, type_given, value_at}
 use Rattle.lower.proofs.Joint.{Joint, joint_done, joint_from, joint_if, joint_on, joint_then, joint_then_done, run_append, run_one}
 use Rattle.lower.proofs.Operators.{coded_truth}
 use Rattle.lower.proofs.Registers.{At, Matched, and_true, has_it, at_head, at_left, at_right, at_tail, matched_keep}
@@ -258,7 +259,7 @@ module _ (typed : Typed) (singles : List Kind) (checks : Bool) (call : ℕ → L
       let after = at_tail ks d _ (kinds_row es) at in
       as_type made t h.0.result d d rs _ _ h.2
       (then_row es h.0.parameters (suc d) made s rs w _ _ (Gives d h.0.result d rs) (ok h.0.parameters (suc d) made s rs w (omega arith) after long kn h.3 (start d (suc d) rs rs made s w g)) (λ new x y xs z ex r.
-      one_last new (Gives d h.0.result d rs) (call i x y) (f.Invoke (result_register (type_given p.structs singles (texts_of typed) typed.functions.items typed.main typed.functions.items i) d) (swapped typed.main i) (at_row es (suc d))) xs z
+      one_last new (Gives d h.0.result d rs) (call i x y) (f.Call (result_register (type_given p.structs singles (texts_of typed) typed.functions.items typed.main typed.functions.items i) d) (swapped typed.main i) (at_row es (suc d))) xs z
       (called_ok typed singles checks types locals ks call call' calls_ok fp.main.0 fp.main.1 i h.0 (at_row es (suc d)) d x new y rs xs z low (short d _ (kinds_row es) rs at long) h.1
       (kind_at (Call' i shape es) h.0.result d at (h.0, h.1, refl, h.3)) (row_of_kinds typed singles types locals ks locals_at es h.0.parameters (suc d) after h.3) r)))
 
@@ -275,7 +276,7 @@ module _ (typed : Typed) (singles : List Kind) (checks : Bool) (call : ℕ → L
       let u : Ty = type_of ty in
       as_type made t u d d rs _ _ h.0
       (then_place pl u (suc d) made s rs w _ _ (Gives d u d rs) (ok_pl u (suc d) made s rs w (omega arith) (at_tail ks d _ (kinds_place pl) at) long kn h.2 (start d (suc d) rs rs made s w g)) (λ new x y xs z ex r.
-      one_last new (Gives d u d rs) (Done (load y.heap x) y) (f.Fetch d (places.base typed singles checks call call' types locals ks pl (suc d)) (places.off typed singles checks call call' types locals ks pl (suc d)) (places.shift typed singles checks call call' types locals ks pl)) xs z
+      one_last new (Gives d u d rs) (Done (load y.heap x) y) (f.Load d (places.base typed singles checks call call' types locals ks pl (suc d)) (places.off typed singles checks call call' types locals ks pl (suc d)) (places.shift typed singles checks call call' types locals ks pl)) xs z
       (load_ok typed singles checks call call' types locals ks facts pl u (suc d) 0 d rs xs new x y z low (omega arith) (short d _ (kinds_place pl) rs at long) h.1 (at_head ks d _ (kinds_place pl) at) r)))
 
   alloc_case : (ty : ValueType) → ExpOk (Alloc ty)

@@ -35,12 +35,14 @@ use Rattle.middle_form.specs.Form.{Code}
 use Rattle.middle_form.specs.Form as f
 use Rattle.middle_form.specs.Meaning as m
 use Rattle.lower.specs.Coded.{Coded}
-use Rattle.lower.specs.Kinds.{kind_of}
-use Rattle.lower.specs.Known.{Knows, KnowsPlace, KnowsRow}
-use Rattle.lower.specs.Lowered.{lowered, code_relation, constant_code, moved, row_at, row_code, row_kinds, number_among, sequence, unary_kind, unary_operator, value_at}
+use Rattle.lower_tables.specs.Kinds.{kind_of}
+use Rattle.lower_tables.specs.Known.{Knows, KnowsPlace, KnowsRow}
+use Rattle.lower_tables.specs.Texts.{number_among}
+use Rattle.lower.specs.Lowered.{lowered}
+use Rattle.lower_expressions.specs.Expressions.{code_relation, constant_code, moved, row_at, row_code, row_kinds, sequence, unary_kind, unary_operator, value_at}
 use Rattle.lower.proofs.Joint.{Joint, Lands, joint_done, joint_if, joint_on, joint_then, run_append, run_one}
 use Rattle.lower.proofs.Leaves.{unary_cell}
-use Rattle.lower.proofs.TextNumbers.{text_in, text_there}
+use Rattle.lower_tables.proofs.TextNumbers.{text_in, text_there}
 use Rattle.lower.proofs.Operators.{coded_truth, compared}
 use Rattle.lower.proofs.Registers.{At, and_true, at_head, at_left, at_right, at_tail, has_it, put_same}
 use Rattle.lower.proofs.Running.{going_less, going_set, going_start, going_then, set_valued, sets_then}

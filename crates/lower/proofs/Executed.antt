@@ -23,9 +23,10 @@ use Rattle.middle_form.specs.Form.{Code}
 use Rattle.middle_form.specs.Form as f
 use Rattle.middle_form.specs.Meaning as m
 use Rattle.lower.specs.Coded.{Coded}
-use Rattle.lower.specs.Known.{Knows, KnowsAll, KnowsBlock, KnowsPlace, KnowsStatement}
-use Rattle.lower.specs.Lowered as l
-use Rattle.lower.specs.Lowered.{block_code, block_kinds, local_register, lowered, sequence, stmt_code, stmt_kinds, value_at}
+use Rattle.lower_tables.specs.Known.{Knows, KnowsAll, KnowsBlock, KnowsPlace, KnowsStatement}
+use Rattle.lower_expressions.specs.Expressions as parts
+use Rattle.lower.specs.Lowered.{block_code, block_kinds, lowered, stmt_code, stmt_kinds}
+use Rattle.lower_expressions.specs.Expressions.{local_register, sequence, value_at}
 use Rattle.lower.proofs.Joint.{Joint, Lands, joint_done, joint_if, joint_on, joint_then_done, run_one}
 use Rattle.lower.proofs.Operators.{coded_truth}
 use Rattle.lower.proofs.Registers.{At, at_left, at_right, has_it}
@@ -176,7 +177,7 @@ module _ (typed : Typed) (singles : List Kind) (checks : Bool) (call : ℕ → L
 
   loop_case : (es : Vec Expression Global) (a : Expression) (q : Box (Unit {0}) Global) (b : Statement) (r' : Box (Unit {0}) Global) (c : Statement) → StmtOk b → StmtOk c → StmtOk (Loop' es a q b r' c)
   loop_case es a q b r' c ok_b ok_c out d made s rs w low at long kn h g =
-      let k0 : List Kind = kinds_all (l.checked checks es.items) in
+      let k0 : List Kind = kinds_all (parts.checked checks es.items) in
       let a' : ℕ = d + length k0 in
       let b' : ℕ = d + length k0 + length (kinds a) in
       let c' : ℕ = d + length k0 + length (kinds a) + length (kinds_stmt b) in
@@ -186,7 +187,7 @@ module _ (typed : Typed) (singles : List Kind) (checks : Bool) (call : ℕ → L
       let rest2 = at_right ks a' (kinds a) (kinds_stmt b ++ kinds_stmt c) rest in
       let at_b = at_left ks b' (kinds_stmt b) (kinds_stmt c) rest2 in
       let at_c = at_right ks b' (kinds_stmt b) (kinds_stmt c) rest2 in
-      let test : Code = sequence (code_all (l.checked checks es.items) d ++ code a a') in
+      let test : Code = sequence (code_all (parts.checked checks es.items) d ++ code a a') in
       let body : Code = sequence (code_stmt b b' (suc out) ++ code_stmt c c' (suc out)) in
       let meant : Outcome Way = loop (checked checks ds call (exps_of texts es.items)) (eval ds call (exp_of texts a)) (exec checks ds call (stmt_of texts b)) (exec checks ds call (stmt_of texts c)) s.turns s in
       subst (λ o. Joint made (Meets out rs) meant o)

@@ -28,9 +28,10 @@ use Rattle.middle_form.specs.Form.{Code}
 use Rattle.middle_form.specs.Form as f
 use Rattle.middle_form.specs.Meaning as m
 use Rattle.lower.specs.Coded.{Coded}
-use Rattle.lower.specs.Kinds.{kind_of}
-use Rattle.lower.specs.Known.{Knows, KnowsPlace, KnowsRow}
-use Rattle.lower.specs.Lowered.{exp_code, exp_kinds, lowered, moved, place_code, place_kinds, row_at, row_code, row_kinds, sequence, unary_operator, value_at}
+use Rattle.lower_tables.specs.Kinds.{kind_of}
+use Rattle.lower_tables.specs.Known.{Knows, KnowsPlace, KnowsRow}
+use Rattle.lower.specs.Lowered.{lowered}
+use Rattle.lower_expressions.specs.Expressions.{exp_code, exp_kinds, moved, place_code, place_kinds, row_at, row_code, row_kinds, sequence, unary_operator, value_at}
 use Rattle.lower.proofs.Joint.{Joint, Lands, joint_done, joint_from, joint_if, joint_on, joint_then, run_append, run_one}
 use Rattle.lower.proofs.Operators.{coded_number, coded_truth, compared}
 use Rattle.lower.proofs.Registers.{At, and_true, at_head, at_left, at_right, at_tail, has_it, put_same}

@@ -11,7 +11,7 @@ use Rattle.code_form.specs.declared.form.Kind.{Kind}
 use Rattle.code_form.specs.Code.{length_of}
 use Rattle.code_form.specs.Effects.{Heap}
 use Rattle.lower.specs.Coded.{Heaps, inner_path, kept_type, type_offset}
-use Rattle.lower.specs.Kinds as k
+use Rattle.lower_tables.specs.Kinds as k
 use Rattle.lower.specs.Lowered.{lowered}
 use Rattle.lower.proofs.Heaps.{alloc_heaps, array_heaps, array_length_is, load_coded, load_there, store_heaps}
 use Rattle.lower.proofs.Layouts.{kind_there, number_known, type_offset_on}

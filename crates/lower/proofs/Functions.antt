@@ -23,10 +23,12 @@ use Rattle.middle_form.specs.Form.{Code}
 use Rattle.middle_form.specs.Form as f
 use Rattle.middle_form.specs.Meaning as m
 use Rattle.lower.specs.Coded.{Coded}
-use Rattle.lower.specs.Kinds as k
-use Rattle.lower.specs.Known.{KnowsAll, KnowsBody, KnowsFunction}
+use Rattle.lower_tables.specs.Kinds as k
+use Rattle.lower_tables.specs.Known.{KnowsAll, KnowsBody, KnowsFunction}
+use Rattle.lower_expressions.specs.Expressions as parts
 use Rattle.lower.specs.Lowered as l
-use Rattle.lower.specs.Lowered.{body_code, body_kinds, lowered, sequence}
+use Rattle.lower.specs.Lowered.{body_code, body_kinds, lowered}
+use Rattle.lower_expressions.specs.Expressions.{sequence}
 use Rattle.lower.proofs.Joint.{Joint, Lands, joint_done, joint_from, joint_then, run_append, run_one}
 use Rattle.lower.proofs.Registers.{At, at_head, at_left, at_right, at_tail, has_it, keeps_refl}
 use Rattle.lower.proofs.Running.{going_start}
@@ -108,10 +110,10 @@ module _ (typed : Typed) (singles : List Kind) (checks : Bool) (call : ℕ → L
   ks = (its_code typed singles checks h).kinds
 
   abbrev kinds_all : List Expression → List Kind
-  kinds_all es = l.conditions_kinds p.structs singles (texts_of typed) typed.functions.items typed.main es
+  kinds_all es = parts.conditions_kinds p.structs singles (texts_of typed) typed.functions.items typed.main es
 
   abbrev code_all : List Expression → ℕ → List Code
-  code_all es d = l.conditions_code p.structs singles (texts_of typed) typed.functions.items typed.main locals es d
+  code_all es d = parts.conditions_code p.structs singles (texts_of typed) typed.functions.items typed.main locals es d
 
   abbrev kinds_body : List Statement → List Kind
   kinds_body bs = body_kinds p.structs singles (texts_of typed) typed.functions.items typed.main checks bs
@@ -120,13 +122,13 @@ module _ (typed : Typed) (singles : List Kind) (checks : Bool) (call : ℕ → L
   code_body bs d = body_code p.structs singles (texts_of typed) typed.functions.items typed.main locals checks bs d
 
   abbrev before : List Kind
-  before = kinds_all (l.checked checks h.preconditions.items)
+  before = kinds_all (parts.checked checks h.preconditions.items)
 
   abbrev inside : List Kind
   inside = kinds_body h.body.items
 
   abbrev behind : List Kind
-  behind = kinds_all (l.checked checks h.postconditions.items)
+  behind = kinds_all (parts.checked checks h.postconditions.items)
 
   abbrev Runs : List Code → List ℕ → m.State → m.Outcome m.Left
   Runs cs rs w = m.run P call' ks (sequence cs) rs w
@@ -144,7 +146,7 @@ module _ (typed : Typed) (singles : List Kind) (checks : Bool) (call : ℕ → L
   long_types = types_long typed singles h
 
   at_rest : At ks (suc locals) (before ++ (inside ++ behind))
-  at_rest = at_tail ks locals (l.kind_at p.structs singles (texts_of typed) typed.functions.items typed.main h.result) (before ++ (inside ++ behind)) (at_behind typed singles h.parameters.items h.locals.items (l.kind_at p.structs singles (texts_of typed) typed.functions.items typed.main h.result ∷ (before ++ (inside ++ behind))))
+  at_rest = at_tail ks locals (parts.kind_at p.structs singles (texts_of typed) typed.functions.items typed.main h.result) (before ++ (inside ++ behind)) (at_behind typed singles h.parameters.items h.locals.items (parts.kind_at p.structs singles (texts_of typed) typed.functions.items typed.main h.result ∷ (before ++ (inside ++ behind))))
 
   -- the statements of a body
   body_ok : (bs : List Statement) (d : ℕ) (made : List Kept) (s : State) (rs : List ℕ) (w : m.State) → suc locals ≤ d → At ks d (kinds_body bs) → length rs ≡ length ks → KnowsBody n singles bs → Fits p types (block_of texts bs) → Goes 0 rs made s rs w
@@ -211,10 +213,10 @@ module _ (typed : Typed) (singles : List Kind) (checks : Bool) (call : ℕ → L
   block = f.Block (sequence (code_body h.body.items inside_at))
 
   abbrev entry_code : List Code
-  entry_code = code_all (l.checked checks h.preconditions.items) before_at
+  entry_code = code_all (parts.checked checks h.preconditions.items) before_at
 
   abbrev end_code : List Code
-  end_code = code_all (l.checked checks h.postconditions.items) behind_at
+  end_code = code_all (parts.checked checks h.postconditions.items) behind_at
 
   -- up to the end of the body
   entry_ok : (made : List Kept) (s : State) (rs : List ℕ) (w : m.State) → length rs ≡ length ks → Goes 0 rs made s rs w

@@ -16,7 +16,7 @@ use Rattle.code_form.specs.declared.form.Kind.{Kind}
 use Rattle.code_form.specs.Code.{cells_of, length_of, sizes}
 use Rattle.code_form.specs.Effects.{Heap, saved, upd}
 use Rattle.code_form.specs.Form.{Head}
-use Rattle.lower.specs.Kinds as layout
+use Rattle.lower_tables.specs.Kinds as layout
 use Rattle.lower.specs.Coded.{Coded, Heaps, kept_offset}
 use Rattle.lower.proofs.Defaults.{AreZero, copies_coded, copies_size, default_coded}
 use Rattle.lower.proofs.Lists.{get_set, get_set_other, last_or, length_more}

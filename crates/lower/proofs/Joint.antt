@@ -9,7 +9,7 @@ use Rattle.code_form.specs.Code.{if_zero, of_bool}
 use Rattle.middle_form.specs.Form.{Code, Program}
 use Rattle.middle_form.specs.Form as f
 use Rattle.middle_form.specs.Meaning as m
-use Rattle.lower.specs.Lowered.{sequence}
+use Rattle.lower_expressions.specs.Expressions.{sequence}
 
 -- the code is done too, with what belongs to this, and with more made
 abbrev pub Lands : {A B : Type 0} → List Kept → (List Kept → A → State → B → m.State → Type 0) → A → State → m.Outcome B → Type 0

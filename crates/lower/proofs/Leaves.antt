@@ -20,7 +20,7 @@ use Rattle.code_form.specs.declared.allocation.Allocation.{Allocation}
 use Rattle.code_form.specs.declared.form.Operation.TheVariants as op
 use Rattle.code_form.specs.Form.{Head}
 use Rattle.lower.specs.Coded.{Coded}
-use Rattle.lower.specs.Lowered.{unary_operator}
+use Rattle.lower_expressions.specs.Expressions.{unary_operator}
 use Rattle.lower.proofs.Operators.{coded_number, coded_truth}
 use Rattle.std.specs.Prelude.{slice_index}
 

@@ -1,13 +1,6 @@
 pub mod Arguments
 pub mod Calling
 pub mod CodeFunctions
-pub mod CodeGathered
-pub mod CodeKinds
-pub mod CodeKnown
-pub mod CodeLists
-pub mod CodeOffsets
-pub mod CodeRows
-pub mod CodeSizes
 pub mod Defaults
 pub mod Accesses
 pub mod Entry
@@ -31,9 +24,9 @@ pub mod Order
 pub mod Places
 pub mod Running
 pub mod Sides
+pub mod StatementRows
 pub mod Steps
 pub mod Storing
-pub mod TextNumbers
 pub mod Values
 pub mod ViewCode
 pub mod ViewPrograms

@@ -19,9 +19,10 @@ use Rattle.middle_form.specs.Form.{Code}
 use Rattle.middle_form.specs.Form as f
 use Rattle.middle_form.specs.Meaning as m
 use Rattle.lower.specs.Coded.{Coded}
-use Rattle.lower.specs.Known.{Knows, KnowsAll}
-use Rattle.lower.specs.Lowered as l
-use Rattle.lower.specs.Lowered.{conditions_code, conditions_kinds, lowered, sequence, value_at}
+use Rattle.lower_tables.specs.Known.{Knows, KnowsAll}
+use Rattle.lower_expressions.specs.Expressions as parts
+use Rattle.lower.specs.Lowered.{lowered}
+use Rattle.lower_expressions.specs.Expressions.{conditions_code, conditions_kinds, sequence, value_at}
 use Rattle.lower.proofs.Joint.{Joint, Lands, joint_done, joint_from, joint_if, joint_on, joint_turn, run_append, run_one}
 use Rattle.lower.proofs.Operators.{coded_truth}
 use Rattle.lower.proofs.Registers.{At, at_left, at_right, has_it, keeps_refl}
@@ -100,8 +101,8 @@ module _ (typed : Typed) (singles : List Kind) (checks : Bool) (call : ℕ → L
       met_from p H types locals out rs xs new _ _ g1.long (conditions_ok es out (d + length (kinds a)) new y xs z (omega arith) (at_right ks d (kinds a) (kinds_all es) at) (g1.long ∙ long) kn.1 h.1 (fresh_going rs xs new y z g1))))
 
   -- those that are looked at
-  pub checked_ok : (es : List Expression) (out d : ℕ) (made : List Kept) (s : State) (rs : List ℕ) (w : m.State) → suc locals ≤ d → At ks d (kinds_all (l.checked checks es)) → length rs ≡ length ks → KnowsAll n singles es → AllBool p types (exps_of texts es) → Goes 0 rs made s rs w
-      → Joint made (Meets out rs) (checked checks ds call (exps_of texts es) s) (Runs (code_all (l.checked checks es) d) rs w)
+  pub checked_ok : (es : List Expression) (out d : ℕ) (made : List Kept) (s : State) (rs : List ℕ) (w : m.State) → suc locals ≤ d → At ks d (kinds_all (parts.checked checks es)) → length rs ≡ length ks → KnowsAll n singles es → AllBool p types (exps_of texts es) → Goes 0 rs made s rs w
+      → Joint made (Meets out rs) (checked checks ds call (exps_of texts es) s) (Runs (code_all (parts.checked checks es) d) rs w)
   checked_ok es out d made s rs w low at long kn h g = by checks refl
     where
       by : (c : Bool) → checks ≡ c → Joint made (Meets out rs) (elim c [ true ↦ all_hold checks ds call (exps_of texts es) s | false ↦ Done Next s ]) (Runs (code_all (cond c es []) d) rs w)
@@ -122,29 +123,29 @@ module _ (typed : Typed) (singles : List Kind) (checks : Bool) (call : ℕ → L
   appended xs ys on rs w = ap (λ z. m.then_do z (m.falls on)) (run_append P call' ks xs ys rs w) ∙ falls_twice (Runs xs rs w) (m.run P call' ks (sequence ys)) on
 
   -- A loop: what must hold before its condition, its condition, and what is done where it holds
-  module _ (es : List Expression) (c : Expression) (out d : ℕ) (low : suc locals ≤ d) (at_es : At ks d (kinds_all (l.checked checks es))) (at_c : At ks (d + length (kinds_all (l.checked checks es))) (kinds c))
+  module _ (es : List Expression) (c : Expression) (out d : ℕ) (low : suc locals ≤ d) (at_es : At ks d (kinds_all (parts.checked checks es))) (at_c : At ks (d + length (kinds_all (parts.checked checks es))) (kinds c))
       (kn_es : KnowsAll n singles es) (kn_c : Knows n singles c) (has_es : AllBool p types (exps_of texts es)) (has_c : Has p types (exp_of texts c) BoolTy) where
     b : ℕ
-    b = d + length (kinds_all (l.checked checks es))
+    b = d + length (kinds_all (parts.checked checks es))
 
     rc : ℕ
-    rc = value_at locals c (d + length (kinds_all (l.checked checks es)))
+    rc = value_at locals c (d + length (kinds_all (parts.checked checks es)))
 
     test : List Code
-    test = code_all (l.checked checks es) d ++ code c (d + length (kinds_all (l.checked checks es)))
+    test = code_all (parts.checked checks es) d ++ code c (d + length (kinds_all (parts.checked checks es)))
 
     -- one turn
     turn_ok : (more : State → Outcome Way) (more' : List ℕ → m.State → m.Outcome m.Left) → ((made : List Kept) (s : State) (rs : List ℕ) (w : m.State) → length rs ≡ length ks → Goes 0 rs made s rs w → Joint made (Meets out rs) (more s) (more' rs w))
         → (made : List Kept) (s : State) (rs : List ℕ) (w : m.State) → length rs ≡ length ks → Goes 0 rs made s rs w
         → Joint made (Meets out rs) (and_then (checked checks ds call (exps_of texts es) s) (λ y. then_do (eval ds call (exp_of texts c) y) (λ v u. if_true v (more u) (Done Next u))))
-        (m.then_do (Runs (code_all (l.checked checks es) d ++ code c (d + length (kinds_all (l.checked checks es)))) rs w) (m.falls (λ qs y. if_zero (slice_index qs (value_at locals c (d + length (kinds_all (l.checked checks es))))) (m.on qs y) (more' qs y))))
+        (m.then_do (Runs (code_all (parts.checked checks es) d ++ code c (d + length (kinds_all (parts.checked checks es)))) rs w) (m.falls (λ qs y. if_zero (slice_index qs (value_at locals c (d + length (kinds_all (parts.checked checks es))))) (m.on qs y) (more' qs y))))
     turn_ok more more' more_ok made s rs w long g =
         subst (λ z. Joint made (Meets out rs) (and_then (checked checks ds call (exps_of texts es) s) (λ y. then_do (eval ds call (exp_of texts c) y) (λ v u. if_true v (more u) (Done Next u)))) z)
-        (sym (appended (code_all (l.checked checks es) d) (code c (d + length (kinds_all (l.checked checks es)))) (λ qs y. if_zero (slice_index qs (value_at locals c (d + length (kinds_all (l.checked checks es))))) (m.on qs y) (more' qs y)) rs w))
-        (met_then p H types locals out rs made (checked checks ds call (exps_of texts es) s) (Runs (code_all (l.checked checks es) d) rs w) (λ y. then_do (eval ds call (exp_of texts c) y) (λ v u. if_true v (more u) (Done Next u)))
-        (λ qs y. m.then_do (Runs (code c (d + length (kinds_all (l.checked checks es)))) qs y) (m.falls (λ qs y. if_zero (slice_index qs (value_at locals c (d + length (kinds_all (l.checked checks es))))) (m.on qs y) (more' qs y))))
+        (sym (appended (code_all (parts.checked checks es) d) (code c (d + length (kinds_all (parts.checked checks es)))) (λ qs y. if_zero (slice_index qs (value_at locals c (d + length (kinds_all (parts.checked checks es))))) (m.on qs y) (more' qs y)) rs w))
+        (met_then p H types locals out rs made (checked checks ds call (exps_of texts es) s) (Runs (code_all (parts.checked checks es) d) rs w) (λ y. then_do (eval ds call (exp_of texts c) y) (λ v u. if_true v (more u) (Done Next u)))
+        (λ qs y. m.then_do (Runs (code c (d + length (kinds_all (parts.checked checks es)))) qs y) (m.falls (λ qs y. if_zero (slice_index qs (value_at locals c (d + length (kinds_all (parts.checked checks es))))) (m.on qs y) (more' qs y))))
         (checked_ok es out d made s rs w low at_es long kn_es has_es g) (λ new y xs z ex g1.
-        let place : ℕ = d + length (kinds_all (l.checked checks es)) in
+        let place : ℕ = d + length (kinds_all (parts.checked checks es)) in
         met_from p H types locals out rs xs new (then_do (eval ds call (exp_of texts c) y) (λ v u. if_true v (more u) (Done Next u))) _ g1.long
         (joint_valued p H types locals new (value_at locals c place) BoolTy place xs (eval ds call (exp_of texts c) y) (Runs (code c place) xs z) (λ v u. if_true v (more u) (Done Next u)) (λ qs y. if_zero (slice_index qs (value_at locals c place)) (m.on qs y) (more' qs y)) (Meets out xs)
         (v.exp_ok typed singles checks call call' types locals ks locals_at long_types fp fresh facts calls_ok c BoolTy place new y xs z (omega arith) at_c (g1.long ∙ long) kn_c has_c (going_start p H types locals 0 place rs xs new y z g1)) (λ last x u ys y2 ex2 i co g2.
@@ -158,28 +159,28 @@ module _ (typed : Typed) (singles : List Kind) (checks : Bool) (call : ℕ → L
         → ((made : List Kept) (s : State) (rs : List ℕ) (w : m.State) → length rs ≡ length ks → Goes 0 rs made s rs w → Joint made (Meets out rs) (step s) (Runs ss rs w))
         → (k : ℕ) (made : List Kept) (s : State) (rs : List ℕ) (w : m.State) → length rs ≡ length ks → Goes 0 rs made s rs w
         → Joint made (Meets out rs) (loop (checked checks ds call (exps_of texts es)) (eval ds call (exp_of texts c)) body step k s)
-        (m.loop (m.run P call' ks (sequence (code_all (l.checked checks es) d ++ code c (d + length (kinds_all (l.checked checks es)))))) (value_at locals c (d + length (kinds_all (l.checked checks es)))) (m.run P call' ks (sequence (bs ++ ss))) k rs w)
+        (m.loop (m.run P call' ks (sequence (code_all (parts.checked checks es) d ++ code c (d + length (kinds_all (parts.checked checks es)))))) (value_at locals c (d + length (kinds_all (parts.checked checks es)))) (m.run P call' ks (sequence (bs ++ ss))) k rs w)
     loop_ok body step bs ss body_ok step_ok zero made s rs w long g = turn_ok (λ u. Cut u.output) (λ qs y. m.Cut y.output) (λ made s rs w long g. ap m.Cut (sym g.alike.output)) made s rs w long g
     loop_ok body step bs ss body_ok step_ok (suc k) made s rs w long g =
         turn_ok (λ u. turn u (λ w. and_then (body w) (λ x. and_then (step x) (loop (checked checks ds call (exps_of texts es)) (eval ds call (exp_of texts c)) body step k))))
-        (λ qs y. m.turn y (λ u. m.then_do (Runs (bs ++ ss) qs u) (m.falls (m.loop (m.run P call' ks (sequence (code_all (l.checked checks es) d ++ code c (d + length (kinds_all (l.checked checks es)))))) (value_at locals c (d + length (kinds_all (l.checked checks es)))) (m.run P call' ks (sequence (bs ++ ss))) k))))
+        (λ qs y. m.turn y (λ u. m.then_do (Runs (bs ++ ss) qs u) (m.falls (m.loop (m.run P call' ks (sequence (code_all (parts.checked checks es) d ++ code c (d + length (kinds_all (parts.checked checks es)))))) (value_at locals c (d + length (kinds_all (parts.checked checks es)))) (m.run P call' ks (sequence (bs ++ ss))) k))))
         (λ made s rs w long g. again made s rs w long g (loop_ok body step bs ss body_ok step_ok k)) made s rs w long g
       where
         Rest : Type 0
         Rest = (made : List Kept) (s : State) (rs : List ℕ) (w : m.State) → length rs ≡ length ks → Goes 0 rs made s rs w
             → Joint made (Meets out rs) (loop (checked checks ds call (exps_of texts es)) (eval ds call (exp_of texts c)) body step k s)
-            (m.loop (m.run P call' ks (sequence (code_all (l.checked checks es) d ++ code c (d + length (kinds_all (l.checked checks es)))))) (value_at locals c (d + length (kinds_all (l.checked checks es)))) (m.run P call' ks (sequence (bs ++ ss))) k rs w)
+            (m.loop (m.run P call' ks (sequence (code_all (parts.checked checks es) d ++ code c (d + length (kinds_all (parts.checked checks es)))))) (value_at locals c (d + length (kinds_all (parts.checked checks es)))) (m.run P call' ks (sequence (bs ++ ss))) k rs w)
 
         again : (made : List Kept) (s : State) (rs : List ℕ) (w : m.State) → length rs ≡ length ks → Goes 0 rs made s rs w → Rest
             → Joint made (Meets out rs) (turn s (λ w. and_then (body w) (λ x. and_then (step x) (loop (checked checks ds call (exps_of texts es)) (eval ds call (exp_of texts c)) body step k))))
-            (m.turn w (λ u. m.then_do (Runs (bs ++ ss) rs u) (m.falls (m.loop (m.run P call' ks (sequence (code_all (l.checked checks es) d ++ code c (d + length (kinds_all (l.checked checks es)))))) (value_at locals c (d + length (kinds_all (l.checked checks es)))) (m.run P call' ks (sequence (bs ++ ss))) k))))
+            (m.turn w (λ u. m.then_do (Runs (bs ++ ss) rs u) (m.falls (m.loop (m.run P call' ks (sequence (code_all (parts.checked checks es) d ++ code c (d + length (kinds_all (parts.checked checks es)))))) (value_at locals c (d + length (kinds_all (parts.checked checks es)))) (m.run P call' ks (sequence (bs ++ ss))) k))))
         again made s rs w long g rest =
-            joint_turn made (Meets out rs) s w (λ w. and_then (body w) (λ x. and_then (step x) (loop (checked checks ds call (exps_of texts es)) (eval ds call (exp_of texts c)) body step k))) (λ u. m.then_do (Runs (bs ++ ss) rs u) (m.falls (m.loop (m.run P call' ks (sequence (code_all (l.checked checks es) d ++ code c (d + length (kinds_all (l.checked checks es)))))) (value_at locals c (d + length (kinds_all (l.checked checks es)))) (m.run P call' ks (sequence (bs ++ ss))) k))) g.alike.turns g.alike.output (λ i.
+            joint_turn made (Meets out rs) s w (λ w. and_then (body w) (λ x. and_then (step x) (loop (checked checks ds call (exps_of texts es)) (eval ds call (exp_of texts c)) body step k))) (λ u. m.then_do (Runs (bs ++ ss) rs u) (m.falls (m.loop (m.run P call' ks (sequence (code_all (parts.checked checks es) d ++ code c (d + length (kinds_all (parts.checked checks es)))))) (value_at locals c (d + length (kinds_all (parts.checked checks es)))) (m.run P call' ks (sequence (bs ++ ss))) k))) g.alike.turns g.alike.output (λ i.
             let s1 : State = record s { turns = i } in
             let w1 : m.State = record w { turns = i } in
             let g1 : Goes 0 rs made s1 rs w1 = record { state = g.state; keeps = g.keeps; long = g.long; matched = g.matched; alike = record { turns = refl; output = g.alike.output; heap = g.alike.heap } } in
-            subst (λ z. Joint made (Meets out rs) (and_then (body s1) (λ x. and_then (step x) (loop (checked checks ds call (exps_of texts es)) (eval ds call (exp_of texts c)) body step k))) z) (sym (appended bs ss (m.loop (m.run P call' ks (sequence (code_all (l.checked checks es) d ++ code c (d + length (kinds_all (l.checked checks es)))))) (value_at locals c (d + length (kinds_all (l.checked checks es)))) (m.run P call' ks (sequence (bs ++ ss))) k) rs w1))
-            (met_then p H types locals out rs made (body s1) (Runs bs rs w1) (λ x. and_then (step x) (loop (checked checks ds call (exps_of texts es)) (eval ds call (exp_of texts c)) body step k)) (λ qs y. m.then_do (Runs ss qs y) (m.falls (m.loop (m.run P call' ks (sequence (code_all (l.checked checks es) d ++ code c (d + length (kinds_all (l.checked checks es)))))) (value_at locals c (d + length (kinds_all (l.checked checks es)))) (m.run P call' ks (sequence (bs ++ ss))) k))) (body_ok made s1 rs w1 long g1) (λ new y xs z ex g2.
+            subst (λ z. Joint made (Meets out rs) (and_then (body s1) (λ x. and_then (step x) (loop (checked checks ds call (exps_of texts es)) (eval ds call (exp_of texts c)) body step k))) z) (sym (appended bs ss (m.loop (m.run P call' ks (sequence (code_all (parts.checked checks es) d ++ code c (d + length (kinds_all (parts.checked checks es)))))) (value_at locals c (d + length (kinds_all (parts.checked checks es)))) (m.run P call' ks (sequence (bs ++ ss))) k) rs w1))
+            (met_then p H types locals out rs made (body s1) (Runs bs rs w1) (λ x. and_then (step x) (loop (checked checks ds call (exps_of texts es)) (eval ds call (exp_of texts c)) body step k)) (λ qs y. m.then_do (Runs ss qs y) (m.falls (m.loop (m.run P call' ks (sequence (code_all (parts.checked checks es) d ++ code c (d + length (kinds_all (parts.checked checks es)))))) (value_at locals c (d + length (kinds_all (parts.checked checks es)))) (m.run P call' ks (sequence (bs ++ ss))) k))) (body_ok made s1 rs w1 long g1) (λ new y xs z ex g2.
             met_from p H types locals out rs xs new (and_then (step y) (loop (checked checks ds call (exps_of texts es)) (eval ds call (exp_of texts c)) body step k)) _ g2.long
-            (met_then p H types locals out xs new (step y) (Runs ss xs z) (loop (checked checks ds call (exps_of texts es)) (eval ds call (exp_of texts c)) body step k) (m.loop (m.run P call' ks (sequence (code_all (l.checked checks es) d ++ code c (d + length (kinds_all (l.checked checks es)))))) (value_at locals c (d + length (kinds_all (l.checked checks es)))) (m.run P call' ks (sequence (bs ++ ss))) k) (step_ok new y xs z (g2.long ∙ long) (fresh_going rs xs new y z g2)) (λ last u ys y2 ex2 g3.
+            (met_then p H types locals out xs new (step y) (Runs ss xs z) (loop (checked checks ds call (exps_of texts es)) (eval ds call (exp_of texts c)) body step k) (m.loop (m.run P call' ks (sequence (code_all (parts.checked checks es) d ++ code c (d + length (kinds_all (parts.checked checks es)))))) (value_at locals c (d + length (kinds_all (parts.checked checks es)))) (m.run P call' ks (sequence (bs ++ ss))) k) (step_ok new y xs z (g2.long ∙ long) (fresh_going rs xs new y z g2)) (λ last u ys y2 ex2 g3.
             met_from p H types locals out xs ys last (loop (checked checks ds call (exps_of texts es)) (eval ds call (exp_of texts c)) body step k u) _ g3.long (rest last u ys y2 (g3.long ∙ g2.long ∙ long) (fresh_going xs ys last u y2 g3)))))))

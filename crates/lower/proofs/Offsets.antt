@@ -10,7 +10,7 @@ use Rattle.c0_typed.specs.Typing.{IsSmall, FitsProgram, Kept, One, Many, Grown, 
 use Rattle.c0_typed.proofs.Cells.{part_grown, parts_grown, part_way, cell_at_offset}
 use Rattle.c0_typed.proofs.Soundness.{each_part}
 use Rattle.code_form.specs.declared.form.Kind.{Kind}
-use Rattle.lower.specs.Kinds.{cells_of, field_offset}
+use Rattle.lower_tables.specs.Kinds.{cells_of, field_offset}
 use Rattle.lower.specs.Coded.{type_offset, kept_offset}
 use Rattle.lower.proofs.Layouts.{kinds_of_fields, struct_cells, small_cells, field_offset_is, type_offset_step}
 use Rattle.lower.proofs.Lists.{get_front, get_behind, set_front, set_behind}

@@ -22,7 +22,7 @@ use Rattle.c0_typed.specs.declared.tree.UnaryOperator.TheVariants as u
 use Rattle.code_form.specs.Code.{char_of, compares, if_zero, int_of, of_bool, of_int}
 use Rattle.code_form.specs.Form.{Head}
 use Rattle.lower.specs.Coded.{Coded}
-use Rattle.lower.specs.Lowered.{code_relation}
+use Rattle.lower_expressions.specs.Expressions.{code_relation}
 
 -- a number is read back from its cell
 pub number_back : (z : ℤ) → FitsSigned w32 z → int_of (of_int z) ≡ z

@@ -4,7 +4,8 @@ use Rattle.std.specs.Prelude.{◌==◌, slice_get}
 use Rattle.std.proofs.lemmas.Bool.Decides.{eqb_tells}
 use Rattle.std.proofs.lemmas.Option.{slice_get_within}
 use Rattle.c0_typed.specs.declared.tree.Function.{Function}
-use Rattle.lower.specs.Lowered.{swapped, with_main_first}
+use Rattle.lower.specs.Lowered.{with_main_first}
+use Rattle.lower_expressions.specs.Expressions.{swapped}
 use Rattle.lower.proofs.Lists.{get_set, get_set_other}
 
 abbrev Tells : ℕ → ℕ → Type 0

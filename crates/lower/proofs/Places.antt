@@ -24,9 +24,10 @@ use Rattle.middle_form.specs.Form.{Code}
 use Rattle.middle_form.specs.Form as f
 use Rattle.middle_form.specs.Meaning as m
 use Rattle.lower.specs.Coded.{Coded, inner_path, kept_offset, kept_type, type_offset}
-use Rattle.lower.specs.Kinds as k
-use Rattle.lower.specs.Known.{IsKnown}
-use Rattle.lower.specs.Lowered.{base_at, displacement, local_register, lowered, offset_at, place_kinds, value_at}
+use Rattle.lower_tables.specs.Kinds as k
+use Rattle.lower_tables.specs.Known.{IsKnown}
+use Rattle.lower.specs.Lowered.{lowered}
+use Rattle.lower_expressions.specs.Expressions.{base_at, displacement, local_register, offset_at, place_kinds, value_at}
 use Rattle.c0_typed.proofs.Ops.{not_fits, ops_fit}
 use Rattle.lower.proofs.Joint.{Joint, joint_done, run_one}
 use Rattle.lower.proofs.Operators.{coded_array, coded_number, coded_pointer}

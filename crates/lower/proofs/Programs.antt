@@ -22,9 +22,10 @@ use Rattle.code_form.specs.Form.{Head}
 use Rattle.middle_form.specs.Form as f
 use Rattle.middle_form.specs.Meaning as m
 use Rattle.lower.specs.Coded.{Heaps}
-use Rattle.lower.specs.Known.{KnowsFunction, KnowsFunctions, KnowsProgram}
+use Rattle.lower_tables.specs.Known.{KnowsFunction, KnowsFunctions, KnowsProgram}
 use Rattle.lower.specs.Laws.{LoweredMeansTheSame}
-use Rattle.lower.specs.Lowered.{kind_at, lowered, swapped}
+use Rattle.lower.specs.Lowered.{lowered}
+use Rattle.lower_expressions.specs.Expressions.{kind_at, swapped}
 use Rattle.lower.proofs.Joint.{Joint, joint_turn}
 use Rattle.lower.proofs.Operators.{coded_number}
 use Rattle.lower.proofs.Registers.{keeps_refl}

@@ -10,7 +10,7 @@ use Rattle.code_form.specs.declared.form.Kind.TheVariants as kind
 use Rattle.code_form.specs.Code.{has, is_kind, on_kind, same_kind}
 use Rattle.code_form.specs.Form.{Head}
 use Rattle.lower.specs.Coded.{Coded}
-use Rattle.lower.specs.Lowered.{local_register}
+use Rattle.lower_expressions.specs.Expressions.{local_register}
 
 pub number_same : (a : ℕ) → (a == a) ≡ true
 number_same a = at (eqb_tells a a)

@@ -14,7 +14,7 @@ use Rattle.middle_form.specs.Form.{Code}
 use Rattle.middle_form.specs.Form as f
 use Rattle.middle_form.specs.Meaning as m
 use Rattle.lower.specs.Coded.{Coded}
-use Rattle.lower.specs.Lowered.{sequence}
+use Rattle.lower_expressions.specs.Expressions.{sequence}
 use Rattle.lower.proofs.Joint.{run_one}
 use Rattle.lower.proofs.Registers.{Keeps, keeps_less, keeps_put, keeps_refl, keeps_then, Matched, matched_keep, put_same}
 use Rattle.lower.proofs.Sides.{Alike, Going, Valued}

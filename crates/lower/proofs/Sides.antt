@@ -15,9 +15,9 @@ use Rattle.middle_form.specs.Form.{Code}
 use Rattle.middle_form.specs.Form as f
 use Rattle.middle_form.specs.Meaning as m
 use Rattle.lower.specs.Coded.{Coded, Heaps, inner_path, kept_offset, kept_type, type_offset}
-use Rattle.lower.specs.Kinds as k
-use Rattle.lower.specs.Known.{IsKnown}
-use Rattle.lower.specs.Lowered.{sequence}
+use Rattle.lower_tables.specs.Kinds as k
+use Rattle.lower_tables.specs.Known.{IsKnown}
+use Rattle.lower_expressions.specs.Expressions.{sequence}
 use Rattle.lower.proofs.Joint.{Joint, Lands, joint_from, run_append}
 use Rattle.lower.proofs.Registers.{Keeps, Matched}
 

@@ -25,8 +25,9 @@ use Rattle.middle_form.specs.Form.{Code}
 use Rattle.middle_form.specs.Form as f
 use Rattle.middle_form.specs.Meaning as m
 use Rattle.lower.specs.Coded.{Coded}
-use Rattle.lower.specs.Kinds.{kind_of}
-use Rattle.lower.specs.Lowered.{local_register, lowered, sequence, value_at}
+use Rattle.lower_tables.specs.Kinds.{kind_of}
+use Rattle.lower.specs.Lowered.{lowered}
+use Rattle.lower_expressions.specs.Expressions.{local_register, sequence, value_at}
 use Rattle.lower.proofs.Joint.{Joint, Lands, joint_done, joint_from, joint_if, run_append, run_one}
 use Rattle.lower.proofs.Operators.{coded_number, coded_truth}
 use Rattle.lower.proofs.Registers.{and_true, has_it, keeps_refl, Matched, matched_set}

@@ -24,9 +24,10 @@ use Rattle.middle_form.specs.Form.{Code}
 use Rattle.middle_form.specs.Form as f
 use Rattle.middle_form.specs.Meaning as m
 use Rattle.lower.specs.Coded.{Coded, kept_offset}
-use Rattle.lower.specs.Kinds as k
-use Rattle.lower.specs.Known.{Knows, KnowsPlace}
-use Rattle.lower.specs.Lowered.{lowered, sequence, value_at}
+use Rattle.lower_tables.specs.Kinds as k
+use Rattle.lower_tables.specs.Known.{Knows, KnowsPlace}
+use Rattle.lower.specs.Lowered.{lowered}
+use Rattle.lower_expressions.specs.Expressions.{sequence, value_at}
 use Rattle.lower.proofs.Joint.{Joint, joint_done, joint_then, run_one}
 use Rattle.c0_typed.proofs.Ops.{ops_fit}
 use Rattle.lower.proofs.Operators.{coded_number}
@@ -147,11 +148,11 @@ module _ (typed : Typed) (singles : List Kind) (checks : Bool) (call : ℕ → L
   -- a store, at last
   keep_ok : (q : Place) (u : Ty) (d out ra : ℕ) (rs qs xs : List ℕ) (v : Value) (made : List Kept) (at : Spot) (s : State) (w : m.State) → length qs ≡ length rs → IsSmall u → slice_get ks ra ≡ Some (k.kind_of n singles u)
       → Finds q u d qs made at s (0, xs) w → Is p made u v → Coded H v (slice_index xs ra)
-      → Joint made (Meets out rs) (Done Next (record s { heap = store s.heap at v })) (Runs (f.Keep (base q d) (off q d) (shift q) ra ∷ []) xs w)
+      → Joint made (Meets out rs) (Done Next (record s { heap = store s.heap at v })) (Runs (f.Store (base q d) (off q d) (shift q) ra ∷ []) xs w)
   keep_ok q u d out ra rs qs xs v made at s w same small ka h i c =
       let st = store_ok typed singles checks call call' types locals ks facts q u d ra qs xs v made at s w small ka h i c in
       let g = st.2 in
-      subst (λ o. Joint made (Meets out rs) (Done Next (record s { heap = store s.heap at v })) o) (sym (run_one P call' ks (f.Keep (base q d) (off q d) (shift q) ra) xs w ∙ st.1))
+      subst (λ o. Joint made (Meets out rs) (Done Next (record s { heap = store s.heap at v })) o) (sym (run_one P call' ks (f.Store (base q d) (off q d) (shift q) ra) xs w ∙ st.1))
       (joint_done made (Meets out rs) Next (record s { heap = store s.heap at v }) (0, xs) st.0
       (record { flow = refl; going = record { state = g.state; keeps = λ r l. absurd (let z : ⊥ = omega (arith, l) in z); long = g.long ∙ same; matched = g.matched; alike = g.alike } }))
 
@@ -164,12 +165,12 @@ module _ (typed : Typed) (singles : List Kind) (checks : Bool) (call : ℕ → L
   pub store_case : (q : Place) (a : Expression) → PlaceOk q → ExpOk a → (t : Ty) (out d : ℕ) (made : List Kept) (s : State) (rs : List ℕ) (w : m.State) → suc locals ≤ d → At ks d (kinds_place q ++ kinds a) → length rs ≡ length ks → KnowsPlace n singles q → Knows n singles a
       → IsSmall t → Holds p types (place_of texts q) t → Has p types (exp_of texts a) t → Goes 0 rs made s rs w
       → Joint made (Meets out rs) (then_do (locate ds call (place_of texts q) s) (λ at y. then_do (eval ds call (exp_of texts a) y) (λ x z. Done Next (record z { heap = store z.heap at x }))))
-      (Runs (code_place q d ++ (code a (d + length (kinds_place q)) ++ (f.Keep (base q d) (off q d) (shift q) (value_at locals a (d + length (kinds_place q))) ∷ []))) rs w)
+      (Runs (code_place q d ++ (code a (d + length (kinds_place q)) ++ (f.Store (base q d) (off q d) (shift q) (value_at locals a (d + length (kinds_place q))) ∷ []))) rs w)
   store_case q a ok_q ok_a t out d made s rs w low at long kq ka small holds has g =
       let b : ℕ = d + length (kinds_place q) in
       let at_q = at_left ks d (kinds_place q) (kinds a) at in
       let at_a = at_right ks d (kinds_place q) (kinds a) at in
-      let last : List Code = f.Keep (base q d) (off q d) (shift q) (value_at locals a b) ∷ [] in
+      let last : List Code = f.Store (base q d) (off q d) (shift q) (value_at locals a b) ∷ [] in
       v.then_place typed singles checks call call' types locals ks locals_at long_types fp fresh facts calls_ok q t d made s rs w (code a b ++ last) (λ at y. then_do (eval ds call (exp_of texts a) y) (λ x z. Done Next (record z { heap = store z.heap at x }))) (Meets out rs)
       (ok_q t d made s rs w low at_q long kq holds (going_start p H types locals 0 d rs rs made s w g)) (λ new x y xs z ex r.
       e.exp_then typed singles checks call call' types locals ks a t b new y xs z last (λ v z. Done Next (record z { heap = store z.heap x v })) (Meets out rs)
@@ -181,7 +182,7 @@ module _ (typed : Typed) (singles : List Kind) (checks : Bool) (call : ℕ → L
   -- a store of an operator's value, at last
   operate_ok : (o : Int32Op) (q : Place) (d b out ra : ℕ) (rs qs xs : List ℕ) (old v : Value) (made : List Kept) (at : Spot) (s : State) (w : m.State) → suc locals ≤ d → d < length qs → length qs ≡ length rs → slice_get ks d ≡ Some kind.Int → slice_get ks ra ≡ Some kind.Int
       → Holds p types (place_of texts q) IntTy → Finds q IntTy (suc d) qs made at s (0, xs) w → Is p made IntTy old → Coded H old (slice_index xs d) → Is p made IntTy v → Coded H v (slice_index xs ra)
-      → Joint made (Meets out rs) (then_do (value_or ArithFault (binary_value o old v) s) (λ x z. Done Next (record z { heap = store z.heap at x }))) (Runs (f.Do (op.Binary o d d ra) ∷ (f.Keep (base q (suc d)) (off q (suc d)) (shift q) d ∷ [])) xs w)
+      → Joint made (Meets out rs) (then_do (value_or ArithFault (binary_value o old v) s) (λ x z. Done Next (record z { heap = store z.heap at x }))) (Runs (f.Do (op.Binary o d d ra) ∷ (f.Store (base q (suc d)) (off q (suc d)) (shift q) d ∷ [])) xs w)
   operate_ok o q d b out ra rs qs xs old v made at s w low sh long kd ka holds h io co i c = by (op_value o (as_number old) (as_number v)) refl
     where
       fits : op_fits H ks (op.Binary o d d ra) ≡ true
@@ -191,7 +192,7 @@ module _ (typed : Typed) (singles : List Kind) (checks : Bool) (call : ℕ → L
       same = ap (λ z. op_value o z (int_of (slice_index xs ra))) (coded_number H p made old (slice_index xs d) io co) ∙ ap (λ z. op_value o (as_number old) z) (coded_number H p made v (slice_index xs ra) i c)
 
       last : List Code
-      last = f.Keep (base q (suc d)) (off q (suc d)) (shift q) d ∷ []
+      last = f.Store (base q (suc d)) (off q (suc d)) (shift q) d ∷ []
 
       by : (z : Option ℤ) → op_value o (as_number old) (as_number v) ≡ z
           → Joint made (Meets out rs) (then_do (value_or ArithFault (elim z [ None ↦ None | Some y ↦ Some (Number y) ]) s) (λ x z. Done Next (record z { heap = store z.heap at x }))) (Runs (f.Do (op.Binary o d d ra) ∷ last) xs w)
@@ -212,7 +213,7 @@ module _ (typed : Typed) (singles : List Kind) (checks : Bool) (call : ℕ → L
   pub store_update_case : (o : Int32Op) (q : Place) (a : Expression) → PlaceOk q → ExpOk a → (out d : ℕ) (made : List Kept) (s : State) (rs : List ℕ) (w : m.State) → suc locals ≤ d → At ks d (kind.Int ∷ (kinds_place q ++ kinds a)) → length rs ≡ length ks → KnowsPlace n singles q → Knows n singles a
       → Holds p types (place_of texts q) IntTy → Has p types (exp_of texts a) IntTy → Goes 0 rs made s rs w
       → Joint made (Meets out rs) (then_do (locate ds call (place_of texts q) s) (λ at y. then_do (eval ds call (exp_of texts a) y) (λ x z. then_do (value_or ArithFault (binary_value o (load y.heap at) x) z) (λ u x. Done Next (record x { heap = store x.heap at u })))))
-      (Runs (code_place q (suc d) ++ (f.Fetch d (base q (suc d)) (off q (suc d)) (shift q) ∷ (code a (suc d + length (kinds_place q)) ++ (f.Do (op.Binary o d d (value_at locals a (suc d + length (kinds_place q)))) ∷ (f.Keep (base q (suc d)) (off q (suc d)) (shift q) d ∷ []))))) rs w)
+      (Runs (code_place q (suc d) ++ (f.Load d (base q (suc d)) (off q (suc d)) (shift q) ∷ (code a (suc d + length (kinds_place q)) ++ (f.Do (op.Binary o d d (value_at locals a (suc d + length (kinds_place q)))) ∷ (f.Store (base q (suc d)) (off q (suc d)) (shift q) d ∷ []))))) rs w)
   store_update_case o q a ok_q ok_a out d made s rs w low at long kq ka holds has g =
       let b : ℕ = suc d + length (kinds_place q) in
       let after = at_tail ks d kind.Int (kinds_place q ++ kinds a) at in
@@ -220,8 +221,8 @@ module _ (typed : Typed) (singles : List Kind) (checks : Bool) (call : ℕ → L
       let at_a = at_right ks (suc d) (kinds_place q) (kinds a) after in
       let kd = at_head ks d kind.Int (kinds_place q ++ kinds a) at in
       let sh = e.short typed singles checks call call' types locals ks d kind.Int (kinds_place q ++ kinds a) rs at long in
-      let last : List Code = f.Do (op.Binary o d d (value_at locals a b)) ∷ (f.Keep (base q (suc d)) (off q (suc d)) (shift q) d ∷ []) in
-      let loads : Code = f.Fetch d (base q (suc d)) (off q (suc d)) (shift q) in
+      let last : List Code = f.Do (op.Binary o d d (value_at locals a b)) ∷ (f.Store (base q (suc d)) (off q (suc d)) (shift q) d ∷ []) in
+      let loads : Code = f.Load d (base q (suc d)) (off q (suc d)) (shift q) in
       v.then_place typed singles checks call call' types locals ks locals_at long_types fp fresh facts calls_ok q IntTy (suc d) made s rs w (loads ∷ (code a b ++ last)) (λ at y. then_do (eval ds call (exp_of texts a) y) (λ x z. then_do (value_or ArithFault (binary_value o (load y.heap at) x) z) (λ u x. Done Next (record x { heap = store x.heap at u })))) (Meets out rs)
       (ok_q IntTy (suc d) made s rs w (omega arith) at_q long kq holds (going_start p H types locals 0 (suc d) rs rs made s w g)) (λ new x y xs z ex r.
       let ld = load_runs typed singles checks call call' types locals ks facts q IntTy (suc d) d rs xs new x y z tt kd r in

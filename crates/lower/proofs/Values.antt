@@ -16,8 +16,8 @@ use Rattle.c0_typed.specs.declared.tree.Function.{Function}
 use Rattle.c0_typed.specs.declared.tree.Typed.{Typed}
 use Rattle.code_form.specs.declared.form.Kind.{Kind}
 use Rattle.code_form.specs.declared.form.Kind.TheVariants as kind
-use Rattle.lower.specs.Kinds.{kind_of}
-use Rattle.lower.specs.Lowered.{constant_kind, exp_kinds, local_register, row_at, row_kinds, type_given, unary_kind, value_at}
+use Rattle.lower_tables.specs.Kinds.{kind_of}
+use Rattle.lower_expressions.specs.Expressions.{constant_kind, exp_kinds, local_register, row_at, row_kinds, type_given, unary_kind, value_at}
 use Rattle.lower.proofs.Registers.{At, at_head, at_left, at_right}
 
 -- the function that stands there in the text

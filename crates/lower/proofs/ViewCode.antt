@@ -26,9 +26,11 @@ use Rattle.code_form.specs.declared.form.Operation.{Operation}
 use Rattle.code_form.specs.declared.form.Operation.TheVariants as op
 use Rattle.middle_form.specs.Form.{Code}
 use Rattle.middle_form.specs.Form as m
-use Rattle.lower.specs.Kinds.{cells_of, field_offset, kind_of, layout_number}
+use Rattle.lower_tables.specs.Kinds.{cells_of, field_offset, kind_of, layout_number}
+use Rattle.lower_expressions.specs.Expressions as parts
 use Rattle.lower.specs.Lowered as l
-use Rattle.lower.specs.Lowered.{local_register, number_among, result_register, sequence, swapped}
+use Rattle.lower_tables.specs.Texts.{number_among}
+use Rattle.lower_expressions.specs.Expressions.{local_register, result_register, sequence, swapped}
 
 -- ---- what code is made of
 
@@ -94,17 +96,17 @@ print_code t.Printbool rs = first_or_flush op.Printbool rs
 print_code t.Printchar rs = first_or_flush op.Printchar rs
 print_code t.Flush rs = op.Flush
 
-operator_is : (p : UnaryOperator) → operator_of (unary_of p) ≡ l.unary_operator p
+operator_is : (p : UnaryOperator) → operator_of (unary_of p) ≡ parts.unary_operator p
 operator_is u.Negate = refl
 operator_is u.Complement = refl
 operator_is u.Not = refl
 
-operator_kind_is : (p : UnaryOperator) → operator_kind (unary_of p) ≡ l.unary_kind p
+operator_kind_is : (p : UnaryOperator) → operator_kind (unary_of p) ≡ parts.unary_kind p
 operator_kind_is u.Negate = refl
 operator_kind_is u.Complement = refl
 operator_kind_is u.Not = refl
 
-relation_is : (p : Relation) → code_relation (relation_of p) ≡ l.code_relation p
+relation_is : (p : Relation) → code_relation (relation_of p) ≡ parts.code_relation p
 relation_is r.Equal = refl
 relation_is r.Unequal = refl
 relation_is r.Below = refl
@@ -112,7 +114,7 @@ relation_is r.AtMost = refl
 relation_is r.Above = refl
 relation_is r.AtLeast = refl
 
-print_is : (p : Output) (rs : List ℕ) → print_code (output_of p) rs ≡ l.print_code p rs
+print_is : (p : Output) (rs : List ℕ) → print_code (output_of p) rs ≡ parts.print_code p rs
 print_is o.Print [] = refl
 print_is o.Print (a ∷ rest) = refl
 print_is o.Println [] = refl
@@ -143,13 +145,13 @@ value_kind (v.Text bytes) = kind.Text
 value_kind (v.Ref x) = kind.Int
 value_kind v.Void = kind.Int
 
-value_code_is : (texts : List (List ℕ)) (x : ConstantValue) (d : ℕ) → value_code texts (constant_of texts x) d ≡ l.constant_code texts x d
+value_code_is : (texts : List (List ℕ)) (x : ConstantValue) (d : ℕ) → value_code texts (constant_of texts x) d ≡ parts.constant_code texts x d
 value_code_is texts (c.Number z) d = refl
 value_code_is texts (c.Truth b) d = refl
 value_code_is texts (c.Letter x) d = refl
 value_code_is texts (c.Text k) d = refl
 
-value_kind_is : (texts : List (List ℕ)) (x : ConstantValue) → value_kind (constant_of texts x) ≡ l.constant_kind x
+value_kind_is : (texts : List (List ℕ)) (x : ConstantValue) → value_kind (constant_of texts x) ≡ parts.constant_kind x
 value_kind_is texts (c.Number z) = refl
 value_kind_is texts (c.Truth b) = refl
 value_kind_is texts (c.Letter x) = refl
@@ -201,8 +203,8 @@ chosen k a b e = record {
 abbrev on_row : Kind → (ℕ → List ℕ → Code) → Row → Part
 on_row k o es = record { kinds = k ∷ es.kinds; at = λ d. d; code = λ d. es.code (suc d) ++ (o d (es.at (suc d)) ∷ []) }
 
-abbrev fetched : Kind → Spot → Part
-fetched k q = record { kinds = k ∷ q.kinds; at = λ d. d; code = λ d. q.code (suc d) ++ (m.Fetch d (q.base (suc d)) (q.offset (suc d)) q.displacement ∷ []) }
+abbrev loaded : Kind → Spot → Part
+loaded k q = record { kinds = k ∷ q.kinds; at = λ d. d; code = λ d. q.code (suc d) ++ (m.Load d (q.base (suc d)) (q.offset (suc d)) q.displacement ∷ []) }
 
 abbrev no_row : Row
 no_row = record { kinds = []; at = λ d. []; code = λ d. [] }
@@ -253,15 +255,15 @@ last_step o a = record { kinds = a.kinds; code = λ d out. a.code d ++ o (a.at d
 abbrev stored : Spot → Part → Step
 stored q a = record {
   kinds = q.kinds ++ a.kinds;
-  code = λ d out. q.code d ++ (a.code (d + length q.kinds) ++ (m.Keep (q.base d) (q.offset d) q.displacement (a.at (d + length q.kinds)) ∷ []));
+  code = λ d out. q.code d ++ (a.code (d + length q.kinds) ++ (m.Store (q.base d) (q.offset d) q.displacement (a.at (d + length q.kinds)) ∷ []));
 }
 
 abbrev updated : Int32Op → Spot → Part → Step
 updated p q a = record {
   kinds = kind.Int ∷ (q.kinds ++ a.kinds);
-  code = λ d out. q.code (suc d) ++ (m.Fetch d (q.base (suc d)) (q.offset (suc d)) q.displacement
+  code = λ d out. q.code (suc d) ++ (m.Load d (q.base (suc d)) (q.offset (suc d)) q.displacement
       ∷ (a.code (suc d + length q.kinds) ++ (m.Do (op.Binary p d d (a.at (suc d + length q.kinds)))
-      ∷ (m.Keep (q.base (suc d)) (q.offset (suc d)) q.displacement d ∷ []))));
+      ∷ (m.Store (q.base (suc d)) (q.offset (suc d)) q.displacement d ∷ []))));
 }
 
 abbrev if_step : Part → Step → Step → Step
@@ -306,9 +308,9 @@ module _ (structs : List (List t.Ty)) (singles : List Kind) (texts : List (List 
     exp_part (t.And a b) = both (exp_part a) (exp_part b)
     exp_part (t.Or a b) = either (exp_part a) (exp_part b)
     exp_part (t.Choose ty a b e) = chosen (kind_at ty) (exp_part a) (exp_part b) (exp_part e)
-    exp_part (t.Call f es) = on_row (kind_at (given f)) (λ d rs. m.Invoke (result_register (given f) d) (swapped main f) rs) (row_part es)
+    exp_part (t.Call f es) = on_row (kind_at (given f)) (λ d rs. m.Call (result_register (given f) d) (swapped main f) rs) (row_part es)
     exp_part (t.Out p es) = on_row kind.Int (λ d rs. m.Do (print_code p rs)) (row_part es)
-    exp_part (t.Read ty q) = fetched (kind_at ty) (place_part q)
+    exp_part (t.Read ty q) = loaded (kind_at ty) (place_part q)
     exp_part (t.Alloc ty) = leaf (kind.Ptr (layout_at ty)) (λ d. op.Alloc d (layout_at ty))
     exp_part (t.AllocArray ty a) = on_one (kind.Arr (layout_at ty)) (λ d x. op.AllocArray d (layout_at ty) x) (exp_part a)
     exp_part (t.Length ty a) = on_one kind.Int op.Len (exp_part a)
@@ -349,7 +351,7 @@ module _ (structs : List (List t.Ty)) (singles : List Kind) (texts : List (List 
 -- ---- the same of the trees that are read as them
 module _ (structs : List (List t.Ty)) (singles : List Kind) (texts : List (List ℕ)) (functions : List Function) (main locals : ℕ) where
   abbrev pub given : ℕ → t.Ty
-  given f = l.type_given structs singles texts functions main functions f
+  given f = parts.type_given structs singles texts functions main functions f
 
   abbrev E : t.Exp → Part
   E a = exp_part structs singles texts given main locals a
@@ -363,25 +365,25 @@ module _ (structs : List (List t.Ty)) (singles : List Kind) (texts : List (List 
   -- of an expression
   abbrev exp_made : Expression → Part
   exp_made a = record {
-    kinds = l.exp_kinds structs singles texts functions main a;
-    at = λ d. l.value_at locals a d;
-    code = λ d. l.exp_code structs singles texts functions main locals a d;
+    kinds = parts.exp_kinds structs singles texts functions main a;
+    at = λ d. parts.value_at locals a d;
+    code = λ d. parts.exp_code structs singles texts functions main locals a d;
   }
 
   abbrev row_made : {n : _} → Row_of-Expression n → Row
   row_made es = record {
-    kinds = l.row_kinds structs singles texts functions main es;
-    at = λ d. l.row_at structs singles texts functions main locals es d;
-    code = λ d. l.row_code structs singles texts functions main locals es d;
+    kinds = parts.row_kinds structs singles texts functions main es;
+    at = λ d. parts.row_at structs singles texts functions main locals es d;
+    code = λ d. parts.row_code structs singles texts functions main locals es d;
   }
 
   abbrev place_made : Place → Spot
   place_made q = record {
-    kinds = l.place_kinds structs singles texts functions main q;
-    base = λ d. l.base_at structs singles texts functions main locals q d;
-    offset = λ d. l.offset_at structs singles texts functions main locals q d;
-    displacement = l.displacement structs singles texts functions main locals q;
-    code = λ d. l.place_code structs singles texts functions main locals q d;
+    kinds = parts.place_kinds structs singles texts functions main q;
+    base = λ d. parts.base_at structs singles texts functions main locals q d;
+    offset = λ d. parts.offset_at structs singles texts functions main locals q d;
+    displacement = parts.displacement structs singles texts functions main locals q;
+    code = λ d. parts.place_code structs singles texts functions main locals q d;
   }
 
   mutual
@@ -395,9 +397,9 @@ module _ (structs : List (List t.Ty)) (singles : List Kind) (texts : List (List 
     exp_is (And' p a q b) = λ i. both (exp_is a i) (exp_is b i)
     exp_is (Or' p a q b) = λ i. either (exp_is a i) (exp_is b i)
     exp_is (Choose' ty p a q b s e) = λ i. chosen (kind_at structs singles texts given main locals (type_of ty)) (exp_is a i) (exp_is b i) (exp_is e i)
-    exp_is (Call' f shape es) = λ i. on_row (kind_at structs singles texts given main locals (given f)) (λ d rs. m.Invoke (result_register (given f) d) (swapped main f) rs) (row_is es i)
+    exp_is (Call' f shape es) = λ i. on_row (kind_at structs singles texts given main locals (given f)) (λ d rs. m.Call (result_register (given f) d) (swapped main f) rs) (row_is es i)
     exp_is (Print' p shape es) = λ i. on_row kind.Int (λ d rs. m.Do (print_is p rs i)) (row_is es i)
-    exp_is (Read' ty p q) = λ i. fetched (kind_at structs singles texts given main locals (type_of ty)) (place_is q i)
+    exp_is (Read' ty p q) = λ i. loaded (kind_at structs singles texts given main locals (type_of ty)) (place_is q i)
     exp_is (Alloc ty) = refl
     exp_is (AllocArray' ty p a) =
         λ i. on_one (kind.Arr (layout_at structs singles texts given main locals (type_of ty))) (λ d x. op.AllocArray d (layout_at structs singles texts given main locals (type_of ty)) x) (exp_is a i)
@@ -415,8 +417,8 @@ module _ (structs : List (List t.Ty)) (singles : List Kind) (texts : List (List 
 
   abbrev all_made : List Expression → Conditions
   all_made es = record {
-    kinds = l.conditions_kinds structs singles texts functions main es;
-    code = λ d. l.conditions_code structs singles texts functions main locals es d;
+    kinds = parts.conditions_kinds structs singles texts functions main es;
+    code = λ d. parts.conditions_code structs singles texts functions main locals es d;
   }
 
   all_are : (es : List Expression) → all_conditions structs singles texts given main locals (exps_of texts es) ≡ all_made es
@@ -425,7 +427,7 @@ module _ (structs : List (List t.Ty)) (singles : List Kind) (texts : List (List 
 
   -- of conditions that must hold
   abbrev pub conditions_made : Bool → List Expression → Conditions
-  conditions_made checks es = all_made (l.checked checks es)
+  conditions_made checks es = all_made (parts.checked checks es)
 
   pub conditions_are : (checks : Bool) (es : List Expression) → conditions structs singles texts given main locals checks (exps_of texts es) ≡ conditions_made checks es
   conditions_are true es = all_are es

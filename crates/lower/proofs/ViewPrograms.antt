@@ -10,11 +10,13 @@ use Rattle.c0_typed.specs.declared.tree.Typed.{Typed}
 use Rattle.c0_typed.specs.declared.tree.ValueType.{ValueType}
 use Rattle.code_form.specs.declared.form.Kind.{Kind}
 use Rattle.middle_form.specs.Form as m
-use Rattle.lower.specs.Gathered.{singles_of}
-use Rattle.lower.specs.Kinds.{kind_of, layouts_of}
+use Rattle.lower_tables.specs.Gathered.{singles_of}
+use Rattle.lower_tables.specs.Kinds.{kind_of, layouts_of}
 use Rattle.lower.specs.Laws.{SameProgramSameCode}
+use Rattle.lower_expressions.specs.Expressions as parts
 use Rattle.lower.specs.Lowered as l
-use Rattle.lower.specs.Lowered.{lowered, result_kind, sequence, with_main_first}
+use Rattle.lower.specs.Lowered.{lowered, result_kind, with_main_first}
+use Rattle.lower_expressions.specs.Expressions.{sequence}
 use Rattle.lower.proofs.ViewCode.{Conditions, Step, body_code_is, body_kinds_are, conditions, conditions_are, conditions_made, given, step}
 use Rattle.lower.proofs.ViewTypes.{singles_are, singles_in}
 
@@ -95,13 +97,13 @@ first_mapped {B = B} f (suc k) (x ∷ rest) =
     at (Some y) = ap (λ l. f y ∷ l) (sym (map_set f rest k x))
 
 module _ (structs : List (List t.Ty)) (singles : List Kind) (texts : List (List ℕ)) (main : ℕ) where
-  gives_is : (all fs : List Function) (k : ℕ) → gives (map (function_of texts) fs) k ≡ l.type_given structs singles texts all main fs k
+  gives_is : (all fs : List Function) (k : ℕ) → gives (map (function_of texts) fs) k ≡ parts.type_given structs singles texts all main fs k
   gives_is all [] k = refl
   gives_is all (g ∷ gs) zero = refl
   gives_is all (g ∷ gs) (suc k) = gives_is all gs k
 
   module _ (functions : List Function) (checks : Bool) where
-    kinds_are : (tys : List ValueType) → map (kind_at structs singles texts (given structs singles texts functions main 0) main checks) (map type_of tys) ≡ map (l.kind_at structs singles texts functions main) tys
+    kinds_are : (tys : List ValueType) → map (kind_at structs singles texts (given structs singles texts functions main 0) main checks) (map type_of tys) ≡ map (parts.kind_at structs singles texts functions main) tys
     kinds_are tys = map_map type_of (kind_of (length structs) singles) tys
 
     function_is : (f : Function) → function_made structs singles texts (given structs singles texts functions main 0) main checks (function_of texts f) ≡ l.function_code structs singles texts functions main checks f

@@ -9,7 +9,7 @@ use Rattle.c0_typed.specs.declared.tree.Statement.{Statement, Row_of-Statement, 
 use Rattle.c0_typed.specs.declared.tree.Function.{Function}
 use Rattle.c0_typed.specs.declared.tree.Typed.{Typed}
 use Rattle.code_form.specs.declared.form.Kind.{Kind}
-use Rattle.lower.specs.Gathered as g
+use Rattle.lower_tables.specs.Gathered as g
 
 abbrev mutual
   -- those of an expression

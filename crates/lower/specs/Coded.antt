@@ -9,7 +9,7 @@ use Rattle.code_form.specs.declared.allocation.Allocation.{Allocation}
 use Rattle.code_form.specs.Code.{cells_of, length_of, of_bool, of_int, sizes, text_at}
 use Rattle.code_form.specs.Effects.{Heap}
 use Rattle.code_form.specs.Form.{Head}
-use Rattle.lower.specs.Kinds as k
+use Rattle.lower_tables.specs.Kinds as k
 
 -- a cell that stands for a value, where texts are those of an image
 abbrev pub Coded : Head → Value → ℕ → Type 0

@@ -7,8 +7,8 @@ use Rattle.c0_typed.specs.declared.tree.Typed.{Typed}
 use Rattle.code_form.specs.declared.form.Kind.{Kind}
 use Rattle.middle_form.specs.Form.{Program}
 use Rattle.middle_form.specs.Meaning.{means}
-use Rattle.lower.specs.Gathered.{singles_of}
-use Rattle.lower.specs.Known.{KnowsProgram}
+use Rattle.lower_tables.specs.Gathered.{singles_of}
+use Rattle.lower_tables.specs.Known.{KnowsProgram}
 use Rattle.lower.specs.Lowered.{lowered}
 
 -- for every number of turns the code means what the program does: the same output, and the same stop or cut; so it is never stuck

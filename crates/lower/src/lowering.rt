@@ -2,7 +2,7 @@
 ghost use Rattle.c0_source.specs.FaultNumbers.{memory_fault};
 ghost use Rattle.c0_typed.specs.Typing.{FitsProgram};
 ghost use Rattle.c0_typed.specs.Views.{program_of};
-ghost use Rattle.lower.specs.Gathered.{singles_of};
+ghost use Rattle.lower_tables.specs.Gathered.{singles_of};
 ghost use Rattle.lower.specs.Laws.{MeansTheSame};
 ghost use Rattle.lower.specs.Lowered.{lowered as lowered_with};
 ghost use Rattle.middle_form.specs.Views.{program_of as program_read};

@@ -1,23 +1,25 @@
 //! Structured code of functions and of whole programs.
 ghost use Rattle.c0_typed.specs.Views.{type_of};
-ghost use Rattle.lower.specs.Building.{function_code, kind_at, locals_of, structs_in};
-ghost use Rattle.lower.specs.Gathered.{singles_of};
-ghost use Rattle.lower.specs.Kinds.{layouts_of};
-ghost use Rattle.lower.specs.Known.{KnowsProgram};
+ghost use Rattle.lower.specs.Building.{function_code, locals_of};
+ghost use Rattle.lower_expressions.specs.Building.{kind_at, structs_in};
+ghost use Rattle.lower_tables.specs.Gathered.{singles_of};
+ghost use Rattle.lower_tables.specs.Kinds.{layouts_of};
+ghost use Rattle.lower_tables.specs.Known.{KnowsProgram};
 ghost use Rattle.lower.specs.Lowered.{lowered as lowered_with, result_kind as result_with, with_main_first};
-ghost use Rattle.lower.specs.Tables.{structs_of};
+ghost use Rattle.lower_tables.specs.Tables.{structs_of};
 ghost use Rattle.middle_form.specs.Views.{function_of, program_of};
 ghost use Rattle.std.specs.Prelude.{◌≡◌, ◌++◌, ◌∷◌, ◌+◌, ◌<◌, ◌^◌, [], IfOk, OnOk, length, map, string_bytes};
 
-use crate::building::{fresh, sequence};
-use crate::context::Context;
-use crate::gathering::gathered;
-use crate::kinds::kind_of;
-use crate::statement_code::{conditions, statements};
-use crate::struct_layouts::{add_single_layouts, all_starts, struct_layouts};
-use crate::texts::text_numbers;
+use crate::statement_code::statements;
 use c0_typed::{Function, Typed, ValueType};
 use code_form::Kind;
+use lower_expressions::building::{fresh, sequence};
+use lower_expressions::condition_code::conditions;
+use lower_expressions::context::Context;
+use lower_tables::gathering::gathered;
+use lower_tables::kinds::kind_of;
+use lower_tables::struct_layouts::{add_single_layouts, all_starts, struct_layouts};
+use lower_tables::texts::text_numbers;
 use middle_form::{Code, Middle};
 use std::alloc::{AllocError, Global};
 

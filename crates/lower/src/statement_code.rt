@@ -1,19 +1,20 @@
 //! The code of statements.
 ghost use Rattle.c0_typed.specs.declared.tree.Statement.TheViews.{If, Loop};
 ghost use Rattle.c0_typed.specs.declared.tree.Statement.{Assert, Error, ReturnValue, Set, Store, StoreUpdate, Update};
-ghost use Rattle.lower.specs.Building.{block_code, body_kinds, codes, conditions_code, conditions_kinds, stmt_code, stmt_kinds};
-ghost use Rattle.lower.specs.Lowered.{sequence as in_order};
-ghost use Rattle.middle_form.specs.Form.{Fetch, Keep};
+ghost use Rattle.lower.specs.Building.{block_code, body_kinds, stmt_code, stmt_kinds};
+ghost use Rattle.lower_expressions.specs.Building.{codes, conditions_code, conditions_kinds};
+ghost use Rattle.lower_expressions.specs.Expressions.{sequence as in_order};
 ghost use Rattle.middle_form.specs.Views.{code_of};
 ghost use Rattle.std.specs.Prelude.{◌≡◌, ◌++◌, ◌∷◌, ◌+◌, [], IfOk, OnOk, length};
 
-use crate::building::{fresh, local_register, put, sequence};
-use crate::context::Context;
-use crate::expression_code::expression;
-use crate::place_code::{Cell, place};
 use c0_typed::{Expression, Place, Statement};
 use cells::Int32Op;
 use code_form::{Kind, Operation};
+use lower_expressions::building::{fresh, local_register, put, sequence};
+use lower_expressions::condition_code::conditions;
+use lower_expressions::context::Context;
+use lower_expressions::expression_code::expression;
+use lower_expressions::place_code::{load_cell, place, store_cell};
 use middle_form::Code;
 use std::alloc::AllocError;
 
@@ -120,7 +121,7 @@ fn store(
 {
     let target = place(context, kinds, code, to)?;
     let stored = expression(context, kinds, code, value)?;
-    keep(code, target, stored)?;
+    store_cell(code, target, stored)?;
     Ok(())
 }
 
@@ -139,7 +140,7 @@ fn store_update(
 {
     let held = fresh(kinds, Kind::Int)?;
     let cell = place(context, kinds, code, to)?;
-    fetch(code, held, cell)?;
+    load_cell(code, held, cell)?;
     let right = expression(context, kinds, code, value)?;
     let from = put(
         code,
@@ -151,7 +152,7 @@ fn store_update(
             right,
         },
     )?;
-    keep(code, cell, from)?;
+    store_cell(code, cell, from)?;
     Ok(())
 }
 
@@ -302,57 +303,5 @@ pub(crate) fn statements(
     for part in all {
         statement(context, kinds, code, part, out)?;
     }
-    Ok(())
-}
-
-/// The code of conditions that must hold, where contracts are checked.
-pub(crate) fn conditions(
-    context: &Context,
-    kinds: &mut Vec<Kind>,
-    code: &mut Vec<Code>,
-    all: &[Expression],
-) -> Result<(), AllocError>
-    ensures registers { OnOk result (kinds.new.items ≡ kinds.old.items ++ conditions_kinds context.now all.now) }
-    ensures added { OnOk result (codes code.new.items ≡ codes code.old.items ++ conditions_code context.now all.now (length kinds.old.items)) }
-{
-    if !context.checks {
-        return Ok(());
-    }
-    for condition in all {
-        let register = expression(context, kinds, code, condition)?;
-        let _register = put(
-            code,
-            register,
-            Operation::Assert {
-                condition: register,
-            },
-        )?;
-    }
-    Ok(())
-}
-
-/// Register `to` gets what a cell holds.
-fn fetch(code: &mut Vec<Code>, to: u32, cell: Cell) -> Result<(), AllocError>
-    ensures { OnOk result (codes code.new.items ≡ codes code.old.items ++ Fetch to cell.register cell.offset cell.displacement ∷ []) }
-{
-    code.push(Code::Fetch {
-        to,
-        register: cell.register,
-        offset: cell.offset,
-        displacement: cell.displacement,
-    })?;
-    Ok(())
-}
-
-/// A cell gets what a register holds.
-fn keep(code: &mut Vec<Code>, cell: Cell, from: u32) -> Result<(), AllocError>
-    ensures { OnOk result (codes code.new.items ≡ codes code.old.items ++ Keep cell.register cell.offset cell.displacement from ∷ []) }
-{
-    code.push(Code::Keep {
-        register: cell.register,
-        offset: cell.offset,
-        displacement: cell.displacement,
-        from,
-    })?;
     Ok(())
 }

@@ -11,11 +11,11 @@ pub data Code : Type 0 where
   -- a simple instruction
   Do : Operation → Code
   -- a register gets what a cell of the allocation in register r holds: cell disp, or that many behind the offset in `off`
-  Fetch : (to r : ℕ) → (off : Option ℕ) → (disp : ℕ) → Code
+  Load : (to r : ℕ) → (off : Option ℕ) → (disp : ℕ) → Code
   -- such a cell gets what a register holds
-  Keep : (r : ℕ) → (off : Option ℕ) → (disp from : ℕ) → Code
+  Store : (r : ℕ) → (off : Option ℕ) → (disp from : ℕ) → Code
   -- calls a function; a register gets its result, where there is one
-  Invoke : (to : Option ℕ) → (function : ℕ) → (arguments : List ℕ) → Code
+  Call : (to : Option ℕ) → (function : ℕ) → (arguments : List ℕ) → Code
   -- stops the program by `error` with the text in a register
   Fail : (a : ℕ) → Code
   -- one behind the other

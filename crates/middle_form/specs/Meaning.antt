@@ -8,7 +8,7 @@ use Rattle.code_form.specs.declared.form.Kind.TheVariants as kind
 use Rattle.code_form.specs.Code.{Did, Goes, Tells, Sets, Makes, Prints, Stops, Fails, call_fits, can_use, has, if_zero, int_of, offset, op_did, place_fits, text_at}
 use Rattle.code_form.specs.Effects.{Heap, saved}
 use Rattle.code_form.specs.Form.{Head}
-use Rattle.middle_form.specs.Form.{Code, Nothing, Do, Fetch, Keep, Invoke, Fail, Then, Choose, Loop, Block, Exit, Function, Program}
+use Rattle.middle_form.specs.Form.{Code, Nothing, Do, Load, Store, Call, Fail, Then, Choose, Loop, Block, Exit, Function, Program}
 
 -- ---- states and outcomes
 
@@ -85,12 +85,12 @@ abbrev pub can_access : Head → List Kind → State → Registers → (a r : �
 can_access H ks s rs a r off disp = place_fits ks r off && can_use H ks s.allocations a r disp (slice_index rs r) (cell_at rs off disp)
 
 -- a load
-abbrev pub fetched : Head → List Kind → (to r : ℕ) → Option ℕ → ℕ → Registers → State → Outcome Left
-fetched H ks to r off disp rs s = where_so (can_access H ks s rs to r off disp) (on (slice_set rs to (s.heap (slice_index rs r) (cell_at rs off disp))) s)
+abbrev pub loaded : Head → List Kind → (to r : ℕ) → Option ℕ → ℕ → Registers → State → Outcome Left
+loaded H ks to r off disp rs s = where_so (can_access H ks s rs to r off disp) (on (slice_set rs to (s.heap (slice_index rs r) (cell_at rs off disp))) s)
 
 -- a store
-abbrev pub kept : Head → List Kind → (r : ℕ) → Option ℕ → (disp from : ℕ) → Registers → State → Outcome Left
-kept H ks r off disp from rs s =
+abbrev pub stored : Head → List Kind → (r : ℕ) → Option ℕ → (disp from : ℕ) → Registers → State → Outcome Left
+stored H ks r off disp from rs s =
     where_so (can_access H ks s rs from r off disp) (on rs (record s { heap = saved s.heap (slice_index rs r) (cell_at rs off disp) (slice_index rs from) }))
 
 -- the program stops by `error`
@@ -116,18 +116,18 @@ gives (Some d) v rs = slice_set rs d v
 -- A call is made by `call`: which function, its arguments, and the state. `ks` are the kinds of the registers of the function that runs.
 module _ (P : Program) (call : ℕ → List ℕ → State → Outcome ℕ) (ks : List Kind) where
   -- a call of this function
-  abbrev pub invoked : Option Function → Option ℕ → ℕ → List ℕ → Registers → State → Outcome Left
-  invoked None to f args rs s = Stuck
-  invoked (Some g) to f args rs s =
+  abbrev pub called : Option Function → Option ℕ → ℕ → List ℕ → Registers → State → Outcome Left
+  called None to f args rs s = Stuck
+  called (Some g) to f args rs s =
       where_so (call_fits ks g.result g.parameters g.kinds to args) (then_do (call f (map (slice_index rs) args) s) (λ v t. on (gives to v rs) t))
 
   -- what code does
   abbrev pub run : Code → Registers → State → Outcome Left
   run Nothing rs s = on rs s
   run (Do o) rs s = operated (op_did P.head ks s.allocations rs o) rs s
-  run (Fetch to r off disp) rs s = fetched P.head ks to r off disp rs s
-  run (Keep r off disp from) rs s = kept P.head ks r off disp from rs s
-  run (Invoke to f args) rs s = invoked (slice_get P.functions f) to f args rs s
+  run (Load to r off disp) rs s = loaded P.head ks to r off disp rs s
+  run (Store r off disp from) rs s = stored P.head ks r off disp from rs s
+  run (Call to f args) rs s = called (slice_get P.functions f) to f args rs s
   run (Fail a) rs s = where_so (has ks a kind.Text) (failed (text_at P.head (slice_index rs a)) s)
   run (Then a b) rs s = then_do (run a rs s) (falls (run b))
   run (Choose a b c) rs s = where_so (has ks a kind.Bool) (if_zero (slice_index rs a) (run c rs s) (run b rs s))

@@ -5,7 +5,7 @@ use Rattle.code_form.specs.declared.form.Kind.TheVariants as kind
 use Rattle.code_form.specs.declared.form.Relation.TheVariants as relation
 use Rattle.code_form.specs.declared.form.Operation.TheVariants.{Const, TextOf, Move, Binary, Compare, CheckNull, CheckIndex, Alloc, AllocArray, Null, Printint}
 use Rattle.code_form.specs.Form.{Head}
-use Rattle.middle_form.specs.Form.{Code, Nothing, Do, Fetch, Keep, Invoke, Fail, Then, Choose, Loop, Block, Exit, Program}
+use Rattle.middle_form.specs.Form.{Code, Nothing, Do, Load, Store, Call, Fail, Then, Choose, Loop, Block, Exit, Program}
 
 -- code in order
 abbrev pub in_order : List Code → Code
@@ -34,7 +34,7 @@ abbrev pub fibonacci : Program
 fibonacci = record {
   head = head;
   functions =
-      record { result = Some kind.Int; parameters = 0; kinds = kind.Int ∷ []; body = Then (Do (Const 0 (pos 5))) (Invoke (Some 0) 1 (0 ∷ [])); value = 0 }
+      record { result = Some kind.Int; parameters = 0; kinds = kind.Int ∷ []; body = Then (Do (Const 0 (pos 5))) (Call (Some 0) 1 (0 ∷ [])); value = 0 }
       ∷ record {
         result = Some kind.Int;
         parameters = 1;
@@ -42,7 +42,7 @@ fibonacci = record {
         kinds = kind.Int ∷ kind.Bool ∷ kind.Int ∷ kind.Int ∷ kind.Int ∷ [];
         body = Block (in_order (
             Do (Const 3 (pos 2)) ∷ Do (Compare relation.Less 1 0 3) ∷ Choose 1 (Then (Do (Move 2 0)) (Exit 0)) Nothing
-            ∷ Do (Binary Sub 4 0 3) ∷ Invoke (Some 2) 1 (4 ∷ []) ∷ Do (Const 3 (pos 1)) ∷ Do (Binary Sub 4 0 3) ∷ Invoke (Some 4) 1 (4 ∷ []) ∷ Do (Binary Add 2 2 4) ∷ []));
+            ∷ Do (Binary Sub 4 0 3) ∷ Call (Some 2) 1 (4 ∷ []) ∷ Do (Const 3 (pos 1)) ∷ Do (Binary Sub 4 0 3) ∷ Call (Some 4) 1 (4 ∷ []) ∷ Do (Binary Add 2 2 4) ∷ []));
         value = 2;
       } ∷ [];
 }
@@ -63,14 +63,14 @@ stepping = program_of (
 -- a struct that points to itself: 7 is stored and read by way of the pointer in it
 abbrev pub pointing : Program
 pointing = program_of (in_order (
-    Do (Alloc 3 0) ∷ Do (Const 0 (pos 7)) ∷ Keep 3 None 0 0 ∷ Keep 3 None 1 3 ∷ Do (Const 0 (pos 0))
-    ∷ Fetch 3 3 None 1 ∷ Do (CheckNull 3) ∷ Fetch 0 3 None 0 ∷ []))
+    Do (Alloc 3 0) ∷ Do (Const 0 (pos 7)) ∷ Store 3 None 0 0 ∷ Store 3 None 1 3 ∷ Do (Const 0 (pos 0))
+    ∷ Load 3 3 None 1 ∷ Do (CheckNull 3) ∷ Load 0 3 None 0 ∷ []))
 
 -- element 2 of an array of three is set to 9, and then element i is read
 abbrev pub indexing : ℕ → Program
 indexing i = program_of (in_order (
-    Do (Const 2 (pos 3)) ∷ Do (AllocArray 4 1 2) ∷ Do (Const 2 (pos 2)) ∷ Do (CheckIndex 5 4 2 1) ∷ Do (Const 0 (pos 9)) ∷ Keep 4 (Some 5) 0 0
-    ∷ Do (Const 2 (pos i)) ∷ Do (CheckIndex 5 4 2 1) ∷ Fetch 0 4 (Some 5) 0 ∷ []))
+    Do (Const 2 (pos 3)) ∷ Do (AllocArray 4 1 2) ∷ Do (Const 2 (pos 2)) ∷ Do (CheckIndex 5 4 2 1) ∷ Do (Const 0 (pos 9)) ∷ Store 4 (Some 5) 0 0
+    ∷ Do (Const 2 (pos i)) ∷ Do (CheckIndex 5 4 2 1) ∷ Load 0 4 (Some 5) 0 ∷ []))
 
 -- prints, and stops by a text
 abbrev pub failing : Program
@@ -82,4 +82,4 @@ null_checked = program_of (Then (Do (Null 3)) (Do (CheckNull 3)))
 
 -- NULL, not checked before a load
 abbrev pub null_loaded : Program
-null_loaded = program_of (Then (Do (Null 3)) (Fetch 0 3 None 0))
+null_loaded = program_of (Then (Do (Null 3)) (Load 0 3 None 0))

@@ -1,7 +1,7 @@
 -- Structured code as programs hold it, read as that of the definitions.
 use Rattle.std.specs.Prelude.{List, [], ◌∷◌, map, string_bytes}
 use Rattle.middle_form.specs.Form as m
-use Rattle.middle_form.specs.declared.form.Code.{Code, Row_of-Code, end_of-Code, more_of-Code, Sequence', Do, Fetch, Keep, Invoke, Fail, Choose', Loop', Block', Exit}
+use Rattle.middle_form.specs.declared.form.Code.{Code, Row_of-Code, end_of-Code, more_of-Code, Sequence', Do, Load, Store, Call, Fail, Choose', Loop', Block', Exit}
 use Rattle.middle_form.specs.declared.form.Function.{Function}
 use Rattle.middle_form.specs.declared.form.Middle.{Middle}
 
@@ -10,9 +10,9 @@ abbrev mutual
   pub code_of : Code → m.Code
   code_of (Sequence' shape all) = row_of all
   code_of (Do o) = m.Do o
-  code_of (Fetch to r off disp) = m.Fetch to r off disp
-  code_of (Keep r off disp from) = m.Keep r off disp from
-  code_of (Invoke to f args) = m.Invoke to f args.items
+  code_of (Load to r off disp) = m.Load to r off disp
+  code_of (Store r off disp from) = m.Store r off disp from
+  code_of (Call to f args) = m.Call to f args.items
   code_of (Fail a) = m.Fail a
   code_of (Choose' a p b q c) = m.Choose a (code_of b) (code_of c)
   code_of (Loop' p test a q body) = m.Loop (code_of test) a (code_of body)

@@ -3,7 +3,7 @@ use Rattle.std.specs.Prelude.{ℕ, suc, ◌&&◌, nat_lt, Bool, true, false, Lis
 use Rattle.code_form.specs.declared.form.Kind.{Kind}
 use Rattle.code_form.specs.declared.form.Kind.TheVariants as kind
 use Rattle.code_form.specs.Code.{call_fits, cell_kind, has, on_kind, op_fits, place_fits}
-use Rattle.middle_form.specs.Form.{Code, Nothing, Do, Fetch, Keep, Invoke, Fail, Then, Choose, Loop, Block, Exit, Function, Program}
+use Rattle.middle_form.specs.Form.{Code, Nothing, Do, Load, Store, Call, Fail, Then, Choose, Loop, Block, Exit, Function, Program}
 
 -- In what follows ks are the kinds of the registers of the function that the code is of.
 module _ (P : Program) (ks : List Kind) where
@@ -12,17 +12,17 @@ module _ (P : Program) (ks : List Kind) where
   access_fits a r off disp = place_fits ks r off && on_kind (λ k. has ks a k) (cell_kind P.head ks r disp)
 
   -- the function is there, and takes and gives what the call names
-  abbrev pub invocation_fits : Option Function → Option ℕ → List ℕ → Bool
-  invocation_fits None to args = false
-  invocation_fits (Some g) to args = call_fits ks g.result g.parameters g.kinds to args
+  abbrev pub callee_fits : Option Function → Option ℕ → List ℕ → Bool
+  callee_fits None to args = false
+  callee_fits (Some g) to args = call_fits ks g.result g.parameters g.kinds to args
 
   -- code with so many loops and blocks round it
   abbrev pub code_fits : ℕ → Code → Bool
   code_fits around Nothing = true
   code_fits around (Do o) = op_fits P.head ks o
-  code_fits around (Fetch to r off disp) = access_fits to r off disp
-  code_fits around (Keep r off disp from) = access_fits from r off disp
-  code_fits around (Invoke to f args) = invocation_fits (slice_get P.functions f) to args
+  code_fits around (Load to r off disp) = access_fits to r off disp
+  code_fits around (Store r off disp from) = access_fits from r off disp
+  code_fits around (Call to f args) = callee_fits (slice_get P.functions f) to args
   code_fits around (Fail a) = has ks a kind.Text
   code_fits around (Then a b) = code_fits around a && code_fits around b
   code_fits around (Choose a b c) = has ks a kind.Bool && (code_fits around b && code_fits around c)

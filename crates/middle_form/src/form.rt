@@ -9,21 +9,21 @@ pub enum Code {
     /// A simple instruction.
     Do(Operation),
     /// Register `to` gets what a cell holds: that `displacement` cells behind the offset, in what `register` refers to.
-    Fetch {
+    Load {
         to: u32,
         register: u32,
         offset: Option<u32>,
         displacement: u32,
     },
     /// Such a cell gets what register `from` holds.
-    Keep {
+    Store {
         register: u32,
         offset: Option<u32>,
         displacement: u32,
         from: u32,
     },
     /// Calls a function with what these registers hold; `to` is where its result goes, if it has one.
-    Invoke {
+    Call {
         to: Option<u32>,
         function: u32,
         arguments: Vec<u32>,

@@ -1,6 +1,6 @@
 //! What the definitions come to for some programs: functions that do nothing, and whose contracts hold.
 ghost use Rattle.cells.specs.Stops.{BoundsFault, Ended, ErrorCalled, NullFault};
-ghost use Rattle.middle_form.specs.Form.{Exit, Fetch, Invoke};
+ghost use Rattle.middle_form.specs.Form.{Exit, Load, Call};
 ghost use Rattle.middle_form.specs.Meaning.{means};
 ghost use Rattle.middle_form.specs.Samples.{counting, failing, fibonacci, indexing, null_checked, null_loaded, pointing, program_of, stepping};
 ghost use Rattle.middle_form.specs.WellFormed.{is_well_formed};
@@ -30,10 +30,10 @@ pub fn formed()
     ensures cells { is_well_formed pointing ≡ true }
     ensures elements { is_well_formed (indexing 3) ≡ true }
     ensures exit { is_well_formed (program_of (Exit 0)) ≡ false }
-    ensures function { is_well_formed (program_of (Invoke None 1 [])) ≡ false }
-    ensures kind { is_well_formed (program_of (Fetch 1 3 None 0)) ≡ false }
+    ensures function { is_well_formed (program_of (Call None 1 [])) ≡ false }
+    ensures kind { is_well_formed (program_of (Load 1 3 None 0)) ≡ false }
     ensures stuck_exit { means (program_of (Exit 0)) 1 ≡ None }
-    ensures stuck_function { means (program_of (Invoke None 1 [])) 1 ≡ None }
-    ensures stuck_kind { means (program_of (Fetch 1 3 None 0)) 1 ≡ None }
+    ensures stuck_function { means (program_of (Call None 1 [])) 1 ≡ None }
+    ensures stuck_kind { means (program_of (Load 1 3 None 0)) 1 ≡ None }
     ensures stuck_null { means null_loaded 1 ≡ None }
 {}

@@ -7,7 +7,7 @@ use std::test::Fail;
 
 /// Counts register 0 up to what a cell holds: register 1 is the test, 2 what the cell holds, 3 the pointer.
 fn counts(alloc: Global) -> Result<Code, AllocError> {
-    let load = Code::Fetch {
+    let load = Code::Load {
         to: 2,
         register: 3,
         offset: None,

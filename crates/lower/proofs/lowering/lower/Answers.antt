@@ -1,7 +1,7 @@
 use Rattle.std.proofs.Common.{◌≡◌, ℕ, sym, subst}
 use Rattle.c0_typed.specs.Views.{program_of}
 use Rattle.c0_typed.specs.Meaning.{mean}
-use Rattle.lower.specs.Gathered.{singles_of}
+use Rattle.lower_tables.specs.Gathered.{singles_of}
 use Rattle.lower.specs.Laws.{MeansTheSame}
 use Rattle.lower.proofs.lowering.lower.Goals as goal
 

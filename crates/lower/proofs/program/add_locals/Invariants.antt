@@ -1,5 +1,5 @@
 use Rattle.std.proofs.Common.{◌≡◌, ◌++◌, map, drop}
-use Rattle.lower.specs.Building.{kind_at}
+use Rattle.lower_expressions.specs.Building.{kind_at}
 use Rattle.lower.proofs.program.add_locals.Given as goal
 
 -- what is there, and then those of the rest

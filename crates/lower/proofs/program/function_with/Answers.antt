@@ -4,11 +4,12 @@ use Rattle.c0_typed.specs.Views.{type_of}
 use Rattle.middle_form.specs.Form as m
 use Rattle.middle_form.specs.Views.{code_of}
 use Rattle.middle_form.specs.declared.form.Code.TheViews.{Sequence}
-use Rattle.lower.specs.Building.{block_code, body_kinds, codes, conditions_code, conditions_kinds, kind_at}
-use Rattle.lower.specs.Kinds.{kind_of}
-use Rattle.lower.specs.Lowered.{sequence}
+use Rattle.lower.specs.Building.{block_code, body_kinds}
+use Rattle.lower_expressions.specs.Building.{codes, conditions_code, conditions_kinds, kind_at}
+use Rattle.lower_tables.specs.Kinds.{kind_of}
+use Rattle.lower_expressions.specs.Expressions.{sequence}
 use Rattle.lower.proofs.CodeFunctions.{before_body, code_in_order, function_is, kinds_in_order, parts_are}
-use Rattle.lower.proofs.CodeLists.{sequence_is}
+use Rattle.lower_expressions.proofs.CodeLists.{sequence_is}
 use Rattle.lower.proofs.program.function_with.Goals as goal
 
 pub returns : goal.returns

@@ -2,9 +2,9 @@ use Rattle.std.proofs.Common.{◌≡◌, [], sym, ap, ◌∙◌, arith, rules, l
 use Rattle.std.specs.Prelude.{string_bytes}
 use Rattle.std.proofs.lemmas.List.{length-map}
 use Rattle.c0_typed.specs.Views.{struct_of}
-use Rattle.lower.specs.Kinds.{struct_layouts}
-use Rattle.lower.specs.Lowered.{number_from}
-use Rattle.lower.specs.Tables.{layouts_read, offsets_read, starts, structs_of}
+use Rattle.lower_tables.specs.Kinds.{struct_layouts}
+use Rattle.lower_tables.specs.Texts.{number_from}
+use Rattle.lower_tables.specs.Tables.{layouts_read, offsets_read, starts, structs_of}
 use Rattle.lower.proofs.program.lowered_over.Goals as goal
 
 pub invariant_of-functions : goal.invariant_of-functions

@@ -1,7 +1,9 @@
 use Rattle.std.proofs.Common.{◌≡◌, ◌++◌, sym, ap, ◌∙◌, arith, subst, length, OnOk}
-use Rattle.lower.specs.Building.{block_code, body_kinds, codes, stmt_code, stmt_kinds}
-use Rattle.lower.proofs.CodeRows.{code_of_block, kinds_of_block, size_in_body, size_of_block}
-use Rattle.lower.proofs.CodeSizes.{size_body, size_statement}
+use Rattle.lower.specs.Building.{block_code, body_kinds, stmt_code, stmt_kinds}
+use Rattle.lower_expressions.specs.Building.{codes}
+use Rattle.lower_tables.proofs.SizeRows.{size_in_body, size_of_block}
+use Rattle.lower.proofs.StatementRows.{code_of_block, kinds_of_block}
+use Rattle.lower_tables.proofs.CodeSizes.{size_body, size_statement}
 use Rattle.lower.proofs.statement_code.+statements.Goals as goal
 
 pub statements-statement-requires : goal.statements-statement-requires

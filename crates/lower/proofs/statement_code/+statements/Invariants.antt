@@ -1,6 +1,7 @@
 use Rattle.std.proofs.Common.{◌≡◌, ◌++◌, ◌+◌, ◌*◌, ℕ, length, drop}
-use Rattle.lower.specs.Building.{block_code, body_kinds, codes}
-use Rattle.lower.proofs.CodeSizes.{size_body, size_statement}
+use Rattle.lower.specs.Building.{block_code, body_kinds}
+use Rattle.lower_expressions.specs.Building.{codes}
+use Rattle.lower_tables.proofs.CodeSizes.{size_body, size_statement}
 use Rattle.lower.proofs.statement_code.+statements.Given as goal
 
 abbrev pub decreases-statement : goal.decreases-statement

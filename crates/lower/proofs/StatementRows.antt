@@ -1,0 +1,31 @@
+-- Statements that stand in vectors, as lists.
+use Rattle.std.proofs.Common.{◌≡◌, refl, ap, ◌∙◌, sym, arith, rules, List, [], ◌∷◌, ◌++◌, ℕ, ◌+◌, length}
+use Rattle.std.specs.declared.vec.Vec.{Vec}
+use Rattle.std.specs.declared.alloc.Global.{Global}
+use Rattle.c0_typed.specs.Views.{texts_of}
+use Rattle.c0_typed.specs.declared.tree.Statement.{Statement, Row_of-Statement, end_of-Statement, more_of-Statement, items-the_row-Statement, the_lemmas as statement_lemmas}
+use Rattle.c0_typed.specs.declared.tree.Statement.TheViews.{Block}
+use Rattle.lower_expressions.specs.Building.{structs_in}
+use Rattle.lower_expressions.specs.declared.context.Context.{Context}
+use Rattle.lower.specs.Lowered as l
+use Rattle.lower.specs.Building as b
+
+module _ (c : Context) where
+  block_kinds_is : {n : _} (k : Row_of-Statement n) → l.block_kinds (structs_in c) c.singles.now (texts_of c.typed.now) c.typed.now.functions.items c.typed.now.main c.checks k ≡ b.body_kinds c (items-the_row-Statement n k)
+  block_kinds_is end_of-Statement = refl
+  block_kinds_is (more_of-Statement e rest) = ap (λ ks. b.stmt_kinds c e ++ ks) (block_kinds_is rest)
+
+  block_code_is : {n : _} (k : Row_of-Statement n) (d out : ℕ) → l.block_code (structs_in c) c.singles.now (texts_of c.typed.now) c.typed.now.functions.items c.typed.now.main c.locals c.checks k d out ≡ b.block_code c (items-the_row-Statement n k) d out
+  block_code_is end_of-Statement d out = refl
+  block_code_is (more_of-Statement e rest) d out = ap (λ cs. b.stmt_code c e d out ++ cs) (block_code_is rest (d + length (b.stmt_kinds c e)) out)
+
+  pub kinds_of_block : (all : Vec Statement Global) → b.stmt_kinds c (Block all) ≡ b.body_kinds c all.items
+  kinds_of_block all = search (rules, statement_lemmas, block_kinds_is)
+
+  pub code_of_block : (all : Vec Statement Global) (d out : ℕ) → b.stmt_code c (Block all) d out ≡ b.block_code c all.items d out
+  code_of_block all d out = search (rules, statement_lemmas, block_code_is)
+
+  -- a body is left by leaving the block round it
+  pub body_code_is : (all : List Statement) (d : ℕ) → l.body_code (structs_in c) c.singles.now (texts_of c.typed.now) c.typed.now.functions.items c.typed.now.main c.locals c.checks all d ≡ b.block_code c all d 0
+  body_code_is [] d = refl
+  body_code_is (e ∷ rest) d = ap (λ cs. b.stmt_code c e d 0 ++ cs) (body_code_is rest (d + length (b.stmt_kinds c e)))

@@ -1,7 +1,0 @@
-use Rattle.std.proofs.Common.{sym, ap, ◌∙◌, rules}
-use Rattle.middle_form.specs.Views.{code_of}
-use Rattle.lower.proofs.CodeLists.{sequence_is}
-use Rattle.lower.proofs.building.sequence.Goals as goal
-
-pub returns : goal.returns
-returns c = ap code_of c.in_ok-whole.ensures.ok ∙ sequence_is c.args.parts

@@ -1,0 +1,2 @@
+pub mod CodeLists
+pub mod CodeRows

@@ -1,0 +1,5 @@
+pub mod Gathered
+pub mod Kinds
+pub mod Known
+pub mod Tables
+pub mod Texts

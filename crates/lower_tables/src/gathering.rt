@@ -1,0 +1,239 @@
+//! The kinds of single cells that a program needs.
+ghost use Rattle.c0_typed.specs.Views.{type_of};
+ghost use Rattle.lower_tables.specs.Gathered.{all_learned, learned, singles_of, types_at, types_in, types_in_all, types_of, types_of_all, types_of_function, types_of_functions, with_kind};
+ghost use Rattle.lower_tables.specs.Known.{KnowsProgram};
+ghost use Rattle.lower_tables.specs.Tables.{structs_of};
+ghost use Rattle.std.specs.Prelude.{◌≡◌, ◌++◌, ◌+◌, ◌<◌, ◌^◌, IfOk, OnOk, length, map};
+
+use crate::kinds::{layout_number, position};
+use c0_typed::{Expression, Function, Place, Statement, Typed, ValueType};
+use code_form::Kind;
+use std::alloc::{AllocError, Global};
+
+/// One more kind, where the list does not have it yet. More than have numbers of 32 bits can't be had.
+fn add_kind(structs: u32, singles: &mut Vec<Kind>, kind: Kind) -> Result<(), AllocError>
+    requires { structs + length singles.old.items + 1 < 2 ^ 32 }
+    ensures numbered { structs + length singles.new.items + 1 < 2 ^ 32 }
+    ensures learned { OnOk result (singles.new.items ≡ with_kind kind singles.old.items) }
+{
+    if position(singles, kind) < singles.len() {
+        return Ok(());
+    }
+    if singles.len() + 2 + structs as usize > u32::MAX as usize {
+        return Err(AllocError);
+    }
+    singles.push(kind)?;
+    Ok(())
+}
+
+/// What a type tells.
+fn learn(structs: u32, singles: &mut Vec<Kind>, ty: &ValueType) -> Result<(), AllocError>
+    requires { structs + length singles.old.items + 1 < 2 ^ 32 }
+    ensures numbered { structs + length singles.new.items + 1 < 2 ^ 32 }
+    ensures learned { OnOk result (singles.new.items ≡ learned structs singles.old.items (type_of ty.now)) }
+{
+    match ty {
+        ValueType::Void | ValueType::Struct(_) => Ok(()),
+        ValueType::Int => add_kind(structs, singles, Kind::Int),
+        ValueType::Bool => add_kind(structs, singles, Kind::Bool),
+        ValueType::Char => add_kind(structs, singles, Kind::Char),
+        ValueType::Text => add_kind(structs, singles, Kind::Text),
+        ValueType::Pointer(inner) => {
+            learn(structs, singles, inner)?;
+            let kind = Kind::Ptr(layout_number(structs, singles, inner));
+            add_kind(structs, singles, kind)
+        }
+        ValueType::Array(inner) => {
+            learn(structs, singles, inner)?;
+            let kind = Kind::Arr(layout_number(structs, singles, inner));
+            add_kind(structs, singles, kind)
+        }
+    }
+}
+
+/// What an expression tells.
+#[cycle(gathering)]
+#[tactic(auto, using(crate::proofs::CodeGathered::all_learned_append))]
+fn from_expression(
+    structs: u32,
+    singles: &mut Vec<Kind>,
+    whole: &Expression,
+) -> Result<(), AllocError>
+    requires { structs + length singles.old.items + 1 < 2 ^ 32 }
+    ensures numbered { structs + length singles.new.items + 1 < 2 ^ 32 }
+    ensures learned { OnOk result (singles.new.items ≡ all_learned structs singles.old.items (types_in whole.now)) }
+{
+    match whole {
+        Expression::Constant(_) | Expression::Null(_) | Expression::Local(_) => Ok(()),
+        Expression::Unary(_, operand) | Expression::Length(_, operand) => {
+            from_expression(structs, singles, operand)
+        }
+        Expression::Binary(_, left, right)
+        | Expression::Compare(_, _, left, right)
+        | Expression::And(left, right)
+        | Expression::Or(left, right) => from_two(structs, singles, left, right),
+        Expression::Choose(_, condition, first, second) => {
+            from_expression(structs, singles, condition)?;
+            from_two(structs, singles, first, second)
+        }
+        Expression::Call(_, given) => from_expressions(structs, singles, given),
+        Expression::Print(_, given) => from_expressions(structs, singles, given),
+        Expression::Read(_, place) => from_place(structs, singles, place),
+        Expression::Alloc(ty) => learn(structs, singles, ty),
+        Expression::AllocArray(ty, count) => {
+            learn(structs, singles, ty)?;
+            from_expression(structs, singles, count)
+        }
+    }
+}
+
+/// What two expressions tell.
+#[cycle(gathering)]
+#[tactic(auto, using(crate::proofs::CodeGathered::all_learned_append))]
+fn from_two(
+    structs: u32,
+    singles: &mut Vec<Kind>,
+    left: &Expression,
+    right: &Expression,
+) -> Result<(), AllocError>
+    requires { structs + length singles.old.items + 1 < 2 ^ 32 }
+    ensures numbered { structs + length singles.new.items + 1 < 2 ^ 32 }
+    ensures learned { OnOk result (singles.new.items ≡ all_learned structs singles.old.items (types_in left.now ++ types_in right.now)) }
+{
+    from_expression(structs, singles, left)?;
+    from_expression(structs, singles, right)?;
+    Ok(())
+}
+
+/// What expressions tell, in order.
+#[cycle(gathering)]
+#[tactic(auto, using(crate::proofs::CodeGathered::all_learned_append))]
+fn from_expressions(
+    structs: u32,
+    singles: &mut Vec<Kind>,
+    all: &[Expression],
+) -> Result<(), AllocError>
+    requires { structs + length singles.old.items + 1 < 2 ^ 32 }
+    ensures numbered { structs + length singles.new.items + 1 < 2 ^ 32 }
+    ensures learned { OnOk result (singles.new.items ≡ all_learned structs singles.old.items (types_in_all all.now)) }
+{
+    for part in all {
+        from_expression(structs, singles, part)?;
+    }
+    Ok(())
+}
+
+/// What a place tells.
+#[cycle(gathering)]
+#[tactic(auto, using(crate::proofs::CodeGathered::all_learned_append))]
+fn from_place(structs: u32, singles: &mut Vec<Kind>, place: &Place) -> Result<(), AllocError>
+    requires { structs + length singles.old.items + 1 < 2 ^ 32 }
+    ensures numbered { structs + length singles.new.items + 1 < 2 ^ 32 }
+    ensures learned { OnOk result (singles.new.items ≡ all_learned structs singles.old.items (types_at place.now)) }
+{
+    match place {
+        Place::Deref(ty, pointer) => {
+            learn(structs, singles, ty)?;
+            from_expression(structs, singles, pointer)
+        }
+        Place::Index(ty, array, index) => {
+            learn(structs, singles, ty)?;
+            from_two(structs, singles, array, index)
+        }
+        Place::Field(_, inner, _) => from_place(structs, singles, inner),
+    }
+}
+
+/// What a statement tells.
+#[cycle(gathering_statements)]
+#[tactic(auto, using(crate::proofs::CodeGathered::all_learned_append))]
+fn from_statement(
+    structs: u32,
+    singles: &mut Vec<Kind>,
+    whole: &Statement,
+) -> Result<(), AllocError>
+    requires { structs + length singles.old.items + 1 < 2 ^ 32 }
+    ensures numbered { structs + length singles.new.items + 1 < 2 ^ 32 }
+    ensures learned { OnOk result (singles.new.items ≡ all_learned structs singles.old.items (types_of whole.now)) }
+{
+    match whole {
+        Statement::Block(all) => from_statements(structs, singles, all),
+        Statement::Set(_, value)
+        | Statement::Update(_, _, value)
+        | Statement::Do(value)
+        | Statement::ReturnValue(value)
+        | Statement::Assert(value)
+        | Statement::Error(value) => from_expression(structs, singles, value),
+        Statement::Store(place, value) | Statement::StoreUpdate(place, _, value) => {
+            from_place(structs, singles, place)?;
+            from_expression(structs, singles, value)
+        }
+        Statement::If(condition, first, second) => {
+            from_expression(structs, singles, condition)?;
+            from_statement(structs, singles, first)?;
+            from_statement(structs, singles, second)
+        }
+        Statement::Loop(invariants, condition, body, step) => {
+            from_expressions(structs, singles, invariants)?;
+            from_expression(structs, singles, condition)?;
+            from_statement(structs, singles, body)?;
+            from_statement(structs, singles, step)
+        }
+        Statement::Return => Ok(()),
+        Statement::Check(all) => from_expressions(structs, singles, all),
+    }
+}
+
+/// What statements tell, in order.
+#[cycle(gathering_statements)]
+#[tactic(auto, using(crate::proofs::CodeGathered::all_learned_append))]
+fn from_statements(
+    structs: u32,
+    singles: &mut Vec<Kind>,
+    all: &[Statement],
+) -> Result<(), AllocError>
+    requires { structs + length singles.old.items + 1 < 2 ^ 32 }
+    ensures numbered { structs + length singles.new.items + 1 < 2 ^ 32 }
+    ensures learned { OnOk result (singles.new.items ≡ all_learned structs singles.old.items (types_of_all all.now)) }
+{
+    for part in all {
+        from_statement(structs, singles, part)?;
+    }
+    Ok(())
+}
+
+/// What a function tells.
+#[tactic(auto, using(crate::proofs::CodeGathered::all_learned_append))]
+fn from_function(
+    structs: u32,
+    singles: &mut Vec<Kind>,
+    function: &Function,
+) -> Result<(), AllocError>
+    requires { structs + length singles.old.items + 1 < 2 ^ 32 }
+    ensures numbered { structs + length singles.new.items + 1 < 2 ^ 32 }
+    ensures learned { OnOk result (singles.new.items ≡ all_learned structs singles.old.items (types_of_function function.now)) }
+{
+    from_expressions(structs, singles, &function.preconditions)?;
+    from_statements(structs, singles, &function.body)?;
+    from_expressions(structs, singles, &function.postconditions)?;
+    Ok(())
+}
+
+/// The kinds of single cells that a program allocates or looks at. More than have numbers of 32 bits can't be had.
+pub fn gathered(alloc: Global, typed: &Typed) -> Result<Vec<Kind>, AllocError>
+    ensures exact { IfOk result (λ v. v.items ≡ singles_of typed.now) }
+    ensures known { IfOk result (λ v. KnowsProgram v.items typed.now) }
+    ensures numbered { IfOk result (λ v. length (structs_of typed.now) + length v.items + 1 < 2 ^ 32) }
+{
+    let Ok(structs) = u32::try_from(typed.structs.len()) else {
+        return Err(AllocError);
+    };
+    if structs == u32::MAX {
+        return Err(AllocError);
+    }
+    let mut singles = Vec::new(alloc);
+    for function in &typed.functions {
+        from_function(structs, &mut singles, function)?;
+    }
+    Ok(singles)
+}
