@@ -199,13 +199,15 @@ Steps c (Err halt.Memory) outcome r = Unit {0}
 abbrev pub Performs : Context → Task → PlainRun → Result (Unit {0}) Halt → PlainRun → Type 0
 Performs c a r result s = let p = pending_of r in Steps c result (does c a (behind c p.tasks) p.depth (values_in c p) (places_in c p) (state_in c p)) (pending_of s)
 
--- an expression, a place or a statement whose first parts are given
+-- the rest of an expression was done, whose first parts were given
 abbrev pub Combines : Context → t.Exp → PlainRun → Result (Unit {0}) Halt → PlainRun → Type 0
 Combines c e r result s = let p = pending_of r in Steps c result (combines c e (behind c p.tasks) p.depth (values_in c p) (places_in c p) (state_in c p)) (pending_of s)
 
+-- the same of a place
 abbrev pub Reaches : Context → t.Place → PlainRun → Result (Unit {0}) Halt → PlainRun → Type 0
 Reaches c place r result s = let p = pending_of r in Steps c result (reaches c place (behind c p.tasks) p.depth (values_in c p) (places_in c p) (state_in c p)) (pending_of s)
 
+-- the same of a statement
 abbrev pub Completes : Context → t.Stmt → PlainRun → Result (Unit {0}) Halt → PlainRun → Type 0
 Completes c a r result s = let p = pending_of r in Steps c result (completes c a (behind c p.tasks) p.depth (values_in c p) (places_in c p) (state_in c p)) (pending_of s)
 

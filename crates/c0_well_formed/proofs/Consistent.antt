@@ -19,6 +19,7 @@ use Rattle.c0_rules.specs.Programs.{typed_program}
 use Rattle.c0_rules.proofs.Programs.{elaborated_fits}
 use Rattle.c0_rules.proofs.Rules.{some_has}
 use Rattle.code_form.specs.declared.form.Kind.{Kind}
+use Rattle.code_form.specs.Counts.{has_few_items}
 use Rattle.code_form.specs.Form as image
 use Rattle.middle_form.specs.Form as f
 use Rattle.lower_tables.specs.Gathered.{singles_of, types_of_functions}
@@ -232,8 +233,8 @@ each_function : (Q : Function → Type 0) (texts : List (List ℕ)) (fs : List F
 each_function Q texts [] go = tt
 each_function Q texts (x ∷ rest) go = (go 0 x refl, each_function Q texts rest (λ i h e. go (suc i) h e))
 
-image_consistent : (checks : Bool) (typed : Typed) → FitsProgram (program_of typed) → IsConsistent (generated (lowered (singles_of typed) checks typed))
-image_consistent checks typed fp =
+image_consistent : (checks : Bool) (typed : Typed) → FitsProgram (program_of typed) → has_few_items (generated (lowered (singles_of typed) checks typed)) ≡ true → IsConsistent (generated (lowered (singles_of typed) checks typed))
+image_consistent checks typed fp few =
     let structs = (program_of typed).structs in
     let singles = singles_of typed in
     let count = layouts_count structs singles in
@@ -241,6 +242,7 @@ image_consistent checks typed fp =
     let sound : Each (IsCellKind (suc (length structs + length singles))) singles =
     subst (λ i. Each (IsCellKind (suc (i + length singles))) singles) same (all_sound (length typed.structs.items) [] (types_of_functions typed.functions.items) tt) in
     record {
+      few = few;
       texts = each_all (All (λ b. b < 128)) (texts_of typed) (each_text (texts_of typed) fp.ascii);
       layouts = subst (λ i. All (All (IsCellKind i)) (layouts_of structs singles)) (sym count)
           (each_all (All (IsCellKind (suc (length structs + length singles)))) (layouts_of structs singles)
@@ -257,4 +259,4 @@ pub images_consistent : ImagesAreConsistent
 images_consistent text checks C is =
     let fits : FitsProgram is.program = some_has FitsProgram (typed_program is.typed.program) is.program (elaborated_fits is.typed.program) is.typed.rules in
     let tree : FitsProgram (program_of is.tree) = subst FitsProgram (sym is.read_as) fits in
-    subst IsConsistent (sym is.made) (image_consistent checks is.tree tree)
+    subst IsConsistent (sym is.made) (image_consistent checks is.tree tree (subst (λ D. has_few_items D ≡ true) is.made is.few))

@@ -10,6 +10,7 @@ use Rattle.code_form.specs.declared.form.Fact.{Fact}
 use Rattle.code_form.specs.declared.form.Fact.TheVariants as fact
 use Rattle.code_form.specs.declared.form.Operation.{Operation}
 use Rattle.code_form.specs.declared.form.Operation.TheVariants as op
+use Rattle.code_form.specs.Counts.{has_few_items}
 use Rattle.code_form.specs.Code.{is_array_of, is_pointer, on_kind, place_fits}
 use Rattle.code_form.specs.Form.{Simple, Instruction, Block, Function, Image}
 use Rattle.middle_form.specs.WellFormed.{is_well_formed}
@@ -75,8 +76,9 @@ pub record IsConsistentFunction (count : ℕ) (f : Function) : Type 0 where
   pub numbers : All (λ (b : Block). All NamesNumbers b.code) f.blocks
   pub facts : All (λ (b : Block). All (NamesFact f.kinds f.scopes) b.facts) f.blocks
 
--- Each kind names a layout that is there, and no cell of a layout is an offset; each byte of a text is below 128
+-- No list has 2^32 items; each kind names a layout that is there, and no cell of a layout is an offset; each byte of a text is below 128
 pub record IsConsistent (C : Image) : Type 0 where
+  pub few : has_few_items C ≡ true
   pub texts : All (All (λ b. b < 128)) C.head.texts
   pub layouts : All (All (IsCellKind (length C.head.layouts))) C.head.layouts
   pub functions : All (IsConsistentFunction (length C.head.layouts)) C.functions

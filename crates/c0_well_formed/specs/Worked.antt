@@ -1,5 +1,5 @@
 -- Small images, of which one is consistent and each other is not for one cause.
-use Rattle.std.specs.Prelude.{ℕ, List, [], ◌∷◌, Some, codes, pos}
+use Rattle.std.specs.Prelude.{ℕ, List, [], ◌∷◌, Some, codes, pos, replicate}
 use Rattle.code_form.specs.declared.form.Kind.{Kind}
 use Rattle.code_form.specs.declared.form.Kind.TheVariants as kind
 use Rattle.code_form.specs.declared.form.Fact.{Fact}
@@ -22,6 +22,10 @@ with_one texts layouts parameters kinds scopes o = with_facts texts layouts para
 -- a text, a layout, and registers that fit them
 abbrev pub consistent_image : Image
 consistent_image = with_facts (codes "no" ∷ []) ((kind.Int ∷ kind.Ptr 0 ∷ []) ∷ []) 1 (kind.Int ∷ kind.Ptr 0 ∷ kind.Off 0 ∷ []) 1 (op.Const 0 (pos 7)) (fact.Nonnull 1 ∷ fact.Shut 0 ∷ [])
+
+-- so many texts
+abbrev pub with_texts : ℕ → Image
+with_texts n = with_one (replicate n []) [] 0 (kind.Int ∷ []) 0 (op.Const 0 (pos 7))
 
 -- a register names a layout that is not there
 abbrev pub without_layout : Image

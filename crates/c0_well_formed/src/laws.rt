@@ -1,20 +1,22 @@
 //! Functions that compute nothing, and whose contracts are the laws.
 
 ghost use Rattle.c0_well_formed.specs.Laws.{ImagesAreConsistent, ImagesAreWellFormed, IsConsistent, LoweredIsWellFormed};
-ghost use Rattle.c0_well_formed.specs.Worked.{consistent_image, five_scopes, large_byte, large_character, large_number, missing_scope, offset_as_parameter, offset_in_layout, without_layout};
+ghost use Rattle.c0_well_formed.specs.Worked.{consistent_image, five_scopes, large_byte, large_character, large_number, missing_scope, offset_as_parameter, offset_in_layout, with_texts, without_layout};
+ghost use Rattle.std.specs.Prelude.{◌^◌, ◌≤◌, ℕ};
 
 /// The structured code of a well-typed program is well formed.
 pub fn lowered_is_well_formed()
     ensures { LoweredIsWellFormed }
 {}
 
-/// So is the image of every text: each jump leads to a block of its function, each block ends in one instruction that leads out of it, and all that
-/// an instruction names is there and of the right kind.
+/// So is the image of every text: each jump leads to a block of its function and brings what is known at its entry, each block ends in one instruction that
+/// leads out of it, all that an instruction names is there and of the right kind, each load and store is by a scope that is freshly aimed, and no scope is
+/// open at an allocation, a call or a return.
 pub fn images_are_well_formed()
     ensures { ImagesAreWellFormed }
 {}
 
-/// In the image of a text each kind names a layout that is there, offsets stand in registers alone, no function has more than four
+/// In the image of a text no list has 2^32 items, each kind names a layout that is there, offsets stand in registers alone, no function has more than four
 /// scopes, numbers are of 32 bits, characters and texts are ASCII, and entry facts name what is there.
 pub fn images_are_consistent()
     ensures { ImagesAreConsistent }
@@ -23,6 +25,7 @@ pub fn images_are_consistent()
 /// Which images are consistent, and each cause why another is not.
 pub fn worked_images()
     ensures accepted { IsConsistent consistent_image }
+    ensures items { (n : ℕ) → 2 ^ 32 ≤ n → IsConsistent (with_texts n) → ⊥ }
     ensures layout { IsConsistent without_layout → ⊥ }
     ensures cell { IsConsistent offset_in_layout → ⊥ }
     ensures parameter { IsConsistent offset_as_parameter → ⊥ }

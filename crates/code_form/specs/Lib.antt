@@ -1,9 +1,12 @@
+pub mod Asked
 pub mod Code
 pub mod Computed
+pub mod Counts
 pub mod Effects
 pub mod Facts
 pub mod Form
 pub mod Growth
+pub mod Known
 pub mod Laws
 pub mod Placed
 pub mod Touches

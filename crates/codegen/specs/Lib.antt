@@ -2,3 +2,4 @@ pub mod Building
 pub mod Correct
 pub mod Generated
 pub mod WellFormed
+pub mod Worked

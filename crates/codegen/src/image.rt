@@ -1,10 +1,12 @@
 //! Images from structured code.
+ghost use Rattle.code_form.specs.Counts.{has_few_items as has_few};
 ghost use Rattle.code_form.specs.Form.{Return, ReturnVoid, block_of, function_of as function_read, image_of, instruction_of};
 ghost use Rattle.codegen.specs.Building.{back, backs};
 ghost use Rattle.codegen.specs.Generated.{all_shut, block_with, blocks as all_blocks, function_of as function_with, generated, last, uses_cells};
 ghost use Rattle.middle_form.specs.Views.{code_of, function_of, program_of};
-ghost use Rattle.std.specs.Prelude.{◌≡◌, IfOk, map, string_bytes};
+ghost use Rattle.std.specs.Prelude.{◌≡◌, IfOk, map, string_bytes, true};
 
+use crate::counts::has_few_items;
 use crate::emit::{Exits, emit, finish, one};
 use code_form::{Block, Fact, Image, Instruction, Kind};
 use middle_form::{Code, Function, Middle};
@@ -136,8 +138,8 @@ fn copy_layouts(alloc: Global, layouts: &[Vec<Kind>]) -> Result<Vec<Vec<Kind>>, 
     Ok(copies)
 }
 
-/// The image of a program. More blocks of a function than numbers of 32 bits tell apart can't be had, as with memory that runs out.
-pub fn generate(alloc: Global, program: &Middle) -> Result<Image, AllocError>
+/// The image of a program, however many items it has.
+fn whole_image(alloc: Global, program: &Middle) -> Result<Image, AllocError>
     ensures { IfOk result (λ image. image_of image ≡ generated (program_of program.now)) }
 {
     let mut functions = Vec::new(alloc);
@@ -151,4 +153,16 @@ pub fn generate(alloc: Global, program: &Middle) -> Result<Image, AllocError>
         layouts,
         functions,
     })
+}
+
+/// The image of a program. A list of 2^32 items can't be had, as with memory that runs out.
+pub fn generate(alloc: Global, program: &Middle) -> Result<Image, AllocError>
+    ensures image { IfOk result (λ image. image_of image ≡ generated (program_of program.now)) }
+    ensures few { IfOk result (λ image. has_few (image_of image) ≡ true) }
+{
+    let image = whole_image(alloc, program)?;
+    if !has_few_items(&image) {
+        return Err(AllocError);
+    }
+    Ok(image)
 }

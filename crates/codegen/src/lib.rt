@@ -1,6 +1,7 @@
 //! Images from structured code.
 #![tactic(auto)]
 
+mod counts;
 mod emit;
 mod image;
 mod laws;

@@ -38,10 +38,11 @@ returns-clause-compiled c =
       only = λ other w. sym (c.in_ok-typed.ensures.every other w);
       tree = c.in_ok-typed.typed;
       read_as = refl;
-      made = c.in_ok-generate.ensures ∙ ap generated c.in_ok-middle.ensures.exact;
+      made = c.in_ok-generate.ensures.image ∙ ap generated c.in_ok-middle.ensures.exact;
       behaves = behaves program c.args.checks code image c.in_ok-middle.ensures.same
-          (subst (Keeps code) (sym c.in_ok-generate.ensures) (c.generated_keeps_the_meaning.ensures code is_safe));
-      covered = subst Covered (sym c.in_ok-generate.ensures) (c.generated_is_covered.ensures code is_safe);
+          (subst (Keeps code) (sym c.in_ok-generate.ensures.image) (c.generated_keeps_the_meaning.ensures code is_safe));
+      covered = subst Covered (sym c.in_ok-generate.ensures.image) (c.generated_is_covered.ensures code is_safe);
+      few = c.in_ok-generate.ensures.few;
     }
 
 pub returns-clause-every : goal.returns-clause-every
@@ -52,4 +53,4 @@ returns-clause-every c = λ p w.
     let is_safe : IsSafe code = safe program c.args.checks code c.in_ok-middle.ensures.same in
     subst (λ q. Behaves q c.args.checks image) (c.in_ok-typed.ensures.every p w)
     (behaves program c.args.checks code image c.in_ok-middle.ensures.same
-    (subst (Keeps code) (sym c.in_ok-generate.ensures) (c.generated_keeps_the_meaning.ensures code is_safe)))
+    (subst (Keeps code) (sym c.in_ok-generate.ensures.image) (c.generated_keeps_the_meaning.ensures code is_safe)))

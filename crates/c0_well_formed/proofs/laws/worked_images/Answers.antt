@@ -1,4 +1,7 @@
-use Rattle.std.proofs.Common.{◌<◌, ◌≤◌, [], None, arith}
+use Rattle.std.proofs.Common.{◌≡◌, ◌<◌, ◌≤◌, ℕ, Bool, true, false, List, [], None, arith, length, refl}
+use Rattle.std.specs.Prelude.{◌&&◌, replicate}
+use Rattle.std.proofs.lemmas.Bool.{ltb-true}
+use Rattle.std.proofs.lemmas.List.{length-replicate}
 use Rattle.code_form.specs.declared.form.Kind.TheVariants as kind
 use Rattle.code_form.specs.declared.form.Fact.TheVariants as fact
 use Rattle.code_form.specs.Form.{Block, Function, ReturnVoid}
@@ -10,6 +13,17 @@ some = record { result = None; parameters = 0; kinds = []; scopes = 0; blocks = 
 
 abbrev one : Block
 one = record { facts = []; code = [] }
+
+first_true : (a b : Bool) → (a && b) ≡ true → a ≡ true
+first_true true b h = refl
+first_true false b h = h
+
+pub returns-clause-items : goal.returns-clause-items
+returns-clause-items c n l h =
+    let texts : List (List ℕ) = replicate n [] in
+    let few : length texts < 4294967296 = ltb-true (length texts) 4294967296 (first_true _ _ h.few) in
+    let all : length texts ≡ n = length-replicate n [] in
+    omega (arith, few, all, l)
 
 pub returns-clause-layout : goal.returns-clause-layout
 returns-clause-layout c h = absurd (cc ((h.functions 0 some (omega arith)).kinds 1 kind.Int (omega arith)))

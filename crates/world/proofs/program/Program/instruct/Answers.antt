@@ -12,7 +12,7 @@ returns-in-Plain g c z s p is =
 pub returns-in-Hints : goal.returns-in-Hints
 returns-in-Hints g c z s p is =
     let old = c.args.lock.now in
-    goes_turn s _ _ _ _ _ c.complete.result (λ a. next_turn g.S.RawStore.content g.S.RawStore.honest z old.machine old.berths.items c.args.self.now s p is _ a (sym c.is_blocked.ensures ∙ c.if-is_blocked.false)
+    goes_turn s _ _ _ _ _ c.complete.result (λ a. next_turn g.S.RawStore.content g.S.RawStore.honest z old.memory old.berths.items c.args.self.now s p is _ a (sym c.is_blocked.ensures ∙ c.if-is_blocked.false)
     c.in-Hints.ensures.value) (c.complete.ensures z s p is)
 
 pub returns-in-Aims : goal.returns-in-Aims

@@ -1,6 +1,6 @@
 use Rattle.executor.proofs.Laws.{Laws}
 use Rattle.executor.proofs.Ways.{moves_hinted, safe_hinted}
-use Rattle.executor.proofs.machine.Machine.hints.Goals as goal
+use Rattle.executor.proofs.program.Program.hints.Goals as goal
 
 pub returns-clause-safe : goal.returns-clause-safe
 returns-clause-safe g c =
