@@ -1,7 +1,6 @@
 -- What the static rules give of a function is well typed.
 use Rattle.std.proofs.Common.{◌≡◌, ℕ, suc, ◌+◌, inl, inr, List, [], ◌∷◌, ◌++◌, length, refl, sym, ap, ◌∙◌, subst, arith, append_assoc, append-nil, Bool, true, Option, Some, None}
 use Rattle.std.specs.Prelude.{◌&&◌, slice_get, map, not, is_some}
-use Rattle.std.specs.List.{list_all}
 use Rattle.std.proofs.lemmas.List.{length-append}
 use Rattle.c0_source.specs.declared.kind.Base.TheVariants as b
 use Rattle.c0_syntax.specs.Trees.{ValueType, Basic, StructType, NamedType, Pointer, Array, Spec, Statements, TypedName, Header}
@@ -10,8 +9,8 @@ use Rattle.c0_typed.specs.Typing as ty
 use Rattle.c0_rules.specs.Types.{Name, are_distinct, ResolvedType, VoidType, IntType, BoolType, CharType, StringType, StructNamed, PointerTo, ArrayOf, Table, small_type, result_type, Signature, Environment, numbered, output_named}
 use Rattle.c0_rules.specs.Mentions.{Mention, spec_mentions, specs_in, statements_mentions}
 use Rattle.c0_rules.specs.Expressions.{Local, num}
-use Rattle.c0_rules.specs.Statements.{Precondition, Postcondition, Scope, conditions, is_function, typed_statements}
-use Rattle.c0_rules.specs.Programs.{parameter_types, names_of, parameters_from, agrees, names_agree, signature, result_of, are_contracts, paths_agree, Parts, typed_parts, function_from, typed_function}
+use Rattle.c0_rules.specs.Statements.{Precondition, Postcondition, Scope, conditions, typed_statements}
+use Rattle.c0_rules.specs.Programs.{parameter_types, names_of, parameters_from, agrees, are_locals, names_agree, signature, result_of, are_contracts, keeps_parameters, paths_agree, Parts, typed_parts, function_from, typed_function}
 use Rattle.c0_rules.proofs.Rules.{both_true, AllSome, all_so, all_go, all_if, some_has}
 use Rattle.c0_rules.proofs.Expressions.{small_is, Knows, Sees, AreNamed, named_left, named_right}
 use Rattle.c0_rules.proofs.Statements.{small_of, AllSmall, slice_behind, map_long, Scoped, Within, Good, conditions_ok, local_found, statements_ok}
@@ -59,7 +58,10 @@ signature_ok env defined h =
       defined_so = refl;
       result = hr;
       small = hs;
-      agreed = (both_true (are_distinct (names_of h.parameters) && not (is_some (output_named env.conio h.name))) (agrees f (env.functions h.name)) e).1;
+      agreed = (
+          both_true (are_distinct (names_of h.parameters) && not (is_some (output_named env.conio h.name))) (agrees f (env.functions h.name))
+          (both_true (are_distinct (names_of h.parameters) && not (is_some (output_named env.conio h.name)) && agrees f (env.functions h.name)) (are_locals env defined h.name (names_of h.parameters)) e).0
+          ).1;
     })))
 
 -- the function of a definition
@@ -127,7 +129,7 @@ parts_fit env f h body hr hs p knows m x e2 e3 e4 =
 pub function_ok : (env : Environment) (f : Signature) (h : Header) (body : Statements) → ty.IsResult (num env f.result) → AllSmall f.parameters
     → AllSome (IsBody env f (spec_mentions (specs_in h.annotations) ++ statements_mentions body)) (typed_function env f h body)
 function_ok env f h body hr hs =
-    all_so FitsAs Body (typed_parts env f h body) _ parts_ok (λ x g. all_if Body (paths_agree f specs body) _ (λ e. record { result = refl; parameters = refl; fits = g }))
+    all_so FitsAs Body (typed_parts env f h body) _ parts_ok (λ x g. all_if Body (paths_agree f body) _ (λ e. record { result = refl; parameters = refl; fits = g }))
   where
     specs : List Spec
     specs = specs_in h.annotations
@@ -143,8 +145,9 @@ function_ok env f h body hr hs =
 
     parts_ok : AllSome FitsAs (typed_parts env f h body)
     parts_ok =
-        all_if FitsAs (list_all (λ n. not (is_function env n)) (names_of h.parameters) && are_contracts specs) _ (λ e.
+        all_if FitsAs (keeps_parameters h body) _ (λ d.
+        all_if FitsAs (are_contracts specs) _ (λ e.
         all_go FitsAs (conditions env Precondition (record { locals = locals; result = None }) specs) _ (λ before e2.
         all_go FitsAs (conditions env Postcondition (record { locals = locals; result = result_of f.result }) specs) _ (λ behind e3.
         all_go FitsAs (typed_statements env body (opening f h)) _ (λ x e4.
-        λ p knows m. parts_fit env f h body hr hs p knows m (record { requires = before; ensures = behind; checked = x }) e2 e3 e4))))
+        λ p knows m. parts_fit env f h body hr hs p knows m (record { requires = before; ensures = behind; checked = x }) e2 e3 e4)))))

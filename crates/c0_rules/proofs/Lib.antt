@@ -1,3 +1,5 @@
+pub mod Assigned
+pub mod Comparisons
 pub mod Declarations
 pub mod Expressions
 pub mod Functions

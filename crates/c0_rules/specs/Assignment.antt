@@ -65,8 +65,47 @@ abbrev pub flow_of_part : Option SimpleStatement → Flow → Option Flow
 flow_of_part None f = Some f
 flow_of_part (Some a) f = flow_of_simple a f
 
+-- ---- whatever is read
+
+-- behind a simple statement, whatever it reads
+abbrev pub after_simple : SimpleStatement → Flow → Flow
+after_simple (Declare a n) f = declared_only n f
+after_simple (Assign d e) f = elim (as_variable d) [ None ↦ f | Some n ↦ assigned_to n f ]
+after_simple _ f = f
+
+-- the same of a part of a `for`
+abbrev pub after_part : Option SimpleStatement → Flow → Flow
+after_part None f = f
+after_part (Some a) f = after_simple a f
+
 abbrev mutual
-  -- Behind a statement. Behind a loop it is as where its condition is first evaluated, and a loop ends no path.
+  -- Behind a statement, whatever it reads. Behind a loop it is as where its condition is first evaluated.
+  pub after_statement : Statement → Flow → Flow
+  after_statement (Simple a) f = after_simple a f
+  after_statement (Block rest) f = left_scope f (after_statements rest f)
+  after_statement Return f = Ended
+  after_statement (ReturnValue e) f = Ended
+  after_statement (If c a) f = joined f (after_statement a f) f
+  after_statement (IfElse c a b) f = joined f (after_statement a f) (after_statement b f)
+  after_statement (For first c third notes a) f = left_scope f (after_part first f)
+  after_statement (Error e) f = Ended
+  after_statement Break f = Ended
+  after_statement Continue f = Ended
+  after_statement _ f = f
+
+  -- the same of statements in order
+  pub after_statements : Statements → Flow → Flow
+  after_statements nothing f = f
+  after_statements (also a rest) f = after_statements rest (after_statement a f)
+
+-- where the third part of a `for` stands, whose body begins here: where the scope of the body ends
+abbrev pub after_body : Statement → Flow → Flow
+after_body a f = left_scope f (after_statement a f)
+
+-- ---- where what is read is assigned
+
+abbrev mutual
+  -- Behind a statement, or none where it reads a local that is not assigned. Behind a loop it is as where its condition is first evaluated, and a loop ends no path.
   pub flow_of_statement : Statement → Flow → Option Flow
   flow_of_statement (Simple a) f = flow_of_simple a f
   flow_of_statement (Block rest) f = and_so (flow_of_statements rest f) (λ g. Some (left_scope f g))

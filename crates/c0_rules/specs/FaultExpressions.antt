@@ -13,7 +13,8 @@ use Rattle.c0_syntax.specs.declared.value_type.TypeKind.{TypeKind, Basic, Struct
 use Rattle.c0_syntax.specs.declared.expression.ExpressionKind.{ExpressionKind, Row_of-Expression, end_of-Expression, more_of-Expression, Number, Character, Truth, Null, Text, Variable, Parenthesized', Call', Alloc, AllocArray', Result, Length', Index', Field', PointerField', Unary', Binary', Conditional'}
 use Rattle.c0_syntax.specs.Views.{name_of, type_of, expression_of_kind}
 use Rattle.c0_rules.specs.Types.{ResolvedType, VoidType, IntType, BoolType, StructNamed, PointerTo, ArrayOf, Table, base_type, resolved_type, result_type, same_type, is_small, Name, StructEntry, Environment, cells_of}
-use Rattle.c0_rules.specs.Expressions.{OperatorRule, OnNumbers, Compares, Conjunction, Disjunction, operator_rule, Typing, Has, IsNull, Place, Context, local_of, Callee, takes, gives, as_wanted, compared, pointed, lengthed, callee, typed_expression, typed_place}
+use Rattle.c0_typed.specs.Trees.{Relation}
+use Rattle.c0_rules.specs.Expressions.{OperatorRule, OnNumbers, Compares, Conjunction, Disjunction, operator_rule, is_equality, is_compared, Typing, Has, IsNull, Place, Context, local_of, Callee, takes, gives, as_wanted, compared, pointed, lengthed, callee, typed_expression, typed_place}
 
 -- a fault of this kind at this place
 abbrev pub Told : FaultKind → Span → Fault → Type 0
@@ -67,6 +68,11 @@ abbrev pub is_pointer : ResolvedType → Bool
 is_pointer (PointerTo r) = true
 is_pointer _ = false
 
+-- whether a comparison takes values of this type
+abbrev pub is_comparable : Relation → Typing → Bool
+is_comparable r (Has a e) = is_compared r a
+is_comparable r (IsNull e) = is_equality r
+
 -- whether two arms have a small type in common
 abbrev pub has_common : Typing → Typing → Bool
 has_common (Has a x) (Has b y) = same_type a b && is_small a
@@ -114,11 +120,13 @@ module _ (env : Environment) (at : Context) (fault : Fault) where
   abbrev pub VoidCall : n.Name → Span → Type 0
   VoidCall x span = (c : Callee) × (callee env (name_of x) ≡ Some c) × (gives c ≡ VoidType) × Told k.VoidUse span fault
 
-  -- two values that a comparison doesn't take together
-  abbrev pub ComparedCause : OperatorRule → ExpressionKind → ExpressionKind → Span → Type 0
-  ComparedCause (Compares r) a b span =
-      (x : Typing) × (y : Typing) × (typed a ≡ Some x) × (typed b ≡ Some y) × (is_value x ≡ true) × (is_value y ≡ true) × (compared env r x y ≡ None) × Told k.TypeMismatch span fault
-  ComparedCause _ a b span = ⊥
+  -- a value on the left that a comparison takes with none on the right, or else two that it doesn't take together
+  abbrev pub ComparedCause : OperatorRule → ExpressionKind → Span → ExpressionKind → Span → Type 0
+  ComparedCause (Compares r) a here b there =
+      ((x : Typing) × (typed a ≡ Some x) × (is_value x ≡ true) × (is_comparable r x ≡ false) × Told k.TypeMismatch here fault)
+      ⊎ ((x : Typing) × (y : Typing) × (typed a ≡ Some x) × (typed b ≡ Some y) × (is_value x ≡ true) × (is_value y ≡ true)
+      × (is_comparable r x ≡ true) × (compared env r x y ≡ None) × Told k.TypeMismatch there fault)
+  ComparedCause _ a here b there = ⊥
 
   -- an operand of another type than the operator's
   abbrev pub OperandCause : OperatorRule → ExpressionKind → Span → Type 0
@@ -202,7 +210,7 @@ module _ (env : Environment) (at : Context) (fault : Fault) where
     InExpression position (PointerField' p e here x) span = ArrowCause e here x span ⊎ StructValue position (PointerField' p e here x) span ⊎ InExpression AsValue e here
     InExpression position (Unary' op p e here) span = PrefixCause position op e here (Unary' op p e here) span ⊎ InExpression AsValue e here
     InExpression position (Binary' op p a here q b there) span =
-        OperandCause (operator_rule op) a here ⊎ OperandCause (operator_rule op) b there ⊎ ComparedCause (operator_rule op) a b there
+        OperandCause (operator_rule op) a here ⊎ OperandCause (operator_rule op) b there ⊎ ComparedCause (operator_rule op) a here b there
         ⊎ NoPlace position (Binary' op p a here q b there) span ⊎ InExpression AsValue a here ⊎ InExpression AsValue b there
     InExpression position (Conditional' p c here q a there r b beyond) span =
         Mistyped BoolType c here ⊎ ArmsCause a b beyond ⊎ NoPlace position (Conditional' p c here q a there r b beyond) span

@@ -18,7 +18,7 @@ use Rattle.c0_syntax.specs.declared.statement.StatementKind.{StatementKind, Row_
 use Rattle.c0_syntax.specs.Views.{name_of, expression_of, simple_of, statement_of, statement_of_kind}
 use Rattle.c0_rules.specs.Types.{is_among}
 use Rattle.c0_rules.specs.Mentions.{Mention, OfVariable, OfFunction, OfText, as_variable}
-use Rattle.c0_rules.specs.Assignment.{Flow, Reached, left_scope, flow_of_part, flow_of_statement}
+use Rattle.c0_rules.specs.Assignment.{Flow, Reached, after_body, flow_of_part, flow_of_statement}
 use Rattle.c0_rules.specs.FaultExpressions.{Told}
 
 -- ---- names in expressions
@@ -138,7 +138,7 @@ module _ (fault : Fault) where
   ReadInPart flow (Some x) = ReadInSimple flow x.kind
 
   abbrev mutual
-    -- a statement does, by what is assigned before it
+    -- A statement does, by what is assigned before it. The third part of a `for` sees what its body assigns, whatever that reads.
     pub ReadInStatement : Flow → StatementKind → Type 0
     ReadInStatement flow (Simple x) = ReadInSimple flow x.kind
     ReadInStatement flow (Block' shape rest) = ReadInBlock flow rest
@@ -150,8 +150,7 @@ module _ (fault : Fault) where
     ReadInStatement flow (For' first c third notes p a at) =
         ReadInPart flow first
         ⊎ ((g : Flow) × (flow_of_part (option_map simple_of first) flow ≡ Some g)
-        × (ReadIn g c ⊎ ReadInAnnotations g notes.items ⊎ ReadInStatement g a
-        ⊎ ((h : Flow) × (flow_of_statement (statement_of_kind a) g ≡ Some h) × ReadInPart (left_scope g h) third)))
+        × (ReadIn g c ⊎ ReadInPart (after_body (statement_of_kind a) g) third ⊎ ReadInAnnotations g notes.items ⊎ ReadInStatement g a))
     ReadInStatement flow (Assert e) = ReadIn flow e
     ReadInStatement flow (Error e) = ReadIn flow e
     ReadInStatement flow _ = ⊥

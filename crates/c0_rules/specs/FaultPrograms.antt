@@ -5,6 +5,7 @@ use Rattle.c0_source.specs.declared.fault.Fault.{Fault}
 use Rattle.c0_source.specs.declared.fault.FaultKind.{FaultKind}
 use Rattle.c0_source.specs.declared.fault.FaultKind.TheVariants as k
 use Rattle.c0_source.specs.declared.fault.Span.{Span}
+use Rattle.c0_syntax.specs.declared.name.Name as n
 use Rattle.c0_syntax.specs.declared.statement.Spec as p
 use Rattle.c0_syntax.specs.declared.statement.Annotation.{Annotation}
 use Rattle.c0_syntax.specs.declared.statement.Statement.{Statement}
@@ -18,9 +19,9 @@ use Rattle.c0_syntax.specs.Views.{name_of, spec_of, statements_of, typed_name_of
 use Rattle.c0_rules.specs.Types.{Name, is_among, ResolvedType, VoidType, same_type, result_type, FieldEntry, Signature, Environment, output_named, is_ascii}
 use Rattle.c0_rules.specs.Mentions.{Mention, OfVariable, OfFunction, OfText, statements_assign}
 use Rattle.c0_rules.specs.Expressions.{Context}
-use Rattle.c0_rules.specs.Assignment.{Flow, Reached, has_ended, flow_of_statements}
-use Rattle.c0_rules.specs.Statements.{Precondition, Postcondition, role_of, same_role, is_function}
-use Rattle.c0_rules.specs.Programs.{parameter_types, parameters_from, same_signature, signature, with_function, result_of, Parts, typed_parts, fields_of, cells_in, cell_limit, Elaboration, is_conio, typed_declaration, typed_declarations, beginning, main_name, is_defined, is_main, is_callable}
+use Rattle.c0_rules.specs.Assignment.{Reached, has_ended, after_statements}
+use Rattle.c0_rules.specs.Statements.{Precondition, Postcondition, role_of, same_role}
+use Rattle.c0_rules.specs.Programs.{names_of, parameter_types, parameters_from, same_signature, names_function, is_assigned_parameter, signature, with_function, result_of, Parts, typed_parts, fields_of, cells_in, cell_limit, Elaboration, is_conio, typed_declaration, typed_declarations, beginning, main_name, is_defined, is_main, is_callable}
 use Rattle.c0_rules.specs.FaultExpressions.{Told, TypeCause, SmallTypeCause, ResultTypeCause, HeldTypeCause}
 use Rattle.c0_rules.specs.FaultStatements.{InCondition, InBody}
 use Rattle.c0_rules.specs.FaultPaths.{NamedInSpecs, NamedInAnnotations, NamedInBody, ReadInBody}
@@ -38,20 +39,28 @@ module _ (fault : Fault) where
   ParameterCause env [] = ⊥
   ParameterCause env (x ∷ rest) = SmallTypeCause env.typedefs fault x.value_type ⊎ ParameterCause env rest
 
-  -- a second definition, or a declaration with other types
-  abbrev pub AgainCause : Signature → Signature → Span → Type 0
-  AgainCause f old span =
-      (((f.defined && old.defined) ≡ true) × Told k.DuplicateName span fault)
-      ⊎ (((f.defined && old.defined) ≡ false) × (same_signature f old ≡ false) × Told k.DeclMismatch span fault)
+  -- a name that is that of an output call in use, or of a function that is defined a second time
+  abbrev pub NameCause : Environment → Bool → n.Name → Type 0
+  NameCause env defined x =
+      ((is_some (output_named env.conio (name_of x)) || (defined && is_defined (env.functions (name_of x)))) ≡ true) × Told k.DuplicateName x.span fault
 
-  -- a header
+  -- a parameter of a definition whose name is that of a function, of its own function, or of an output call in use
+  abbrev pub FunctionParameter : Environment → Name → List TypedName → Type 0
+  FunctionParameter env own [] = ⊥
+  FunctionParameter env own (x ∷ rest) = ((names_function env own (name_of x.name) ≡ true) × Told k.DuplicateName x.name.span fault) ⊎ FunctionParameter env own rest
+
+  -- a declaration with other types than an earlier one; a second definition is told as one
+  abbrev pub OtherTypesCause : Signature → Signature → Span → Type 0
+  OtherTypesCause f old span = ((f.defined && old.defined) ≡ false) × (same_signature f old ≡ false) × Told k.DeclMismatch span fault
+
+  -- A header. Names are looked at whatever the types are that stand behind them; that two declarations differ shows once all types are right.
   abbrev pub InHeader : Environment → Bool → Header → Type 0
   InHeader env defined h =
-      ResultTypeCause env.typedefs fault h.result ⊎ ParameterCause env h.parameters.items ⊎ SecondName [] h.parameters.items
-      ⊎ ((is_some (output_named env.conio (name_of h.name)) ≡ true) × Told k.DuplicateName h.name.span fault)
+      ResultTypeCause env.typedefs fault h.result ⊎ NameCause env defined h.name ⊎ ParameterCause env h.parameters.items ⊎ SecondName [] h.parameters.items
+      ⊎ ((defined ≡ true) × FunctionParameter env (name_of h.name) h.parameters.items)
       ⊎ ((r : ResolvedType) × (rs : List ResolvedType) × (old : Signature)
       × (result_type env.typedefs ((header_of h).result) ≡ Some r) × (parameter_types env.typedefs ((header_of h).parameters) ≡ Some rs) × (env.functions (name_of h.name) ≡ Some old)
-      × AgainCause (record { name = name_of h.name; result = r; parameters = rs; defined = defined }) old h.name.span)
+      × OtherTypesCause (record { name = name_of h.name; result = r; parameters = rs; defined = defined }) old h.name.span)
 
   -- ---- contracts and bodies
 
@@ -79,11 +88,6 @@ module _ (fault : Fault) where
   AnySpecs [] = ⊥
   AnySpecs (x ∷ rest) = AnySpec x.specs.items ⊎ AnySpecs rest
 
-  -- a parameter whose name is that of a function or of an output call in use
-  abbrev pub FunctionParameter : Environment → List TypedName → Type 0
-  FunctionParameter env [] = ⊥
-  FunctionParameter env (x ∷ rest) = ((is_function env (name_of x.name) ≡ true) × Told k.DuplicateName x.name.span fault) ⊎ FunctionParameter env rest
-
   -- an assigned parameter that `ensures` reads
   abbrev pub AssignedParameter : (Mention → Bool) → List p.Spec → Type 0
   AssignedParameter test [] = ⊥
@@ -95,26 +99,26 @@ module _ (fault : Fault) where
   AssignedParameters test [] = ⊥
   AssignedParameters test (x ∷ rest) = AssignedParameter test x.specs.items ⊎ AssignedParameters test rest
 
-  -- whether a name is that of a variable that the body assigns to
-  abbrev pub is_assigned_in : List Statement → Mention → Bool
-  is_assigned_in body (OfVariable x) = is_among x (statements_assign (statements_of body))
-  is_assigned_in body _ = false
+  -- whether a name is that of a parameter that the body assigns to
+  abbrev pub is_assigned_in : List TypedName → List Statement → Mention → Bool
+  is_assigned_in parameters body (OfVariable x) = is_assigned_parameter (names_of (map typed_name_of parameters)) (statements_assign (statements_of body)) x
+  is_assigned_in parameters body _ = false
 
-  -- a path of a function that doesn't end in `return` or `error`
+  -- a path of a function that doesn't end in `return` or `error`, whatever it reads
   abbrev pub NoReturnCause : Signature → Header → List Statement → Type 0
   NoReturnCause f h body =
-      (flow : Flow) × (flow_of_statements (statements_of body) (Reached []) ≡ Some flow) × (has_ended flow ≡ false) × (same_type f.result VoidType ≡ false) × Told k.NoReturn h.name.span fault
+      (has_ended (after_statements (statements_of body) (Reached [])) ≡ false) × (same_type f.result VoidType ≡ false) × Told k.NoReturn h.name.span fault
 
-  -- the paths of a function, and what it assigns
+  -- the paths of a function
   abbrev pub InPaths : Signature → Header → List Statement → Type 0
-  InPaths f h body = AssignedParameters (is_assigned_in body) h.annotations.items ⊎ ReadInBody fault (Reached []) body ⊎ NoReturnCause f h body
+  InPaths f h body = NoReturnCause f h body ⊎ ReadInBody fault (Reached []) body
 
-  -- the names and types of a function
+  -- the contract and the types of a function; what its contract reads is looked at whatever the types of its body are
   abbrev pub InTypes : Environment → Signature → Header → List Statement → Type 0
   InTypes env f h body =
       let locals = parameters_from 1 ((header_of h).parameters) f.parameters in
-      FunctionParameter env h.parameters.items
-      ⊎ InContracts env (record { locals = locals; result = None }) (record { locals = locals; result = result_of f.result }) h.annotations.items
+      InContracts env (record { locals = locals; result = None }) (record { locals = locals; result = result_of f.result }) h.annotations.items
+      ⊎ AssignedParameters (is_assigned_in h.parameters.items body) h.annotations.items
       ⊎ InBody env fault (record { locals = locals; parameters = length f.parameters; declared = []; result = f.result }) body
 
   -- a function with its body, in an environment with its own name

@@ -109,11 +109,11 @@ module _ (env : Environment) (fault : Fault) where
     InPart None = ⊥
     InPart (Some x) = InSimple x.kind x.span
 
-    -- a value is returned where there is none, or one of another type
+    -- a value is returned where there is none, whatever it is; or one with a fault in it or of another type
     abbrev pub ReturnCause : e.Expression → Type 0
     ReturnCause x =
         ((same_type s.result VoidType ≡ true) × Told k.TypeMismatch x.span fault)
-        ⊎ ((same_type s.result VoidType ≡ false) × Mistyped env (within s) fault s.result x.kind x.span)
+        ⊎ ((same_type s.result VoidType ≡ false) × InWanted s.result x)
 
   -- a third part that declares
   abbrev pub ThirdCause : Option SimpleStatement → Type 0
@@ -129,7 +129,7 @@ module _ (env : Environment) (fault : Fault) where
     InStatement s (Block' shape rest) span = InRow s rest
     InStatement s (Annotated x) span = InSpecs Assertion (within s) x.specs.items
     InStatement s Return span = (same_type s.result VoidType ≡ false) × Told k.TypeMismatch span fault
-    InStatement s (ReturnValue x) span = InValue s x ⊎ ReturnCause s x
+    InStatement s (ReturnValue x) span = ReturnCause s x
     InStatement s (If' c p x here) span = InWanted s BoolType c ⊎ InStatement s x here
     InStatement s (IfElse' c p x here q y there) span =
         InWanted s BoolType c ⊎ InStatement s x here ⊎ ((z : Checked) × (typed_statement env (statement_of_kind x) s ≡ Some z) × InStatement (leave s z.scope) y there)

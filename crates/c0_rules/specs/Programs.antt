@@ -3,7 +3,7 @@ use Rattle.std.specs.Prelude.{◌≡◌, ℕ, suc, ◌+◌, nat_le, Bool, true, 
 use Rattle.std.specs.List.{list_all, list_any}
 use Rattle.c0_syntax.specs.Trees.{Spec, Statements, TypedName, Header, Declaration, UseLibrary, DeclareStruct, DefineStruct, Typedef, DeclareFunction, DefineFunction, Program}
 use Rattle.c0_typed.specs.Trees as t
-use Rattle.c0_rules.specs.Types.{and_so, provided, Name, is_among, any_among, are_distinct, number_in, no_names, with_name, ResolvedType, VoidType, IntType, same_type, same_types, Table, resolved_type, small_type, result_type, FieldEntry, StructEntry, field_of, Signature, Environment, cells_of, output_named, is_ascii}
+use Rattle.c0_rules.specs.Types.{and_so, provided, Name, is_among, are_distinct, number_in, no_names, with_name, ResolvedType, VoidType, IntType, same_type, same_types, Table, resolved_type, small_type, result_type, FieldEntry, StructEntry, field_of, Signature, Environment, cells_of, output_named, is_ascii}
 use Rattle.c0_rules.specs.Mentions.{variables_in, condition_of, specs_in, statements_assign, texts_of, calls_of}
 use Rattle.c0_rules.specs.Expressions.{Local, num}
 use Rattle.c0_rules.specs.Assignment.{Reached, has_ended, flow_of_statements}
@@ -39,9 +39,19 @@ abbrev pub is_defined : Option Signature → Bool
 is_defined None = false
 is_defined (Some g) = g.defined
 
+-- whether a name is that of a function in scope, of the one whose header this is, or of an output call in use
+abbrev pub names_function : Environment → Name → Name → Bool
+names_function env own n = is_function env n || bytes_eq n own
+
+-- whether no parameter has such a name; those of a declaration alone are no locals, and may
+abbrev pub are_locals : Environment → Bool → Name → List Name → Bool
+are_locals env defined own names = not defined || list_all (λ n. not (names_function env own n)) names
+
 -- whether a header's names may stand where they do
 abbrev pub names_agree : Environment → Header → Signature → Bool
-names_agree env h f = are_distinct (names_of h.parameters) && not (is_some (output_named env.conio h.name)) && agrees f (env.functions h.name)
+names_agree env h f =
+    are_distinct (names_of h.parameters) && not (is_some (output_named env.conio h.name)) && agrees f (env.functions h.name)
+    && are_locals env f.defined h.name (names_of h.parameters)
 
 -- what a header declares
 abbrev pub signature : Environment → Bool → Header → Option Signature
@@ -67,11 +77,17 @@ are_contracts specs = list_all (λ s. same_role Precondition (role_of s) || same
 abbrev pub names_in_ensures : List Spec → List Name
 names_in_ensures specs = flat_map (λ s. elim (same_role Postcondition (role_of s)) [ true ↦ variables_in (condition_of s) | false ↦ [] ]) specs
 
--- whether the rules hold that look at a function's paths and at what it assigns, once its types are right
-abbrev pub paths_agree : Signature → List Spec → Statements → Bool
-paths_agree f specs body =
-    not (any_among (names_in_ensures specs) (statements_assign body))
-    && elim (flow_of_statements body (Reached [])) [ None ↦ false | Some flow ↦ has_ended flow || same_type f.result VoidType ]
+-- whether a name is one of these parameters, and one of the names that are assigned
+abbrev pub is_assigned_parameter : List Name → List Name → Name → Bool
+is_assigned_parameter parameters assigned n = is_among n parameters && is_among n assigned
+
+-- whether the body assigns to no parameter that `ensures` reads
+abbrev pub keeps_parameters : Header → Statements → Bool
+keeps_parameters h body = not (list_any (is_assigned_parameter (names_of h.parameters) (statements_assign body)) (names_in_ensures (specs_in h.annotations)))
+
+-- whether the rules hold that look at a function's paths, once its types are right
+abbrev pub paths_agree : Signature → Statements → Bool
+paths_agree f body = elim (flow_of_statements body (Reached [])) [ None ↦ false | Some flow ↦ has_ended flow || same_type f.result VoidType ]
 
 -- the parts of a function: its contract, and its body with what is in scope behind it
 pub record Parts : Type 0 where
@@ -79,16 +95,16 @@ pub record Parts : Type 0 where
   pub ensures : t.Exps
   pub checked : Checked
 
--- The parts of a function by the rules of names and types, where its own name is in scope. Its parameters are locals.
+-- The parts of a function by the rules of names, contracts and types, where its own name is in scope. Its parameters are locals.
 abbrev pub typed_parts : Environment → Signature → Header → Statements → Option Parts
 typed_parts env f h body =
     let specs = specs_in h.annotations in
     let locals = parameters_from 1 h.parameters f.parameters in
-    provided (list_all (λ n. not (is_function env n)) (names_of h.parameters) && are_contracts specs) (
+    provided (keeps_parameters h body) (provided (are_contracts specs) (
     and_so (conditions env Precondition (record { locals = locals; result = None }) specs) (λ before.
     and_so (conditions env Postcondition (record { locals = locals; result = result_of f.result }) specs) (λ behind.
     and_so (typed_statements env body (record { locals = locals; parameters = length f.parameters; declared = []; result = f.result })) (λ x.
-    Some (record { requires = before; ensures = behind; checked = x })))))
+    Some (record { requires = before; ensures = behind; checked = x }))))))
 
 -- a function of a typed tree
 abbrev pub function_from : Environment → Signature → Parts → t.Function
@@ -104,7 +120,7 @@ function_from env f x = record {
 -- a function
 abbrev pub typed_function : Environment → Signature → Header → Statements → Option t.Function
 typed_function env f h body =
-    and_so (typed_parts env f h body) (λ x. provided (paths_agree f (specs_in h.annotations) body) (Some (function_from env f x)))
+    and_so (typed_parts env f h body) (λ x. provided (paths_agree f body) (Some (function_from env f x)))
 
 -- ---- structs
 

@@ -14,7 +14,7 @@ use Rattle.c0_typed.specs.Trees as t
 use Rattle.c0_typed.specs.Values as v
 use Rattle.c0_rules.specs.Types.{and_so, provided, Name, Table, ResolvedType, VoidType, IntType, BoolType, CharType, StructNamed, PointerTo, ArrayOf, same_type, is_small, resolved_type, Environment, cells_of}
 use Rattle.c0_rules.specs.Expressions.{OperatorRule, OnNumbers, Compares, Conjunction, Disjunction, operator_rule, is_equality, is_compared, Typing, Has, IsNull, Place, Local, Context, local_of, Callee, takes, gives, call_of, num, null_as, as_wanted, wanted, operated, chosen, pointed, indexed, field_at, fielded, read_of, prefixed, lengthed, held_type, callee, typed_expression, typed_place, typed_arguments}
-use Rattle.c0_rules.specs.FaultExpressions.{Position, AsValue, AsPlace, TypeCause, HeldTypeCause, is_value, is_null, is_pointer, has_common, element_of, argument_count, Mistyped, MistypedArgument, CallCause, VoidCall, ComparedCause, OperandCause, PointerCause, IndexCause, FieldCause, DotCause, ArrowCause, StructValue, NoPlace, PrefixCause, InExpression, InArguments}
+use Rattle.c0_rules.specs.FaultExpressions.{Position, AsValue, AsPlace, TypeCause, HeldTypeCause, is_value, is_null, is_pointer, is_comparable, has_common, element_of, argument_count, Mistyped, MistypedArgument, CallCause, VoidCall, ComparedCause, OperandCause, PointerCause, IndexCause, FieldCause, DotCause, ArrowCause, StructValue, NoPlace, PrefixCause, InExpression, InArguments}
 use Rattle.c0_rules.proofs.Rules.{AllSome, all_go, all_if}
 use Rattle.c0_rules_faults.proofs.Refused.{NoValue}
 use Rattle.c0_rules_faults.proofs.Causes.{Caused, told, split, split_if, split_typing, joined, seen, none_of}
@@ -239,12 +239,16 @@ module _ (env : Environment) (at : Context) where
   -- an operand of another type than the operator's, or two that are not compared
   operands_cause : (rule : OperatorRule) (a : ExpressionKind) (here : Span) (b : ExpressionKind) (there : Span) (x y : Typing) → typed a ≡ Some x → is_value x ≡ true → typed b ≡ Some y → is_value y ≡ true
       → operated env rule x y ≡ None
-      → Caused (λ f. OperandCause env at f rule a here) ⊎ Caused (λ f. OperandCause env at f rule b there) ⊎ Caused (λ f. ComparedCause env at f rule a b there)
+      → Caused (λ f. OperandCause env at f rule a here) ⊎ Caused (λ f. OperandCause env at f rule b there) ⊎ Caused (λ f. ComparedCause env at f rule a here b there)
   operands_cause (OnNumbers i) a here b there x y e v g w h = elim (split (as_wanted env IntType x) _ h) [
     | inl q ↦ inl (mistyped IntType a here x e v q)
     | inr q ↦ elim (split (as_wanted env IntType y) _ q.2) [ inl z ↦ inr (inl (mistyped IntType b there y g w z)) | inr z ↦ absurd (cc z.2) ]
   ]
-  operands_cause (Compares r) a here b there x y e v g w h = let f = told k.TypeMismatch there in inr (inr (f.0, (x, y, e, g, v, w, h, f.1)))
+  operands_cause (Compares r) a here b there x y e v g w h = inr (inr (by (is_comparable r x) refl))
+    where
+      by : (c : Bool) → is_comparable r x ≡ c → Caused (λ f. ComparedCause env at f (Compares r) a here b there)
+      by true q = let f = told k.TypeMismatch there in (f.0, inr (x, y, e, g, v, w, q, h, f.1))
+      by false q = let f = told k.TypeMismatch here in (f.0, inl (x, e, v, q, f.1))
   operands_cause Conjunction a here b there x y e v g w h = elim (split (as_wanted env BoolType x) _ h) [
     | inl q ↦ inl (mistyped BoolType a here x e v q)
     | inr q ↦ elim (split (as_wanted env BoolType y) _ q.2) [ inl z ↦ inr (inl (mistyped BoolType b there y g w z)) | inr z ↦ absurd (cc z.2) ]

@@ -14,6 +14,7 @@ use Rattle.c0_typed.specs.Trees as t
 use Rattle.c0_rules.specs.Types.{and_so, Name, Table, ResolvedType, VoidType, IntType, BoolType, StructNamed, PointerTo, ArrayOf, same_type, is_small, resolved_type, Signature, Environment, cells_of, output_takes, output_named}
 use Rattle.c0_rules.specs.Expressions.{OperatorRule, OnNumbers, Compares, Conjunction, Disjunction, operator_rule, is_compared, is_equality, Typing, Has, IsNull, Context, Callee, takes, gives, call_of, null_as, as_wanted, wanted, compared, operated, chosen, pointed, indexed, field_at, fielded, read_of, dereferenced, prefixed, lengthed, held_type, callee_or, callee, typed_expression, typed_place, typed_arguments}
 use Rattle.c0_rules.specs.FaultExpressions.{AsValue, AsPlace, TypeCause, HeldTypeCause, is_value, is_null, is_pointer, has_common, element_of, argument_count, Mistyped, MistypedArgument, CallCause, VoidCall, ComparedCause, OperandCause, PointerCause, IndexCause, FieldCause, DotCause, ArrowCause, StructValue, PrefixCause, InExpression, InArguments}
+use Rattle.c0_rules.proofs.Comparisons.{not_compared}
 use Rattle.c0_rules.proofs.Rules.{AllSome, all_go, some_has}
 use Rattle.c0_rules.proofs.Statements.{AllSmall}
 use Rattle.c0_rules_faults.proofs.Refused.{and_none, and_each, and_at, and_and, provided_none, provided_false, and_false, NoValue, no_value, and_void, wanted_none, small_none}
@@ -171,11 +172,13 @@ module _ (env : Environment) (at : Context) (fault : Fault) (small : TakeSmall e
   operand_right Conjunction e span x h = and_at (typed e) h.0 _ h.1 (and_each (as_wanted env BoolType x) _ (λ a q. and_none _ _ h.3))
   operand_right Disjunction e span x h = and_at (typed e) h.0 _ h.1 (and_each (as_wanted env BoolType x) _ (λ a q. and_none _ _ h.3))
 
-  not_compared : (rule : OperatorRule) (a b : ExpressionKind) (span : Span) → ComparedCause env at fault rule a b span → and_so (typed a) (λ x. and_so (typed b) (operated env rule x)) ≡ None
-  not_compared (Compares r) a b span h = and_at (typed a) h.0 _ h.2 (and_at (typed b) h.1 _ h.3 h.6)
-  not_compared (OnNumbers k) a b span h = absurd h
-  not_compared Conjunction a b span h = absurd h
-  not_compared Disjunction a b span h = absurd h
+  none_compared : (rule : OperatorRule) (a : ExpressionKind) (here : Span) (b : ExpressionKind) (there : Span) → ComparedCause env at fault rule a here b there
+      → and_so (typed a) (λ x. and_so (typed b) (operated env rule x)) ≡ None
+  none_compared (Compares r) a here b there (inl h) = and_at (typed a) h.0 _ h.1 (and_each (typed b) _ (λ y q. not_compared env r h.0 y h.3))
+  none_compared (Compares r) a here b there (inr h) = and_at (typed a) h.0 _ h.2 (and_at (typed b) h.1 _ h.3 h.7)
+  none_compared (OnNumbers k) a here b there h = absurd h
+  none_compared Conjunction a here b there h = absurd h
+  none_compared Disjunction a here b there h = absurd h
 
   no_pointer : (e : ExpressionKind) (span sign : Span) → PointerCause env at fault e span sign → and_so (typed e) (pointed env) ≡ None
   no_pointer e span sign h = and_at (typed e) h.0 _ h.1 (elim h.2 [ inl k ↦ null_pointed env h.0 k.0 | inr k ↦ k.2 ])
@@ -257,7 +260,7 @@ module _ (env : Environment) (at : Context) (fault : Fault) (small : TakeSmall e
     value (Unary' op p e here) span (inr h) = no_value _ (and_void (typed e) (prefixed env op) (value e here h) (prefixed_void env op))
     value (Binary' op p a here q b there) span (inl h) = no_value _ (operand_left (operator_rule op) a here (typed b) h)
     value (Binary' op p a here q b there) span (inr (inl h)) = no_value _ (and_each (typed a) _ (λ x e. operand_right (operator_rule op) b there x h))
-    value (Binary' op p a here q b there) span (inr (inr (inl h))) = no_value _ (not_compared (operator_rule op) a b there h)
+    value (Binary' op p a here q b there) span (inr (inr (inl h))) = no_value _ (none_compared (operator_rule op) a here b there h)
     value (Binary' op p a here q b there) span (inr (inr (inr (inl h)))) = absurd h
     value (Binary' op p a here q b there) span (inr (inr (inr (inr (inl h))))) =
         no_value _ (and_void (typed a) _ (value a here h) (λ z. and_each (typed b) _ (λ y e. operated_left env (operator_rule op) z y)))

@@ -3,7 +3,6 @@ use Rattle.std.proofs.Common.{◌≡◌, ◌⊎◌, inl, inr, List, [], ◌∷�
 use Rattle.std.specs.Prelude.{◌&&◌, ◌||◌, not, map, bytes_eq, is_some}
 use Rattle.std.specs.List.{list_all}
 use Rattle.c0_source.specs.declared.fault.FaultKind.TheVariants as k
-use Rattle.c0_source.specs.declared.fault.Span.{Span}
 use Rattle.c0_source.specs.declared.kind.Base.TheVariants as b
 use Rattle.c0_syntax.specs.declared.statement.Spec as p
 use Rattle.c0_syntax.specs.declared.statement.Annotation.{Annotation}
@@ -15,15 +14,15 @@ use Rattle.c0_syntax.specs.Views.{name_of, type_of, spec_of, annotation_of, stat
 use Rattle.c0_rules.specs.Types.{Name, is_among, are_distinct, ResolvedType, VoidType, StructNamed, BoolType, Table, is_small, small_type, result_type, Signature, Environment, output_named}
 use Rattle.c0_rules.specs.Mentions.{condition_of, specs_in}
 use Rattle.c0_rules.specs.Expressions.{Context, Local, local_of, wanted, typed_expression}
-use Rattle.c0_rules.specs.Statements.{Precondition, Postcondition, Scope, role_of, same_role, conditions, is_function, typed_statements}
-use Rattle.c0_rules.specs.Programs.{parameter_types, names_of, parameters_from, same_signature, agrees, names_agree, signature, result_of, are_contracts, paths_agree, typed_parts, typed_function}
-use Rattle.c0_rules.specs.FaultPrograms.{SecondName, ParameterCause, AgainCause, InHeader, InContract, InContracts, FunctionParameter, InTypes, InFunction}
+use Rattle.c0_rules.specs.Statements.{Precondition, Postcondition, Scope, role_of, same_role, conditions, typed_statements}
+use Rattle.c0_rules.specs.Programs.{parameter_types, names_of, parameters_from, same_signature, agrees, is_defined, names_function, are_locals, names_agree, signature, result_of, are_contracts, keeps_parameters, paths_agree, typed_parts, typed_function}
+use Rattle.c0_rules.specs.FaultPrograms.{SecondName, ParameterCause, InHeader, InContract, InContracts, FunctionParameter, InTypes, InFunction}
 use Rattle.c0_rules.proofs.Rules.{AllSome}
 use Rattle.c0_rules.proofs.Statements.{AllSmall}
 use Rattle.c0_rules_faults.proofs.Causes.{Caused, told, split, split_if, split_and, not_false_is}
 use Rattle.c0_rules_faults.proofs.Headers.{meets, parameters_small, turned}
 use Rattle.c0_rules_faults.proofs.NameCauses.{all_split}
-use Rattle.c0_rules_faults.proofs.PathCauses.{paths_cause}
+use Rattle.c0_rules_faults.proofs.PathCauses.{kept_cause, paths_cause}
 use Rattle.c0_rules_faults.proofs.SpecCauses.{chain_split, conditions_split, spec_cause}
 use Rattle.c0_rules_faults.proofs.StatementCauses.{GiveFine, body_cause, is_fine, small_type_cause}
 use Rattle.c0_rules_faults.proofs.Statements.{SmallLocals, found_small}
@@ -81,39 +80,63 @@ module _ (env : Environment) where
     | inr q ↦ elim (split (parameter_types env.typedefs (map typed_name_of rest)) _ q.2) [ inl z ↦ (let f = parameters_cause rest z in (f.0, inr f.1)) | inr z ↦ absurd (cc z.2) ]
   ]
 
-  again_cause : (f : Signature) (old : Signature) (span : Span) → agrees f (Some old) ≡ false → Caused (λ t. AgainCause t f old span)
-  again_cause f old span h = by (f.defined && old.defined) refl
+  function_named : (own : Name) (xs : List TypedName) → list_all (λ n. not (names_function env own n)) (names_of (map typed_name_of xs)) ≡ false → Caused (λ t. FunctionParameter t env own xs)
+  function_named own [] h = absurd (cc h)
+  function_named own (x ∷ rest) h = elim (split_and (not (names_function env own (name_of x.name))) (list_all (λ n. not (names_function env own n)) (names_of (map typed_name_of rest))) h) [
+    | inl q ↦ (let t = told k.DuplicateName x.name.span in (t.0, inl (not_false_is (names_function env own (name_of x.name)) q, t.1)))
+    | inr q ↦ (let t = function_named own rest q in (t.0, inr t.1))
+  ]
+
+  -- a definition whose parameters are not all locals
+  locals_cause : (defined : Bool) (own : Name) (xs : List TypedName) → are_locals env defined own (names_of (map typed_name_of xs)) ≡ false → Caused (λ t. (defined ≡ true) × FunctionParameter t env own xs)
+  locals_cause true own xs h = let t = function_named own xs h in (t.0, (refl, t.1))
+  locals_cause false own xs h = absurd (cc h)
+
+  again_cause : (f : Signature) (o : Option Signature) → agrees f o ≡ false
+      → ((f.defined && is_defined o) ≡ true) ⊎ ((old : Signature) × (o ≡ Some old) × ((f.defined && old.defined) ≡ false) × (same_signature f old ≡ false))
+  again_cause f None h = absurd (cc h)
+  again_cause f (Some old) h = by (f.defined && old.defined) refl
     where
-      by : (c : Bool) → (f.defined && old.defined) ≡ c → Caused (λ t. AgainCause t f old span)
-      by true e = let t = told k.DuplicateName span in (t.0, inl (e, t.1))
+      by : (c : Bool) → (f.defined && old.defined) ≡ c
+          → ((f.defined && old.defined) ≡ true) ⊎ ((older : Signature) × (Some old ≡ Some older) × ((f.defined && older.defined) ≡ false) × (same_signature f older ≡ false))
+      by true e = inl e
       by false e = elim (split_and (same_signature f old) (not (f.defined && old.defined)) h) [
-        | inl q ↦ (let t = told k.DeclMismatch span in (t.0, inr (e, q, t.1)))
+        | inl q ↦ inr (old, refl, e, q)
         | inr q ↦ absurd (let z : true ≡ false = sym (ap not e) ∙ q in cc z)
       ]
-
-  agrees_cause : (f : Signature) (o : Option Signature) → agrees f o ≡ false → (old : Signature) × (o ≡ Some old) × (agrees f (Some old) ≡ false)
-  agrees_cause f None h = absurd (cc h)
-  agrees_cause f (Some old) h = (old, refl, h)
 
   pub header_cause : (defined : Bool) (h : Header) → signature env defined (header_of h) ≡ None → Caused (λ t. InHeader t env defined h)
   header_cause defined h e = elim (split (result_type env.typedefs (header_of h).result) _ e) [
     | inl q ↦ (let t = small_type_cause env h.result (result_small env.typedefs (type_of h.result) q) in (t.0, inl (q, t.1)))
     | inr q ↦ elim (split (parameter_types env.typedefs (header_of h).parameters) _ q.2) [
-      | inl w ↦ (let t = parameters_cause h.parameters.items w in (t.0, inr (inl t.1)))
-      | inr w ↦
-          (let f : Signature = record { name = name_of h.name; result = q.0; parameters = w.0; defined = defined } in
-          elim (split_if (names_agree env (header_of h) f) _ w.2) [
-            | inl z ↦ elim (split_and (are_distinct (names_of (header_of h).parameters) && not (is_some (output_named env.conio (name_of h.name)))) (agrees f (env.functions (name_of h.name))) z) [
-              | inl y ↦ elim (split_and (are_distinct (names_of (header_of h).parameters)) (not (is_some (output_named env.conio (name_of h.name)))) y) [
-                | inl v ↦ (let t = distinct_cause h.parameters.items v in (t.0, inr (inr (inl t.1))))
-                | inr v ↦ (let t = told k.DuplicateName h.name.span in (t.0, inr (inr (inr (inl (not_false_is (is_some (output_named env.conio (name_of h.name))) v, t.1))))))
-              ]
-              | inr y ↦ (let old = agrees_cause f (env.functions (name_of h.name)) y in let t = again_cause f old.0 h.name.span old.2 in (t.0, inr (inr (inr (inr (q.0, w.0, old.0, q.1, w.1, old.1, t.1))))))
-            ]
-            | inr z ↦ absurd (cc z.1)
-          ])
+      | inl w ↦ (let t = parameters_cause h.parameters.items w in (t.0, inr (inr (inl t.1))))
+      | inr w ↦ elim (split_if (names_agree env (header_of h) (record { name = name_of h.name; result = q.0; parameters = w.0; defined = defined })) _ w.2) [
+        | inl z ↦ names_cause q.0 w.0 q.1 w.1 z
+        | inr z ↦ absurd (cc z.1)
+      ]
     ]
   ]
+    where
+      names_cause : (r : ResolvedType) (rs : List ResolvedType) → result_type env.typedefs (header_of h).result ≡ Some r → parameter_types env.typedefs (header_of h).parameters ≡ Some rs
+          → names_agree env (header_of h) (record { name = name_of h.name; result = r; parameters = rs; defined = defined }) ≡ false → Caused (λ t. InHeader t env defined h)
+      names_cause r rs a b z =
+          let f : Signature = record { name = name_of h.name; result = r; parameters = rs; defined = defined } in
+          let o : Option Signature = env.functions (name_of h.name) in
+          elim (split_and (are_distinct (names_of (header_of h).parameters) && not (is_some (output_named env.conio (name_of h.name))) && agrees f o) (are_locals env defined (name_of h.name) (names_of (header_of h).parameters)) z) [
+            | inl y ↦ elim (split_and (are_distinct (names_of (header_of h).parameters) && not (is_some (output_named env.conio (name_of h.name)))) (agrees f o) y) [
+              | inl v ↦ elim (split_and (are_distinct (names_of (header_of h).parameters)) (not (is_some (output_named env.conio (name_of h.name)))) v) [
+                | inl u ↦ (let t = distinct_cause h.parameters.items u in (t.0, inr (inr (inr (inl t.1)))))
+                | inr u ↦
+                    (let t = told k.DuplicateName h.name.span in
+                    (t.0, inr (inl (true_or (is_some (output_named env.conio (name_of h.name))) (defined && is_defined o) (not_false_is (is_some (output_named env.conio (name_of h.name))) u), t.1))))
+              ]
+              | inr v ↦ elim (again_cause f o v) [
+                | inl u ↦ (let t = told k.DuplicateName h.name.span in (t.0, inr (inl (or_true (is_some (output_named env.conio (name_of h.name))) (defined && is_defined o) u, t.1))))
+                | inr u ↦ (let t = told k.DeclMismatch h.name.span in (t.0, inr (inr (inr (inr (inr (r, rs, u.0, a, b, u.1, (u.2, u.3, t.1))))))))
+              ]
+            ]
+            | inr y ↦ (let t = locals_cause defined (name_of h.name) h.parameters.items y in (t.0, inr (inr (inr (inr (inl t.1))))))
+          ]
 
   -- ---- contracts
 
@@ -163,13 +186,6 @@ module _ (env : Environment) where
 
   -- ---- functions
 
-  function_named : (xs : List TypedName) → list_all (λ n. not (is_function env n)) (names_of (map typed_name_of xs)) ≡ false → Caused (λ t. FunctionParameter t env xs)
-  function_named [] h = absurd (cc h)
-  function_named (x ∷ rest) h = elim (split_and (not (is_function env (name_of x.name))) (list_all (λ n. not (is_function env n)) (names_of (map typed_name_of rest))) h) [
-    | inl q ↦ (let t = told k.DuplicateName x.name.span in (t.0, inl (not_false_is (is_function env (name_of x.name)) q, t.1)))
-    | inr q ↦ (let t = function_named rest q in (t.0, inr t.1))
-  ]
-
   parts_cause : GiveFine env → (f : Signature) (h : Header) (body : List Statement) → AllSmall f.parameters → is_fine f.result ≡ true → typed_parts env f (header_of h) (statements_of body) ≡ None → Caused (λ t. InTypes t env f h body)
   parts_cause results f h body few gives e =
       let locals : List Local = parameters_from 1 (header_of h).parameters f.parameters in
@@ -179,16 +195,16 @@ module _ (env : Environment) where
       let before : Context = record { locals = locals; result = None } in
       let behind : Context = record { locals = locals; result = result_of f.result } in
       let s : Scope = record { locals = locals; parameters = length f.parameters; declared = []; result = f.result } in
-      elim (split_if (list_all (λ n. not (is_function env n)) (names_of (header_of h).parameters) && are_contracts specs) _ e) [
-        | inl q ↦ elim (split_and (list_all (λ n. not (is_function env n)) (names_of (header_of h).parameters)) (are_contracts specs) q) [
-          | inl w ↦ (let t = function_named h.parameters.items w in (t.0, inl t.1))
-          | inr w ↦ (let t = words_in before behind found tt found (result_fine f.result gives) h.annotations.items w in (t.0, inr (inl t.1)))
-        ]
-        | inr q ↦ elim (split (conditions env Precondition before specs) _ q.1) [
-          | inl w ↦ (let t = requires_in before behind found tt found (result_fine f.result gives) h.annotations.items w in (t.0, inr (inl t.1)))
-          | inr w ↦ elim (split (conditions env Postcondition behind specs) _ w.2) [
-            | inl z ↦ (let t = ensures_in before behind found tt found (result_fine f.result gives) h.annotations.items z in (t.0, inr (inl t.1)))
-            | inr z ↦ elim (split (typed_statements env (statements_of body) s) _ z.2) [ inl v ↦ (let t = body_cause env results s low body v in (t.0, inr (inr t.1))) | inr v ↦ absurd (cc v.2) ]
+      elim (split_if (keeps_parameters (header_of h) (statements_of body)) _ e) [
+        | inl q ↦ (let t = kept_cause h body q in (t.0, inr (inl t.1)))
+        | inr q ↦ elim (split_if (are_contracts specs) _ q.1) [
+          | inl w ↦ (let t = words_in before behind found tt found (result_fine f.result gives) h.annotations.items w in (t.0, inl t.1))
+          | inr w ↦ elim (split (conditions env Precondition before specs) _ w.1) [
+            | inl z ↦ (let t = requires_in before behind found tt found (result_fine f.result gives) h.annotations.items z in (t.0, inl t.1))
+            | inr z ↦ elim (split (conditions env Postcondition behind specs) _ z.2) [
+              | inl y ↦ (let t = ensures_in before behind found tt found (result_fine f.result gives) h.annotations.items y in (t.0, inl t.1))
+              | inr y ↦ elim (split (typed_statements env (statements_of body) s) _ y.2) [ inl v ↦ (let t = body_cause env results s low body v in (t.0, inr (inr t.1))) | inr v ↦ absurd (cc v.2) ]
+            ]
           ]
         ]
       ]
@@ -196,7 +212,7 @@ module _ (env : Environment) where
   pub function_cause : GiveFine env → (f : Signature) (h : Header) (body : List Statement) → AllSmall f.parameters → is_fine f.result ≡ true → typed_function env f (header_of h) (statements_of body) ≡ None → Caused (λ t. InFunction t env f h body)
   function_cause results f h body few gives e = elim (split (typed_parts env f (header_of h) (statements_of body)) _ e) [
     | inl q ↦ (let t = parts_cause results f h body few gives q in (t.0, inl t.1))
-    | inr q ↦ elim (split_if (paths_agree f (specs_in (header_of h).annotations) (statements_of body)) _ q.2) [
+    | inr q ↦ elim (split_if (paths_agree f (statements_of body)) _ q.2) [
       | inl w ↦ (let t = paths_cause f h body w in (t.0, inr (q.0, q.1, t.1)))
       | inr w ↦ absurd (cc w.1)
     ]

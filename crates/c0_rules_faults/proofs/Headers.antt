@@ -1,9 +1,8 @@
 -- A header, a contract or a function in which a fault has its cause is refused.
-use Rattle.std.proofs.Common.{◌≡◌, ◌⊎◌, inl, inr, ℕ, suc, List, [], ◌∷◌, ◌++◌, length, sym, ap, ◌∙◌, subst, Bool, true, false, Some, None}
+use Rattle.std.proofs.Common.{◌≡◌, ◌⊎◌, inl, inr, ℕ, suc, List, [], ◌∷◌, ◌++◌, length, refl, sym, ap, ◌∙◌, subst, Bool, true, false, Option, Some, None}
 use Rattle.std.specs.Prelude.{◌&&◌, ◌||◌, not, map, bytes_eq, is_some}
 use Rattle.std.specs.List.{list_all, list_any}
 use Rattle.c0_source.specs.declared.fault.Fault.{Fault}
-use Rattle.c0_source.specs.declared.fault.Span.{Span}
 use Rattle.c0_syntax.specs.declared.statement.Spec as p
 use Rattle.c0_syntax.specs.declared.statement.Annotation.{Annotation}
 use Rattle.c0_syntax.specs.declared.statement.Statement.{Statement}
@@ -14,9 +13,9 @@ use Rattle.c0_syntax.specs.Views.{name_of, spec_of, annotation_of, statements_of
 use Rattle.c0_rules.specs.Types.{Name, is_among, are_distinct, ResolvedType, small_type, result_type, Signature, Environment, output_named}
 use Rattle.c0_rules.specs.Mentions.{specs_in}
 use Rattle.c0_rules.specs.Expressions.{Context}
-use Rattle.c0_rules.specs.Statements.{Precondition, Postcondition, Scope, role_of, same_role, conditions, is_function}
-use Rattle.c0_rules.specs.Programs.{parameter_types, names_of, parameters_from, same_signature, agrees, signature, result_of, are_contracts, typed_parts, typed_function}
-use Rattle.c0_rules.specs.FaultPrograms.{SecondName, ParameterCause, AgainCause, InHeader, InContract, InContracts, FunctionParameter, InTypes, InFunction}
+use Rattle.c0_rules.specs.Statements.{Precondition, Postcondition, Scope, role_of, same_role, conditions}
+use Rattle.c0_rules.specs.Programs.{parameter_types, names_of, parameters_from, same_signature, agrees, is_defined, names_function, names_agree, signature, result_of, are_contracts, keeps_parameters, typed_parts, typed_function}
+use Rattle.c0_rules.specs.FaultPrograms.{SecondName, ParameterCause, InHeader, InContract, InContracts, FunctionParameter, InTypes, InFunction}
 use Rattle.c0_rules.proofs.Rules.{same_name_is}
 use Rattle.c0_rules.proofs.Statements.{AllSmall}
 use Rattle.c0_rules_faults.proofs.Refused.{and_none, and_each, and_at, provided_none, provided_false, and_false, false_and}
@@ -24,7 +23,7 @@ use Rattle.c0_rules_faults.proofs.Expressions.{TakeSmall}
 use Rattle.c0_rules_faults.proofs.Specs.{conditions_front, conditions_back, one_none, later_none}
 use Rattle.c0_rules_faults.proofs.Statements.{SmallLocals, small_type_none, body_none}
 use Rattle.c0_rules_faults.proofs.Tests.{true_or, or_true, one_is, all_front, all_back}
-use Rattle.c0_rules_faults.proofs.Paths.{paths_none}
+use Rattle.c0_rules_faults.proofs.Paths.{kept_none, paths_none}
 
 -- ---- names that stand twice
 
@@ -83,24 +82,46 @@ module _ (env : Environment) (fault : Fault) (small : TakeSmall env) where
   no_parameters (x ∷ rest) (inl h) = and_none _ _ (small_type_none env fault small x.value_type h)
   no_parameters (x ∷ rest) (inr h) = and_each (small_type env.typedefs (typed_name_of x).value_type) _ (λ r q. and_none _ _ (no_parameters rest h))
 
-  again : (f old : Signature) (span : Span) → AgainCause fault f old span → agrees f (Some old) ≡ false
-  again f old span (inl h) = and_false (same_signature f old) _ (ap not h.0)
-  again f old span (inr h) = false_and (same_signature f old) _ h.1
+  function_named : (own : Name) (xs : List TypedName) → FunctionParameter fault env own xs → list_all (λ n. not (names_function env own n)) (names_of (map typed_name_of xs)) ≡ false
+  function_named own [] h = absurd h
+  function_named own (x ∷ rest) (inl h) = false_and (not (names_function env own (name_of x.name))) _ (ap not h.0)
+  function_named own (x ∷ rest) (inr h) = and_false (not (names_function env own (name_of x.name))) _ (function_named own rest h)
+
+  -- a second definition agrees with no first one
+  twice : (f : Signature) (o : Option Signature) → (f.defined && is_defined o) ≡ true → agrees f o ≡ false
+  twice f None h = let z : true ≡ false = sym h ∙ and_false f.defined false refl in absurd (cc z)
+  twice f (Some old) h = and_false (same_signature f old) _ (ap not h)
+
+  -- a name that may not stand there
+  taken : (f : Signature) (distinct : Bool) → (is_some (output_named env.conio f.name) || (f.defined && is_defined (env.functions f.name))) ≡ true
+      → (distinct && not (is_some (output_named env.conio f.name)) && agrees f (env.functions f.name)) ≡ false
+  taken f distinct q = elim (one_is (is_some (output_named env.conio f.name)) (f.defined && is_defined (env.functions f.name)) q) [
+    | inl w ↦ false_and (distinct && not (is_some (output_named env.conio f.name))) (agrees f (env.functions f.name)) (and_false distinct (not (is_some (output_named env.conio f.name))) (ap not w))
+    | inr w ↦ and_false (distinct && not (is_some (output_named env.conio f.name))) (agrees f (env.functions f.name)) (twice f (env.functions f.name) w)
+  ]
+
+  header_step : (defined : Bool) (h : Header) → ((r : ResolvedType) (rs : List ResolvedType) → names_agree env (header_of h) (record { name = name_of h.name; result = r; parameters = rs; defined = defined }) ≡ false)
+      → signature env defined (header_of h) ≡ None
+  header_step defined h k =
+      and_each (result_type env.typedefs (header_of h).result) _ (λ r w. and_each (parameter_types env.typedefs (header_of h).parameters) _ (λ rs v. provided_false _ _ (k r rs)))
 
   pub header_none : (defined : Bool) (h : Header) → InHeader fault env defined h → signature env defined (header_of h) ≡ None
   header_none defined h (inl q) = and_none _ _ q.0
-  header_none defined h (inr (inl q)) = and_each (result_type env.typedefs (header_of h).result) _ (λ r w. and_none _ _ (no_parameters h.parameters.items q))
-  header_none defined h (inr (inr (inl q))) =
-      and_each (result_type env.typedefs (header_of h).result) _ (λ r w. and_each (parameter_types env.typedefs (header_of h).parameters) _ (λ rs v.
-      provided_false _ _ (false_and _ _ (false_and _ _ (not_distinct fault h.parameters.items q)))))
-  header_none defined h (inr (inr (inr (inl q)))) =
-      and_each (result_type env.typedefs (header_of h).result) _ (λ r w. and_each (parameter_types env.typedefs (header_of h).parameters) _ (λ rs v.
-      provided_false _ _ (false_and _ _ (and_false (are_distinct (names_of (header_of h).parameters)) _ (ap not q.0)))))
-  header_none defined h (inr (inr (inr (inr q)))) =
+  header_none defined h (inr (inl q)) = header_step defined h (λ r rs.
+      false_and _ _ (taken (record { name = name_of h.name; result = r; parameters = rs; defined = defined }) (are_distinct (names_of (header_of h).parameters)) q.0))
+  header_none defined h (inr (inr (inl q))) = and_each (result_type env.typedefs (header_of h).result) _ (λ r w. and_none _ _ (no_parameters h.parameters.items q))
+  header_none defined h (inr (inr (inr (inl q)))) = header_step defined h (λ r rs. false_and _ _ (false_and _ _ (false_and _ _ (not_distinct fault h.parameters.items q))))
+  header_none defined h (inr (inr (inr (inr (inl q))))) = header_step defined h (λ r rs.
+      and_false
+      (are_distinct (names_of (header_of h).parameters) && not (is_some (output_named env.conio (name_of h.name)))
+      && agrees (record { name = name_of h.name; result = r; parameters = rs; defined = defined }) (env.functions (name_of h.name)))
+      _
+      (ap (λ b. not b || list_all (λ n. not (names_function env (name_of h.name) n)) (names_of (header_of h).parameters)) q.0 ∙ function_named (name_of h.name) h.parameters.items q.1))
+  header_none defined h (inr (inr (inr (inr (inr q))))) =
       and_at (result_type env.typedefs (header_of h).result) q.0 _ q.3 (and_at (parameter_types env.typedefs (header_of h).parameters) q.1 _ q.4
       (let f : Signature = record { name = name_of h.name; result = q.0; parameters = q.1; defined = defined } in
-      provided_false _ _ (and_false (are_distinct (names_of (header_of h).parameters) && not (is_some (output_named env.conio (name_of h.name)))) (agrees f (env.functions (name_of h.name)))
-      (ap (agrees f) q.5 ∙ again f q.2 h.name.span q.6))))
+      provided_false _ _ (false_and _ _ (and_false (are_distinct (names_of (header_of h).parameters) && not (is_some (output_named env.conio (name_of h.name)))) (agrees f (env.functions (name_of h.name)))
+      (ap (agrees f) q.5 ∙ false_and (same_signature f q.2) _ q.6.1)))))
 
   -- ---- contracts
 
@@ -142,32 +163,25 @@ module _ (env : Environment) (fault : Fault) (small : TakeSmall env) where
 
   -- ---- functions
 
-  function_named : (xs : List TypedName) → FunctionParameter fault env xs → list_all (λ n. not (is_function env n)) (names_of (map typed_name_of xs)) ≡ false
-  function_named [] h = absurd h
-  function_named (x ∷ rest) (inl h) = false_and (not (is_function env (name_of x.name))) _ (ap not h.0)
-  function_named (x ∷ rest) (inr h) = and_false (not (is_function env (name_of x.name))) _ (function_named rest h)
-
-  -- whether the names and the words of a header may stand there
-  abbrev may_stand : Header → Bool
-  may_stand h = list_all (λ n. not (is_function env n)) (names_of (header_of h).parameters) && are_contracts (specs_in (header_of h).annotations)
-
   parts_none : (f : Signature) (h : Header) (body : List Statement) → AllSmall f.parameters → InTypes fault env f h body → typed_parts env f (header_of h) (statements_of body) ≡ None
-  parts_none f h body few (inl q) = provided_false _ _ (false_and _ _ (function_named h.parameters.items q))
-  parts_none f h body few (inr (inl q)) =
+  parts_none f h body few (inl q) =
       let locals = parameters_from 1 (header_of h).parameters f.parameters in
       let specs = specs_in (header_of h).annotations in
-      elim (contracts (record { locals = locals; result = None }) (record { locals = locals; result = result_of f.result }) h.annotations.items q) [
-        | inl w ↦ provided_false _ _ (and_false (list_all (λ n. not (is_function env n)) (names_of (header_of h).parameters)) _ w)
-        | inr (inl w) ↦ provided_none (may_stand h) _ (and_none _ _ w)
-        | inr (inr w) ↦ provided_none (may_stand h) _ (and_each (conditions env Precondition (record { locals = locals; result = None }) specs) _ (λ x v. and_none _ _ w))
-      ]
+      provided_none (keeps_parameters (header_of h) (statements_of body)) _
+      (elim (contracts (record { locals = locals; result = None }) (record { locals = locals; result = result_of f.result }) h.annotations.items q) [
+        | inl w ↦ provided_false _ _ w
+        | inr (inl w) ↦ provided_none (are_contracts specs) _ (and_none _ _ w)
+        | inr (inr w) ↦ provided_none (are_contracts specs) _ (and_each (conditions env Precondition (record { locals = locals; result = None }) specs) _ (λ x v. and_none _ _ w))
+      ])
+  parts_none f h body few (inr (inl q)) = provided_false _ _ (kept_none fault h body q)
   parts_none f h body few (inr (inr q)) =
       let locals = parameters_from 1 (header_of h).parameters f.parameters in
       let specs = specs_in (header_of h).annotations in
       let s : Scope = record { locals = locals; parameters = length f.parameters; declared = []; result = f.result } in
-      provided_none (may_stand h) _ (and_each (conditions env Precondition (record { locals = locals; result = None }) specs) _ (λ x v.
+      provided_none (keeps_parameters (header_of h) (statements_of body)) _ (provided_none (are_contracts specs) _
+      (and_each (conditions env Precondition (record { locals = locals; result = None }) specs) _ (λ x v.
       and_each (conditions env Postcondition (record { locals = locals; result = result_of f.result }) specs) _ (λ y w.
-      and_none _ _ (body_none env fault small s (parameters_small 1 (header_of h).parameters f.parameters few) body q))))
+      and_none _ _ (body_none env fault small s (parameters_small 1 (header_of h).parameters f.parameters few) body q)))))
 
   pub function_none : (f : Signature) (h : Header) (body : List Statement) → AllSmall f.parameters → InFunction fault env f h body → typed_function env f (header_of h) (statements_of body) ≡ None
   function_none f h body few (inl q) = and_none _ _ (parts_none f h body few q)

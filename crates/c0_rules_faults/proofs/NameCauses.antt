@@ -13,7 +13,7 @@ use Rattle.c0_syntax.specs.declared.statement.SimpleKind.TheVariants as d
 use Rattle.c0_syntax.specs.declared.statement.Statement as a
 use Rattle.c0_syntax.specs.declared.statement.StatementKind.{StatementKind, Row_of-Statement, end_of-Statement, more_of-Statement, Simple, Block', Annotated, ReturnValue, If', IfElse', While', For', Assert, Error}
 use Rattle.c0_syntax.specs.Views.{expression_of, expression_of_kind, row_of, spec_of, annotation_of, simple_of, simple_of_kind, statement_of_kind, statement_row, statements_of}
-use Rattle.c0_rules.specs.Types.{Name, is_among, any_among}
+use Rattle.c0_rules.specs.Types.{Name}
 use Rattle.c0_rules.specs.Mentions.{Mention, OfVariable, OfFunction, OfText, mentions, argument_mentions, condition_of, spec_mentions, specs_in, simple_mentions, part_mentions, statement_mentions, statements_mentions, variable_of, function_of, text_of}
 use Rattle.c0_rules.specs.FaultPaths.{NamedIn, NamedInRow, NamedInSpecs, NamedInAnnotations, NamedInSimple, NamedInPart, NamedInStatement, NamedInBlock, NamedInBody}
 use Rattle.c0_rules_faults.proofs.Causes.{Caused, told, split_and}
@@ -42,14 +42,14 @@ one_of false h = absurd (cc h)
 
 -- ---- of one sort
 
-pub variable_mentioned : (test : Mention → Bool) (names : List Name) → ((x : Name) → is_among x names ≡ true → test (OfVariable x) ≡ true) → (ms : List Mention) → any_among (filter_map variable_of ms) names ≡ true → list_any test ms ≡ true
-variable_mentioned test names v [] h = absurd (cc h)
-variable_mentioned test names v (OfVariable x ∷ ms) h = elim (one_is (is_among x names) (any_among (filter_map variable_of ms) names) h) [
+pub variable_mentioned : (test : Mention → Bool) (is : Name → Bool) → ((x : Name) → is x ≡ true → test (OfVariable x) ≡ true) → (ms : List Mention) → list_any is (filter_map variable_of ms) ≡ true → list_any test ms ≡ true
+variable_mentioned test is v [] h = absurd (cc h)
+variable_mentioned test is v (OfVariable x ∷ ms) h = elim (one_is (is x) (list_any is (filter_map variable_of ms)) h) [
   | inl q ↦ true_or (test (OfVariable x)) _ (v x q)
-  | inr q ↦ or_true (test (OfVariable x)) _ (variable_mentioned test names v ms q)
+  | inr q ↦ or_true (test (OfVariable x)) _ (variable_mentioned test is v ms q)
 ]
-variable_mentioned test names v (OfFunction x ∷ ms) h = or_true (test (OfFunction x)) _ (variable_mentioned test names v ms h)
-variable_mentioned test names v (OfText x ∷ ms) h = or_true (test (OfText x)) _ (variable_mentioned test names v ms h)
+variable_mentioned test is v (OfFunction x ∷ ms) h = or_true (test (OfFunction x)) _ (variable_mentioned test is v ms h)
+variable_mentioned test is v (OfText x ∷ ms) h = or_true (test (OfText x)) _ (variable_mentioned test is v ms h)
 
 pub function_mentioned : (test : Mention → Bool) (is : Name → Bool) → ((x : Name) → is x ≡ false → test (OfFunction x) ≡ true) → (ms : List Mention) → list_all is (filter_map function_of ms) ≡ false → list_any test ms ≡ true
 function_mentioned test is f [] h = absurd (cc h)

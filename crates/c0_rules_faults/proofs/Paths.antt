@@ -12,16 +12,19 @@ use Rattle.c0_syntax.specs.declared.statement.SimpleKind.{SimpleKind}
 use Rattle.c0_syntax.specs.declared.statement.SimpleKind.TheVariants as d
 use Rattle.c0_syntax.specs.declared.statement.Statement as a
 use Rattle.c0_syntax.specs.declared.statement.StatementKind.{StatementKind, Row_of-Statement, end_of-Statement, more_of-Statement, Simple, Block', Annotated, ReturnValue, If', IfElse', While', For', Assert, Error}
+use Rattle.c0_syntax.specs.declared.program.TypedName.{TypedName}
 use Rattle.c0_syntax.specs.declared.program.Header.{Header}
 use Rattle.c0_syntax.specs.Trees as tree
-use Rattle.c0_syntax.specs.Views.{expression_of, spec_of, annotation_of, simple_of, simple_of_kind, statement_of, statement_of_kind, statement_row, statements_of}
-use Rattle.c0_rules.specs.Types.{Name, is_among, any_among, VoidType, same_type, Signature}
+use Rattle.c0_syntax.specs.Views.{expression_of, spec_of, annotation_of, simple_of, simple_of_kind, statement_of, statement_of_kind, statement_row, statements_of, typed_name_of, header_of}
+use Rattle.c0_rules.specs.Types.{Name, is_among, VoidType, same_type, Signature}
 use Rattle.c0_rules.specs.Mentions.{Mention, mentions, variables_in, condition_of, specs_in, statements_assign, as_variable}
-use Rattle.c0_rules.specs.Assignment.{Flow, Ended, Reached, reads_assigned, specs_read_assigned, has_ended, left_scope, flow_of_assignment, flow_of_simple, flow_of_part, flow_of_statement, flow_of_statements}
+use Rattle.c0_rules.specs.Assignment.{Flow, Ended, Reached, reads_assigned, specs_read_assigned, has_ended, left_scope, after_statement, after_statements, flow_of_assignment, flow_of_simple, flow_of_part, flow_of_statement, flow_of_statements}
 use Rattle.c0_rules.specs.Statements.{Postcondition, role_of, same_role}
-use Rattle.c0_rules.specs.Programs.{names_in_ensures, paths_agree}
+use Rattle.c0_rules.specs.Programs.{names_of, names_in_ensures, is_assigned_parameter, keeps_parameters, paths_agree}
 use Rattle.c0_rules.specs.FaultPaths.{NamedInSpecs, is_unassigned, ReadIn, ReadInSpecs, ReadInAnnotations, ReadInSimple, ReadInPart, ReadInStatement, ReadInBlock, ReadInBody}
 use Rattle.c0_rules.specs.FaultPrograms.{is_assigned_in, AssignedParameter, AssignedParameters, InPaths}
+use Rattle.c0_rules.proofs.Assigned.{after_is, statements_after}
+use Rattle.c0_rules.proofs.Rules.{AllSome}
 use Rattle.c0_rules_faults.proofs.Refused.{and_none, and_each, and_at, provided_none, provided_false, and_false, false_and}
 use Rattle.c0_rules_faults.proofs.Tests.{any_front, any_back, all_front, all_back, variables_among}
 use Rattle.c0_rules_faults.proofs.Names.{named, named_spec}
@@ -33,7 +36,7 @@ never_read (m ∷ ms) h = never_read ms h
 
 not_read : (flow : Flow) (x : tree.Expression) → list_any (is_unassigned flow) (mentions x) ≡ true → reads_assigned flow x ≡ false
 not_read Ended x h = absurd (never_read (mentions x) h)
-not_read (Reached names) x h = ap not (variables_among (is_unassigned (Reached names)) names (λ v q. q) (λ v. refl) (λ v. refl) (mentions x) h)
+not_read (Reached names) x h = ap not (variables_among (is_unassigned (Reached names)) (λ v. is_among v names) (λ v q. q) (λ v. refl) (λ v. refl) (mentions x) h)
 
 module _ (fault : Fault) where
   read_none : (flow : Flow) (x : e.Expression) → ReadIn fault flow x → reads_assigned flow (expression_of x) ≡ false
@@ -70,6 +73,11 @@ module _ (fault : Fault) where
   part_flow flow None h = absurd h
   part_flow flow (Some x) h = simple_flow flow x.kind h
 
+  -- the third part of a `for`, behind the body
+  third_flow : (f g : Flow) (x : Option SimpleStatement) (body : tree.Statement) → flow_of_statement body f ≡ Some g → ReadInPart fault (left_scope f (after_statement body f)) x
+      → flow_of_part (option_map simple_of x) (left_scope f g) ≡ None
+  third_flow f g x body e h = subst (λ z. flow_of_part (option_map simple_of x) (left_scope f z) ≡ None) (sym (after_is body f g e)) (part_flow (left_scope f (after_statement body f)) x h)
+
   mutual
     statement_flow : (flow : Flow) (x : StatementKind) → ReadInStatement fault flow x → flow_of_statement (statement_of_kind x) flow ≡ None
     statement_flow flow (Simple x) h = simple_flow flow x.kind h
@@ -90,12 +98,12 @@ module _ (fault : Fault) where
     statement_flow flow (For' first c third notes p x at) (inr h) =
         and_at (flow_of_part (option_map simple_of first) flow) h.0 _ h.1 (elim h.2 [
           | inl q ↦ provided_false _ _ (false_and (reads_assigned h.0 (expression_of c)) _ (read_none h.0 c q))
-          | inr (inl q) ↦ provided_false _ _ (and_false (reads_assigned h.0 (expression_of c)) _ (notes_read h.0 notes.items q))
-          | inr (inr (inl q)) ↦
-              provided_none (reads_assigned h.0 (expression_of c) && specs_read_assigned h.0 (specs_in (map annotation_of notes.items))) _ (and_none _ _ (statement_flow h.0 x q))
-          | inr (inr (inr q)) ↦
+          | inr (inl q) ↦
               provided_none (reads_assigned h.0 (expression_of c) && specs_read_assigned h.0 (specs_in (map annotation_of notes.items))) _
-              (and_at (flow_of_statement (statement_of_kind x) h.0) q.0 _ q.1 (and_none _ _ (part_flow (left_scope h.0 q.0) third q.2)))
+              (and_each (flow_of_statement (statement_of_kind x) h.0) _ (λ g w. and_none _ _ (third_flow h.0 g third (statement_of_kind x) w q)))
+          | inr (inr (inl q)) ↦ provided_false _ _ (and_false (reads_assigned h.0 (expression_of c)) _ (notes_read h.0 notes.items q))
+          | inr (inr (inr q)) ↦
+              provided_none (reads_assigned h.0 (expression_of c) && specs_read_assigned h.0 (specs_in (map annotation_of notes.items))) _ (and_none _ _ (statement_flow h.0 x q))
         ])
     statement_flow flow (Assert x) h = provided_false _ _ (read_none flow x h)
     statement_flow flow (Error x) h = provided_false _ _ (read_none flow x h)
@@ -117,46 +125,53 @@ module _ (fault : Fault) where
   abbrev pub read_by : tree.Spec → List Name
   read_by s = elim (same_role Postcondition (role_of s)) [ true ↦ variables_in (condition_of s) | false ↦ [] ]
 
-  ensures_back : (names : List Name) (xs ys : List tree.Spec) → any_among (names_in_ensures ys) names ≡ true → any_among (names_in_ensures (xs ++ ys)) names ≡ true
-  ensures_back names [] ys h = h
-  ensures_back names (x ∷ xs) ys h = any_back (λ v. is_among v names) (read_by x) (names_in_ensures (xs ++ ys)) (ensures_back names xs ys h)
+  ensures_back : (is : Name → Bool) (xs ys : List tree.Spec) → list_any is (names_in_ensures ys) ≡ true → list_any is (names_in_ensures (xs ++ ys)) ≡ true
+  ensures_back is [] ys h = h
+  ensures_back is (x ∷ xs) ys h = any_back is (read_by x) (names_in_ensures (xs ++ ys)) (ensures_back is xs ys h)
 
-  ensures_one : (body : List a.Statement) (x : p.Spec) (rest : List tree.Spec) → same_role Postcondition (role_of (spec_of x)) ≡ true → NamedInSpecs (is_assigned_in fault body) k.BadContract fault (x ∷ [])
-      → any_among (names_in_ensures (spec_of x ∷ rest)) (statements_assign (statements_of body)) ≡ true
-  ensures_one body x rest q (inl h) =
-      any_front (λ v. is_among v (statements_assign (statements_of body))) (read_by (spec_of x)) (names_in_ensures rest)
-      (subst (λ b. any_among (elim b [ true ↦ variables_in (condition_of (spec_of x)) | false ↦ [] ]) (statements_assign (statements_of body)) ≡ true) (sym q)
-      (variables_among (is_assigned_in fault body) (statements_assign (statements_of body)) (λ v w. w) (λ v. refl) (λ v. refl) (mentions (condition_of (spec_of x)))
-      (named_spec (is_assigned_in fault body) k.BadContract fault x h)))
-  ensures_one body x rest q (inr h) = absurd h
+  module _ (parameters : List TypedName) (body : List a.Statement) where
+    -- whether a name is that of an assigned parameter, and whether a mention is
+    abbrev is : Name → Bool
+    is = is_assigned_parameter (names_of (map typed_name_of parameters)) (statements_assign (statements_of body))
 
-  ensures_specs : (body : List a.Statement) (xs : List p.Spec) (rest : List tree.Spec) → AssignedParameter fault (is_assigned_in fault body) xs
-      → any_among (names_in_ensures (map spec_of xs ++ rest)) (statements_assign (statements_of body)) ≡ true
-  ensures_specs body [] rest h = absurd h
-  ensures_specs body (x ∷ xs) rest (inl h) = ensures_one body x (map spec_of xs ++ rest) h.0 h.1
-  ensures_specs body (x ∷ xs) rest (inr h) = ensures_back (statements_assign (statements_of body)) (spec_of x ∷ []) (map spec_of xs ++ rest) (ensures_specs body xs rest h)
+    abbrev test : Mention → Bool
+    test = is_assigned_in fault parameters body
 
-  ensures_notes : (body : List a.Statement) (xs : List Annotation) → AssignedParameters fault (is_assigned_in fault body) xs
-      → any_among (names_in_ensures (specs_in (map annotation_of xs))) (statements_assign (statements_of body)) ≡ true
-  ensures_notes body [] h = absurd h
-  ensures_notes body (x ∷ rest) (inl h) = ensures_specs body x.specs.items (specs_in (map annotation_of rest)) h
-  ensures_notes body (x ∷ rest) (inr h) = ensures_back (statements_assign (statements_of body)) (annotation_of x) (specs_in (map annotation_of rest)) (ensures_notes body rest h)
+    ensures_one : (x : p.Spec) (rest : List tree.Spec) → same_role Postcondition (role_of (spec_of x)) ≡ true → NamedInSpecs test k.BadContract fault (x ∷ []) → list_any is (names_in_ensures (spec_of x ∷ rest)) ≡ true
+    ensures_one x rest q (inl h) =
+        any_front is (read_by (spec_of x)) (names_in_ensures rest)
+        (subst (λ b. list_any is (elim b [ true ↦ variables_in (condition_of (spec_of x)) | false ↦ [] ]) ≡ true) (sym q)
+        (variables_among test is (λ v w. w) (λ v. refl) (λ v. refl) (mentions (condition_of (spec_of x))) (named_spec test k.BadContract fault x h)))
+    ensures_one x rest q (inr h) = absurd h
+
+    ensures_specs : (xs : List p.Spec) (rest : List tree.Spec) → AssignedParameter fault test xs → list_any is (names_in_ensures (map spec_of xs ++ rest)) ≡ true
+    ensures_specs [] rest h = absurd h
+    ensures_specs (x ∷ xs) rest (inl h) = ensures_one x (map spec_of xs ++ rest) h.0 h.1
+    ensures_specs (x ∷ xs) rest (inr h) = ensures_back is (spec_of x ∷ []) (map spec_of xs ++ rest) (ensures_specs xs rest h)
+
+    pub ensures_notes : (xs : List Annotation) → AssignedParameters fault test xs → list_any is (names_in_ensures (specs_in (map annotation_of xs))) ≡ true
+    ensures_notes [] h = absurd h
+    ensures_notes (x ∷ rest) (inl h) = ensures_specs x.specs.items (specs_in (map annotation_of rest)) h
+    ensures_notes (x ∷ rest) (inr h) = ensures_back is (annotation_of x) (specs_in (map annotation_of rest)) (ensures_notes rest h)
+
+  -- an assigned parameter that `ensures` reads is not kept
+  pub kept_none : (h : Header) (body : List a.Statement) → AssignedParameters fault (is_assigned_in fault h.parameters.items body) h.annotations.items → keeps_parameters (header_of h) (statements_of body) ≡ false
+  kept_none h body q = ap not (ensures_notes h.parameters.items body h.annotations.items q)
 
   -- ---- a function
-
-  -- what is behind its body
-  abbrev ends_well : Signature → Option Flow → Bool
-  ends_well f o = elim o [ None ↦ false | Some flow ↦ has_ended flow || same_type f.result VoidType ]
 
   neither : (a b : Bool) → a ≡ false → b ≡ false → (a || b) ≡ false
   neither true b h q = absurd (cc h)
   neither false b h q = q
 
-  pub paths_none : (f : Signature) (h : Header) (body : List a.Statement) → InPaths fault f h body → paths_agree f (specs_in (map annotation_of h.annotations.items)) (statements_of body) ≡ false
-  paths_none f h body (inl q) = false_and _ _ (ap not (ensures_notes body h.annotations.items q))
-  paths_none f h body (inr (inl q)) =
-      and_false (not (any_among (names_in_ensures (specs_in (map annotation_of h.annotations.items))) (statements_assign (statements_of body)))) _
-      (ap (ends_well f) (body_flow (Reached []) body q))
-  paths_none f h body (inr (inr q)) =
-      and_false (not (any_among (names_in_ensures (specs_in (map annotation_of h.annotations.items))) (statements_assign (statements_of body)))) _
-      (ap (ends_well f) q.1 ∙ neither (has_ended q.0) (same_type f.result VoidType) q.2 q.3)
+  -- what is behind its body
+  abbrev ends_well : Signature → Option Flow → Bool
+  ends_well f o = elim o [ None ↦ false | Some flow ↦ has_ended flow || same_type f.result VoidType ]
+
+  pub paths_none : (f : Signature) (h : Header) (body : List a.Statement) → InPaths fault f h body → paths_agree f (statements_of body) ≡ false
+  paths_none f h body (inl q) = by (flow_of_statements (statements_of body) (Reached [])) (statements_after (statements_of body) (Reached []))
+    where
+      by : (o : Option Flow) → AllSome (λ g. g ≡ after_statements (statements_of body) (Reached [])) o → ends_well f o ≡ false
+      by None e = refl
+      by (Some g) e = neither (has_ended g) (same_type f.result VoidType) (ap has_ended e ∙ q.0) q.1
+  paths_none f h body (inr q) = ap (ends_well f) (body_flow (Reached []) body q)

@@ -243,11 +243,14 @@ module _ (env : Environment) (results : GiveFine env) where
     part_cause None h = absurd (cc h)
     part_cause (Some x) h = simple_cause x.kind x.span h
 
-    return_cause : (x : e.Expression) → typed_statement env (tree.ReturnValue (expression_of x)) s ≡ None → Caused (λ f. InValue env f s x ⊎ ReturnCause env f s x)
+    return_cause : (x : e.Expression) → typed_statement env (tree.ReturnValue (expression_of x)) s ≡ None → Caused (λ f. ReturnCause env f s x)
     return_cause x h = elim (split_if (not (same_type s.result VoidType)) _ h) [
-      | inl q ↦ (let f = told k.TypeMismatch x.span in (f.0, inr (inl (not_false_is (same_type s.result VoidType) q, f.1))))
+      | inl q ↦ (let f = told k.TypeMismatch x.span in (f.0, inl (not_false_is (same_type s.result VoidType) q, f.1)))
       | inr q ↦ elim (split (expression_as env s.result s (expression_of x)) _ q.1) [
-        | inl z ↦ elim (wanted_cause env (within s) s.result x.kind x.span z) [ inl w ↦ (let f = value_cause x w in (f.0, inl f.1)) | inr m ↦ (m.0, inr (inr (not_true (same_type s.result VoidType) q.0, m.1))) ]
+        | inl z ↦ elim (wanted_cause env (within s) s.result x.kind x.span z) [
+          | inl w ↦ (let f = value_cause x w in (f.0, inr (not_true (same_type s.result VoidType) q.0, inl f.1)))
+          | inr m ↦ (m.0, inr (not_true (same_type s.result VoidType) q.0, inr m.1))
+        ]
         | inr z ↦ absurd (cc z.2)
       ]
     ]

@@ -231,11 +231,10 @@ module _ (env : Environment) (fault : Fault) (small : TakeSmall env) where
     part_none few None h = absurd h
     part_none few (Some x) h = simple_none few x.kind x.span h
 
-    return_none : (x : e.Expression) → InValue env fault s x ⊎ ReturnCause env fault s x → typed_statement env (tree.ReturnValue (expression_of x)) s ≡ None
-    return_none x (inl h) =
-        provided_each (not (same_type s.result VoidType)) _ (λ b. and_none _ _ (wanted_none env s.result _ (void_apart s.result (not_true (same_type s.result VoidType) b)) (value env (within s) fault small x.kind x.span h)))
-    return_none x (inr (inl h)) = provided_false (not (same_type s.result VoidType)) _ (ap not h.0)
-    return_none x (inr (inr h)) = provided_none (not (same_type s.result VoidType)) _ (and_none _ _ (mistyped env (within s) fault small s.result x.kind x.span h.1))
+    return_none : (x : e.Expression) → ReturnCause env fault s x → typed_statement env (tree.ReturnValue (expression_of x)) s ≡ None
+    return_none x (inl h) = provided_false (not (same_type s.result VoidType)) _ (ap not h.0)
+    return_none x (inr (q, inl h)) = provided_none (not (same_type s.result VoidType)) _ (and_none _ _ (wanted_none env s.result _ (void_apart s.result q) (value env (within s) fault small x.kind x.span h)))
+    return_none x (inr (q, inr h)) = provided_none (not (same_type s.result VoidType)) _ (and_none _ _ (mistyped env (within s) fault small s.result x.kind x.span h))
 
   -- a third part stands behind the body, where the same locals are in scope
   third_at : (s inner : Scope) (x : Option SimpleStatement) → InPart env fault s x → InPart env fault (leave s inner) x

@@ -2,7 +2,7 @@
 use Rattle.std.proofs.Common.{◌≡◌, ◌⊎◌, inl, inr, List, [], ◌∷◌, ◌++◌, refl, sym, ◌∙◌, Bool, true, false}
 use Rattle.std.specs.Prelude.{◌&&◌, ◌||◌, filter_map}
 use Rattle.std.specs.List.{list_all, list_any}
-use Rattle.c0_rules.specs.Types.{Name, is_among, any_among}
+use Rattle.c0_rules.specs.Types.{Name}
 use Rattle.c0_rules.specs.Mentions.{Mention, OfVariable, OfFunction, OfText, variable_of, function_of, text_of}
 use Rattle.c0_rules_faults.proofs.Refused.{and_false, false_and}
 
@@ -40,16 +40,16 @@ all_back test (x ∷ xs) ys h = and_false (test x) _ (all_back test xs ys h)
 
 -- ---- mentions of one sort
 
--- where the test takes only variables that are among these, one of the variables is
-pub variables_among : (test : Mention → Bool) (names : List Name) → ((x : Name) → test (OfVariable x) ≡ true → is_among x names ≡ true) → ((x : Name) → test (OfFunction x) ≡ false)
-    → ((x : Name) → test (OfText x) ≡ false) → (ms : List Mention) → list_any test ms ≡ true → any_among (filter_map variable_of ms) names ≡ true
-variables_among test names v f t [] h = absurd (cc h)
-variables_among test names v f t (OfVariable x ∷ ms) h =
-    elim (one_is (test (OfVariable x)) (list_any test ms) h) [ inl q ↦ true_or (is_among x names) _ (v x q) | inr q ↦ or_true (is_among x names) _ (variables_among test names v f t ms q) ]
-variables_among test names v f t (OfFunction x ∷ ms) h =
-    elim (one_is (test (OfFunction x)) (list_any test ms) h) [ inl q ↦ (let z : true ≡ false = sym q ∙ f x in absurd (cc z)) | inr q ↦ variables_among test names v f t ms q ]
-variables_among test names v f t (OfText x ∷ ms) h =
-    elim (one_is (test (OfText x)) (list_any test ms) h) [ inl q ↦ (let z : true ≡ false = sym q ∙ t x in absurd (cc z)) | inr q ↦ variables_among test names v f t ms q ]
+-- where the test takes only variables that pass another, one of the variables does
+pub variables_among : (test : Mention → Bool) (is : Name → Bool) → ((x : Name) → test (OfVariable x) ≡ true → is x ≡ true) → ((x : Name) → test (OfFunction x) ≡ false)
+    → ((x : Name) → test (OfText x) ≡ false) → (ms : List Mention) → list_any test ms ≡ true → list_any is (filter_map variable_of ms) ≡ true
+variables_among test is v f t [] h = absurd (cc h)
+variables_among test is v f t (OfVariable x ∷ ms) h =
+    elim (one_is (test (OfVariable x)) (list_any test ms) h) [ inl q ↦ true_or (is x) _ (v x q) | inr q ↦ or_true (is x) _ (variables_among test is v f t ms q) ]
+variables_among test is v f t (OfFunction x ∷ ms) h =
+    elim (one_is (test (OfFunction x)) (list_any test ms) h) [ inl q ↦ (let z : true ≡ false = sym q ∙ f x in absurd (cc z)) | inr q ↦ variables_among test is v f t ms q ]
+variables_among test is v f t (OfText x ∷ ms) h =
+    elim (one_is (test (OfText x)) (list_any test ms) h) [ inl q ↦ (let z : true ≡ false = sym q ∙ t x in absurd (cc z)) | inr q ↦ variables_among test is v f t ms q ]
 
 -- where the test takes only functions that fail another, not all of the functions pass that
 pub functions_fail : (test : Mention → Bool) (is : Name → Bool) → ((x : Name) → test (OfVariable x) ≡ false) → ((x : Name) → test (OfFunction x) ≡ true → is x ≡ false)

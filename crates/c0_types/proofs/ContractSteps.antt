@@ -22,8 +22,8 @@ use Rattle.c0_rules.specs.FaultStatements.{InCondition}
 use Rattle.c0_rules.specs.FaultPrograms.{FunctionParameter, InContract, InContracts}
 use Rattle.c0_rules.specs.Expressions.{Context, typed_expression, wanted}
 use Rattle.c0_rules.specs.Mentions.{condition_of, specs_in}
-use Rattle.c0_rules.specs.Programs.{are_contracts, names_of}
-use Rattle.c0_rules.specs.Statements.{Role, Precondition, Postcondition, Invariant, Assertion, clause_role, conditions, is_function, role_of, same_role}
+use Rattle.c0_rules.specs.Programs.{are_contracts, names_function, names_of}
+use Rattle.c0_rules.specs.Statements.{Role, Precondition, Postcondition, Invariant, Assertion, clause_role, conditions, role_of, same_role}
 use Rattle.c0_rules.specs.Types.{and_so, provided, Name, Environment, BoolType}
 use Rattle.c0_types_expressions.specs.Terms.{HasTexts}
 use Rattle.c0_types_statements.specs.Bodies.{SpecsHaveTexts}
@@ -44,31 +44,31 @@ at_place P Q first later (y ∷ xs) (suc i) x l e h = later y xs (at_place P Q f
 
 -- ---- names of parameters
 
--- whether no parameter has the name of a function
-abbrev pub are_free : Environment → List TypedName → Bool
-are_free env items = list_all (λ n. not (is_function env n)) (names_of (map typed_name_of items))
+-- whether no parameter has the name of a function, of its own among them
+abbrev pub are_free : Environment → Name → List TypedName → Bool
+are_free env own items = list_all (λ n. not (names_function env own n)) (names_of (map typed_name_of items))
 
-module _ (env : Environment) (i : ℕ) (items : List TypedName) (so_far : are_free env (drop i items) ≡ are_free env items) where
+module _ (env : Environment) (own : Name) (i : ℕ) (items : List TypedName) (so_far : are_free env own (drop i items) ≡ are_free env own items) where
   -- nothing is left
-  pub parameters_done : length items ≤ i → are_free env items ≡ true
-  parameters_done l = sym so_far ∙ at_drop_all (are_free env) items i l
+  pub parameters_done : length items ≤ i → are_free env own items ≡ true
+  parameters_done l = sym so_far ∙ at_drop_all (are_free env own) items i l
 
   module _ (x : TypedName) (h : i < length items) (is : x ≡ get_or items i x) where
-    parameter_first : (not (is_function env (name_of x.name)) && are_free env (drop (i + 1) items)) ≡ are_free env items
-    parameter_first = sym (ap (are_free env) (rest_from items i x h is)) ∙ so_far
+    parameter_first : (not (names_function env own (name_of x.name)) && are_free env own (drop (i + 1) items)) ≡ are_free env own items
+    parameter_first = sym (ap (are_free env own) (rest_from items i x h is)) ∙ so_far
 
     -- a parameter with another name
-    pub parameter_more : is_function env (name_of x.name) ≡ false → are_free env (drop (i + 1) items) ≡ are_free env items
-    parameter_more e = ap (λ b. not b && are_free env (drop (i + 1) items)) (sym e) ∙ parameter_first
+    pub parameter_more : names_function env own (name_of x.name) ≡ false → are_free env own (drop (i + 1) items) ≡ are_free env own items
+    parameter_more e = ap (λ b. not b && are_free env own (drop (i + 1) items)) (sym e) ∙ parameter_first
 
     -- a parameter with the name of a function
-    pub parameter_here : is_function env (name_of x.name) ≡ true → are_free env items ≡ false
-    parameter_here e = sym parameter_first ∙ ap (λ b. not b && are_free env (drop (i + 1) items)) e
+    pub parameter_here : names_function env own (name_of x.name) ≡ true → are_free env own items ≡ false
+    parameter_here e = sym parameter_first ∙ ap (λ b. not b && are_free env own (drop (i + 1) items)) e
 
-pub parameter_told : (env : Environment) (f : Fault) (items : List TypedName) (i : ℕ) (x : TypedName) → i < length items → x ≡ get_or items i x
-    → is_function env (name_of x.name) ≡ true → Told k.DuplicateName x.name.span f → FunctionParameter f env items
-parameter_told env f items i x l is e h =
-    at_place (λ z. (is_function env (name_of z.name) ≡ true) × Told k.DuplicateName z.name.span f) (FunctionParameter f env) (λ z zs q. inl q) (λ z zs q. inr q) items i x l is (e, h)
+pub parameter_told : (env : Environment) (own : Name) (f : Fault) (items : List TypedName) (i : ℕ) (x : TypedName) → i < length items → x ≡ get_or items i x
+    → names_function env own (name_of x.name) ≡ true → Told k.DuplicateName x.name.span f → FunctionParameter f env own items
+parameter_told env own f items i x l is e h =
+    at_place (λ z. (names_function env own (name_of z.name) ≡ true) × Told k.DuplicateName z.name.span f) (FunctionParameter f env own) (λ z zs q. inl q) (λ z zs q. inr q) items i x l is (e, h)
 
 -- ---- a spec by its parts
 

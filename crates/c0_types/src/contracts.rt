@@ -1,47 +1,23 @@
-// The contract of a function, and the names of its parameters.
+// The contract of a function.
 
-ghost use Rattle.std.specs.Prelude.{◌≡◌, ◌⊎◌, IfErr, map, not};
-ghost use Rattle.std.specs.List.{list_all};
+ghost use Rattle.std.specs.Prelude.{◌≡◌, ◌⊎◌, ◌≤◌, Err, IfErr, MatchResult, Ok, is_ok, map, true};
 ghost use Rattle.c0_source.specs.declared.fault.FaultKind.TheVariants.{OutOfMemory};
-ghost use Rattle.c0_syntax.specs.Views.{annotation_of, spec_of, typed_name_of};
+ghost use Rattle.c0_syntax.specs.Views.{annotation_of, spec_of};
 ghost use Rattle.c0_types_statements.specs.Bodies.{SpecsHaveTexts};
 ghost use Rattle.c0_types.specs.ContractViews.{InContractSpec, condition_added, conditions_of, contract_of, specs_added};
-ghost use Rattle.c0_types.specs.DeclareViews.{Accepts};
-ghost use Rattle.c0_rules.specs.FaultPrograms.{FunctionParameter, InContract, InContracts};
+ghost use Rattle.c0_rules.specs.FaultPrograms.{InContract, InContracts};
 ghost use Rattle.c0_rules.specs.Mentions.{condition_of, specs_in};
-ghost use Rattle.c0_rules.specs.Programs.{names_of};
-ghost use Rattle.c0_rules.specs.Statements.{is_function as is_called, role_of};
+ghost use Rattle.c0_rules.specs.Statements.{role_of};
 ghost use Rattle.c0_types_expressions.specs.Terms.{HasTexts, context_of, env_of};
 ghost use Rattle.c0_rules.specs.Answers.{Answers};
-ghost use Rattle.c0_types_tables.specs.Views.{environment_of};
 
+use crate::headers::first_told;
 use c0_source::fault::{Fault, FaultKind};
 use c0_source::kind::Clause;
-use c0_syntax::program::TypedName;
 use c0_syntax::statement::{Annotation, Spec, SpecKind};
 use c0_typed::Expression as TypedExpression;
 use c0_types_expressions::typing::Terms;
-use c0_types_tables::environment::Environment;
 use c0_types_tables::resolved::ResolvedType;
-
-/// The first parameter that has the name of a function in scope or of an output call in use is an error, `DuplicateName` at its name.
-pub(crate) fn check_parameter_names(
-    environment: &Environment,
-    parameters: &[TypedName],
-) -> Result<(), Fault>
-    ensures answers { Accepts result (list_all (λ n. not (is_called (environment_of environment.now) n)) (names_of (map typed_name_of parameters.now))) }
-    ensures cause { IfErr result (λ f. FunctionParameter f (environment_of environment.now) parameters.now) }
-{
-    for parameter in parameters {
-        if environment.is_function(&parameter.name.text) {
-            return Err(Fault {
-                kind: FaultKind::DuplicateName,
-                span: parameter.name.span,
-            });
-        }
-    }
-    Ok(())
-}
 
 /// What a contract wants: on entry, and at each return.
 #[derive(Debug, Drop)]
@@ -121,4 +97,22 @@ pub(crate) fn contract(
         push_specs(before, behind, &annotation.specs, &mut conditions)?;
     }
     Ok(conditions)
+}
+
+/// What a contract wants, where both are right; else the fault that comes first in the text.
+pub(crate) fn kept_conditions(
+    found: Result<Conditions, Fault>,
+    kept: Result<(), Fault>,
+) -> Result<Conditions, Fault>
+    ensures one { MatchResult result (λ x. (found ≡ Ok x) × (is_ok kept ≡ true)) (λ f. (found ≡ Err f) ⊎ (kept ≡ Err f)) }
+    ensures first { IfErr result (λ f. IfErr found (λ g. f.span.start ≤ g.span.start) × IfErr kept (λ g. f.span.start ≤ g.span.start)) }
+{
+    match (found, kept) {
+        (Ok(conditions), Ok(())) => Ok(conditions),
+        (Ok(conditions), Err(fault)) => {
+            drop(conditions);
+            Err(fault)
+        }
+        (Err(fault), kept) => Err(first_told(fault, kept)),
+    }
 }

@@ -2,29 +2,29 @@
 
 ghost use Rattle.std.specs.Prelude.{◌≡◌, ◌⊎◌, IfErr, IfOk, List, map, option_map};
 ghost use Rattle.c0_source.specs.declared.fault.FaultKind.TheVariants.{OutOfMemory};
-ghost use Rattle.c0_syntax.specs.Views.{annotation_of, header_of, statements_of};
+ghost use Rattle.c0_syntax.specs.Views.{header_of, statements_of};
 ghost use Rattle.c0_typed.specs.Views.{function_of, type_of};
 ghost use Rattle.c0_types_statements.specs.Bodies.{SpecsHaveTexts, StatementsHaveTexts, scope_of};
 ghost use Rattle.c0_types.specs.ContractViews.{conditions_of, contract_of};
 ghost use Rattle.c0_types.specs.FunctionViews.{at_entry, at_return, checked_of, first_scope as scope_at_first, numbers_in, parts_of};
-ghost use Rattle.c0_rules.specs.FaultPrograms.{InContracts, InFunction, InTypes};
+ghost use Rattle.c0_rules.specs.FaultPrograms.{AssignedParameters, InContracts, InFunction, InTypes, is_assigned_in};
 ghost use Rattle.c0_rules.specs.FaultStatements.{InBody};
 ghost use Rattle.c0_rules.specs.Mentions.{specs_in};
-ghost use Rattle.c0_rules.specs.Programs.{function_from as function_by, result_of, typed_function as function_typed, typed_parts as parts_typed};
+ghost use Rattle.c0_rules.specs.Programs.{function_from as function_by, keeps_parameters, result_of, typed_function as function_typed, typed_parts as parts_typed};
 ghost use Rattle.c0_rules.specs.Statements.{typed_statements};
-ghost use Rattle.c0_rules.specs.Types.{Name, VoidType, same_type};
+ghost use Rattle.c0_rules.specs.Types.{Name, VoidType, provided, same_type};
 ghost use Rattle.c0_rules.specs.Answers.{Answers};
 ghost use Rattle.c0_types_tables.specs.Views.{environment_of, resolved_of, signature_of};
 ghost use Rattle.c0_types_expressions.specs.Terms.{local_of};
 
-use crate::contracts::{Conditions, check_parameter_names, contract};
+use crate::contracts::{Conditions, contract, kept_conditions};
 use crate::headers::parameter_locals;
 use c0_source::fault::Fault;
 use c0_syntax::program::Header;
-use c0_syntax::statement::{Annotation, Statement};
+use c0_syntax::statement::Statement;
 use c0_typed::{Function, Statement as TypedStatement, ValueType};
 use c0_types_expressions::typing::{Local, Terms};
-use c0_types_flow::flow::paths::check_paths;
+use c0_types_flow::flow::paths::{check_ensures, check_paths};
 use c0_types_statements::bodies::Body;
 use c0_types_statements::scope::Scope;
 use c0_types_tables::environment::Environment;
@@ -64,18 +64,20 @@ fn result_type(signature: &Signature) -> Option<&ResolvedType>
     Some(&signature.result)
 }
 
-// The contract of a function with these locals. `\result` stands in `ensures` alone.
+// The contract of a function with these locals and this body, which assigns to no parameter that an `ensures` reads. `\result` stands in
+// `ensures` alone.
 fn function_contract(
     alloc: Global,
     environment: &Environment,
     texts: &Names,
     signature: &Signature,
     locals: &[Local],
-    annotations: &[Annotation],
+    header: &Header,
+    body: &[Statement],
 ) -> Result<Conditions, Fault>
-    requires { SpecsHaveTexts texts.now (specs_in (map annotation_of annotations.now)) }
-    ensures answers { Answers (conditions_of texts.now) result (contract_of (environment_of environment.now) (at_entry (map local_of locals.now)) (at_return (map local_of locals.now) (signature_of signature.now)) (specs_in (map annotation_of annotations.now))) }
-    ensures cause { IfErr result (λ f. (f.kind ≡ OutOfMemory) ⊎ InContracts f (environment_of environment.now) (at_entry (map local_of locals.now)) (at_return (map local_of locals.now) (signature_of signature.now)) annotations.now) }
+    requires { SpecsHaveTexts texts.now (specs_in ((header_of header.now).annotations)) }
+    ensures answers { Answers (conditions_of texts.now) result (provided (keeps_parameters (header_of header.now) (statements_of body.now)) (contract_of (environment_of environment.now) (at_entry (map local_of locals.now)) (at_return (map local_of locals.now) (signature_of signature.now)) (specs_in ((header_of header.now).annotations)))) }
+    ensures cause { IfErr result (λ f. (f.kind ≡ OutOfMemory) ⊎ InContracts f (environment_of environment.now) (at_entry (map local_of locals.now)) (at_return (map local_of locals.now) (signature_of signature.now)) header.now.annotations.items ⊎ AssignedParameters f (is_assigned_in f header.now.parameters.items body.now) header.now.annotations.items) }
 {
     let before = Terms {
         alloc,
@@ -91,7 +93,8 @@ fn function_contract(
         locals,
         result: result_type(signature),
     };
-    contract(&before, &behind, annotations)
+    let kept = check_ensures(header, body);
+    kept_conditions(contract(&before, &behind, &header.annotations), kept)
 }
 
 // What is in scope where the body of a function with these locals begins.
@@ -146,10 +149,16 @@ fn typed_parts(
     ensures answers { Answers (parts_of texts.now) result (parts_typed (environment_of environment.now) (signature_of signature.now) (header_of header.now) (statements_of body.now)) }
     ensures cause { IfErr result (λ f. (f.kind ≡ OutOfMemory) ⊎ InTypes f (environment_of environment.now) (signature_of signature.now) header.now body.now) }
 {
-    check_parameter_names(environment, &header.parameters)?;
     let locals = parameter_locals(alloc, &header.parameters, &signature.parameters)?;
-    let annotations = &header.annotations;
-    let conditions = function_contract(alloc, environment, texts, signature, &locals, annotations)?;
+    let conditions = function_contract(
+        alloc,
+        environment,
+        texts,
+        signature,
+        &locals,
+        header,
+        body,
+    )?;
     let scope = first_scope(alloc, signature, locals)?;
     let checked = checked_body(alloc, environment, texts, scope, body)?;
     Ok(Parts {
@@ -199,8 +208,8 @@ fn function_from(
     })
 }
 
-/// A function with its body, where its own name is in scope. In this order: a parameter with the name of a function is an error,
-/// `DuplicateName` at its name; then the contract is looked at, then the statements of the body, and last its paths.
+/// A function with its body, where its own name is in scope. In this order: its contract is looked at, with the parameters that it reads
+/// and the body assigns to; then the statements of the body; and last its paths.
 pub(crate) fn typed_function(
     alloc: Global,
     environment: &Environment,

@@ -1,6 +1,6 @@
 // The static rules of a whole program.
 
-ghost use Rattle.std.specs.Prelude.{◌≡◌, ◌≤◌, ◌⊎◌, ◌&&◌, [], ◌∷◌, IfErr, IfOk, IfSome, is_ok, is_some, map, true};
+ghost use Rattle.std.specs.Prelude.{◌≡◌, ◌⊎◌, ◌&&◌, [], ◌∷◌, IfErr, IfOk, IfSome, is_some, map, true};
 ghost use Rattle.std.specs.List.{list_all};
 ghost use Rattle.c0_source.specs.declared.fault.Fault as g;
 ghost use Rattle.c0_source.specs.declared.fault.FaultKind.TheVariants.{BadMain as MainIsBad, OutOfMemory};
@@ -16,6 +16,7 @@ ghost use Rattle.c0_rules.specs.Types.{is_among, is_ascii};
 ghost use Rattle.c0_types_tables.specs.Views.{environment_of};
 
 use crate::declare::{Elaborated, has_main};
+use crate::headers::earlier;
 use c0_source::fault::{Fault, FaultKind, Span};
 use c0_syntax::program::{Declaration, DeclarationKind, Program};
 use c0_typed::Typed;
@@ -94,19 +95,6 @@ fn check_main(environment: &Environment, program: &Program) -> Result<(), Fault>
         kind: FaultKind::BadMain,
         span,
     })
-}
-
-// Both, or the fault that comes first in the text.
-fn earlier(first: Result<(), Fault>, second: Result<(), Fault>) -> Result<(), Fault>
-    ensures both { is_ok result ≡ is_ok first && is_ok second }
-    ensures one { (result ≡ first) ⊎ (result ≡ second) }
-    ensures first { IfErr result (λ f. IfErr first (λ g. f.span.start ≤ g.span.start) × IfErr second (λ g. f.span.start ≤ g.span.start)) }
-{
-    match (&first, &second) {
-        (Err(one), Err(other)) if other.span.start < one.span.start => second,
-        (Ok(()), _) => second,
-        _ => first,
-    }
 }
 
 // The rules that look at the whole program: `main` and what is called, in the order of the text, and then its texts.

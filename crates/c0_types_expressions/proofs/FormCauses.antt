@@ -14,7 +14,7 @@ use Rattle.c0_rules.specs.Types.{Environment, ResolvedType, IntType, BoolType, a
 use Rattle.c0_rules.specs.Expressions.{Typing, Place, Context, OperatorRule, OnNumbers, Compares, Conjunction, Disjunction, as_wanted, lengthed, operated, pointed, prefixed, typed_expression, typed_place}
 use Rattle.c0_rules.specs.FaultExpressions.{AsValue, ArmsCause, ArrowCause, FieldCause, IndexCause, Mistyped, PointerCause, PrefixCause, Told, element_of, has_common, is_value}
 use Rattle.c0_rules.specs.Answers.{Answers}
-use Rattle.c0_types_expressions.specs.Forms.{BinaryCause, PointedCause, PrefixedCause}
+use Rattle.c0_types_expressions.specs.Forms.{BinaryCause, PointedCause, PrefixedCause, takes_left}
 use Rattle.c0_types_expressions.specs.Terms.{ArrayCause, LeftCause, OperatedCause, valued}
 use Rattle.c0_types_expressions.proofs.Operands.{valued_is}
 
@@ -82,18 +82,18 @@ module _ (env : Environment) (at : Context) where
     pointer_cause e here sign x v (inr h) = let q = is_typed e x v in (x, q.0, inr (h.0, q.1, h.1, h.2))
 
     pub binary_cause : (rule : OperatorRule) (a : ExpressionKind) (here : Span) (b : ExpressionKind) (there : Span) (x y : Typing) → IsValue a x → IsValue b y
-        → operated env rule x y ≡ None → OperatedCause env f rule x y here there → BinaryCause env at f rule a here b there
-    binary_cause (OnNumbers o) a here b there x y v w none (inl h) = inl (mistyped_at IntType a here x v h.0 h.1)
-    binary_cause (OnNumbers o) a here b there x y v w none (inr h) = inr (inl (mistyped_at IntType b there y w h.0 h.1))
-    binary_cause (Compares r) a here b there x y v w none h = let q = is_typed a x v in let z = is_typed b y w in inr (inr (x, y, q.0, z.0, q.1, z.1, none, h))
-    binary_cause Conjunction a here b there x y v w none (inl h) = inl (mistyped_at BoolType a here x v h.0 h.1)
-    binary_cause Conjunction a here b there x y v w none (inr h) = inr (inl (mistyped_at BoolType b there y w h.0 h.1))
-    binary_cause Disjunction a here b there x y v w none (inl h) = inl (mistyped_at BoolType a here x v h.0 h.1)
-    binary_cause Disjunction a here b there x y v w none (inr h) = inr (inl (mistyped_at BoolType b there y w h.0 h.1))
+        → takes_left rule x ≡ true → operated env rule x y ≡ None → OperatedCause env f rule x y here there → BinaryCause env at f rule a here b there
+    binary_cause (OnNumbers o) a here b there x y v w fits none (inl h) = inl (mistyped_at IntType a here x v h.0 h.1)
+    binary_cause (OnNumbers o) a here b there x y v w fits none (inr h) = inr (inl (mistyped_at IntType b there y w h.0 h.1))
+    binary_cause (Compares r) a here b there x y v w fits none h = let q = is_typed a x v in let z = is_typed b y w in inr (inr (inr (x, y, q.0, z.0, q.1, z.1, fits, none, h)))
+    binary_cause Conjunction a here b there x y v w fits none (inl h) = inl (mistyped_at BoolType a here x v h.0 h.1)
+    binary_cause Conjunction a here b there x y v w fits none (inr h) = inr (inl (mistyped_at BoolType b there y w h.0 h.1))
+    binary_cause Disjunction a here b there x y v w fits none (inl h) = inl (mistyped_at BoolType a here x v h.0 h.1)
+    binary_cause Disjunction a here b there x y v w fits none (inr h) = inr (inl (mistyped_at BoolType b there y w h.0 h.1))
 
     pub left_told : (rule : OperatorRule) (a : ExpressionKind) (here : Span) (b : ExpressionKind) (there : Span) (x : Typing) → IsValue a x → LeftCause env f rule x here → BinaryCause env at f rule a here b there
     left_told (OnNumbers o) a here b there x v h = inl (mistyped_at IntType a here x v h.0 h.1)
-    left_told (Compares r) a here b there x v h = absurd h
+    left_told (Compares r) a here b there x v h = let q = is_typed a x v in inr (inr (inl (x, q.0, q.1, h.0, h.1)))
     left_told Conjunction a here b there x v h = inl (mistyped_at BoolType a here x v h.0 h.1)
     left_told Disjunction a here b there x v h = inl (mistyped_at BoolType a here x v h.0 h.1)
 

@@ -12,6 +12,7 @@ use Rattle.c0_typed.specs.Trees as t
 use Rattle.c0_rules.specs.Types.{Environment, Name, VoidType, IntType, BoolType, ArrayOf, and_so, cells_of, provided, same_type}
 use Rattle.c0_rules.specs.Expressions.{Typing, Has, IsNull, Context, OperatorRule, OnNumbers, Compares, Conjunction, Disjunction, as_wanted, chosen, fielded, held_type, indexed, is_compared, is_equality, lengthed, num, operated, operator_rule, pointed, prefixed, typed_expression, typed_place, wanted}
 use Rattle.c0_rules.specs.FaultExpressions.{Told}
+use Rattle.c0_rules.proofs.Comparisons.{not_compared}
 use Rattle.c0_types_expressions.specs.Forms.{takes_left}
 use Rattle.c0_types_expressions.specs.Terms.{ArrayCause, LeftCause, valued}
 use Rattle.c0_types_expressions.proofs.Operands.{skipped, valued_is}
@@ -66,14 +67,14 @@ void_right env Disjunction x e = none_so (as_wanted env BoolType x) _ (λ a. ref
 -- what is refused on the left is refused with each operand on the right
 pub left_alone : (env : Environment) (f : Fault) (rule : OperatorRule) (x : Typing) (here : Span) → LeftCause env f rule x here → (y : Typing) → operated env rule x y ≡ None
 left_alone env f (OnNumbers o) x here h y = ap (λ z. and_so z (λ a. and_so (as_wanted env IntType y) (λ b. Some (Has IntType (t.Binary o a b))))) h.0
-left_alone env f (Compares r) x here h y = absurd h
+left_alone env f (Compares r) x here h y = not_compared env r x y h.0
 left_alone env f Conjunction x here h y = ap (λ z. and_so z (λ a. and_so (as_wanted env BoolType y) (λ b. Some (Has BoolType (t.And a b))))) h.0
 left_alone env f Disjunction x here h y = ap (λ z. and_so z (λ a. and_so (as_wanted env BoolType y) (λ b. Some (Has BoolType (t.Or a b))))) h.0
 
 pub left_cause : (env : Environment) (f : Fault) (rule : OperatorRule) (x : Typing) (here : Span) → takes_left rule x ≡ false → Told k.TypeMismatch here f → LeftCause env f rule x here
 left_cause env f (OnNumbers o) (Has a e) here h told = (ap (λ z. provided z (Some e)) h, told)
 left_cause env f (OnNumbers o) (IsNull e) here h told = (refl, told)
-left_cause env f (Compares r) x here h told = absurd (cc h)
+left_cause env f (Compares r) x here h told = (h, told)
 left_cause env f Conjunction (Has a e) here h told = (ap (λ z. provided z (Some e)) h, told)
 left_cause env f Conjunction (IsNull e) here h told = (refl, told)
 left_cause env f Disjunction (Has a e) here h told = (ap (λ z. provided z (Some e)) h, told)

@@ -13,16 +13,16 @@ use Rattle.c0_typed.specs.Trees as y
 use Rattle.c0_typed.specs.Views as v
 use Rattle.c0_rules.specs.Types as t
 use Rattle.c0_rules.specs.Expressions as x
-use Rattle.c0_rules.specs.FaultExpressions.{AsValue, ComparedCause, InExpression, Mistyped, OperandCause, PointerCause, Told, is_null}
+use Rattle.c0_rules.specs.FaultExpressions.{AsValue, ComparedCause, InExpression, Mistyped, OperandCause, PointerCause, Told, is_comparable, is_null}
 use Rattle.c0_types_tables.specs.Views.{signature_of}
 use Rattle.c0_types_expressions.specs.declared.terms.names.Callee.{Callee}
 use Rattle.c0_types_expressions.specs.declared.terms.names.Callee.TheVariants as c
 
--- whether an operator takes an operand of this type on its left, as far as that shows before the other is known
+-- whether an operator takes an operand of this type on its left, with some operand on its right
 abbrev pub takes_left : x.OperatorRule → x.Typing → Bool
 takes_left (x.OnNumbers o) (x.Has a e) = t.same_type a t.IntType
 takes_left (x.OnNumbers o) (x.IsNull e) = false
-takes_left (x.Compares r) a = true
+takes_left (x.Compares r) a = is_comparable r a
 takes_left x.Conjunction (x.Has a e) = t.same_type a t.BoolType
 takes_left x.Conjunction (x.IsNull e) = false
 takes_left x.Disjunction (x.Has a e) = t.same_type a t.BoolType
@@ -114,4 +114,4 @@ CalledCause env at fault name es span =
 
 -- two operands that an operator doesn't take
 abbrev pub BinaryCause : t.Environment → x.Context → Fault → x.OperatorRule → ExpressionKind → Span → ExpressionKind → Span → Type 0
-BinaryCause env at fault rule a here b there = OperandCause env at fault rule a here ⊎ OperandCause env at fault rule b there ⊎ ComparedCause env at fault rule a b there
+BinaryCause env at fault rule a here b there = OperandCause env at fault rule a here ⊎ OperandCause env at fault rule b there ⊎ ComparedCause env at fault rule a here b there

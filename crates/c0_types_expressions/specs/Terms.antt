@@ -1,5 +1,5 @@
 -- Expressions as code holds them, where they stand, and what the rules give of them.
-use Rattle.std.specs.Prelude.{◌≡◌, ◌⊎◌, ◌<◌, ℕ, List, Option, Some, None, length, map, option_map}
+use Rattle.std.specs.Prelude.{◌≡◌, ◌⊎◌, ◌<◌, ℕ, false, List, Option, Some, None, length, map, option_map}
 use Rattle.std.specs.String.{string_bytes}
 use Rattle.c0_source.specs.declared.fault.Fault.{Fault}
 use Rattle.c0_source.specs.declared.fault.FaultKind.TheVariants as k
@@ -10,7 +10,7 @@ use Rattle.c0_typed.specs.Views as v
 use Rattle.c0_typed.specs.declared.tree.Expression.{Expression as TypedExpression}
 use Rattle.c0_rules.specs.Types as t
 use Rattle.c0_rules.specs.Expressions as x
-use Rattle.c0_rules.specs.FaultExpressions.{Told, element_of, is_value}
+use Rattle.c0_rules.specs.FaultExpressions.{Told, element_of, is_comparable, is_value}
 use Rattle.c0_types_tables.specs.Views.{environment_of, resolved_of}
 use Rattle.c0_types_expressions.specs.declared.typing.Typing.{Typing}
 use Rattle.c0_types_expressions.specs.declared.typing.Typing.TheVariants as d
@@ -73,7 +73,7 @@ OperatedCause env fault x.Disjunction a b here there =
 -- an operand on the left, at this place, that the operator takes with none on the right
 abbrev pub LeftCause : t.Environment → Fault → x.OperatorRule → x.Typing → Span → Type 0
 LeftCause env fault (x.OnNumbers o) a here = (x.as_wanted env t.IntType a ≡ None) × Told k.TypeMismatch here fault
-LeftCause env fault (x.Compares c) a here = ⊥
+LeftCause env fault (x.Compares c) a here = (is_comparable c a ≡ false) × Told k.TypeMismatch here fault
 LeftCause env fault x.Conjunction a here = (x.as_wanted env t.BoolType a ≡ None) × Told k.TypeMismatch here fault
 LeftCause env fault x.Disjunction a here = (x.as_wanted env t.BoolType a ≡ None) × Told k.TypeMismatch here fault
 

@@ -1,6 +1,6 @@
 -- What stands before and behind statements.
 use Rattle.std.proofs.Common.{◌≡◌, ◌⊎◌, List, [], ◌∷◌, map, refl, sym, ap, ◌∙◌, subst, inl, inr, Bool, true, false, cond, Option, Some, None, option_map}
-use Rattle.std.specs.Prelude.{◌&&◌, ◌||◌, not, filter, filter_map, bytes_eq}
+use Rattle.std.specs.Prelude.{◌&&◌, ◌||◌, not, filter, filter_map, bytes_eq, is_some}
 use Rattle.std.specs.List.{list_any}
 use Rattle.std.proofs.lemmas.Bool.{eq-eqb}
 use Rattle.std.proofs.lemmas.List.Folds.{list_any-append}
@@ -10,11 +10,14 @@ use Rattle.c0_syntax.specs.declared.expression.Expression.{Expression}
 use Rattle.c0_syntax.specs.declared.statement.Annotation.{Annotation}
 use Rattle.c0_syntax.specs.declared.statement.SimpleStatement.{SimpleStatement}
 use Rattle.c0_syntax.specs.declared.statement.StatementKind.{StatementKind}
-use Rattle.c0_syntax.specs.Views.{simple_of, statement_of_kind}
+use Rattle.c0_syntax.specs.Views.{annotation_of, expression_of, simple_of, statement_of_kind}
 use Rattle.c0_rules.specs.Types.{and_so, provided, Name, is_among, any_among}
 use Rattle.c0_rules.specs.Mentions.{Mention, OfVariable, OfFunction, OfText, variable_of, mentions, spec_mentions, condition_of, specs_in}
-use Rattle.c0_rules.specs.Assignment.{Flow, Ended, Reached, has_ended, joined, left_scope, reads_assigned, specs_read_assigned, flow_of_part, flow_of_statement, flow_of_statements}
+use Rattle.c0_rules.specs.Assignment.{Flow, Ended, Reached, has_ended, joined, left_scope, reads_assigned, specs_read_assigned, after_body, after_statement, flow_of_part, flow_of_statement, flow_of_statements}
 use Rattle.c0_rules.specs.FaultPaths.{is_unassigned, ReadIn, ReadInAnnotations, ReadInPart, ReadInStatement}
+use Rattle.c0_rules.proofs.Assigned.{statement_after}
+use Rattle.c0_rules.proofs.Rules.{AllSome}
+use Rattle.c0_types_flow.specs.FlowViews.{for_start, third_reads}
 
 -- what passes a test of its view
 pub filter_of_map : {A B : Type 0} (test : B → Bool) (view : A → B) (xs : List A) → map view (filter (λ x. test (view x)) xs) ≡ filter test (map view xs)
@@ -178,41 +181,52 @@ if_else_leads c a b f g h r e k =
 
 -- ---- behind a `for`
 
+none_provided : {A : Type 0} (b : Bool) (o : Option A) → o ≡ None → provided b o ≡ None
+none_provided true o e = e
+none_provided false o e = refl
+
+each_so : {A B : Type 0} (o : Option A) (go ho : A → Option B) → ((a : A) → go a ≡ ho a) → and_so o go ≡ and_so o ho
+each_so None go ho k = refl
+each_so (Some a) go ho k = k a
+
 module _ (first : Option t.SimpleStatement) (c : t.Expression) (third : Option t.SimpleStatement) (notes : List (List t.Spec)) (a : t.Statement) (f : Flow) where
   abbrev reads : Flow → Bool
-  reads g = reads_assigned g c && specs_read_assigned g (specs_in notes)
+  reads g = reads_assigned g c && third_reads third a g && specs_read_assigned g (specs_in notes)
 
-  abbrev behind_start : Flow → Option Flow
-  behind_start g = and_so (flow_of_statement a g) (λ h. and_so (flow_of_part third (left_scope g h)) (λ k. Some (left_scope f g)))
+  abbrev inside : Flow → Option Flow
+  inside g = and_so (flow_of_statement a g) (λ h. Some (left_scope f g))
 
-  pub start_refused : {K : Type 0} → K ⊎ (and_so (flow_of_part first f) (λ g. provided (reads g) (Some g)) ≡ None) → K ⊎ (flow_of_statement (t.For first c third notes a) f ≡ None)
+  met : (s : Bool) (o : Option Flow) (out : Flow) → provided s (and_so o (λ k. Some out)) ≡ provided (is_some o && s) (Some out)
+  met s None out = none_provided s None refl
+  met s (Some k) out = refl
+
+  -- the third part sees what the body assigns
+  turn : (r s : Bool) (g out : Flow) (o : Option Flow) → AllSome (λ h. h ≡ after_statement a g) o
+      → provided (r && s) (and_so o (λ h. and_so (flow_of_part third (left_scope g h)) (λ k. Some out))) ≡ provided (r && third_reads third a g && s) (and_so o (λ h. Some out))
+  turn false s g out o e = refl
+  turn true s g out None e = none_provided s None refl ∙ sym (none_provided (third_reads third a g && s) None refl)
+  turn true s g out (Some h) e = ap (λ z. provided s (and_so (flow_of_part third (left_scope g z)) (λ k. Some out))) e ∙ met s (flow_of_part third (after_body a g)) out
+
+  for_is : flow_of_statement (t.For first c third notes a) f ≡ and_so (flow_of_part first f) (λ g. provided (reads g) (inside g))
+  for_is = each_so (flow_of_part first f) _ _ (λ g. turn (reads_assigned g c) (specs_read_assigned g (specs_in notes)) g (left_scope f g) (flow_of_statement a g) (statement_after a g))
+
+  pub start_refused : {K : Type 0} → K ⊎ (for_start first c third notes a f ≡ None) → K ⊎ (flow_of_statement (t.For first c third notes a) f ≡ None)
   start_refused (inl h) = inl h
-  start_refused (inr h) = inr (none_either (flow_of_part first f) reads behind_start h)
+  start_refused (inr h) = inr (for_is ∙ none_either (flow_of_part first f) reads inside h)
 
-  module _ (g : Flow) (start : and_so (flow_of_part first f) (λ g. provided (reads g) (Some g)) ≡ Some g) where
+  module _ (g : Flow) (start : for_start first c third notes a f ≡ Some g) where
     started : (flow_of_part first f ≡ Some g) × (true ≡ reads g)
     started = split_so (flow_of_part first f) reads g start
 
-    from_start : flow_of_statement (t.For first c third notes a) f ≡ behind_start g
-    from_start = ap (λ z. and_so z (λ g. provided (reads g) (behind_start g))) started.0 ∙ provided_so (reads g) (behind_start g) started.1
+    from_start : flow_of_statement (t.For first c third notes a) f ≡ inside g
+    from_start = for_is ∙ ap (λ z. and_so z (λ g. provided (reads g) (inside g))) started.0 ∙ provided_so (reads g) (inside g) started.1
 
     pub for_body_refused : {K : Type 0} (b : Flow) → b ≡ g → K ⊎ (flow_of_statement a b ≡ None) → K ⊎ (flow_of_statement (t.For first c third notes a) f ≡ None)
     for_body_refused b q (inl h) = inl h
     for_body_refused b q (inr h) = inr (from_start ∙ none_so (flow_of_statement a g) _ (ap (flow_of_statement a) (sym q) ∙ h))
 
-    module _ (b h : Flow) (inside : b ≡ g) (body : flow_of_statement a b ≡ Some h) (s : Flow) (left : s ≡ left_scope b h) where
-      from_body : flow_of_statement (t.For first c third notes a) f ≡ and_so (flow_of_part third s) (λ k. Some (left_scope f g))
-      from_body =
-          from_start
-          ∙ ap (λ z. and_so z (λ h. and_so (flow_of_part third (left_scope g h)) (λ k. Some (left_scope f g)))) (ap (flow_of_statement a) (sym inside) ∙ body)
-          ∙ ap (λ z. and_so (flow_of_part third z) (λ k. Some (left_scope f g))) (ap (λ z. left_scope z h) (sym inside) ∙ sym left)
-
-      pub for_third_refused : {K : Type 0} → K ⊎ (flow_of_part third s ≡ None) → K ⊎ (flow_of_statement (t.For first c third notes a) f ≡ None)
-      for_third_refused (inl h) = inl h
-      for_third_refused (inr h) = inr (from_body ∙ none_so (flow_of_part third s) (λ k. Some (left_scope f g)) h)
-
-      pub for_leads : (k out : Flow) → flow_of_part third s ≡ Some k → out ≡ left_scope f g → flow_of_statement (t.For first c third notes a) f ≡ Some out
-      for_leads k out q o = from_body ∙ ap (λ z. and_so z (λ k. Some (left_scope f g))) q ∙ ap Some (sym o)
+    pub for_leads : (b h : Flow) → b ≡ g → flow_of_statement a b ≡ Some h → (out : Flow) → out ≡ left_scope f g → flow_of_statement (t.For first c third notes a) f ≡ Some out
+    for_leads b h q body out o = from_start ∙ ap (λ z. and_so z (λ h. Some (left_scope f g))) (ap (flow_of_statement a) (sym q) ∙ body) ∙ ap Some (sym o)
 
 -- ---- causes
 
@@ -227,24 +241,24 @@ module _ (fault : Fault) (first : Option SimpleStatement) (c : Expression) (thir
   InFor =
       ReadInPart fault f first
       ⊎ ((g : Flow) × (flow_of_part (option_map simple_of first) f ≡ Some g)
-      × (ReadIn fault g c ⊎ ReadInAnnotations fault g notes ⊎ ReadInStatement fault g a
-      ⊎ ((h : Flow) × (flow_of_statement (statement_of_kind a) g ≡ Some h) × ReadInPart fault (left_scope g h) third)))
+      × (ReadIn fault g c ⊎ ReadInPart fault (after_body (statement_of_kind a) g) third ⊎ ReadInAnnotations fault g notes ⊎ ReadInStatement fault g a))
 
-  pub start_cause : {K : Type 0} → K ⊎ ReadInPart fault f first ⊎ ((g : Flow) × (flow_of_part (option_map simple_of first) f ≡ Some g) × (ReadIn fault g c ⊎ ReadInAnnotations fault g notes)) → K ⊎ InFor
+  pub start_cause : {K : Type 0}
+      → K ⊎ ReadInPart fault f first
+      ⊎ ((g : Flow) × (flow_of_part (option_map simple_of first) f ≡ Some g) × (ReadIn fault g c ⊎ ReadInPart fault (after_body (statement_of_kind a) g) third ⊎ ReadInAnnotations fault g notes))
+      → K ⊎ InFor
   start_cause (inl h) = inl h
   start_cause (inr (inl h)) = inr (inl h)
   start_cause (inr (inr (g, e, inl h))) = inr (inr (g, e, inl h))
-  start_cause (inr (inr (g, e, inr h))) = inr (inr (g, e, inr (inl h)))
+  start_cause (inr (inr (g, e, inr (inl h)))) = inr (inr (g, e, inr (inl h)))
+  start_cause (inr (inr (g, e, inr (inr h)))) = inr (inr (g, e, inr (inr (inl h))))
 
-  module _ (g : Flow) (b : Flow → Bool) (start : and_so (flow_of_part (option_map simple_of first) f) (λ g. provided (b g) (Some g)) ≡ Some g) (inner : Flow) (q : inner ≡ g) where
-    led : flow_of_part (option_map simple_of first) f ≡ Some g
-    led = (split_so (flow_of_part (option_map simple_of first) f) b g start).0
-
-    pub inside_cause : {K : Type 0} → K ⊎ ReadInStatement fault inner a → K ⊎ InFor
-    inside_cause (inl h) = inl h
-    inside_cause (inr h) = inr (inr (g, led, inr (inr (inl (subst (λ z. ReadInStatement fault z a) q h)))))
-
-    pub last_cause : {K : Type 0} (h s : Flow) → flow_of_statement (statement_of_kind a) inner ≡ Some h → s ≡ left_scope inner h → K ⊎ ReadInPart fault s third → K ⊎ InFor
-    last_cause h s body left (inl k) = inl k
-    last_cause h s body left (inr k) =
-        inr (inr (g, led, inr (inr (inr (h, ap (flow_of_statement (statement_of_kind a)) (sym q) ∙ body, subst (λ z. ReadInPart fault z third) (left ∙ ap (λ z. left_scope z h) q) k)))))
+  pub inside_cause : {K : Type 0} (g : Flow) → for_start (option_map simple_of first) (expression_of c) (option_map simple_of third) (map annotation_of notes) (statement_of_kind a) f ≡ Some g
+      → (inner : Flow) → inner ≡ g → K ⊎ ReadInStatement fault inner a → K ⊎ InFor
+  inside_cause g start inner q (inl h) = inl h
+  inside_cause g start inner q (inr h) =
+      inr (inr (
+        g,
+        (started (option_map simple_of first) (expression_of c) (option_map simple_of third) (map annotation_of notes) (statement_of_kind a) f g start).0,
+        inr (inr (inr (subst (λ z. ReadInStatement fault z a) q h))),
+      ))

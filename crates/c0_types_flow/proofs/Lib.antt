@@ -1,4 +1,5 @@
 pub mod Collected
+pub mod Ends
 pub mod Ensures
 pub mod Flows
 pub mod Lists

@@ -11,6 +11,7 @@ ghost use Rattle.c0_rules.specs.Types.{Name as Letters, is_among};
 use c0_syntax::name::Name;
 use std::alloc::{AllocError, Global};
 
+pub(crate) mod after;
 pub(crate) mod assigned;
 pub(crate) mod lists;
 pub mod paths;

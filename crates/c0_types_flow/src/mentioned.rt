@@ -3,13 +3,13 @@
 ghost use Rattle.std.specs.Prelude.{◌≡◌, ◌⊎◌, ◌++◌, IfErr, true, is_ok, is_some, map, not, option_map};
 ghost use Rattle.std.specs.List.{Any, list_all, list_any};
 ghost use Rattle.c0_source.specs.declared.fault.FaultKind.TheVariants.{BadToken, NotDefined};
-ghost use Rattle.c0_syntax.specs.Views.{annotation_of, declaration_of, expression_of, expressions_of, simple_of, spec_of, statement_of, statements_of};
+ghost use Rattle.c0_syntax.specs.Views.{annotation_of, declaration_of, expression_of, expressions_of, simple_of, spec_of, statement_of, statements_of, typed_name_of};
 ghost use Rattle.c0_rules.specs.FaultExpressions.{Told};
 ghost use Rattle.c0_rules.specs.FaultPaths.{NamedIn, NamedInAnnotations, NamedInBody, NamedInPart, NamedInSimple, NamedInSpecs, NamedInStatement};
 ghost use Rattle.c0_rules.specs.FaultPrograms.{NamedAmong, NamedInDefinition, is_beyond, is_undefined};
 ghost use Rattle.c0_types_flow.specs.FlowViews.{refused_by, told_of};
 ghost use Rattle.c0_rules.specs.Mentions.{OfFunction, OfText, OfVariable, argument_mentions, calls_of, declaration_mentions, mentions, part_mentions, program_mentions, simple_mentions, spec_mentions, specs_in, statement_mentions, statements_mentions, texts_of};
-ghost use Rattle.c0_rules.specs.Programs.{is_callable};
+ghost use Rattle.c0_rules.specs.Programs.{is_callable, names_of};
 ghost use Rattle.c0_rules.specs.Types.{is_among, is_ascii as are_ascii};
 ghost use Rattle.c0_types_tables.specs.Views.{environment_of};
 
@@ -17,7 +17,7 @@ use crate::flow::Flow;
 use crate::flow::assigned::assigns;
 use c0_source::fault::{Fault, FaultKind, Span};
 use c0_syntax::expression::{Expression, ExpressionKind};
-use c0_syntax::program::{Declaration, DeclarationKind};
+use c0_syntax::program::{Declaration, DeclarationKind, TypedName};
 use c0_syntax::statement::{
     Annotation, SimpleKind, SimpleStatement, Spec, Statement, StatementKind,
 };
@@ -30,12 +30,24 @@ pub mod texts;
 pub(crate) enum Refused<'a> {
     /// A local that some path has not assigned.
     Unassigned(&'a Flow<'a>),
-    /// A variable that these statements assign to.
-    AssignedIn(&'a [Statement]),
+    /// One of these parameters, to which these statements assign.
+    AssignedIn(&'a [TypedName], &'a [Statement]),
     /// A called function that is neither defined in the program nor an output call in use.
     Uncallable(&'a Environment),
     /// A text beyond ASCII.
     BeyondAscii,
+}
+
+// Whether one of these parameters has this name.
+fn is_parameter(parameters: &[TypedName], name: &str) -> bool
+    ensures { result ≡ is_among name.now (names_of (map typed_name_of parameters.now)) }
+{
+    for parameter in parameters {
+        if name == parameter.name.text.as_str() {
+            return true;
+        }
+    }
+    false
 }
 
 // Whether all bytes are below 128.
@@ -52,7 +64,7 @@ impl Refused<'_> {
     {
         match self {
             Refused::Unassigned(_) => FaultKind::NotAssigned,
-            Refused::AssignedIn(_) => FaultKind::BadContract,
+            Refused::AssignedIn(_, _) => FaultKind::BadContract,
             Refused::Uncallable(_) => FaultKind::NotDefined,
             Refused::BeyondAscii => FaultKind::BadToken,
         }
@@ -64,7 +76,9 @@ impl Refused<'_> {
     {
         match self {
             Refused::Unassigned(flow) => flow.lacks(name),
-            Refused::AssignedIn(body) => assigns(body, name),
+            Refused::AssignedIn(parameters, body) => {
+                is_parameter(parameters, name) && assigns(body, name)
+            }
             _ => false,
         }
     }

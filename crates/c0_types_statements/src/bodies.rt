@@ -7,7 +7,7 @@ ghost use Rattle.c0_typed.specs.Trees.{Skip};
 ghost use Rattle.c0_typed.specs.Views.{exp_of, exps_of, stmt_of};
 ghost use Rattle.c0_types_statements.specs.Bodies.{SpecsHaveTexts, scope_of};
 ghost use Rattle.c0_rules.specs.Expressions.{typed_expression, typed_place};
-ghost use Rattle.c0_rules.specs.FaultExpressions.{AsPlace, AsValue, InExpression};
+ghost use Rattle.c0_rules.specs.FaultExpressions.{AsPlace, InExpression};
 ghost use Rattle.c0_rules.specs.FaultStatements.{InAnnotations, InEvaluated, InSpecs, InWanted};
 ghost use Rattle.c0_rules.specs.Mentions.{specs_in};
 ghost use Rattle.c0_rules.specs.Statements.{Assertion, Invariant, conditions_of_all, evaluated, expression_as, within};
@@ -21,7 +21,7 @@ use c0_source::fault::{Fault, Span};
 use c0_syntax::expression::{Expression, ExpressionKind};
 use c0_syntax::statement::{Annotation, Spec};
 use c0_typed::{Expression as TypedExpression, Statement as TypedStatement};
-use c0_types_expressions::typing::{Place, Terms, Typing};
+use c0_types_expressions::typing::{Place, Terms};
 use c0_types_tables::environment::Environment;
 use c0_types_tables::names::Names;
 use c0_types_tables::resolved::ResolvedType;
@@ -71,14 +71,6 @@ impl<'a> Body<'a> {
         ensures cause { IfErr result (λ f. (f.kind ≡ OutOfMemory) ⊎ InWanted (environment_of self.now.environment.now) f (scope_of self.now.scope) (resolved_of want.now) e.now) }
     {
         self.terms().wanted(want, e)
-    }
-
-    // An expression that has a value of any type.
-    fn value(&self, kind: &ExpressionKind, span: Span) -> Result<Typing, Fault>
-        requires { HasTexts self.now.texts.now (expression_of_kind kind.now) }
-        ensures { IfErr result (λ f. (f.kind ≡ OutOfMemory) ⊎ InExpression (environment_of self.now.environment.now) (within (scope_of self.now.scope)) f AsValue kind.now span) }
-    {
-        self.terms().value(kind, span)
     }
 
     // A place of the heap.

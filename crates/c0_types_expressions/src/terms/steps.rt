@@ -2,7 +2,7 @@
 // A tree or a type that is held where a step may fail is boxed before, or dropped there by a call: a drop that `?` makes is
 // proved variant by variant.
 
-ghost use Rattle.std.specs.Prelude.{◌≡◌, ◌≢◌, ◌⊎◌, List, None, Some, false, IfErr, IfOk};
+ghost use Rattle.std.specs.Prelude.{◌≡◌, ◌≢◌, ◌⊎◌, List, None, Some, false, true, IfErr, IfOk};
 ghost use Rattle.c0_source.specs.declared.fault.FaultKind.TheVariants.{OutOfMemory, TypeMismatch};
 ghost use Rattle.c0_typed.specs.Trees as t;
 ghost use Rattle.c0_typed.specs.Views.{exp_of, relation_of, type_of};
@@ -31,12 +31,15 @@ pub(crate) fn fault_at(kind: FaultKind, span: Span) -> Fault
     Fault { kind, span }
 }
 
-// Whether an operator takes an operand of this type on its left, as far as that shows before the other is known.
+// Whether an operator takes an operand of this type on its left, with some operand on its right.
 fn takes_left(rule: OperatorRule, first: &Typing) -> bool
     ensures { (texts : List Name) → result ≡ takes_left (rule_of rule) (typing_of texts first.now) }
 {
     match (rule, first) {
-        (OperatorRule::Compares(_), _) => true,
+        (OperatorRule::Compares(relation), Typing::Has(resolved, _)) => {
+            is_compared(relation, resolved)
+        }
+        (OperatorRule::Compares(relation), Typing::Null(_)) => is_equality(relation),
         (OperatorRule::OnNumbers(_), Typing::Has(resolved, _)) => {
             resolved.same_as(&ResolvedType::Int)
         }
@@ -55,6 +58,7 @@ fn takes_left(rule: OperatorRule, first: &Typing) -> bool
 #[tactic(auto, using(crate::proofs::Refusals::left_cause))]
 pub(crate) fn left_operand(rule: OperatorRule, first: Typing, here: Span) -> Result<Typing, Fault>
     ensures taken { IfOk result (λ x. x ≡ first) }
+    ensures fits { (texts : List Name) → IfOk result (λ x. takes_left (rule_of rule) (typing_of texts x) ≡ true) }
     ensures refused { (env : Environment) (texts : List Name) → IfErr result (λ f. LeftCause env f (rule_of rule) (typing_of texts first) here) }
 {
     if takes_left(rule, &first) {

@@ -1,15 +1,16 @@
 // What is assigned behind each statement, and reads of locals that may not be assigned.
 
-ghost use Rattle.std.specs.Prelude.{◌≡◌, ◌⊎◌, ◌&&◌, IfErr, Some, is_ok, map, option_map};
+ghost use Rattle.std.specs.Prelude.{◌≡◌, ◌⊎◌, IfErr, MatchResult, Some, false, is_ok, map, option_map, true};
 ghost use Rattle.c0_source.specs.declared.fault.FaultKind.TheVariants.{OutOfMemory};
 ghost use Rattle.c0_syntax.specs.Views.{annotation_of, expression_of, simple_of, spec_of, statement_of, statements_of};
 ghost use Rattle.c0_rules.specs.Assignment as a;
 ghost use Rattle.c0_rules.specs.FaultPaths.{ReadIn, ReadInAnnotations, ReadInBody, ReadInDestination, ReadInPart, ReadInSimple, ReadInSpecs, ReadInStatement};
-ghost use Rattle.c0_types_flow.specs.FlowViews.{behind_of, flow_of};
+ghost use Rattle.c0_types_flow.specs.FlowViews.{behind_of, flow_of, for_start, third_reads};
 ghost use Rattle.c0_rules.specs.Mentions.{as_variable as variable_by, specs_in};
-ghost use Rattle.c0_rules.specs.Types.{and_so, provided};
+ghost use Rattle.c0_rules.specs.Types.{provided};
 ghost use Rattle.c0_rules.specs.Answers.{Answers};
 
+use super::after::after_statement;
 use super::assigned::as_variable;
 use super::{Behind, Flow};
 use crate::mentioned::Refused;
@@ -134,20 +135,39 @@ pub(crate) fn behind_part<'a>(
     }
 }
 
-// Where the condition of a `for` is evaluated first; the condition and the annotations are read there.
+// The third part of a `for`, whose body begins here: it sees what the body assigns, whatever the body reads.
+fn check_third<'a>(
+    alloc: Global,
+    third: &'a Option<SimpleStatement>,
+    body: &'a Statement,
+    flow: &Flow<'a>,
+) -> Result<(), Fault>
+    ensures answers { MatchResult result (λ _. third_reads (option_map simple_of third.now) (statement_of body.now) (flow_of flow.now) ≡ true) (λ f. (f.kind ≡ OutOfMemory) ⊎ (third_reads (option_map simple_of third.now) (statement_of body.now) (flow_of flow.now) ≡ false)) }
+    ensures cause { IfErr result (λ f. (f.kind ≡ OutOfMemory) ⊎ ReadInPart f (a.after_body (statement_of body.now) (flow_of flow.now)) third.now) }
+{
+    let behind = after_statement(alloc, body, flow)?;
+    let left = flow.leave(alloc, &behind)?;
+    behind_part(alloc, third, left.over(flow))?;
+    Ok(())
+}
+
+// Where the condition of a `for` is evaluated first; the condition, the third part and the annotations are looked at in the order of the text.
 fn behind_for_start<'a>(
     alloc: Global,
     first: &'a Option<SimpleStatement>,
     condition: &Expression,
+    third: &'a Option<SimpleStatement>,
     annotations: &[Annotation],
+    body: &'a Statement,
     flow: &Flow<'a>,
 ) -> Result<Behind<'a>, Fault>
-    ensures answers { Answers (behind_of (flow_of flow.now)) result (and_so (a.flow_of_part (option_map simple_of first.now) (flow_of flow.now)) (λ g. provided (a.reads_assigned g (expression_of condition.now) && a.specs_read_assigned g (specs_in (map annotation_of annotations.now))) (Some g))) }
-    ensures cause { IfErr result (λ f. (f.kind ≡ OutOfMemory) ⊎ ReadInPart f (flow_of flow.now) first.now ⊎ ((g : a.Flow) × (a.flow_of_part (option_map simple_of first.now) (flow_of flow.now) ≡ Some g) × (ReadIn f g condition.now ⊎ ReadInAnnotations f g annotations.now))) }
+    ensures answers { Answers (behind_of (flow_of flow.now)) result (for_start (option_map simple_of first.now) (expression_of condition.now) (option_map simple_of third.now) (map annotation_of annotations.now) (statement_of body.now) (flow_of flow.now)) }
+    ensures cause { IfErr result (λ f. (f.kind ≡ OutOfMemory) ⊎ ReadInPart f (flow_of flow.now) first.now ⊎ ((g : a.Flow) × (a.flow_of_part (option_map simple_of first.now) (flow_of flow.now) ≡ Some g) × (ReadIn f g condition.now ⊎ ReadInPart f (a.after_body (statement_of body.now) g) third.now ⊎ ReadInAnnotations f g annotations.now))) }
 {
     let start = behind_part(alloc, first, flow)?;
     let inner = start.over(flow);
     check_reads(inner, condition)?;
+    check_third(alloc, third, body, inner)?;
     check_annotation_reads(inner, annotations)?;
     Ok(start)
 }
@@ -171,20 +191,6 @@ fn join_ways<'a>(
     ensures cause { IfErr result (λ f. f.kind ≡ OutOfMemory) }
 {
     Ok(flow.join(alloc, first, second)?)
-}
-
-// Behind the third part of a `for`, which begins where the scope of the body ends; the body began here.
-fn behind_turn<'a>(
-    alloc: Global,
-    body: &Behind<'a>,
-    third: &'a Option<SimpleStatement>,
-    flow: &Flow<'a>,
-) -> Result<Behind<'a>, Fault>
-    ensures answers { let left = a.left_scope (flow_of flow.now) (behind_of (flow_of flow.now) body.now) in Answers (behind_of left) result (a.flow_of_part (option_map simple_of third.now) left) }
-    ensures cause { IfErr result (λ f. (f.kind ≡ OutOfMemory) ⊎ ReadInPart f (a.left_scope (flow_of flow.now) (behind_of (flow_of flow.now) body.now)) third.now) }
-{
-    let left = flow.leave(alloc, body)?;
-    behind_part(alloc, third, left.over(flow))
 }
 
 /// Behind a statement. A read of a local that may not be assigned is an error, `NotAssigned` at its name.
@@ -224,10 +230,9 @@ pub(crate) fn behind_statement<'a>(
             Ok(Behind::Same)
         }
         StatementKind::For(first, condition, third, annotations, body) => {
-            let start = behind_for_start(alloc, first, condition, annotations, flow)?;
+            let start = behind_for_start(alloc, first, condition, third, annotations, body, flow)?;
             let inner = start.over(&*flow);
-            let behind = behind_statement(alloc, body, inner)?;
-            behind_turn(alloc, &behind, third, inner)?;
+            behind_statement(alloc, body, inner)?;
             leave_scope(alloc, &start, flow)
         }
         StatementKind::Assert(condition) => behind_read(condition, flow),

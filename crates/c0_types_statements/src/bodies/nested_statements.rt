@@ -9,7 +9,7 @@ ghost use Rattle.c0_syntax.specs.Views.{annotation_of, expression_of, simple_of,
 ghost use Rattle.c0_typed.specs.Trees as y;
 ghost use Rattle.c0_typed.specs.Views.{block_of, exp_of, exps_of, stmt_of};
 ghost use Rattle.c0_types_statements.specs.Bodies.{Gives, GivesBy, InFor, InIfElse, InLoop, PartHasTexts, SpecsHaveTexts, StatementHasTexts, StatementsHaveTexts, block_in_scope, in_scope, loop_behind, scope_of};
-ghost use Rattle.c0_rules.specs.FaultStatements.{InAnnotations, InBody, InPart, InStatement, InValue, InWanted, ReturnCause, ThirdCause};
+ghost use Rattle.c0_rules.specs.FaultStatements.{InAnnotations, InBody, InPart, InStatement, InWanted, ReturnCause, ThirdCause};
 ghost use Rattle.c0_rules.specs.Mentions.{specs_in};
 ghost use Rattle.c0_rules.specs.Statements.{Invariant, declares, typed_part, typed_statement, typed_statements, within};
 ghost use Rattle.c0_types_expressions.specs.Terms.{HasTexts};
@@ -132,14 +132,13 @@ impl<'a> Body<'a> {
         Ok(TypedStatement::Return)
     }
 
-    // A `return` with a value.
+    // A `return` with a value; of a void function it is refused, whatever the value is.
     fn returned_value(&self, value: &Expression) -> Result<TypedStatement, Fault>
         requires { HasTexts self.now.texts.now (expression_of value.now) }
         ensures answers { Gives self.now.texts.now self.now.scope result (typed_statement (environment_of self.now.environment.now) (t.ReturnValue (expression_of value.now)) (scope_of self.now.scope)) }
-        ensures cause { IfErr result (λ f. (f.kind ≡ OutOfMemory) ⊎ InValue (environment_of self.now.environment.now) f (scope_of self.now.scope) value.now ⊎ ReturnCause (environment_of self.now.environment.now) f (scope_of self.now.scope) value.now) }
+        ensures cause { IfErr result (λ f. (f.kind ≡ OutOfMemory) ⊎ ReturnCause (environment_of self.now.environment.now) f (scope_of self.now.scope) value.now) }
     {
         if self.scope.result.same_as(&ResolvedType::Void) {
-            drop(self.value(&value.kind, value.span)?);
             return Err(Fault {
                 kind: FaultKind::TypeMismatch,
                 span: value.span,

@@ -59,7 +59,7 @@ composed-returns-in-Ok-clause-cause t c =
     let first = rw (sym c.in_ok-first-in-Binary.ensures.taken) at value in
     let second = rw c.deref-in-Binary-3.ensures at c.in-Ok.ensures.answers in
     let told = rw (c.deref-in-Ok.ensures, c.deref-in-Ok-2.ensures) at c.operated.ensures.cause in
-    rw x.is (none_causes (typing_of s.texts.now) c.operated.result (operated (env_of s) rule one other) _ _ (λ f none h. first_three (subst (λ z. BinaryCause (env_of s) (context_of s) f z a.kind a.span b.kind b.span) c.operator_rule-rule.ensures (binary_cause (env_of s) (context_of s) f rule a.kind a.span b.kind b.span one other first second none h))) c.operated.ensures.answers told)
+    rw x.is (none_causes (typing_of s.texts.now) c.operated.result (operated (env_of s) rule one other) _ _ (λ f none h. first_three (subst (λ z. BinaryCause (env_of s) (context_of s) f z a.kind a.span b.kind b.span) c.operator_rule-rule.ensures (binary_cause (env_of s) (context_of s) f rule a.kind a.span b.kind b.span one other first second (c.in_ok-first-in-Binary.ensures.fits s.texts.now) none h))) c.operated.ensures.answers told)
 
 pub typing-returns-in_err-element-in-AllocArray-clause-answers : goal.typing-returns-in_err-element-in-AllocArray-clause-answers
 typing-returns-in_err-element-in-AllocArray-clause-answers t c =

@@ -1,11 +1,12 @@
 use Rattle.std.proofs.Common.{◌≡◌, map, drop}
-use Rattle.c0_syntax.specs.Views.{spec_of, statements_of}
+use Rattle.std.specs.List.{list_any}
+use Rattle.c0_syntax.specs.Views.{spec_of, statements_of, typed_name_of}
 use Rattle.c0_rules.specs.Mentions.{statements_assign}
-use Rattle.c0_rules.specs.Programs.{names_in_ensures}
-use Rattle.c0_rules.specs.Types.{any_among}
+use Rattle.c0_rules.specs.Programs.{is_assigned_parameter, names_in_ensures, names_of}
 use Rattle.c0_types_flow.proofs.flow.paths.check_specs.Given as goal
 
 -- what is left decides
 abbrev pub invariant-loop-spec : goal.invariant-loop-spec
 invariant-loop-spec l =
-    any_among (names_in_ensures (map spec_of (drop l.spec-index l.specs))) (statements_assign (statements_of l.body)) ≡ any_among (names_in_ensures (map spec_of l.specs)) (statements_assign (statements_of l.body))
+    list_any (is_assigned_parameter (names_of (map typed_name_of l.parameters)) (statements_assign (statements_of l.body))) (names_in_ensures (map spec_of (drop l.spec-index l.specs)))
+    ≡ list_any (is_assigned_parameter (names_of (map typed_name_of l.parameters)) (statements_assign (statements_of l.body))) (names_in_ensures (map spec_of l.specs))

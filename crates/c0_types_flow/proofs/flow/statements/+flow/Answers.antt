@@ -1,5 +1,4 @@
-use Rattle.std.proofs.Common.{◌≡◌, ◌⊎◌, Bool, map, option_map, ap, ◌∙◌, sym, subst, refl, inl}
-use Rattle.std.specs.Prelude.{◌&&◌}
+use Rattle.std.proofs.Common.{◌≡◌, ◌⊎◌, map, option_map, ap, ◌∙◌, sym, subst, refl, inl}
 use Rattle.std.proofs.lemmas.Result.{IfErr-weaker, err_from_is_err_and}
 use Rattle.c0_source.specs.declared.fault.Fault.{Fault}
 use Rattle.c0_source.specs.declared.fault.FaultKind.TheVariants.{OutOfMemory}
@@ -10,7 +9,7 @@ use Rattle.c0_rules.specs.Assignment as a
 use Rattle.c0_rules.specs.FaultPaths.{ReadIn, ReadInAnnotations, ReadInBody, ReadInStatement}
 use Rattle.c0_rules.specs.Mentions.{specs_in}
 use Rattle.c0_types_flow.specs.FlowViews.{behind_of, flow_of}
-use Rattle.c0_types_flow.proofs.Flows.{start_refused, for_body_refused, for_third_refused, for_leads, start_cause, inside_cause, last_cause, block_leads, block_refused, if_leads, if_else_leads, third_cause}
+use Rattle.c0_types_flow.proofs.Flows.{start_refused, for_body_refused, for_leads, start_cause, inside_cause, block_leads, block_refused, if_leads, if_else_leads, third_cause}
 use Rattle.c0_types_flow.proofs.Rows.{block_is, block_cause, body_cause}
 use Rattle.c0_types_flow.proofs.flow.statements.+flow.Goals as goal
 
@@ -90,7 +89,7 @@ behind_statement-returns-in_err-start-in-For-clause-answers t c =
     let x = c.in-For in
     let shape = ap statement_of_kind x.is in
     let p = err_from_is_err_and c.from_residual-in_err-start-in-For.result c.from_residual-in_err-start-in-For.ensures.1 in
-    let refused = rw c.deref-in-For.ensures.value at c.in_err-start-in-For.ensures.answers in
+    let refused = rw (c.deref-in-For.ensures.value, c.deref-in-For-2.ensures) at c.in_err-start-in-For.ensures.answers in
     rw (p.1, p.2, shape) (start_refused (option_map simple_of x.first) (expression_of x.condition) (option_map simple_of x.third) (map annotation_of x.annotations.items) (statement_of x.body.value) (flow_of c.args.flow.now) refused)
 
 pub behind_statement-returns-in_err-start-in-For-clause-cause : goal.behind_statement-returns-in_err-start-in-For-clause-cause
@@ -99,62 +98,39 @@ behind_statement-returns-in_err-start-in-For-clause-cause t c =
     let fault : Fault = c.in_err-start-in-For.field-0.0 in
     let p = err_from_is_err_and c.from_residual-in_err-start-in-For.result c.from_residual-in_err-start-in-For.ensures.1 in
     let P : StatementKind → Type 0 = λ k. (fault.kind ≡ OutOfMemory) ⊎ ReadInStatement fault (flow_of c.args.flow.now) k in
-    let there = rw c.deref-in-For.ensures.value at c.in_err-start-in-For.ensures.cause in
+    let there = rw (c.deref-in-For.ensures.value, c.deref-in-For-2.ensures) at c.in_err-start-in-For.ensures.cause in
     rw (p.1, p.2) (subst P (sym x.is) (start_cause fault x.first x.condition x.third x.annotations.items x.body.value.kind (flow_of c.args.flow.now) there))
 
-pub behind_statement-returns-in_err-behind-in-For-clause-answers : goal.behind_statement-returns-in_err-behind-in-For-clause-answers
-behind_statement-returns-in_err-behind-in-For-clause-answers t c =
+pub behind_statement-returns-in_err-behind_statement-in-For-clause-answers : goal.behind_statement-returns-in_err-behind_statement-in-For-clause-answers
+behind_statement-returns-in_err-behind_statement-in-For-clause-answers t c =
     let x = c.in-For in
     let shape = ap statement_of_kind x.is in
-    let p = err_from_is_err_and c.from_residual-in_err-behind-in-For.result c.from_residual-in_err-behind-in-For.ensures.1 in
-    let started = rw c.deref-in-For.ensures.value at c.in_ok-start-in-For.ensures.answers in
-    let refused = rw c.deref-in-For-2.ensures at c.in_err-behind-in-For.ensures.answers in
+    let p = err_from_is_err_and c.from_residual-in_err-behind_statement-in-For.result c.from_residual-in_err-behind_statement-in-For.ensures.1 in
+    let started = rw (c.deref-in-For.ensures.value, c.deref-in-For-2.ensures) at c.in_ok-start-in-For.ensures.answers in
+    let refused = rw c.deref-in-For-3.ensures at c.in_err-behind_statement-in-For.ensures.answers in
     rw (p.1, p.2, shape) (for_body_refused (option_map simple_of x.first) (expression_of x.condition) (option_map simple_of x.third) (map annotation_of x.annotations.items) (statement_of x.body.value) (flow_of c.args.flow.now) _ started _ c.over-inner.ensures refused)
 
-pub behind_statement-returns-in_err-behind-in-For-clause-cause : goal.behind_statement-returns-in_err-behind-in-For-clause-cause
-behind_statement-returns-in_err-behind-in-For-clause-cause t c =
+pub behind_statement-returns-in_err-behind_statement-in-For-clause-cause : goal.behind_statement-returns-in_err-behind_statement-in-For-clause-cause
+behind_statement-returns-in_err-behind_statement-in-For-clause-cause t c =
     let x = c.in-For in
-    let fault : Fault = c.in_err-behind-in-For.field-0.0 in
-    let p = err_from_is_err_and c.from_residual-in_err-behind-in-For.result c.from_residual-in_err-behind-in-For.ensures.1 in
+    let fault : Fault = c.in_err-behind_statement-in-For.field-0.0 in
+    let p = err_from_is_err_and c.from_residual-in_err-behind_statement-in-For.result c.from_residual-in_err-behind_statement-in-For.ensures.1 in
     let P : StatementKind → Type 0 = λ k. (fault.kind ≡ OutOfMemory) ⊎ ReadInStatement fault (flow_of c.args.flow.now) k in
-    let started = rw c.deref-in-For.ensures.value at c.in_ok-start-in-For.ensures.answers in
-    let there = rw c.deref-in-For-2.ensures at c.in_err-behind-in-For.ensures.cause in
-    let reads : a.Flow → Bool = λ g. a.reads_assigned g (expression_of x.condition) && a.specs_read_assigned g (specs_in (map annotation_of x.annotations.items)) in
-    rw (p.1, p.2) (subst P (sym x.is) (inside_cause fault x.first x.condition x.third x.annotations.items x.body.value.kind (flow_of c.args.flow.now) _ reads started _ c.over-inner.ensures there))
+    let started = rw (c.deref-in-For.ensures.value, c.deref-in-For-2.ensures) at c.in_ok-start-in-For.ensures.answers in
+    let there = rw c.deref-in-For-3.ensures at c.in_err-behind_statement-in-For.ensures.cause in
+    rw (p.1, p.2) (subst P (sym x.is) (inside_cause fault x.first x.condition x.third x.annotations.items x.body.value.kind (flow_of c.args.flow.now) _ started _ c.over-inner.ensures there))
 
-pub behind_statement-returns-in_err-behind_turn-in-For-clause-answers : goal.behind_statement-returns-in_err-behind_turn-in-For-clause-answers
-behind_statement-returns-in_err-behind_turn-in-For-clause-answers t c =
-    let x = c.in-For in
-    let shape = ap statement_of_kind x.is in
-    let p = err_from_is_err_and c.from_residual-in_err-behind_turn-in-For.result c.from_residual-in_err-behind_turn-in-For.ensures.1 in
-    let started = rw c.deref-in-For.ensures.value at c.in_ok-start-in-For.ensures.answers in
-    let led = rw c.deref-in-For-2.ensures at c.in_ok-behind-in-For.ensures.answers in
-    rw (p.1, p.2, shape) (for_third_refused (option_map simple_of x.first) (expression_of x.condition) (option_map simple_of x.third) (map annotation_of x.annotations.items) (statement_of x.body.value) (flow_of c.args.flow.now) _ started
-    _ _ c.over-inner.ensures led _ refl c.in_err-behind_turn-in-For.ensures.answers)
-
-pub behind_statement-returns-in_err-behind_turn-in-For-clause-cause : goal.behind_statement-returns-in_err-behind_turn-in-For-clause-cause
-behind_statement-returns-in_err-behind_turn-in-For-clause-cause t c =
-    let x = c.in-For in
-    let fault : Fault = c.in_err-behind_turn-in-For.field-0.0 in
-    let p = err_from_is_err_and c.from_residual-in_err-behind_turn-in-For.result c.from_residual-in_err-behind_turn-in-For.ensures.1 in
-    let P : StatementKind → Type 0 = λ k. (fault.kind ≡ OutOfMemory) ⊎ ReadInStatement fault (flow_of c.args.flow.now) k in
-    let started = rw c.deref-in-For.ensures.value at c.in_ok-start-in-For.ensures.answers in
-    let led = rw c.deref-in-For-2.ensures at c.in_ok-behind-in-For.ensures.answers in
-    let reads : a.Flow → Bool = λ g. a.reads_assigned g (expression_of x.condition) && a.specs_read_assigned g (specs_in (map annotation_of x.annotations.items)) in
-    rw (p.1, p.2) (subst P (sym x.is) (last_cause fault x.first x.condition x.third x.annotations.items x.body.value.kind (flow_of c.args.flow.now) _ reads started _ c.over-inner.ensures
-    _ _ led refl c.in_err-behind_turn-in-For.ensures.cause))
-
-pub behind_statement-returns-in_ok-behind_turn-in-For-clause-answers : goal.behind_statement-returns-in_ok-behind_turn-in-For-clause-answers
-behind_statement-returns-in_ok-behind_turn-in-For-clause-answers t c =
+pub behind_statement-returns-in_ok-behind_statement-in-For-clause-answers : goal.behind_statement-returns-in_ok-behind_statement-in-For-clause-answers
+behind_statement-returns-in_ok-behind_statement-in-For-clause-answers t c =
     let x = c.in-For in
     let before = flow_of c.args.flow.now in
     let shape = ap statement_of_kind x.is in
-    let started = rw c.deref-in-For.ensures.value at c.in_ok-start-in-For.ensures.answers in
-    let led = rw c.deref-in-For-2.ensures at c.in_ok-behind-in-For.ensures.answers in
+    let started = rw (c.deref-in-For.ensures.value, c.deref-in-For-2.ensures) at c.in_ok-start-in-For.ensures.answers in
+    let led = rw c.deref-in-For-3.ensures at c.in_ok-behind_statement-in-For.ensures.answers in
     let leads = for_leads (option_map simple_of x.first) (expression_of x.condition) (option_map simple_of x.third) (map annotation_of x.annotations.items) (statement_of x.body.value) before _ started
-    _ _ c.over-inner.ensures led _ refl _ _ c.in_ok-behind_turn-in-For.ensures.answers refl in
+    _ _ c.over-inner.ensures led _ refl in
     rw shape (subst (Answers (behind_of before) c.leave_scope-in-For.result) (sym leads) c.leave_scope-in-For.ensures.answers)
 
-pub behind_statement-returns-in_ok-behind_turn-in-For-clause-cause : goal.behind_statement-returns-in_ok-behind_turn-in-For-clause-cause
-behind_statement-returns-in_ok-behind_turn-in-For-clause-cause t c =
+pub behind_statement-returns-in_ok-behind_statement-in-For-clause-cause : goal.behind_statement-returns-in_ok-behind_statement-in-For-clause-cause
+behind_statement-returns-in_ok-behind_statement-in-For-clause-cause t c =
     IfErr-weaker c.leave_scope-in-For.result _ _ (λ f h. inl h) c.leave_scope-in-For.ensures.cause
