@@ -1,10 +1,11 @@
 //! The calls of a mover that brings an object into a frame.
 ghost use Rattle.std.specs.Prelude.{◌≡◌, ℕ, ◌<◌, ◌≤◌, ◌==◌, ◌↔◌, not, true, false, Some, None};
+ghost use Rattle.pointer_word.specs.Words.{Away, Here};
 ghost use Rattle.pointer_word.specs.Hands.{told, filling, arriving, retreating};
 ghost use Rattle.pointer_word.specs.Calls.{Filled, Begins, Claims, Fills, Arrives, Retreats};
 ghost use Rattle.pointer_word.specs.Asked.{HasNoFrame, HasNothing};
 ghost use Rattle.object_lock.specs.Seats.{Owns, note, with_note, with_hand};
-ghost use Rattle.object_lock.specs.Plays.{Steps, Holds, IsUnheld};
+ghost use Rattle.object_lock.specs.Plays.{Steps, Holds, IsUnheld, LeavesWord, LeavesAt, LeavesCell};
 ghost use Rattle.object_lock.specs.SeatViews.{IsSeat};
 ghost use Rattle.object_lock.specs.Telling.{tried, Begun, Fetched, Claimed};
 
@@ -61,7 +62,7 @@ impl<S: RawStore> ObjectTable<S> {
         requires claimed { mover.old.view.hand.claimed ≡ Some frame }
         ensures table { IsSeat self.now mover.new }
         ensures filled { mover.new ≡ record mover.old { view = with_hand mover.old.view (filling mover.old.view.hand i v) } }
-        ensures step { Steps S.honest (Fills mover.old.view.number frame i v) mover.old.view mover.new.view (λ _. Unit {0}) }
+        ensures step { Steps S.honest (Fills mover.old.view.number frame i v) mover.old.view mover.new.view (LeavesCell (Fills mover.old.view.number frame i v) frame i v) }
     {
         self.words.fill_cell(&mut mover.seat, frame, i, v);
     }
@@ -76,8 +77,8 @@ impl<S: RawStore> ObjectTable<S> {
         ensures table { IsSeat self.now mover.new }
         ensures arrived { Holds mover.old.view obj → mover.new ≡ record mover.old { view = with_note (with_hand mover.old.view (arriving mover.old.view.hand)) obj (told (note mover.old.view obj) (Some frame)); brought = None } }
         ensures brought { IsUnheld mover.old.view obj → mover.new ≡ record mover.old { view = with_hand mover.old.view (arriving mover.old.view.hand); brought = None } }
-        ensures step { Holds mover.old.view obj → Steps S.honest (Arrives mover.old.view.number obj frame false true) mover.old.view mover.new.view (λ _. Unit {0}) }
-        ensures unheld_step { IsUnheld mover.old.view obj → Steps S.honest (Arrives mover.old.view.number obj frame false false) mover.old.view mover.new.view (λ _. Unit {0}) }
+        ensures step { Holds mover.old.view obj → Steps S.honest (Arrives mover.old.view.number obj frame false true) mover.old.view mover.new.view (LeavesWord (Arrives mover.old.view.number obj frame false true) obj (note mover.old.view obj).count (Here frame false)) }
+        ensures unheld_step { IsUnheld mover.old.view obj → Steps S.honest (Arrives mover.old.view.number obj frame false false) mover.old.view mover.new.view (LeavesAt (Arrives mover.old.view.number obj frame false false) obj (Here frame false)) }
     {
         let berth = mover.brought.take();
         self.words
@@ -96,7 +97,7 @@ impl<S: RawStore> ObjectTable<S> {
         requires hands { (mover.old.view.hand.bringing ≡ Some obj) × (mover.old.view.hand.leaving ≡ None) × (mover.old.view.hand.claimed ≡ None) }
         ensures table { IsSeat self.now mover.new }
         ensures retreated { mover.new ≡ record mover.old { view = with_hand mover.old.view (retreating mover.old.view.hand); brought = None } }
-        ensures step { Steps S.honest (Retreats mover.old.view.number obj) mover.old.view mover.new.view (λ _. Unit {0}) }
+        ensures step { Steps S.honest (Retreats mover.old.view.number obj) mover.old.view mover.new.view (LeavesAt (Retreats mover.old.view.number obj) obj Away) }
     {
         let berth = mover.brought.take();
         self.words

@@ -1,9 +1,10 @@
 //! The calls of an owner on its own objects.
-ghost use Rattle.std.specs.Prelude.{◌≡◌, ℕ, ◌<◌, true, Some};
+ghost use Rattle.std.specs.Prelude.{◌≡◌, ℕ, ◌<◌, ◌-◌, true, Some};
+ghost use Rattle.pointer_word.specs.Words.{cleared};
 ghost use Rattle.pointer_word.specs.Hands.{closed, writable, added, latest_of};
 ghost use Rattle.pointer_word.specs.Calls.{Opens, Closes, Clears, Stores};
 ghost use Rattle.object_lock.specs.Seats.{Owns, note, with_note};
-ghost use Rattle.object_lock.specs.Plays.{Steps, IsLook};
+ghost use Rattle.object_lock.specs.Plays.{Steps, IsLook, LeavesWord, LeavesCell};
 ghost use Rattle.object_lock.specs.SeatViews.{IsSeat};
 ghost use Rattle.object_lock.specs.Telling.{held, Opened};
 
@@ -31,7 +32,7 @@ impl<S: RawStore> ObjectTable<S> {
         requires hold { Owns owner.old.view obj × (0 < (note owner.old.view obj).count) }
         ensures table { IsSeat self.now owner.new }
         ensures closed { owner.new ≡ record owner.old { view = with_note owner.old.view obj (closed (note owner.old.view obj)) } }
-        ensures step { Steps S.honest (Closes obj) owner.old.view owner.new.view (λ _. Unit {0}) }
+        ensures step { Steps S.honest (Closes obj) owner.old.view owner.new.view (λ x. LeavesWord (Closes obj) obj ((note owner.old.view obj).count - 1) (x.word obj).place x) }
     {
         self.words.close_word(&mut owner.seat, obj);
     }
@@ -42,7 +43,7 @@ impl<S: RawStore> ObjectTable<S> {
         requires hold { Owns owner.old.view obj × (0 < (note owner.old.view obj).count) }
         ensures table { IsSeat self.now owner.new }
         ensures writable { owner.new ≡ record owner.old { view = with_note owner.old.view obj (writable (note owner.old.view obj)) } }
-        ensures step { Steps S.honest (Clears obj) owner.old.view owner.new.view (λ _. Unit {0}) }
+        ensures step { Steps S.honest (Clears obj) owner.old.view owner.new.view (λ x. LeavesWord (Clears obj) obj (note owner.old.view obj).count (cleared (x.word obj).place) x) }
     {
         self.words.clear_word(&mut owner.seat, obj);
     }
@@ -66,7 +67,7 @@ impl<S: RawStore> ObjectTable<S> {
         requires hold { Owns owner.old.view obj × ((note owner.old.view obj).frame ≡ Some frame) × ((note owner.old.view obj).writing ≡ true) }
         ensures table { IsSeat self.now owner.new }
         ensures added { owner.new ≡ record owner.old { view = with_note owner.old.view obj (added (note owner.old.view obj) i v) } }
-        ensures step { Steps S.honest (Stores obj frame i v) owner.old.view owner.new.view (λ _. Unit {0}) }
+        ensures step { Steps S.honest (Stores obj frame i v) owner.old.view owner.new.view (LeavesCell (Stores obj frame i v) frame i v) }
     {
         self.words.store_cell(&mut owner.seat, obj, frame, i, v);
     }

@@ -6,7 +6,7 @@ ghost use Rattle.pointer_word.specs.Calls.{Marks, Copies, Commits, Aborts, Uncla
 ghost use Rattle.pointer_word.specs.Asked.{HasNoFrame};
 ghost use Rattle.object_lock.specs.Seats.{Owns, with_hand};
 ghost use Rattle.object_lock.specs.Seating.{HasFrame, IsMovingOut};
-ghost use Rattle.object_lock.specs.Plays.{Steps, IsLook};
+ghost use Rattle.object_lock.specs.Plays.{Steps, IsLook, LeavesAt, LeavesFree};
 ghost use Rattle.object_lock.specs.SeatViews.{IsSeat};
 ghost use Rattle.object_lock.specs.Telling.{named, Marked, HasPut, Committed};
 
@@ -98,7 +98,7 @@ impl<S: RawStore> ObjectTable<S> {
         requires hands { mover.old.view.hand.leaving ≡ Some obj }
         ensures table { IsSeat self.now mover.new }
         ensures aborted { mover.new ≡ record mover.old { view = with_hand mover.old.view (aborting mover.old.view.hand); taken = None } }
-        ensures step { Steps S.honest (Aborts mover.old.view.number obj mover.old.view.hand.source) mover.old.view mover.new.view (λ _. Unit {0}) }
+        ensures step { Steps S.honest (Aborts mover.old.view.number obj mover.old.view.hand.source) mover.old.view mover.new.view (LeavesAt (Aborts mover.old.view.number obj mover.old.view.hand.source) obj (Here mover.old.view.hand.source false)) }
     {
         let berth = mover.taken.take();
         self.words
@@ -116,8 +116,8 @@ impl<S: RawStore> ObjectTable<S> {
         ensures table { IsSeat self.now mover.new }
         ensures unclaimed { mover.old.view.hand.claimed ≡ Some frame → mover.new ≡ record mover.old { view = with_hand mover.old.view (unclaiming mover.old.view.hand) } }
         ensures released { mover.old.view.hand.freed ≡ Some frame → mover.new ≡ record mover.old { view = with_hand mover.old.view (releasing mover.old.view.hand) } }
-        ensures unclaim_step { mover.old.view.hand.claimed ≡ Some frame → Steps S.honest (Unclaims mover.old.view.number frame) mover.old.view mover.new.view (λ _. Unit {0}) }
-        ensures step { mover.old.view.hand.freed ≡ Some frame → Steps S.honest (Releases mover.old.view.number frame) mover.old.view mover.new.view (λ _. Unit {0}) }
+        ensures unclaim_step { mover.old.view.hand.claimed ≡ Some frame → Steps S.honest (Unclaims mover.old.view.number frame) mover.old.view mover.new.view (LeavesFree (Unclaims mover.old.view.number frame) frame) }
+        ensures step { mover.old.view.hand.freed ≡ Some frame → Steps S.honest (Releases mover.old.view.number frame) mover.old.view mover.new.view (LeavesFree (Releases mover.old.view.number frame) frame) }
     {
         self.words.release_word(&mut mover.seat, frame);
     }

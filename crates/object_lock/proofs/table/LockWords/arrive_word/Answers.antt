@@ -9,6 +9,7 @@ use Rattle.object_lock.proofs.Either.{arrives_any}
 use Rattle.object_lock.proofs.Arrived.{arrives_kept, arrives_notes}
 use Rattle.object_lock.proofs.Exact.{arrives_exactly, arrives_step, brings_exactly, brings_step}
 use Rattle.object_lock.proofs.Asks.{asks_arrive, asks_bring}
+use Rattle.object_lock.proofs.Left.{word_arrives, word_brings}
 use Rattle.object_lock.proofs.table.LockWords.arrive_word.Goals as goal
 
 pub fetch_add-requires : goal.fetch_add-requires
@@ -34,9 +35,9 @@ returns-clause-unheld g c h =
 pub returns-clause-step : goal.returns-clause-step
 returns-clause-step g c h =
     let s = arrives_step g.S.RawStore.honest (slot_keeps g.S.RawStore.content) slot_has (step 0 c.args.obj c.args.by 0 none) c.args.seat.now.me c.fetch_add.result c.fetch_add.new.seat.me c.args.frame c.requires.hands.2 (c.fetch_add.ensures.2.0 h) in
-    (s.0, s.1, asks_arrive g.S.RawStore.honest c.args.seat.now.me.0 s.0 s.1.knew c.args.obj c.args.frame h.0 s.1.may, tt)
+    (s.0, s.1, asks_arrive g.S.RawStore.honest c.args.seat.now.me.0 s.0 s.1.knew c.args.obj c.args.frame h.0 s.1.may, word_arrives s.0 g.S.RawStore.honest c.args.seat.now.me.0 s.1.sound s.1.knew c.args.obj h.0 c.args.seat.now.me.0.number c.args.frame)
 
 pub returns-clause-unheld_step : goal.returns-clause-unheld_step
 returns-clause-unheld_step g c h =
     let s = brings_step g.S.RawStore.honest (step 0 c.args.obj c.args.by 0 none) c.args.seat.now.me c.fetch_add.result c.fetch_add.new.seat.me c.args.frame c.requires.hands.2 (c.fetch_add.ensures.2.1 h) in
-    (s.0, s.1, asks_bring g.S.RawStore.honest c.args.seat.now.me.0 s.0 s.1.knew c.args.obj c.args.frame s.1.may, tt)
+    (s.0, s.1, asks_bring g.S.RawStore.honest c.args.seat.now.me.0 s.0 s.1.knew c.args.obj c.args.frame s.1.may, word_brings s.0 c.args.seat.now.me.0.number c.args.obj c.args.frame)

@@ -6,6 +6,7 @@ use mathlib.Core.Option.{none}
 use Rattle.atomic_table.specs.Table.{step}
 use Rattle.object_lock.proofs.Exact.{fills_step}
 use Rattle.object_lock.proofs.Asks.{asks_fill}
+use Rattle.object_lock.proofs.Left.{cell_fills}
 use Rattle.object_lock.proofs.table.LockWords.fill_cell.Goals as goal
 
 pub store-requires : goal.store-requires
@@ -24,4 +25,4 @@ returns-clause-step g c =
     let v = c.args.seat.now.me.0 in let same = c.requires.table.1 in let l = c.requires.low.1 in
     let s = fills_step g.S.RawStore.honest (step 0 c.cell_at-cell.result c.args.v 0 none) c.args.seat.now.me c.args.v c.store.new.seat.me c.args.frame c.args.i c.requires.claimed
     (c.cell_at-cell.ensures.at ∙ ap (λ (q : Sizes). cell_word q c.args.frame c.args.i) (sym same)) c.store.ensures.2 in
-    (s.0, s.1, asks_fill g.S.RawStore.honest v s.0 s.1.knew c.args.frame c.args.i c.args.v (subst (λ (q : Sizes). c.args.i < q.cells) (sym same) l) c.requires.claimed, tt)
+    (s.0, s.1, asks_fill g.S.RawStore.honest v s.0 s.1.knew c.args.frame c.args.i c.args.v (subst (λ (q : Sizes). c.args.i < q.cells) (sym same) l) c.requires.claimed, cell_fills s.0 v.number c.args.frame c.args.i c.args.v)

@@ -6,6 +6,7 @@ use Rattle.object_lock.specs.Seats.{Sizes, frame_word}
 use Rattle.object_lock.proofs.Frames.{gives_up}
 use Rattle.object_lock.proofs.Exact.{frame_is, unclaims_exactly, unclaims_step, releases_exactly, releases_step}
 use Rattle.object_lock.proofs.Asks.{asks_unclaim, asks_release}
+use Rattle.object_lock.proofs.Left.{free_releases, free_unclaims}
 use Rattle.object_lock.proofs.table.LockWords.release_word.Goals as goal
 
 pub store-requires : goal.store-requires
@@ -27,10 +28,10 @@ pub returns-clause-unclaim_step : goal.returns-clause-unclaim_step
 returns-clause-unclaim_step g c e =
     let v = c.args.seat.now.me.0 in let at = c.frame_at-word.ensures.at ∙ ap (λ (q : Sizes). frame_word q c.args.frame) (sym c.requires.table.1) in
     let t = unclaims_step g.S.RawStore.honest (step 0 c.frame_at-word.result 0 0 none) c.args.seat.now.me 0 c.store.new.seat.me c.args.frame at (c.store.ensures.2.0 (e ∙ ap Some (sym (frame_is v c.frame_at-word.result c.args.frame at)))) in
-    (t.0, t.1, asks_unclaim g.S.RawStore.honest v t.0 t.1.knew c.args.frame t.1.may, tt)
+    (t.0, t.1, asks_unclaim g.S.RawStore.honest v t.0 t.1.knew c.args.frame t.1.may, free_unclaims t.0 v.number c.args.frame)
 
 pub returns-clause-step : goal.returns-clause-step
 returns-clause-step g c e =
     let v = c.args.seat.now.me.0 in let at = c.frame_at-word.ensures.at ∙ ap (λ (q : Sizes). frame_word q c.args.frame) (sym c.requires.table.1) in
     let t = releases_step g.S.RawStore.honest (step 0 c.frame_at-word.result 0 0 none) c.args.seat.now.me 0 c.store.new.seat.me c.args.frame at (c.store.ensures.2.1 (e ∙ ap Some (sym (frame_is v c.frame_at-word.result c.args.frame at)))) in
-    (t.0, t.1, asks_release g.S.RawStore.honest v t.0 t.1.knew c.args.frame t.1.may, tt)
+    (t.0, t.1, asks_release g.S.RawStore.honest v t.0 t.1.knew c.args.frame t.1.may, free_releases t.0 v.number c.args.frame)

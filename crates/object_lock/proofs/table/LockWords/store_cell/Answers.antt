@@ -6,6 +6,7 @@ use Rattle.atomic_table.specs.Table.{step}
 use Rattle.object_lock.proofs.Exact.{stores_exactly}
 use Rattle.object_lock.proofs.Frames.{stores}
 use Rattle.object_lock.proofs.Asks.{asks_store}
+use Rattle.object_lock.proofs.Left.{cell_stores}
 use Rattle.object_lock.proofs.table.LockWords.store_cell.Goals as goal
 
 pub store-requires : goal.store-requires
@@ -18,4 +19,4 @@ returns-clause-exactly g c = let same = c.requires.table.1 in let at = c.cell_at
 pub returns-clause-step : goal.returns-clause-step
 returns-clause-step g c = let same = c.requires.table.1 in let at = c.cell_at-cell.ensures.at ∙ ap (λ (q : Sizes). cell_word q c.args.frame c.args.i) (sym same) in let l = c.requires.low.1 in let low = subst (λ (q : Sizes). c.args.i < q.cells) (sym same) l in
     let e = c.store.ensures.2.0 c.args.obj c.args.frame c.args.i (c.requires.hold.0, c.requires.hold.1, low, at) in
-    (e.0, e.1, asks_store g.S.RawStore.honest c.args.seat.now.me.0 e.0 e.1.knew c.args.obj c.args.frame c.args.i c.args.v c.requires.hold.0 c.requires.hold.1 c.requires.hold.2 low, tt)
+    (e.0, e.1, asks_store g.S.RawStore.honest c.args.seat.now.me.0 e.0 e.1.knew c.args.obj c.args.frame c.args.i c.args.v c.requires.hold.0 c.requires.hold.1 c.requires.hold.2 low, cell_stores e.0 c.args.obj c.args.frame c.args.i c.args.v)
