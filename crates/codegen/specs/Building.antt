@@ -2,6 +2,7 @@
 use Rattle.std.specs.Prelude.{ℕ, Bool, true, false, List, [], ◌∷◌, map, reverse}
 use Rattle.std.specs.declared.vec.Vec.{Vec}
 use Rattle.std.specs.declared.alloc.Global.{Global}
+use Rattle.code_form.specs.declared.form.Fact.{Fact}
 use Rattle.code_form.specs.declared.form.Instruction.{Instruction as RustInstruction}
 use Rattle.code_form.specs.Form.{Instruction, instruction_of}
 use Rattle.middle_form.specs.Form.{Code, Do, Load, Store, Call, Fail, Exit}
@@ -14,6 +15,10 @@ back is = reverse (map instruction_of is)
 -- those of some blocks
 abbrev pub backs : List (Vec RustInstruction Global) → List (List Instruction)
 backs bs = map (λ (b : Vec RustInstruction Global). back b.items) bs
+
+-- some lists of facts
+abbrev pub lists : List (Vec Fact Global) → List (List Fact)
+lists ws = map (λ (w : Vec Fact Global). w.items) ws
 
 -- the numbers of the blocks to which exits lead, the innermost first
 abbrev pub exits_of : Exits → List ℕ

@@ -7,6 +7,7 @@ use Rattle.code_form.specs.Form.{Instruction, Simple, Aim, Load, Store, Leave, C
 use Rattle.code_form.specs.Form as image
 use Rattle.middle_form.specs.Form.{Code, Nothing, Do, Fail, Then, Choose, Loop, Block, Exit, Function, Program}
 use Rattle.middle_form.specs.Form as middle
+use Rattle.codegen.specs.Guarded.{asked_inside, asks}
 
 -- how many blocks code needs beside its first instructions
 abbrev pub count : Code → ℕ
@@ -92,9 +93,19 @@ abbrev pub all_shut : ℕ → List Fact
 all_shut zero = []
 all_shut (suc n) = fact.Shut n ∷ all_shut n
 
--- a block at whose entry each of so many scopes is shut
-abbrev pub block_with : ℕ → List Instruction → image.Block
-block_with scopes is = record { facts = all_shut scopes; code = is }
+-- a block at whose entry each of so many scopes is shut, and these checks were made
+abbrev pub block_with : ℕ → List Fact → List Instruction → image.Block
+block_with scopes w is = record { facts = all_shut scopes ++ w; code = is }
+
+-- such blocks, with what is asked at the entry of each
+abbrev pub blocks_with : ℕ → List (List Fact) → List (List Instruction) → List image.Block
+blocks_with scopes ws [] = []
+blocks_with scopes [] (is ∷ bs) = block_with scopes [] is ∷ blocks_with scopes [] bs
+blocks_with scopes (w ∷ ws) (is ∷ bs) = block_with scopes w is ∷ blocks_with scopes ws bs
+
+-- what is asked at the entry of each block of a function
+abbrev pub asked_of : Function → List (List Fact)
+asked_of g = asks g.body [] ∷ asked_inside g.body []
 
 -- a function
 abbrev pub function_of : Function → image.Function
@@ -103,7 +114,7 @@ function_of g = record {
   parameters = g.parameters;
   kinds = g.kinds;
   scopes = scopes_of g.body;
-  blocks = map (block_with (scopes_of g.body)) (blocks g);
+  blocks = blocks_with (scopes_of g.body) (asked_of g) (blocks g);
 }
 
 -- a program

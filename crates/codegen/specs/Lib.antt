@@ -1,5 +1,6 @@
 pub mod Building
 pub mod Correct
 pub mod Generated
+pub mod Guarded
 pub mod WellFormed
 pub mod Worked
