@@ -8,7 +8,8 @@ use Rattle.code_form.specs.Form as image
 use Rattle.code_form.specs.Code.{most_scopes}
 use Rattle.middle_form.specs.Form.{Code, Nothing, Do, Fail, Then, Choose, Loop, Block, Exit, Function, Program}
 use Rattle.middle_form.specs.Form as middle
-use Rattle.codegen.specs.Generated.{block_with, blocks, count, extra, first, function_of, generated, last, scopes_of, uses_cells}
+use Rattle.codegen.proofs.Paired.{with_all}
+use Rattle.codegen.specs.Generated.{asked_of, blocks, count, extra, first, function_of, generated, last, scopes_of, uses_cells}
 
 -- Instructions of a function with one scope, which may be open at their beginning or is shut: while it may be open, only aims, loads, stores and its leave come
 abbrev pub IsBracketed : (is_open : Bool) → List Instruction → Type 0
@@ -86,7 +87,7 @@ function_bracketed g =
     let all = code_bracketed g.body 1 (last g) [] (last_bracketed g g.result) in
     record {
       few = one_scope (uses_cells g.body);
-      blocks = All-map (λ (b : image.Block). IsShutBracketed b.code) (block_with (scopes_of g.body)) (blocks g) (All-cons IsShutBracketed (first g.body 1 (last g) []) _ all.0 all.1);
+      blocks = with_all IsShutBracketed (scopes_of g.body) (asked_of g) (blocks g) (All-cons IsShutBracketed (first g.body 1 (last g) []) _ all.0 all.1);
     }
 
 all_bracketed : (gs : List Function) → All (λ g. IsBracketedFunction (function_of g)) gs

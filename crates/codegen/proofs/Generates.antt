@@ -11,8 +11,8 @@ use Rattle.code_form.specs.Code as machine
 use Rattle.middle_form.specs.Form.{Code, Nothing, Do, Fail, Then, Choose, Loop, Block, Exit, Function, Program}
 use Rattle.middle_form.specs.Form as middle
 use Rattle.middle_form.specs.Meaning.{Outcome, Done, Stopped, Cut, Stuck, Left, Registers, State, behind, failed, falls, gives, called, loop, on, operated, run, then_do, turn, where_so}
-use Rattle.codegen.specs.Generated.{block_with, count, extra, first, uses_cells}
-use Rattle.codegen.proofs.Lands.{HasBlocks, IsRunning, Lands, Machine, at, blocks_back, blocks_front, comes_on, lands_after, moves, plain_frame, then_lands, turns_on}
+use Rattle.codegen.specs.Generated.{count, extra, first, uses_cells}
+use Rattle.codegen.proofs.Lands.{HasBlocks, HasCode, IsRunning, Lands, Machine, at, blocks_back, blocks_front, comes_on, lands_after, moves, plain_frame, then_lands, turns_on}
 
 pub length-extra : (s : Code) (b : ℕ) (next : List Instruction) (exits : List ℕ) → length (extra s b next exits) ≡ count s
 length-extra Nothing b next exits = refl
@@ -70,10 +70,10 @@ module _ (C : Image) (fn : image.Function) (dest : Option ℕ) (st : List Frame)
   abbrev frame_with : List Scope → List Instruction → Registers → Frame
   frame_with ss is rs = record { function = fn; rest = is; registers = rs; scopes = ss; destination = dest }
 
-  pub jump_step : (b : ℕ) (is : List Instruction) (rs : Registers) (s : State) → slice_get fn.blocks b ≡ Some (block_with fn.scopes is) → steps (code C) 1 (at fn dest st (Jump b ∷ []) rs s) ≡ at fn dest st is rs s
+  pub jump_step : (b : ℕ) (is : List Instruction) (rs : Registers) (s : State) → HasCode fn b is → steps (code C) 1 (at fn dest st (Jump b ∷ []) rs s) ≡ at fn dest st is rs s
   jump_step b is rs s e =
       let c : Core = (at fn dest st (Jump b ∷ []) rs s).0 in
-      ap (λ o. run_effect (jumps o (plain_frame fn dest (Jump b ∷ []) rs) st s.allocations s.output) c s.heap) e
+      ap (λ o. run_effect (jumps o (plain_frame fn dest (Jump b ∷ []) rs) st s.allocations s.output) c s.heap) e.1
 
   -- a register is written
   pub set_step : (d v : ℕ) (next is : List Instruction) (rs : Registers) (s : State) → (Running (set_to (plain_frame fn dest is rs) next d v) st s.allocations s.output, s.heap) ≡ at fn dest st next (slice_set rs d v) s
@@ -161,15 +161,15 @@ module _ (C : Image) (fn : image.Function) (dest : Option ℕ) (st : List Frame)
       ap (λ t. run_effect (cond t (if_zero (slice_index rs r) (jumps (slice_get fn.blocks c) f st s.allocations s.output) (jumps (slice_get fn.blocks b) f st s.allocations s.output)) (Wrong (machine.Stuck s.allocations s.output))) m s.heap) k
       ∙ ap (λ y. run_effect (if_zero y (jumps (slice_get fn.blocks c) f st s.allocations s.output) (jumps (slice_get fn.blocks b) f st s.allocations s.output)) m s.heap) z
 
-  branch_zero : (r b c : ℕ) (js : List Instruction) (rs : Registers) (s : State) → has fn.kinds r kind.Bool ≡ true → slice_index rs r ≡ 0 → slice_get fn.blocks c ≡ Some (block_with fn.scopes js) → steps (code C) 1 (at fn dest st (Branch r b c ∷ []) rs s) ≡ at fn dest st js rs s
+  branch_zero : (r b c : ℕ) (js : List Instruction) (rs : Registers) (s : State) → has fn.kinds r kind.Bool ≡ true → slice_index rs r ≡ 0 → HasCode fn c js → steps (code C) 1 (at fn dest st (Branch r b c ∷ []) rs s) ≡ at fn dest st js rs s
   branch_zero r b c js rs s k z h =
-      branch_step r b c 0 rs s k z ∙ ap (λ o. run_effect (jumps o (plain_frame fn dest (Branch r b c ∷ []) rs) st s.allocations s.output) (at fn dest st (Branch r b c ∷ []) rs s).0 s.heap) h
+      branch_step r b c 0 rs s k z ∙ ap (λ o. run_effect (jumps o (plain_frame fn dest (Branch r b c ∷ []) rs) st s.allocations s.output) (at fn dest st (Branch r b c ∷ []) rs s).0 s.heap) h.1
 
-  branch_one : (r b c x : ℕ) (is : List Instruction) (rs : Registers) (s : State) → has fn.kinds r kind.Bool ≡ true → slice_index rs r ≡ suc x → slice_get fn.blocks b ≡ Some (block_with fn.scopes is) → steps (code C) 1 (at fn dest st (Branch r b c ∷ []) rs s) ≡ at fn dest st is rs s
+  branch_one : (r b c x : ℕ) (is : List Instruction) (rs : Registers) (s : State) → has fn.kinds r kind.Bool ≡ true → slice_index rs r ≡ suc x → HasCode fn b is → steps (code C) 1 (at fn dest st (Branch r b c ∷ []) rs s) ≡ at fn dest st is rs s
   branch_one r b c x is rs s k z h =
-      branch_step r b c (suc x) rs s k z ∙ ap (λ o. run_effect (jumps o (plain_frame fn dest (Branch r b c ∷ []) rs) st s.allocations s.output) (at fn dest st (Branch r b c ∷ []) rs s).0 s.heap) h
+      branch_step r b c (suc x) rs s k z ∙ ap (λ o. run_effect (jumps o (plain_frame fn dest (Branch r b c ∷ []) rs) st s.allocations s.output) (at fn dest st (Branch r b c ∷ []) rs s).0 s.heap) h.1
 
-  choose_lands : {A : Type 0} (T : A → State → Machine) (r b c x : ℕ) (fits : Bool) (is js : List Instruction) (rs : Registers) (s : State) (m n : Outcome A) → has fn.kinds r kind.Bool ≡ fits → slice_index rs r ≡ x → slice_get fn.blocks b ≡ Some (block_with fn.scopes is) → slice_get fn.blocks c ≡ Some (block_with fn.scopes js) → Lands C T (at fn dest st is rs s) s.turns m → Lands C T (at fn dest st js rs s) s.turns n → Lands C T (at fn dest st (Branch r b c ∷ []) rs s) s.turns (where_so fits (if_zero x n m))
+  choose_lands : {A : Type 0} (T : A → State → Machine) (r b c x : ℕ) (fits : Bool) (is js : List Instruction) (rs : Registers) (s : State) (m n : Outcome A) → has fn.kinds r kind.Bool ≡ fits → slice_index rs r ≡ x → HasCode fn b is → HasCode fn c js → Lands C T (at fn dest st is rs s) s.turns m → Lands C T (at fn dest st js rs s) s.turns n → Lands C T (at fn dest st (Branch r b c ∷ []) rs s) s.turns (where_so fits (if_zero x n m))
   choose_lands T r b c x false is js rs s m n k z hb hc lm ln = tt
   choose_lands T r b c zero true is js rs s m n k z hb hc lm ln = lands_after C T _ (at fn dest st js rs s) s.turns s.turns n (moves C _ _ s.turns 1 (branch_zero r b c js rs s k z hc)) ln
   choose_lands T r b c (suc x) true is js rs s m n k z hb hc lm ln = lands_after C T _ (at fn dest st is rs s) s.turns s.turns m (moves C _ _ s.turns 1 (branch_one r b c x is rs s k z hb)) lm
@@ -185,26 +185,26 @@ module _ (C : Image) (fn : image.Function) (dest : Option ℕ) (st : List Frame)
   falls_lands mid next exits g p h (suc k, rs) s le = moves C _ _ s.turns 0 refl
 
   -- a jump to what follows
-  joined_lands : (b : ℕ) (next : List Instruction) (exits : List ℕ) → slice_get fn.blocks b ≡ Some (block_with fn.scopes next) → (c : Machine) (p : ℕ) (m : Outcome Left) → Lands C (there (Jump b ∷ []) exits) c p m → Lands C (there next exits) c p m
+  joined_lands : (b : ℕ) (next : List Instruction) (exits : List ℕ) → HasCode fn b next → (c : Machine) (p : ℕ) (m : Outcome Left) → Lands C (there (Jump b ∷ []) exits) c p m → Lands C (there next exits) c p m
   joined_lands b next exits e c p (Done (zero, rs) s) h = comes_on C c _ _ p s.turns s.turns h (moves C _ _ s.turns 1 (jump_step b next rs s e))
   joined_lands b next exits e c p (Done (suc k, rs) s) h = h
   joined_lands b next exits e c p (Stopped x out) h = h
   joined_lands b next exits e c p (Cut out) h = h
   joined_lands b next exits e c p Stuck h = tt
 
-  block_lands : (b : ℕ) (next : List Instruction) (exits : List ℕ) → slice_get fn.blocks b ≡ Some (block_with fn.scopes next) → (x : Left) (s : State) → Lands C (there next exits) (there (Jump b ∷ []) (b ∷ exits) x s) s.turns (behind x s)
+  block_lands : (b : ℕ) (next : List Instruction) (exits : List ℕ) → HasCode fn b next → (x : Left) (s : State) → Lands C (there next exits) (there (Jump b ∷ []) (b ∷ exits) x s) s.turns (behind x s)
   block_lands b next exits e (zero, rs) s = moves C _ _ s.turns 1 (jump_step b next rs s e)
   block_lands b next exits e (suc zero, rs) s = moves C _ _ s.turns 1 (jump_step b next rs s e)
   block_lands b next exits e (suc (suc k), rs) s = moves C _ _ s.turns 0 refl
 
   -- out of a loop
-  out_lands : (o : ℕ) (next : List Instruction) (exits : List ℕ) → slice_get fn.blocks o ≡ Some (block_with fn.scopes next) → (x : Left) (s : State) → Lands C (there next exits) (there next (o ∷ exits) x s) s.turns (behind x s)
+  out_lands : (o : ℕ) (next : List Instruction) (exits : List ℕ) → HasCode fn o next → (x : Left) (s : State) → Lands C (there next exits) (there next (o ∷ exits) x s) s.turns (behind x s)
   out_lands o next exits e (zero, rs) s = moves C _ _ s.turns 0 refl
   out_lands o next exits e (suc zero, rs) s = moves C _ _ s.turns 1 (jump_step o next rs s e)
   out_lands o next exits e (suc (suc k), rs) s = moves C _ _ s.turns 0 refl
 
   module _ (depth b n o r : ℕ) (is_bool : has fn.kinds r kind.Bool ≡ true) (head body next : List Instruction) (exits : List ℕ) (test go_on : Registers → State → Outcome Left)
-      (head_is : slice_get fn.blocks b ≡ Some (block_with fn.scopes head)) (body_is : slice_get fn.blocks n ≡ Some (block_with fn.scopes body)) (next_is : slice_get fn.blocks o ≡ Some (block_with fn.scopes next))
+      (head_is : HasCode fn b head) (body_is : HasCode fn n body) (next_is : HasCode fn o next)
       (test_runs : (rs : Registers) (s : State) → s.turns ≤ depth → Lands C (there (Branch r n o ∷ []) (o ∷ exits)) (at fn dest st head rs s) s.turns (test rs s))
       (body_runs : (rs : Registers) (s : State) → s.turns ≤ depth → Lands C (there (Jump b ∷ []) (o ∷ exits)) (at fn dest st body rs s) s.turns (go_on rs s)) where
     -- where the machine is behind a loop
@@ -246,7 +246,7 @@ module _ (C : Image) (fn : image.Function) (dest : Option ℕ) (st : List Frame)
 
   -- a loop, from its jump to its test on
   whole_loop_lands : (depth b n o r : ℕ) (fits : Bool) → has fn.kinds r kind.Bool ≡ fits → (head body next : List Instruction) (exits : List ℕ) (test go_on : Registers → State → Outcome Left)
-      → slice_get fn.blocks b ≡ Some (block_with fn.scopes head) → slice_get fn.blocks n ≡ Some (block_with fn.scopes body) → slice_get fn.blocks o ≡ Some (block_with fn.scopes next)
+      → HasCode fn b head → HasCode fn n body → HasCode fn o next
       → ((rs : Registers) (s : State) → s.turns ≤ depth → Lands C (there (Branch r n o ∷ []) (o ∷ exits)) (at fn dest st head rs s) s.turns (test rs s))
       → ((rs : Registers) (s : State) → s.turns ≤ depth → Lands C (there (Jump b ∷ []) (o ∷ exits)) (at fn dest st body rs s) s.turns (go_on rs s))
       → (rs : Registers) (s : State) → s.turns ≤ depth → Lands C (there next exits) (at fn dest st (Jump b ∷ []) rs s) s.turns (where_so fits (then_do (loop test r go_on s.turns rs s) behind))

@@ -2,6 +2,7 @@
 use Rattle.std.proofs.Common.{◌≡◌, ℕ, zero, suc, ◌+◌, ◌≤◌, List, [], ◌∷◌, ◌++◌, length, Option, Some, sym, ap, ◌∙◌, subst, arith}
 use Rattle.std.specs.Prelude.{replicate, slice_get}
 use Rattle.cells.specs.Stops.{Stop}
+use Rattle.code_form.specs.declared.form.Fact.{Fact}
 use Rattle.code_form.specs.Form.{Function, Image, Instruction}
 use Rattle.code_form.specs.Effects.{Heap, step, steps}
 use Rattle.code_form.specs.declared.allocation.Allocation.{Allocation}
@@ -10,10 +11,14 @@ use Rattle.code_form.specs.Code as machine
 use Rattle.middle_form.specs.Meaning.{Outcome, Done, Stopped, Cut, Stuck, Registers, State, then_do}
 use Rattle.codegen.specs.Generated.{block_with}
 
+-- block b of a function has these instructions, whatever its entry facts tell beside that all scopes are shut
+abbrev pub HasCode : Function → ℕ → List Instruction → Type 0
+HasCode f b is = (w : List Fact) × (slice_get f.blocks b ≡ Some (block_with f.scopes w is))
+
 -- these blocks of a function stand from number b on
 abbrev pub HasBlocks : Function → ℕ → List (List Instruction) → Type 0
 HasBlocks f b [] = Unit {0}
-HasBlocks f b (is ∷ bs) = (slice_get f.blocks b ≡ Some (block_with f.scopes is)) × HasBlocks f (suc b) bs
+HasBlocks f b (is ∷ bs) = HasCode f b is × HasBlocks f (suc b) bs
 
 pub blocks_front : (f : Function) (b : ℕ) (xs ys : List (List Instruction)) → HasBlocks f b (xs ++ ys) → HasBlocks f b xs
 blocks_front f b [] ys h = tt

@@ -5,7 +5,9 @@ pub mod Covers
 pub mod Emits
 pub mod Generates
 pub mod Images
+pub mod Knowing
 pub mod Lands
+pub mod Paired
 pub mod Refused
 pub mod Rows
 pub mod WellFormed

@@ -6,6 +6,7 @@ use Rattle.std.proofs.lemmas.Option.{slice_get-map}
 use Rattle.cells.specs.Outcomes.{Meant}
 use Rattle.cells.specs.Stops.{Ended, Stop}
 use Rattle.code_form.specs.declared.form.Kind.{Kind}
+use Rattle.code_form.specs.declared.form.Fact.{Fact}
 use Rattle.code_form.specs.Form.{Image, Instruction, Call, Return, ReturnVoid}
 use Rattle.code_form.specs.Form as image
 use Rattle.code_form.specs.Effects.{Wrong, run_effect}
@@ -13,20 +14,23 @@ use Rattle.code_form.specs.Code.{Core, Frame, Running, begins, call_fits, code, 
 use Rattle.code_form.specs.Code as machine
 use Rattle.middle_form.specs.Form.{Function, Program}
 use Rattle.middle_form.specs.Meaning.{Outcome, Done, Stopped, Cut, Stuck, Left, Registers, State, call, entered, first_registers, gives, opening, result_of, means, run, told, turn, where_so}
-use Rattle.codegen.specs.Generated.{block_with, extra, first, function_of, generated, last}
+use Rattle.codegen.specs.Generated.{asked_of, block_with, blocks_with, extra, first, function_of, generated, last}
 use Rattle.codegen.proofs.Lands.{Halts, HasBlocks, Lands, Lasts, Machine, at, moves, plain_frame, then_lands}
 use Rattle.codegen.proofs.Generates.{code_lands, set_step, there, turn_lands}
 
-get_seam : (n : ℕ) (pre : List (List Instruction)) (x : List Instruction) (xs : List (List Instruction)) → slice_get (map (block_with n) (pre ++ x ∷ xs)) (length pre) ≡ Some (block_with n x)
-get_seam n [] x xs = refl
-get_seam n (p ∷ pre) x xs = get_seam n pre x xs
+get_seam : (n : ℕ) (ws : List (List Fact)) (pre : List (List Instruction)) (x : List Instruction) (xs : List (List Instruction)) → (w : List Fact) × (slice_get (blocks_with n ws (pre ++ x ∷ xs)) (length pre) ≡ Some (block_with n w x))
+get_seam n [] [] x xs = ([], refl)
+get_seam n (w ∷ ws) [] x xs = (w, refl)
+get_seam n [] (p ∷ pre) x xs = get_seam n [] pre x xs
+get_seam n (w ∷ ws) (p ∷ pre) x xs = get_seam n ws pre x xs
 
-has_all : (f : image.Function) (xs pre : List (List Instruction)) → f.blocks ≡ map (block_with f.scopes) (pre ++ xs) → HasBlocks f (length pre) xs
-has_all f [] pre h = tt
-has_all f (x ∷ xs) pre h =
-    let n : length (pre ++ x ∷ []) ≡ suc (length pre) = omega (arith, length-append pre (x ∷ [])) in (
-      ap (λ (bs : List image.Block). slice_get bs (length pre)) h ∙ get_seam f.scopes pre x xs,
-      subst (λ k. HasBlocks f k xs) n (has_all f xs (pre ++ x ∷ []) (h ∙ ap (map (block_with f.scopes)) (sym (append_assoc pre (x ∷ []) xs)))),
+has_all : (f : image.Function) (ws : List (List Fact)) (xs pre : List (List Instruction)) → f.blocks ≡ blocks_with f.scopes ws (pre ++ xs) → HasBlocks f (length pre) xs
+has_all f ws [] pre h = tt
+has_all f ws (x ∷ xs) pre h =
+    let n : length (pre ++ x ∷ []) ≡ suc (length pre) = omega (arith, length-append pre (x ∷ [])) in
+    let seam = get_seam f.scopes ws pre x xs in (
+      (seam.0, ap (λ (bs : List image.Block). slice_get bs (length pre)) h ∙ seam.1),
+      subst (λ k. HasBlocks f k xs) n (has_all f ws xs (pre ++ x ∷ []) (h ∙ ap (blocks_with f.scopes ws) (sym (append_assoc pre (x ∷ []) xs)))),
     )
 
 -- the machine does what is told of a run: it stops so, or runs still behind p steps
@@ -92,7 +96,7 @@ module _ (P : Program) where
   body_lands depth deeper T g to st back args s le =
       then_lands (generated P) (there (generated P) (function_of g) to st (last g) []) T _ s.turns (run P (call P depth) g.kinds g.body (first_registers g args) s) (result_of g)
       (code_lands (generated P) (function_of g) to st P refl (call P depth) depth (deeper (function_of g) to st) g.body 1 (last g) [] (λ u. ap (λ b. cond b 1 0) u)
-      (has_all (function_of g) (extra g.body 1 (last g) []) (first g.body 1 (last g) [] ∷ []) refl) (first_registers g args) s le)
+      (has_all (function_of g) (asked_of g) (extra g.body 1 (last g) []) (first g.body 1 (last g) [] ∷ []) refl) (first_registers g args) s le)
       (λ x t less. result_lands T g to st back x t)
 
   call_lands : (depth : ℕ) → CallsLand depth

@@ -1,11 +1,12 @@
 //! Images from structured code.
 ghost use Rattle.code_form.specs.Counts.{has_few_items as has_few};
 ghost use Rattle.code_form.specs.Form.{Return, ReturnVoid, block_of, function_of as function_read, image_of, instruction_of};
-ghost use Rattle.codegen.specs.Building.{back, backs};
-ghost use Rattle.codegen.specs.Generated.{all_shut, block_with, blocks as all_blocks, function_of as function_with, generated, last, uses_cells};
+ghost use Rattle.codegen.specs.Building.{back, backs, lists};
+ghost use Rattle.codegen.specs.Generated.{all_shut, block_with, blocks_with, blocks as all_blocks, function_of as function_with, generated, last, uses_cells};
 ghost use Rattle.middle_form.specs.Views.{code_of, function_of, program_of};
-ghost use Rattle.std.specs.Prelude.{◌≡◌, IfOk, map, string_bytes, true};
+ghost use Rattle.std.specs.Prelude.{◌≡◌, [], IfOk, map, slice_index_or, string_bytes, true};
 
+use crate::asked::function_asks;
 use crate::counts::has_few_items;
 use crate::emit::{Exits, emit, finish, one};
 use code_form::{Block, Fact, Image, Instruction, Kind};
@@ -48,26 +49,45 @@ fn shut_facts(alloc: Global, scopes: u8) -> Result<Vec<Fact>, AllocError>
     Ok(facts)
 }
 
-/// The block of instructions that are held last first.
-fn close(alloc: Global, scopes: u8, mut code: Vec<Instruction>) -> Result<Block, AllocError>
-    ensures { IfOk result (λ b. block_of b ≡ block_with scopes (back code.items)) }
+/// The block of instructions that are held last first, at whose entry these checks were made.
+fn close(
+    alloc: Global,
+    scopes: u8,
+    checks: &[Fact],
+    mut code: Vec<Instruction>,
+) -> Result<Block, AllocError>
+    ensures { IfOk result (λ b. block_of b ≡ block_with scopes checks.now (back code.items)) }
 {
     code.reverse();
-    let facts = shut_facts(alloc, scopes)?;
+    let mut facts = shut_facts(alloc, scopes)?;
+    facts.extend_from_slice(checks)?;
     Ok(Block { facts, code })
 }
 
-/// The blocks of instructions that are held last first.
+/// What is asked at the entry of a block.
+fn checks_at(asked: &[Vec<Fact>], block: usize) -> &[Fact]
+    ensures { result.now ≡ slice_index_or (lists asked.now) block [] }
+{
+    match asked.get(block) {
+        Some(checks) => checks,
+        None => &[],
+    }
+}
+
+/// The blocks of instructions that are held last first, with what is asked at the entry of each.
+#[tactic(auto, using(crate::proofs::Images::closed_push))]
 fn close_all(
     alloc: Global,
     scopes: u8,
+    asked: &[Vec<Fact>],
     started: Vec<Vec<Instruction>>,
 ) -> Result<Vec<Block>, AllocError>
-    ensures { IfOk result (λ v. map block_of v.items ≡ map (block_with scopes) (backs started.items)) }
+    ensures { IfOk result (λ v. map block_of v.items ≡ blocks_with scopes (lists asked.now) (backs started.items)) }
 {
     let mut closed = Vec::new(alloc);
     for code in started {
-        closed.push(close(alloc, scopes, code)?)?;
+        let block = close(alloc, scopes, checks_at(asked, closed.len()), code)?;
+        closed.push(block)?;
     }
     Ok(closed)
 }
@@ -105,7 +125,8 @@ fn generate_function(alloc: Global, function: &Function) -> Result<code_form::Fu
 {
     let scopes = u8::from(needs_scope(&function.body));
     let started = function_blocks(alloc, function)?;
-    let blocks = close_all(alloc, scopes, started)?;
+    let asked = function_asks(alloc, function)?;
+    let blocks = close_all(alloc, scopes, &asked, started)?;
     let kinds = Vec::from_slice(alloc, &function.kinds)?;
     Ok(code_form::Function {
         result: function.result,

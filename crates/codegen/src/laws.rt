@@ -7,6 +7,8 @@ ghost use Rattle.code_form.specs.declared.form.Operation.TheVariants.{Alloc, Che
 ghost use Rattle.code_form.specs.declared.form.Fact.TheVariants as fact;
 ghost use Rattle.codegen.specs.Correct.{IsSafe, Keeps, ran};
 ghost use Rattle.codegen.specs.Generated.{generated};
+ghost use Rattle.codegen.specs.Guarded.{is_guarded_program};
+ghost use Rattle.codegen.specs.Verified.{IsVerified};
 ghost use Rattle.codegen.specs.WellFormed.{IsWellFormed};
 ghost use Rattle.codegen.specs.Worked.{image_of_blocks, image_of_code, image_through_jump};
 ghost use Rattle.middle_form.specs.Form.{Program};
@@ -23,11 +25,11 @@ pub fn generated_keeps_the_meaning()
     run_laws();
 }
 
-/// What is generated of well-formed code is well formed: each jump leads to a block of its function and brings what is known at its entry, each block ends
-/// in one instruction that leads out of it, all that an instruction names is there and of the right kind, each load and store is by a scope that is
-/// freshly aimed, and no scope is open at an allocation, a call or a return.
-pub fn generated_is_well_formed()
-    ensures { (P : Program) → is_well_formed P ≡ true → IsWellFormed (generated P) }
+/// What is generated of well-formed code that checks each place before it uses it is verified: each jump leads to a block of its function and brings what
+/// is known at its entry, each block ends in one instruction that leads out of it, all that an instruction names is there and of the right kind, each load
+/// and store is by a scope that is freshly aimed at a place whose check was made, and no scope is open at an allocation, a call or a return.
+pub fn generated_is_verified()
+    ensures { (P : Program) → is_well_formed P ≡ true → is_guarded_program P ≡ true → IsVerified (generated P) }
 {}
 
 /// What is generated is covered: no function has more than four scopes, and no state of a run is stuck, has more scopes open than the function

@@ -1,6 +1,7 @@
 //! Images from structured code.
 #![tactic(auto)]
 
+mod asked;
 mod counts;
 mod emit;
 mod image;
@@ -8,5 +9,5 @@ mod laws;
 
 pub use image::generate;
 pub use laws::{
-    computed, formed, generated_is_covered, generated_is_well_formed, generated_keeps_the_meaning,
+    computed, formed, generated_is_covered, generated_is_verified, generated_keeps_the_meaning,
 };

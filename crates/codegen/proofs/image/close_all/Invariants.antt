@@ -1,8 +1,8 @@
-use Rattle.std.proofs.Common.{◌≡◌, map}
+use Rattle.std.proofs.Common.{◌≡◌, length, map}
 use Rattle.code_form.specs.Form.{block_of}
-use Rattle.codegen.specs.Building.{backs}
-use Rattle.codegen.specs.Generated.{block_with}
+use Rattle.codegen.specs.Building.{backs, lists}
+use Rattle.codegen.specs.Generated.{blocks_with}
 use Rattle.codegen.proofs.image.close_all.Given as goal
 
 abbrev pub invariant-loop-code : goal.invariant-loop-code
-invariant-loop-code l = map block_of l.closed.items ≡ map (block_with l.scopes) (backs l.yielded)
+invariant-loop-code l = (map block_of l.closed.items ≡ blocks_with l.scopes (lists l.asked) (backs l.yielded)) × (length l.closed.items ≡ length l.yielded)
