@@ -23,6 +23,7 @@ use Rattle.code_form.specs.Form.{Head}
 use Rattle.middle_form.specs.Form.{Code}
 use Rattle.middle_form.specs.Form as f
 use Rattle.middle_form.specs.WellFormed.{access_fits, callee_fits}
+use Rattle.codegen.specs.Guarded.{is_by_pointer}
 use Rattle.lower.specs.Coded.{type_offset}
 use Rattle.lower_tables.specs.Kinds as k
 use Rattle.lower_tables.specs.Known.{IsKnown, Knows, KnowsPlace, KnowsRow}
@@ -120,6 +121,7 @@ module _ (typed : Typed) (singles : List Kind) (checks : Bool) (fp : FitsProgram
     pub way : IsWay p whole path ty
     pub shifted : shift q ≡ type_offset p.structs singles whole path
     pub fits : place_fits ks (base q d) (off q d) ≡ true
+    pub by_pointer : is_by_pointer ks (base q d) (off q d) ≡ true
     pub cells : (x : ℕ) → cell_kind H ks (base q d) x ≡ slice_get (k.cells_of p.structs singles whole) x
 
   -- a register of its kind may be loaded or stored there
@@ -143,6 +145,7 @@ module _ (typed : Typed) (singles : List Kind) (checks : Bool) (fp : FitsProgram
     way = sym h.0;
     shifted = refl;
     fits = ap (on_kind is_reference) (kind_is a (PointerTy (type_of ty)) d at h.1);
+    by_pointer = ap (on_kind is_pointer) (kind_is a (PointerTy (type_of ty)) d at h.1);
     cells = cells_there (value_at locals a d) (kind.Ptr (layout ty)) (layout ty) (k.cells_of p.structs singles (type_of ty)) (kind_is a (PointerTy (type_of ty)) d at h.1) refl (layout_there (type_of ty) known.0);
   }
   place_is (Index' ty w a v i) u d at known h =
@@ -154,6 +157,7 @@ module _ (typed : Typed) (singles : List Kind) (checks : Bool) (fp : FitsProgram
         way = sym h.0;
         shifted = refl;
         fits = element_fits d (value_at locals a (suc d)) (layout ty) (at_head ks d (kind.Off (layout ty)) (kinds a ++ kinds i) at) array;
+        by_pointer = refl;
         cells = cells_there (value_at locals a (suc d)) (kind.Arr (layout ty)) (layout ty) (k.cells_of p.structs singles (type_of ty)) array refl (layout_there (type_of ty) known.0);
       }
   place_is (Field' j w q i) u d at known h =
@@ -164,6 +168,7 @@ module _ (typed : Typed) (singles : List Kind) (checks : Bool) (fp : FitsProgram
         way = way_on p inner.path inner.whole j i u inner.way h.1;
         shifted = ap (λ z. z + k.field_offset p.structs singles j i) inner.shifted ∙ sym (type_offset_on p singles inner.path inner.whole j i inner.way);
         fits = inner.fits;
+        by_pointer = inner.by_pointer;
         cells = inner.cells;
       }
 
@@ -197,24 +202,24 @@ module _ (typed : Typed) (singles : List Kind) (checks : Bool) (fp : FitsProgram
 
   module _ (around : ℕ) where
     moved_fits : (a : Expression) (ty : Ty) (d r : ℕ) → AllFit P ks around (code a d) → At ks d (kinds a) → Has p types (exp_of texts a) ty → slice_get ks r ≡ Some (k.kind_of n singles ty) → AllFit P ks around (moved locals a (code a d) d r)
-    moved_fits a ty d r fit at h q = fit_append P ks around (code a d) _ fit (fit_one P ks around _ (move_fits r (value_at locals a d) (k.kind_of n singles ty) (kind_is a ty d at h) q))
+    moved_fits a ty d r fit at h q = fit_append P ks around (code a d) _ fit (fit_one P ks around _ (move_fits r (value_at locals a d) (k.kind_of n singles ty) (kind_is a ty d at h) q) refl)
 
     mutual
       pub exp_fits : (a : Expression) (ty : Ty) (d : ℕ) → At ks d (kinds a) → Knows n singles a → Has p types (exp_of texts a) ty → AllFit P ks around (code a d)
-      exp_fits (Constant x) ty d at known h = fit_one P ks around _ (constant_fits x d (at_head ks d (constant_kind x) [] at))
-      exp_fits (Null w) ty d at known h = fit_one P ks around _ (ap (on_kind is_reference) (at_head ks d (kind.Ptr (layout w)) [] at))
+      exp_fits (Constant x) ty d at known h = fit_one P ks around _ (constant_fits x d (at_head ks d (constant_kind x) [] at)) refl
+      exp_fits (Null w) ty d at known h = fit_one P ks around _ (ap (on_kind is_reference) (at_head ks d (kind.Ptr (layout w)) [] at)) refl
       exp_fits (Local x) ty d at known h = fit_none P ks around
       exp_fits (Unary' o w a) ty d at known h =
           let behind = at_tail ks d (unary_kind o) (kinds a) at in
           fit_append P ks around (code a (suc d)) _ (exp_fits a (unary_type (unary_of o)) (suc d) behind known h.1)
-          (fit_one P ks around _ (unary_fits H ks o d (value_at locals a (suc d)) (has_it ks d (unary_kind o) (at_head ks d (unary_kind o) (kinds a) at)) (unary_operand o a (suc d) behind h.1)))
+          (fit_one P ks around _ (unary_fits H ks o d (value_at locals a (suc d)) (has_it ks d (unary_kind o) (at_head ks d (unary_kind o) (kinds a) at)) (unary_operand o a (suc d) behind h.1)) refl)
       exp_fits (Binary' o w a s b) ty d at known h =
           let behind = at_tail ks d kind.Int (kinds a ++ kinds b) at in
           let left = at_left ks (suc d) (kinds a) (kinds b) behind in
           let right = at_right ks (suc d) (kinds a) (kinds b) behind in
           fit_append P ks around (code a (suc d)) _ (exp_fits a IntTy (suc d) left known.0 h.1)
           (fit_append P ks around (code b (suc d + length (kinds a))) _ (exp_fits b IntTy (suc d + length (kinds a)) right known.1 h.2)
-          (fit_one P ks around _ (and_true _ _ (has_it ks d kind.Int (at_head ks d kind.Int (kinds a ++ kinds b) at)) (and_true _ _ (has_kind a IntTy (suc d) left h.1) (has_kind b IntTy (suc d + length (kinds a)) right h.2)))))
+          (fit_one P ks around _ (and_true _ _ (has_it ks d kind.Int (at_head ks d kind.Int (kinds a ++ kinds b) at)) (and_true _ _ (has_kind a IntTy (suc d) left h.1) (has_kind b IntTy (suc d + length (kinds a)) right h.2))) refl))
       exp_fits (Compare' w o v a s b) ty d at known h =
           let behind = at_tail ks d kind.Bool (kinds a ++ kinds b) at in
           let left = at_left ks (suc d) (kinds a) (kinds b) behind in
@@ -223,25 +228,25 @@ module _ (typed : Typed) (singles : List Kind) (checks : Bool) (fp : FitsProgram
           (fit_append P ks around (code b (suc d + length (kinds a))) _ (exp_fits b (type_of w) (suc d + length (kinds a)) right known.1 h.3)
           (fit_one P ks around _ (and_true _ _ (has_it ks d kind.Bool (at_head ks d kind.Bool (kinds a ++ kinds b) at))
           (ap (on_kind (λ j. is_compared (code_relation o) j && has ks (value_at locals b (suc d + length (kinds a))) j)) (kind_is a (type_of w) (suc d) left h.2)
-          ∙ and_true _ _ (compared_fits n singles o (type_of w) h.1) (has_kind b (type_of w) (suc d + length (kinds a)) right h.3)))))
+          ∙ and_true _ _ (compared_fits n singles o (type_of w) h.1) (has_kind b (type_of w) (suc d + length (kinds a)) right h.3))) refl))
       exp_fits (And' w a s b) ty d at known h =
           let behind = at_tail ks d kind.Bool (kinds a ++ kinds b) at in
           let left = at_left ks (suc d) (kinds a) (kinds b) behind in
           let right = at_right ks (suc d) (kinds a) (kinds b) behind in
           let here = at_head ks d kind.Bool (kinds a ++ kinds b) at in
+          let other = moved_fits b BoolTy (suc d + length (kinds a)) d (exp_fits b BoolTy (suc d + length (kinds a)) right known.1 h.2) right h.2 here in
           fit_append P ks around (code a (suc d)) _ (exp_fits a BoolTy (suc d) left known.0 h.1)
-          (fit_then P ks around _ _ (move_fits d (value_at locals a (suc d)) kind.Bool (kind_is a BoolTy (suc d) left h.1) here)
-          (fit_one P ks around _ (and_true _ _ (has_it ks d kind.Bool here)
-          (and_true _ _ (moved_fits b BoolTy (suc d + length (kinds a)) d (exp_fits b BoolTy (suc d + length (kinds a)) right known.1 h.2) right h.2 here).fits refl))))
+          (fit_then P ks around _ _ (move_fits d (value_at locals a (suc d)) kind.Bool (kind_is a BoolTy (suc d) left h.1) here) refl
+          (fit_one P ks around _ (and_true _ _ (has_it ks d kind.Bool here) (and_true _ _ other.fits refl)) (and_true _ _ other.pointers refl)))
       exp_fits (Or' w a s b) ty d at known h =
           let behind = at_tail ks d kind.Bool (kinds a ++ kinds b) at in
           let left = at_left ks (suc d) (kinds a) (kinds b) behind in
           let right = at_right ks (suc d) (kinds a) (kinds b) behind in
           let here = at_head ks d kind.Bool (kinds a ++ kinds b) at in
+          let other = moved_fits b BoolTy (suc d + length (kinds a)) d (exp_fits b BoolTy (suc d + length (kinds a)) right known.1 h.2) right h.2 here in
           fit_append P ks around (code a (suc d)) _ (exp_fits a BoolTy (suc d) left known.0 h.1)
-          (fit_then P ks around _ _ (move_fits d (value_at locals a (suc d)) kind.Bool (kind_is a BoolTy (suc d) left h.1) here)
-          (fit_one P ks around _ (and_true _ _ (has_it ks d kind.Bool here)
-          (moved_fits b BoolTy (suc d + length (kinds a)) d (exp_fits b BoolTy (suc d + length (kinds a)) right known.1 h.2) right h.2 here).fits)))
+          (fit_then P ks around _ _ (move_fits d (value_at locals a (suc d)) kind.Bool (kind_is a BoolTy (suc d) left h.1) here) refl
+          (fit_one P ks around _ (and_true _ _ (has_it ks d kind.Bool here) other.fits) other.pointers))
       exp_fits (Choose' w v a q b s e) ty d at known h =
           let here = at_head ks d (k.kind_of n singles (type_of w)) (kinds a ++ (kinds b ++ kinds e)) at in
           let behind = at_tail ks d (k.kind_of n singles (type_of w)) (kinds a ++ (kinds b ++ kinds e)) at in
@@ -249,36 +254,36 @@ module _ (typed : Typed) (singles : List Kind) (checks : Bool) (fp : FitsProgram
           let rest = at_right ks (suc d) (kinds a) (kinds b ++ kinds e) behind in
           let second = at_left ks (suc d + length (kinds a)) (kinds b) (kinds e) rest in
           let third = at_right ks (suc d + length (kinds a)) (kinds b) (kinds e) rest in
+          let one = moved_fits b (type_of w) (suc d + length (kinds a)) d (exp_fits b (type_of w) (suc d + length (kinds a)) second known.1 h.2) second h.2 here in
+          let other = moved_fits e (type_of w) (suc d + length (kinds a) + length (kinds b)) d (exp_fits e (type_of w) (suc d + length (kinds a) + length (kinds b)) third known.2 h.3) third h.3 here in
           fit_append P ks around (code a (suc d)) _ (exp_fits a BoolTy (suc d) first known.0 h.1)
-          (fit_one P ks around _ (and_true _ _ (has_kind a BoolTy (suc d) first h.1)
-          (and_true _ _ (moved_fits b (type_of w) (suc d + length (kinds a)) d (exp_fits b (type_of w) (suc d + length (kinds a)) second known.1 h.2) second h.2 here).fits
-          (moved_fits e (type_of w) (suc d + length (kinds a) + length (kinds b)) d (exp_fits e (type_of w) (suc d + length (kinds a) + length (kinds b)) third known.2 h.3) third h.3 here).fits)))
+          (fit_one P ks around _ (and_true _ _ (has_kind a BoolTy (suc d) first h.1) (and_true _ _ one.fits other.fits)) (and_true _ _ one.pointers other.pointers))
       exp_fits (Call' i shape es) ty d at known h =
           let result = parts.type_given p.structs singles (texts_of typed) typed.functions.items typed.main typed.functions.items i in
           let behind = at_tail ks d (k.kind_of n singles result) (kinds_row es) at in
           let here = at_head ks d (k.kind_of n singles result) (kinds_row es) at ∙ ap (λ z. Some (k.kind_of n singles z)) (given_type typed singles types locals ks typed.functions.items i h.0 h.1) in
           fit_append P ks around (code_row es (suc d)) _ (row_fits es h.0.parameters (suc d) behind known h.3)
-          (fit_one P ks around _ (call_fits_there i (at_row es (suc d)) d h.0 h.1 here (row_of_kinds typed singles types locals ks locals_at es h.0.parameters (suc d) behind h.3)))
+          (fit_one P ks around _ (call_fits_there i (at_row es (suc d)) d h.0 h.1 here (row_of_kinds typed singles types locals ks locals_at es h.0.parameters (suc d) behind h.3)) refl)
       exp_fits (Print' out shape es) ty d at known h =
           let behind = at_tail ks d kind.Int (kinds_row es) at in
           fit_append P ks around (code_row es (suc d)) _ (row_fits es (output_types (output_of out)) (suc d) behind known h.1)
-          (fit_one P ks around _ (print_fits typed singles types locals ks H out (at_row es (suc d)) (row_of_kinds typed singles types locals ks locals_at es (output_types (output_of out)) (suc d) behind h.1)))
+          (fit_one P ks around _ (print_fits typed singles types locals ks H out (at_row es (suc d)) (row_of_kinds typed singles types locals ks locals_at es (output_types (output_of out)) (suc d) behind h.1)) refl)
       exp_fits (Read' w v q) ty d at known h =
           let here = at_head ks d (k.kind_of n singles (type_of w)) (kinds_place q) at in
           let behind = at_tail ks d (k.kind_of n singles (type_of w)) (kinds_place q) at in
-          fit_append P ks around (code_place q (suc d)) _ (place_fits_there q (type_of w) (suc d) behind known h.2)
-          (fit_one P ks around _ (access q (type_of w) (suc d) d (place_is q (type_of w) (suc d) behind known h.2) h.1 here))
+          let place = place_is q (type_of w) (suc d) behind known h.2 in
+          fit_append P ks around (code_place q (suc d)) _ (place_fits_there q (type_of w) (suc d) behind known h.2) (fit_one P ks around _ (access q (type_of w) (suc d) d place h.1 here) place.by_pointer)
       exp_fits (Alloc w) ty d at known h =
-          fit_one P ks around _ (and_true _ _ (has_it ks d (kind.Ptr (layout w)) (at_head ks d (kind.Ptr (layout w)) [] at)) (some_there _ (k.cells_of p.structs singles (type_of w)) (layout_there (type_of w) known)))
+          fit_one P ks around _ (and_true _ _ (has_it ks d (kind.Ptr (layout w)) (at_head ks d (kind.Ptr (layout w)) [] at)) (some_there _ (k.cells_of p.structs singles (type_of w)) (layout_there (type_of w) known))) refl
       exp_fits (AllocArray' w v a) ty d at known h =
           let behind = at_tail ks d (kind.Arr (layout w)) (kinds a) at in
           fit_append P ks around (code a (suc d)) _ (exp_fits a IntTy (suc d) behind known.1 h.2)
           (fit_one P ks around _ (and_true _ _ (has_it ks d (kind.Arr (layout w)) (at_head ks d (kind.Arr (layout w)) (kinds a) at))
-          (and_true _ _ (has_kind a IntTy (suc d) behind h.2) (some_there _ (k.cells_of p.structs singles (type_of w)) (layout_there (type_of w) known.0)))))
+          (and_true _ _ (has_kind a IntTy (suc d) behind h.2) (some_there _ (k.cells_of p.structs singles (type_of w)) (layout_there (type_of w) known.0)))) refl)
       exp_fits (Length' w v a) ty d at known h =
           let behind = at_tail ks d kind.Int (kinds a) at in
           fit_append P ks around (code a (suc d)) _ (exp_fits a (ArrayTy (type_of w)) (suc d) behind known h.1)
-          (fit_one P ks around _ (and_true _ _ (has_it ks d kind.Int (at_head ks d kind.Int (kinds a) at)) (ap (on_kind is_array) (kind_is a (ArrayTy (type_of w)) (suc d) behind h.1))))
+          (fit_one P ks around _ (and_true _ _ (has_it ks d kind.Int (at_head ks d kind.Int (kinds a) at)) (ap (on_kind is_array) (kind_is a (ArrayTy (type_of w)) (suc d) behind h.1))) refl)
 
       row_fits : {i : _} (es : Row_of-Expression i) (ts : List Ty) (d : ℕ) → At ks d (kinds_row es) → KnowsRow n singles es → HasAll p types (row_of texts es) ts → AllFit P ks around (code_row es d)
       row_fits end_of-Expression ts d at known h = fit_none P ks around
@@ -290,7 +295,7 @@ module _ (typed : Typed) (singles : List Kind) (checks : Bool) (fp : FitsProgram
       pub place_fits_there : (q : Place) (ty : Ty) (d : ℕ) → At ks d (kinds_place q) → KnowsPlace n singles q → Holds p types (place_of texts q) ty → AllFit P ks around (code_place q d)
       place_fits_there (Deref' w v a) ty d at known h =
           fit_append P ks around (code a d) _ (exp_fits a (PointerTy (type_of w)) d at known.1 h.1)
-          (fit_one P ks around _ (ap (on_kind is_pointer) (kind_is a (PointerTy (type_of w)) d at h.1)))
+          (fit_one P ks around _ (ap (on_kind is_pointer) (kind_is a (PointerTy (type_of w)) d at h.1)) refl)
       place_fits_there (Index' w v a s i) ty d at known h =
           let behind = at_tail ks d (kind.Off (layout w)) (kinds a ++ kinds i) at in
           let left = at_left ks (suc d) (kinds a) (kinds i) behind in
@@ -300,5 +305,5 @@ module _ (typed : Typed) (singles : List Kind) (checks : Bool) (fp : FitsProgram
           (fit_append P ks around (code i (suc d + length (kinds a))) _ (exp_fits i IntTy (suc d + length (kinds a)) right known.2 h.2)
           (fit_one P ks around _ (and_true _ _ (element_fits d (value_at locals a (suc d)) (layout w) (at_head ks d (kind.Off (layout w)) (kinds a ++ kinds i) at) array)
           (and_true _ _ (has_kind i IntTy (suc d + length (kinds a)) right h.2)
-          (size_there (value_at locals a (suc d)) (kind.Arr (layout w)) (layout w) (k.cells_of p.structs singles (type_of w)) array refl (layout_there (type_of w) known.0))))))
+          (size_there (value_at locals a (suc d)) (kind.Arr (layout w)) (layout w) (k.cells_of p.structs singles (type_of w)) array refl (layout_there (type_of w) known.0)))) refl))
       place_fits_there (Field' j v q i) ty d at known h = place_fits_there q (StructTy j) d at known h.0

@@ -33,6 +33,7 @@ use Rattle.c0_well_formed.proofs.CellKinds.{Each}
 use Rattle.c0_well_formed.proofs.Ordered.{in_order}
 use Rattle.c0_well_formed.proofs.Fits.{AllFit, fit_append, fit_then}
 use Rattle.c0_well_formed.proofs.Statements as s
+use Rattle.codegen.specs.Guarded.{uses_pointers}
 use Rattle.c0_well_formed.specs.Laws.{LoweredIsWellFormed}
 
 module _ (typed : Typed) (singles : List Kind) (checks : Bool) (fp : FitsProgram (program_of typed)) where
@@ -90,12 +91,15 @@ module _ (typed : Typed) (singles : List Kind) (checks : Bool) (fp : FitsProgram
     at_body : At ks (suc locals + length before) (inside ++ behind)
     at_body = at_right ks (suc locals) before (inside ++ behind) at_rest
 
+    body_here : AllFit P ks 1 (l.body_code p.structs singles (texts_of typed) typed.functions.items typed.main locals checks h.body.items (suc locals + length before))
+    body_here = s.body_fits typed singles checks fp types locals ks locals_at h.body.items (suc locals + length before) (at_left ks (suc locals + length before) inside behind at_body) known.1 fits.5
+
     code_here : AllFit P ks 0 (parts.conditions_code p.structs singles (texts_of typed) typed.functions.items typed.main locals (checked checks h.preconditions.items) (suc locals)
         ++ (f.Block (parts.sequence (l.body_code p.structs singles (texts_of typed) typed.functions.items typed.main locals checks h.body.items (suc locals + length before)))
         ∷ parts.conditions_code p.structs singles (texts_of typed) typed.functions.items typed.main locals (checked checks h.postconditions.items) (suc locals + length before + length inside)))
     code_here =
         fit_append P ks 0 _ _ (s.checked_fit typed singles checks fp types locals ks locals_at 0 h.preconditions.items (suc locals) entered known.0 fits.3)
-        (fit_then P ks 0 _ _ (s.body_fits typed singles checks fp types locals ks locals_at h.body.items (suc locals + length before) (at_left ks (suc locals + length before) inside behind at_body) known.1 fits.5).fits
+        (fit_then P ks 0 _ _ body_here.fits body_here.pointers
         (s.checked_fit typed singles checks fp types locals ks locals_at 0 h.postconditions.items (suc locals + length before + length inside) (at_right ks (suc locals + length before) inside behind at_body) known.2 fits.4))
 
     few : (its_code typed singles checks h).parameters < suc (length ks)
@@ -110,6 +114,9 @@ module _ (typed : Typed) (singles : List Kind) (checks : Bool) (fp : FitsProgram
     function_ok =
         and_true _ _ (lt-ltb (its_code typed singles checks h).parameters (suc (length ks)) few)
         (and_true _ _ code_here.fits (result_there ks locals (type_of h.result) (locals_at 0 (type_of h.result) refl)))
+
+    pub function_pointers : uses_pointers ks (its_code typed singles checks h).body ≡ true
+    function_pointers = code_here.pointers
 
   -- ---- all functions
 
@@ -148,11 +155,12 @@ module _ (typed : Typed) (singles : List Kind) (checks : Bool) (fp : FitsProgram
       (main_of P.functions (its_code typed singles checks h.0) there (main_called h.0 (ap (λ (z : t.Function). z.parameters) (sym h.2) ∙ main.2) (ap (λ (z : t.Function). z.result) (sym h.2) ∙ main.3)))
       (all_of (with_main_first typed.main typed.functions.items) (in_order HasCode typed.main typed.functions.items (each_fits typed.functions.items fp.functions known)))
 
+-- the kinds of single cells that a program gathers know each of its functions
+pub program_known : (typed : Typed) → KnowsFunctions (length (program_of typed).structs) (singles_of typed) typed.functions.items
+program_known typed =
+    let same : length typed.structs.items ≡ length (program_of typed).structs = sym (length-map typed.structs.items _) in
+    subst (λ i. KnowsFunctions i (all_learned (length typed.structs.items) [] (types_of_functions typed.functions.items)) typed.functions.items) same
+    (knows_functions (length typed.structs.items) (all_learned (length typed.structs.items) [] (types_of_functions typed.functions.items)) typed.functions.items (all_known (length typed.structs.items) [] (types_of_functions typed.functions.items)))
+
 pub lowered_ok : LoweredIsWellFormed
-lowered_ok checks typed fp = program_ok typed (singles_of typed) checks fp known
-  where
-    known : KnowsFunctions (length (program_of typed).structs) (singles_of typed) typed.functions.items
-    known =
-        let same : length typed.structs.items ≡ length (program_of typed).structs = sym (length-map typed.structs.items _) in
-        subst (λ i. KnowsFunctions i (all_learned (length typed.structs.items) [] (types_of_functions typed.functions.items)) typed.functions.items) same
-        (knows_functions (length typed.structs.items) (all_learned (length typed.structs.items) [] (types_of_functions typed.functions.items)) typed.functions.items (all_known (length typed.structs.items) [] (types_of_functions typed.functions.items)))
+lowered_ok checks typed fp = program_ok typed (singles_of typed) checks fp (program_known typed)

@@ -3,6 +3,11 @@ mod Operators
 mod Expressions
 mod Statements
 mod Functions
+mod GuardedCode
+mod GuardedExpressions
+mod GuardedPlaces
+mod GuardedStatements
+mod GuardedFunctions
 mod Images
 mod CellKinds
 mod Numbers

@@ -1,5 +1,5 @@
 -- The code of statements fits.
-use Rattle.std.proofs.Common.{◌≡◌, ℕ, suc, ◌+◌, Bool, true, false, List, [], ◌∷◌, ◌++◌, length, Some, arith}
+use Rattle.std.proofs.Common.{◌≡◌, ℕ, suc, ◌+◌, Bool, true, false, List, [], ◌∷◌, ◌++◌, length, Some, refl, arith}
 use Rattle.std.specs.Prelude.{nat_lt, slice_get}
 use Rattle.std.proofs.lemmas.Bool.{lt-ltb}
 use Rattle.c0_typed.specs.Trees.{Program, Ty, IntTy, BoolTy, TextTy}
@@ -89,7 +89,7 @@ module _ (typed : Typed) (singles : List Kind) (checks : Bool) (fp : FitsProgram
   conditions_fit around (a ∷ rest) d at known h =
       let here = at_left ks d (kinds a) (kinds_all rest) at in
       fit_append P ks around (code a d) _ (exp_fits around a BoolTy d here known.0 h.0)
-      (fit_then P ks around _ _ (has_kind a BoolTy d here h.0) (conditions_fit around rest (d + length (kinds a)) (at_right ks d (kinds a) (kinds_all rest) at) known.1 h.1))
+      (fit_then P ks around _ _ (has_kind a BoolTy d here h.0) refl (conditions_fit around rest (d + length (kinds a)) (at_right ks d (kinds a) (kinds_all rest) at) known.1 h.1))
 
   pub checked_fit : (around : ℕ) (es : List Expression) (d : ℕ) → At ks d (kinds_all (checked checks es)) → KnowsAll n singles es → AllBool p types (exps_of texts es) → AllFit P ks around (code_all (checked checks es) d)
   checked_fit around es d at known h = by checks at
@@ -106,52 +106,53 @@ module _ (typed : Typed) (singles : List Kind) (checks : Bool) (fp : FitsProgram
     stmt_fits (Block' shape all) d out at known h = block_fits all d out at known h
     stmt_fits (Set x a) d out at known h =
         fit_append P ks (suc out) (code a d) _ (exp_fits (suc out) a h.0 d at known h.2)
-        (fit_one P ks (suc out) _ (e.move_fits typed singles checks fp types locals ks locals_at (local_register locals x) (value_at locals a d) (k.kind_of n singles h.0) (kind_is a h.0 d at h.2) (locals_at x h.0 h.1)))
+        (fit_one P ks (suc out) _ (e.move_fits typed singles checks fp types locals ks locals_at (local_register locals x) (value_at locals a d) (k.kind_of n singles h.0) (kind_is a h.0 d at h.2) (locals_at x h.0 h.1)) refl)
     stmt_fits (Update x o a) d out at known h =
         let here = has_it ks (local_register locals x) kind.Int (locals_at x IntTy h.0) in
-        fit_append P ks (suc out) (code a d) _ (exp_fits (suc out) a IntTy d at known h.1) (fit_one P ks (suc out) _ (and_true _ _ here (and_true _ _ here (has_kind a IntTy d at h.1))))
+        fit_append P ks (suc out) (code a d) _ (exp_fits (suc out) a IntTy d at known h.1) (fit_one P ks (suc out) _ (and_true _ _ here (and_true _ _ here (has_kind a IntTy d at h.1))) refl)
     stmt_fits (Store q a) d out at known h =
         let left = at_left ks d (kinds_place q) (kinds a) at in
         let right = at_right ks d (kinds_place q) (kinds a) at in
+        let place = e.place_is typed singles checks fp types locals ks locals_at q h.0 d left known.0 h.2 in
         fit_append P ks (suc out) (code_place q d) _ (e.place_fits_there typed singles checks fp types locals ks locals_at (suc out) q h.0 d left known.0 h.2)
         (fit_append P ks (suc out) (code a (d + length (kinds_place q))) _ (exp_fits (suc out) a h.0 (d + length (kinds_place q)) right known.1 h.3)
-        (fit_one P ks (suc out) _ (e.access typed singles checks fp types locals ks locals_at q h.0 d (value_at locals a (d + length (kinds_place q))) (e.place_is typed singles checks fp types locals ks locals_at q h.0 d left known.0 h.2) h.1
-        (kind_is a h.0 (d + length (kinds_place q)) right h.3))))
+        (fit_one P ks (suc out) _ (e.access typed singles checks fp types locals ks locals_at q h.0 d (value_at locals a (d + length (kinds_place q))) place h.1 (kind_is a h.0 (d + length (kinds_place q)) right h.3)) place.by_pointer))
     stmt_fits (StoreUpdate q o a) d out at known h =
         let here = at_head ks d kind.Int (kinds_place q ++ kinds a) at in
         let behind = at_tail ks d kind.Int (kinds_place q ++ kinds a) at in
         let left = at_left ks (suc d) (kinds_place q) (kinds a) behind in
         let right = at_right ks (suc d) (kinds_place q) (kinds a) behind in
-        let may = e.access typed singles checks fp types locals ks locals_at q IntTy (suc d) d (e.place_is typed singles checks fp types locals ks locals_at q IntTy (suc d) left known.0 h.0) tt here in
+        let place = e.place_is typed singles checks fp types locals ks locals_at q IntTy (suc d) left known.0 h.0 in
+        let may = e.access typed singles checks fp types locals ks locals_at q IntTy (suc d) d place tt here in
         fit_append P ks (suc out) (code_place q (suc d)) _ (e.place_fits_there typed singles checks fp types locals ks locals_at (suc out) q IntTy (suc d) left known.0 h.0)
-        (fit_then P ks (suc out) _ _ may
+        (fit_then P ks (suc out) _ _ may place.by_pointer
         (fit_append P ks (suc out) (code a (suc d + length (kinds_place q))) _ (exp_fits (suc out) a IntTy (suc d + length (kinds_place q)) right known.1 h.1)
-        (fit_then P ks (suc out) _ _ (and_true _ _ (has_it ks d kind.Int here) (and_true _ _ (has_it ks d kind.Int here) (has_kind a IntTy (suc d + length (kinds_place q)) right h.1))) (fit_one P ks (suc out) _ may))))
+        (fit_then P ks (suc out) _ _ (and_true _ _ (has_it ks d kind.Int here) (and_true _ _ (has_it ks d kind.Int here) (has_kind a IntTy (suc d + length (kinds_place q)) right h.1))) refl (fit_one P ks (suc out) _ may place.by_pointer))))
     stmt_fits (Do a) d out at known h = exp_fits (suc out) a h.0 d at known h.1
     stmt_fits (If' a w b q s) d out at known h =
         let first = at_left ks d (kinds a) (kinds_stmt b ++ kinds_stmt s) at in
         let rest = at_right ks d (kinds a) (kinds_stmt b ++ kinds_stmt s) at in
+        let one = stmt_fits b (d + length (kinds a)) out (at_left ks (d + length (kinds a)) (kinds_stmt b) (kinds_stmt s) rest) known.1 h.1 in
+        let other = stmt_fits s (d + length (kinds a) + length (kinds_stmt b)) out (at_right ks (d + length (kinds a)) (kinds_stmt b) (kinds_stmt s) rest) known.2 h.2 in
         fit_append P ks (suc out) (code a d) _ (exp_fits (suc out) a BoolTy d first known.0 h.0)
-        (fit_one P ks (suc out) _ (and_true _ _ (has_kind a BoolTy d first h.0)
-        (and_true _ _ (stmt_fits b (d + length (kinds a)) out (at_left ks (d + length (kinds a)) (kinds_stmt b) (kinds_stmt s) rest) known.1 h.1).fits
-        (stmt_fits s (d + length (kinds a) + length (kinds_stmt b)) out (at_right ks (d + length (kinds a)) (kinds_stmt b) (kinds_stmt s) rest) known.2 h.2).fits)))
+        (fit_one P ks (suc out) _ (and_true _ _ (has_kind a BoolTy d first h.0) (and_true _ _ one.fits other.fits)) (and_true _ _ one.pointers other.pointers))
     stmt_fits (Loop' invariants a w body q step) d out at known h =
         let before = kinds_all (checked checks invariants.items) in
         let first = at_left ks d before (kinds a ++ (kinds_stmt body ++ kinds_stmt step)) at in
         let rest = at_right ks d before (kinds a ++ (kinds_stmt body ++ kinds_stmt step)) at in
         let here = at_left ks (d + length before) (kinds a) (kinds_stmt body ++ kinds_stmt step) rest in
         let inside = at_right ks (d + length before) (kinds a) (kinds_stmt body ++ kinds_stmt step) rest in
-        fit_one P ks (suc out) _ (and_true _ _ (has_kind a BoolTy (d + length before) here h.1)
-        (and_true _ _ (fit_append P ks (suc (suc out)) (code_all (checked checks invariants.items) d) (code a (d + length before)) (checked_fit (suc (suc out)) invariants.items d first known.0 h.0) (exp_fits (suc (suc out)) a BoolTy (d + length before) here known.1 h.1)).fits
-        (fit_append P ks (suc (suc out)) (code_stmt body (d + length before + length (kinds a)) (suc out)) (code_stmt step (d + length before + length (kinds a) + length (kinds_stmt body)) (suc out))
+        let test = fit_append P ks (suc (suc out)) (code_all (checked checks invariants.items) d) (code a (d + length before)) (checked_fit (suc (suc out)) invariants.items d first known.0 h.0) (exp_fits (suc (suc out)) a BoolTy (d + length before) here known.1 h.1) in
+        let round = fit_append P ks (suc (suc out)) (code_stmt body (d + length before + length (kinds a)) (suc out)) (code_stmt step (d + length before + length (kinds a) + length (kinds_stmt body)) (suc out))
         (stmt_fits body (d + length before + length (kinds a)) (suc out) (at_left ks (d + length before + length (kinds a)) (kinds_stmt body) (kinds_stmt step) inside) known.2 h.2)
-        (stmt_fits step (d + length before + length (kinds a) + length (kinds_stmt body)) (suc out) (at_right ks (d + length before + length (kinds a)) (kinds_stmt body) (kinds_stmt step) inside) known.3 h.3)).fits))
-    stmt_fits Return d out at known h = fit_one P ks (suc out) _ (exit_fits out)
+        (stmt_fits step (d + length before + length (kinds a) + length (kinds_stmt body)) (suc out) (at_right ks (d + length before + length (kinds a)) (kinds_stmt body) (kinds_stmt step) inside) known.3 h.3) in
+        fit_one P ks (suc out) _ (and_true _ _ (has_kind a BoolTy (d + length before) here h.1) (and_true _ _ test.fits round.fits)) (and_true _ _ test.pointers round.pointers)
+    stmt_fits Return d out at known h = fit_one P ks (suc out) _ (exit_fits out) refl
     stmt_fits (ReturnValue a) d out at known h =
         fit_append P ks (suc out) (code a d) _ (exp_fits (suc out) a h.0 d at known h.2)
-        (fit_then P ks (suc out) _ _ (e.move_fits typed singles checks fp types locals ks locals_at (local_register locals 0) (value_at locals a d) (k.kind_of n singles h.0) (kind_is a h.0 d at h.2) (locals_at 0 h.0 h.1)) (fit_one P ks (suc out) _ (exit_fits out)))
-    stmt_fits (Assert a) d out at known h = fit_append P ks (suc out) (code a d) _ (exp_fits (suc out) a BoolTy d at known h) (fit_one P ks (suc out) _ (has_kind a BoolTy d at h))
-    stmt_fits (Error a) d out at known h = fit_append P ks (suc out) (code a d) _ (exp_fits (suc out) a TextTy d at known h) (fit_one P ks (suc out) _ (has_kind a TextTy d at h))
+        (fit_then P ks (suc out) _ _ (e.move_fits typed singles checks fp types locals ks locals_at (local_register locals 0) (value_at locals a d) (k.kind_of n singles h.0) (kind_is a h.0 d at h.2) (locals_at 0 h.0 h.1)) refl (fit_one P ks (suc out) _ (exit_fits out) refl))
+    stmt_fits (Assert a) d out at known h = fit_append P ks (suc out) (code a d) _ (exp_fits (suc out) a BoolTy d at known h) (fit_one P ks (suc out) _ (has_kind a BoolTy d at h) refl)
+    stmt_fits (Error a) d out at known h = fit_append P ks (suc out) (code a d) _ (exp_fits (suc out) a TextTy d at known h) (fit_one P ks (suc out) _ (has_kind a TextTy d at h) refl)
     stmt_fits (Check es) d out at known h = checked_fit (suc out) es.items d at known h
 
     block_fits : {m : _} (all : Row_of-Statement m) (d out : ℕ) → At ks d (kinds_block all) → KnowsBlock n singles all → Fits p types (block_row texts all) → AllFit P ks (suc out) (code_block all d out)

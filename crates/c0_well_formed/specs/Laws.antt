@@ -16,12 +16,17 @@ use Rattle.code_form.specs.Form.{Simple, Instruction, Block, Function, Image}
 use Rattle.middle_form.specs.WellFormed.{is_well_formed}
 use Rattle.lower_tables.specs.Gathered.{singles_of}
 use Rattle.lower.specs.Lowered.{lowered}
+use Rattle.codegen.specs.Guarded.{is_guarded_program}
 use Rattle.codegen.specs.WellFormed.{IsWellFormed}
 use Rattle.c0_image.specs.Compiled.{IsCompiled}
 
 -- the structured code of a well-typed program is well formed
 abbrev pub LoweredIsWellFormed : Type 0
 LoweredIsWellFormed = (checks : Bool) (typed : Typed) → FitsProgram (program_of typed) → is_well_formed (lowered (singles_of typed) checks typed) ≡ true
+
+-- in the structured code of a well-typed program each load and store of a place comes behind its check
+abbrev pub LoweredIsGuarded : Type 0
+LoweredIsGuarded = (checks : Bool) (typed : Typed) → FitsProgram (program_of typed) → is_guarded_program (lowered (singles_of typed) checks typed) ≡ true
 
 -- an image of a text is well formed
 abbrev pub ImagesAreWellFormed : Type 0

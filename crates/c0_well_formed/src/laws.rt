@@ -1,6 +1,6 @@
 //! Functions that compute nothing, and whose contracts are the laws.
 
-ghost use Rattle.c0_well_formed.specs.Laws.{ImagesAreConsistent, ImagesAreWellFormed, IsConsistent, LoweredIsWellFormed};
+ghost use Rattle.c0_well_formed.specs.Laws.{ImagesAreConsistent, ImagesAreWellFormed, IsConsistent, LoweredIsGuarded, LoweredIsWellFormed};
 ghost use Rattle.c0_well_formed.specs.Worked.{consistent_image, five_scopes, large_byte, large_character, large_number, missing_scope, offset_as_parameter, offset_in_layout, with_texts, without_layout};
 ghost use Rattle.std.specs.Prelude.{◌^◌, ◌≤◌, ℕ};
 
@@ -9,9 +9,15 @@ pub fn lowered_is_well_formed()
     ensures { LoweredIsWellFormed }
 {}
 
-/// So is the image of every text: each jump leads to a block of its function and brings what is known at its entry, each block ends in one instruction that
-/// leads out of it, all that an instruction names is there and of the right kind, each load and store is by a scope that is freshly aimed, and no scope is
-/// open at an allocation, a call or a return.
+/// In it each load and each store of a place comes behind its check, of NULL or of the index, with no write between them of a register that the check names,
+/// and a place without an offset is that of a pointer.
+pub fn lowered_is_guarded()
+    ensures { LoweredIsGuarded }
+{}
+
+/// The image of every text is well formed too: each jump leads to a block of its function and brings what is known at its entry, each block ends in one
+/// instruction that leads out of it, all that an instruction names is there and of the right kind, each load and store is by a scope that is freshly aimed,
+/// and no scope is open at an allocation, a call or a return.
 pub fn images_are_well_formed()
     ensures { ImagesAreWellFormed }
 {}
