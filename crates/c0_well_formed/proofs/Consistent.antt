@@ -31,7 +31,8 @@ use Rattle.lower.specs.Lowered.{lowered, result_kind, with_main_first}
 use Rattle.lower_expressions.specs.Expressions.{checked, constant_kind, unary_kind}
 use Rattle.lower.proofs.Layouts.{layouts_length}
 use Rattle.codegen.specs.Generated.{all_shut, block_with, blocks, function_of, generated, scopes_of, uses_cells}
-use Rattle.c0_well_formed.specs.Laws.{ImagesAreConsistent, IsCellKind, IsConsistent, IsConsistentFunction, IsResultKind, NamesFact, NamesNumbers, names_layout}
+use Rattle.code_verification.specs.Verified.{NamesFact}
+use Rattle.c0_well_formed.specs.Laws.{ImagesAreConsistent, IsCellKind, IsConsistent, IsConsistentFunction, IsResultKind, NamesNumbers, names_layout}
 use Rattle.c0_well_formed.proofs.Ordered.{in_order}
 use Rattle.c0_well_formed.proofs.Numbers.{CodeNames, blocks_names, function_names}
 use Rattle.c0_well_formed.proofs.CellKinds.{Each, all_sound, each_all, each_append, each_as, kind_good, number_named, singles_good, structs_good}

@@ -7,7 +7,7 @@ use Rattle.c0_rules.proofs.Programs.{elaborated_fits}
 use Rattle.c0_rules.proofs.Rules.{some_has}
 use Rattle.lower_tables.specs.Gathered.{singles_of}
 use Rattle.lower.specs.Lowered.{lowered}
-use Rattle.codegen.specs.WellFormed.{IsWellFormed}
+use Rattle.code_verification.specs.WellFormed.{IsWellFormed}
 use Rattle.codegen.proofs.WellFormed.{well_formed}
 use Rattle.c0_well_formed.specs.Laws.{ImagesAreWellFormed}
 use Rattle.c0_well_formed.proofs.Functions.{lowered_ok}

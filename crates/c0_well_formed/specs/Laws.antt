@@ -1,23 +1,21 @@
 -- What holds of the code and of the image of every program.
-use Rattle.std.specs.Prelude.{◌≡◌, ℕ, ◌<◌, ◌≤◌, nat_lt, Bool, true, false, List, All, Option, Some, None, FitsSigned, length, slice_get, take}
+use Rattle.std.specs.Prelude.{◌≡◌, ℕ, ◌<◌, ◌≤◌, nat_lt, Bool, true, false, List, All, Option, Some, None, FitsSigned, length, take}
 use Rattle.std.specs.Int.{w32}
 use Rattle.c0_typed.specs.Typing.{FitsProgram}
 use Rattle.c0_typed.specs.Views.{program_of}
 use Rattle.c0_typed.specs.declared.tree.Typed.{Typed}
 use Rattle.code_form.specs.declared.form.Kind.{Kind}
 use Rattle.code_form.specs.declared.form.Kind.TheVariants as kind
-use Rattle.code_form.specs.declared.form.Fact.{Fact}
-use Rattle.code_form.specs.declared.form.Fact.TheVariants as fact
 use Rattle.code_form.specs.declared.form.Operation.{Operation}
 use Rattle.code_form.specs.declared.form.Operation.TheVariants as op
 use Rattle.code_form.specs.Counts.{has_few_items}
-use Rattle.code_form.specs.Code.{is_array_of, is_pointer, on_kind, place_fits}
 use Rattle.code_form.specs.Form.{Simple, Instruction, Block, Function, Image}
 use Rattle.middle_form.specs.WellFormed.{is_well_formed}
 use Rattle.lower_tables.specs.Gathered.{singles_of}
 use Rattle.lower.specs.Lowered.{lowered}
+use Rattle.code_verification.specs.Verified.{NamesFact}
+use Rattle.code_verification.specs.WellFormed.{IsWellFormed}
 use Rattle.codegen.specs.Guarded.{is_guarded_program}
-use Rattle.codegen.specs.WellFormed.{IsWellFormed}
 use Rattle.c0_image.specs.Compiled.{IsCompiled}
 
 -- the structured code of a well-typed program is well formed
@@ -63,13 +61,6 @@ NamesNumber _ = Unit {0}
 abbrev pub NamesNumbers : Instruction → Type 0
 NamesNumbers (Simple o) = NamesNumber o
 NamesNumbers _ = Unit {0}
-
--- a fact at the entry of a block names registers that are there, of the right kinds, and one of so many scopes
-abbrev pub NamesFact : List Kind → ℕ → Fact → Type 0
-NamesFact ks scopes (fact.Nonnull r) = on_kind is_pointer (slice_get ks r) ≡ true
-NamesFact ks scopes (fact.Inside d r) = is_array_of (slice_get ks d) (slice_get ks r) ≡ true
-NamesFact ks scopes (fact.Aimed s r off disp) = (s < scopes) × (place_fits ks r off ≡ true)
-NamesFact ks scopes (fact.Shut s) = s < scopes
 
 -- the kinds of a function's registers name one of so many layouts; those of its parameters and of its result are kinds of values; it has at most four scopes,
 -- its instructions name numbers of 32 bits and characters below 128, and the facts at the entries of its blocks what is there

@@ -8,7 +8,6 @@ pub mod Images
 pub mod Knowing
 pub mod Lands
 pub mod Paired
-pub mod Refused
 pub mod Rows
 pub mod WellFormed
 pub mod Whole

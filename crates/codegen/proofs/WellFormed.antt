@@ -22,9 +22,9 @@ use Rattle.middle_form.specs.WellFormed.{all_fit, code_fits, function_fits, is_w
 use Rattle.middle_form.specs.WellFormed as form
 use Rattle.codegen.specs.Generated.{all_shut, asked_of, block_with, blocks, blocks_with, count, extra, first, function_of, generated, last, scopes_of, uses_cells}
 use Rattle.codegen.specs.Guarded.{asked_before, asked_inside, asks, is_by_pointer, is_guarded, is_guarded_function, is_guarded_program, is_kept, is_nothing_asked, joined, place_check, uses_pointers, with_check, written_by}
-use Rattle.codegen.specs.Verified.{AreGuarded, IsGuardedBlock, IsGuardedFunction, IsVerified, NamesFact, NamesFacts}
-use Rattle.codegen.specs.WellFormed.{IsRest, IsWellFormed, IsWellFormedBlock, IsWellFormedFunction}
-use Rattle.codegen.specs.WellFormed as here
+use Rattle.code_verification.specs.Verified.{AreGuarded, IsGuardedBlock, IsGuardedFunction, IsVerified, NamesFact, NamesFacts}
+use Rattle.code_verification.specs.WellFormed.{IsRest, IsWellFormed, IsWellFormedBlock, IsWellFormedFunction}
+use Rattle.code_verification.specs.WellFormed as here
 use Rattle.codegen.proofs.Bracketed.{few_scopes}
 use Rattle.codegen.proofs.Generates.{length-extra, or_left, or_right}
 use Rattle.codegen.proofs.Knowing.{AllFit, FitsCheck, Shut, and_left, and_right, append_known, checked, checks_after, checks_at_scope, checks_kept_some, entry_checks, entry_shut, fit_before, fit_joined, fit_place, fit_with, joined_known, shut_after, shut_one, shut_wrote_some, with_known}

@@ -1,20 +1,14 @@
 //! What is promised of every image that is generated: functions that do nothing, and whose contracts hold.
 ghost use Rattle.cells.specs.Stops.{BoundsFault, Ended, ErrorCalled, NullFault};
 ghost use Rattle.code_form.specs.Code.{Covered};
-ghost use Rattle.code_form.specs.Computed.{image_v};
-ghost use Rattle.code_form.specs.Form.{Aim, Call, Jump, Leave, Load, Return, Simple};
-ghost use Rattle.code_form.specs.declared.form.Operation.TheVariants.{Alloc, CheckIndex, Null};
-ghost use Rattle.code_form.specs.declared.form.Fact.TheVariants as fact;
 ghost use Rattle.codegen.specs.Correct.{IsSafe, Keeps, ran};
 ghost use Rattle.codegen.specs.Generated.{generated};
+ghost use Rattle.code_verification.specs.Verified.{IsVerified};
 ghost use Rattle.codegen.specs.Guarded.{is_guarded_program};
-ghost use Rattle.codegen.specs.Verified.{IsVerified};
-ghost use Rattle.codegen.specs.WellFormed.{IsWellFormed};
-ghost use Rattle.codegen.specs.Worked.{image_of_blocks, image_of_code, image_through_jump};
 ghost use Rattle.middle_form.specs.Form.{Program};
 ghost use Rattle.middle_form.specs.WellFormed.{is_well_formed};
 ghost use Rattle.middle_form.specs.Samples.{counting, failing, fibonacci, indexing, null_checked, pointing, stepping};
-ghost use Rattle.std.specs.Prelude.{◌∷◌, ◌≡◌, [], None, Some, codes, pos, true};
+ghost use Rattle.std.specs.Prelude.{◌≡◌, [], None, Some, codes, pos, true};
 
 use code_form::run_laws;
 
@@ -51,27 +45,4 @@ pub fn computed()
     ensures bounds { ran (generated (indexing 3)) 30 ≡ record { stop = Some BoundsFault; output = [] } }
     ensures error { ran (generated failing) 10 ≡ record { stop = Some (ErrorCalled (codes "no")); output = codes "0" } }
     ensures null { ran (generated null_checked) 5 ≡ record { stop = Some NullFault; output = [] } }
-{}
-
-/// Which images are well formed, and each cause why another is not.
-pub fn formed()
-    ensures accepted { IsWellFormed image_v }
-    ensures aimed { IsWellFormed (image_through_jump (Some 4) (fact.Aimed 0 3 (Some 4) 0 ∷ [])) }
-    ensures no_end { IsWellFormed (image_of_code []) → ⊥ }
-    ensures goes_on { IsWellFormed (image_of_code (Return 1 ∷ Return 1 ∷ [])) → ⊥ }
-    ensures outside { IsWellFormed (image_of_code (Jump 1 ∷ [])) → ⊥ }
-    ensures shut { IsWellFormed (image_of_code (Load 1 0 ∷ Return 1 ∷ [])) → ⊥ }
-    ensures another_kind { IsWellFormed (image_of_code (Return 0 ∷ [])) → ⊥ }
-    ensures no_function { IsWellFormed (image_of_code (Call None 2 [] ∷ Return 1 ∷ [])) → ⊥ }
-    // A load after the register or the offset of its aim was written again.
-    ensures written { IsWellFormed (image_of_code (Aim 0 0 None 0 ∷ Simple (Null 0) ∷ Load 1 0 ∷ Leave 0 ∷ Return 1 ∷ [])) → ⊥ }
-    ensures offset_written { IsWellFormed (image_of_code (Aim 0 3 (Some 4) 0 ∷ Simple (CheckIndex 4 3 1 1) ∷ Load 1 0 ∷ Leave 0 ∷ Return 1 ∷ [])) → ⊥ }
-    // A scope open at a call, at a return, and at an allocation.
-    ensures open_call { IsWellFormed (image_of_code (Aim 0 0 None 0 ∷ Call None 1 [] ∷ Leave 0 ∷ Return 1 ∷ [])) → ⊥ }
-    ensures open_return { IsWellFormed (image_of_code (Aim 0 0 None 0 ∷ Return 1 ∷ [])) → ⊥ }
-    ensures open_allocation { IsWellFormed (image_of_code (Aim 0 0 None 0 ∷ Simple (Alloc 0 0) ∷ Leave 0 ∷ Return 1 ∷ [])) → ⊥ }
-    // An aim with another offset, and a check, that a block asks and a jump does not bring; and one that a function's entry does not.
-    ensures another_offset { IsWellFormed (image_through_jump None (fact.Aimed 0 3 (Some 4) 0 ∷ [])) → ⊥ }
-    ensures not_brought { IsWellFormed (image_through_jump (Some 4) (fact.Nonnull 0 ∷ fact.Aimed 0 3 (Some 4) 0 ∷ [])) → ⊥ }
-    ensures not_at_entry { IsWellFormed (image_of_blocks (record { facts = fact.Shut 0 ∷ fact.Nonnull 0 ∷ []; code = Return 1 ∷ [] } ∷ [])) → ⊥ }
 {}

@@ -9,5 +9,5 @@ mod laws;
 
 pub use image::generate;
 pub use laws::{
-    computed, formed, generated_is_covered, generated_is_verified, generated_keeps_the_meaning,
+    computed, generated_is_covered, generated_is_verified, generated_keeps_the_meaning,
 };

@@ -1,16 +1,16 @@
 -- Images that are well formed, and images that are not.
-use Rattle.std.proofs.Common.{◌≡◌, ◌<◌, ℕ, true, false, Option, Some, None, List, [], ◌∷◌, pos, refl, subst, arith}
+use Rattle.std.specs.Prelude.{◌==◌, cond}
+use Rattle.std.proofs.Common.{◌≡◌, ◌<◌, ℕ, zero, suc, true, false, Option, Some, None, List, [], ◌∷◌, pos, refl, subst, arith}
 use Rattle.std.proofs.lemmas.List.Elements.{All-cons, All-nil}
 use Rattle.code_form.specs.Computed.{image_v}
-use Rattle.code_form.specs.Form.{Aim, Block, Call, Function, Image, Instruction, Jump, Leave, Load, Return, ReturnVoid, Simple, Store}
+use Rattle.code_form.specs.Form.{Aim, Block, Call, Function, Image, Instruction, Jump, Leave, Load, Return, Simple, Store}
 use Rattle.code_form.specs.declared.form.Fact.{Fact}
 use Rattle.code_form.specs.declared.form.Fact.TheVariants as fact
 use Rattle.code_form.specs.declared.form.Kind.TheVariants as kind
 use Rattle.code_form.specs.declared.form.Operation.TheVariants.{Alloc, CheckIndex, CheckNull, Const, Null}
-use Rattle.code_form.specs.Known.{AreKnown, Known, KnownAimed, KnownShut, at_entry, facts_known, with_scope}
-use Rattle.codegen.specs.WellFormed.{IsRest, IsWellFormed, IsWellFormedBlock, IsWellFormedFunction}
-use Rattle.codegen.specs.Worked.{function_of_blocks, idle, image_of_blocks, image_of_code, image_through_jump, loading_block, shut_block}
-use Rattle.codegen.proofs.WellFormed.{known_shut, shut_one}
+use Rattle.code_form.specs.Known.{AreKnown, Known, Knows, KnownAimed, KnownShut, Unknown, at_entry, facts_known, with_scope}
+use Rattle.code_verification.specs.WellFormed.{IsRest, IsWellFormed, IsWellFormedBlock, IsWellFormedFunction}
+use Rattle.code_verification.specs.Worked.{function_of_blocks, idle, idle_block, image_of_blocks, image_of_code, image_through_jump, loading_block, shut_block}
 
 -- what is known where the scope is shut, and where it was aimed by the pointer
 abbrev shut_known : Known
@@ -88,25 +88,30 @@ not_at_entry h =
 -- ---- images that are well formed
 
 -- the block of the image that writes 5 into a new struct, and its function
-abbrev block_v : Block
+abbrev pub block_v : Block
 block_v = record {
   facts = fact.Shut 0 ∷ [];
   code = Simple (Alloc 0 0) ∷ Simple (Const 1 (pos 5)) ∷ Simple (CheckNull 0) ∷ Aim 0 0 None 0 ∷ Store 0 1 ∷ Leave 0 ∷ Aim 0 0 None 0 ∷ Load 1 0 ∷ Leave 0 ∷ Return 1 ∷ [];
 }
 
-abbrev main_v : Function
+abbrev pub main_v : Function
 main_v = record { result = Some kind.Int; parameters = 0; kinds = kind.Ptr 0 ∷ kind.Int ∷ []; scopes = 1; blocks = block_v ∷ [] }
 
+-- the one scope is shut, whatever is known of others
+pub shut_one : (z : ℕ → Knows) (s : ℕ) → s < 1 → cond (s == 0) KnownShut (z s) ≡ KnownShut
+shut_one z zero l = refl
+shut_one z (suc s) l = absurd (let z : ⊥ = omega arith in z)
+
 -- an instruction that needs no scope shut
-needs_none : {A : Type 0} → false ≡ true → A
+pub needs_none : {A : Type 0} → false ≡ true → A
 needs_none e = absurd (cc e)
 
-one : 0 < 1
+pub one : 0 < 1
 one = omega arith
 
 block_formed : IsWellFormedBlock image_v main_v block_v
 block_formed = (
-  ((λ q. known_shut 1), refl),
+  ((λ q. shut_one (λ s. Unknown)), refl),
   (
     (needs_none, refl),
     (
@@ -116,7 +121,7 @@ block_formed = (
   ),
 )
 
-main_formed : IsWellFormedFunction image_v main_v
+pub main_formed : IsWellFormedFunction image_v main_v
 main_formed = record {
   parameters = omega arith;
   begins = (block_v, refl, (refl, tt));
@@ -154,18 +159,16 @@ aiming_formed = record {
       (All-cons (IsWellFormedBlock aiming main_of) second_block [] second_formed (All-nil (IsWellFormedBlock aiming main_of)));
 }
 
-abbrev idle_block : Block
-idle_block = record { facts = []; code = ReturnVoid ∷ [] }
-
-idle_formed : IsWellFormedFunction aiming idle
-idle_formed = record {
+-- the function that does nothing, in any image
+pub idle_formed : (C : Image) → IsWellFormedFunction C idle
+idle_formed C = record {
   parameters = omega arith;
   begins = (idle_block, refl, tt);
-  blocks = All-cons (IsWellFormedBlock aiming idle) idle_block [] (((λ q s l. absurd (let z : ⊥ = omega arith in z)), refl), refl) (All-nil (IsWellFormedBlock aiming idle));
+  blocks = All-cons (IsWellFormedBlock C idle) idle_block [] (((λ q s l. absurd (let z : ⊥ = omega arith in z)), refl), refl) (All-nil (IsWellFormedBlock C idle));
 }
 
 pub aimed : IsWellFormed aiming
 aimed = record {
   main = refl;
-  functions = All-cons (IsWellFormedFunction aiming) main_of (idle ∷ []) aiming_formed (All-cons (IsWellFormedFunction aiming) idle [] idle_formed (All-nil (IsWellFormedFunction aiming)));
+  functions = All-cons (IsWellFormedFunction aiming) main_of (idle ∷ []) aiming_formed (All-cons (IsWellFormedFunction aiming) idle [] (idle_formed aiming) (All-nil (IsWellFormedFunction aiming)));
 }

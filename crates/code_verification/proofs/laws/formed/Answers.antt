@@ -1,5 +1,5 @@
-use Rattle.codegen.proofs.Refused.{accepted, aimed, another_kind, another_offset, goes_on, no_end, no_function, not_at_entry, not_brought, offset_written, open_allocation, open_call, open_return, outside, shut, written}
-use Rattle.codegen.proofs.laws.formed.Goals as goal
+use Rattle.code_verification.proofs.Refused.{accepted, aimed, another_kind, another_offset, goes_on, no_end, no_function, not_at_entry, not_brought, offset_written, open_allocation, open_call, open_return, outside, shut, written}
+use Rattle.code_verification.proofs.laws.formed.Goals as goal
 
 pub returns-clause-accepted : goal.returns-clause-accepted
 returns-clause-accepted c = accepted

@@ -1,0 +1,4 @@
+pub mod Entries
+pub mod Verified
+pub mod WellFormed
+pub mod Worked
