@@ -7,7 +7,7 @@ ghost use Rattle.code_form.specs.declared.form.Fact.TheVariants as fact;
 ghost use Rattle.code_verification.specs.Entries.{EntryFactsHold, entered_after};
 ghost use Rattle.code_verification.specs.Verified.{IsVerified};
 ghost use Rattle.code_verification.specs.WellFormed.{IsWellFormed};
-ghost use Rattle.code_verification.specs.Worked.{IsRefused, brings, branching, calling, idle_block, image_of_blocks, image_of_code, image_through_jump, image_with_arrays, loading_block, many_scopes, shut_block};
+ghost use Rattle.code_verification.specs.Worked.{IsRefused, brings, branching, calling, idle_block, image_of_blocks, image_of_code, image_through_jump, image_with_arrays, many_scopes, shut_block};
 ghost use Rattle.std.specs.Prelude.{◌∷◌, ◌≡◌, [], None, Some, true};
 
 /// A verified image is covered: no function has more than four scopes, and no state of a run is stuck, has more scopes open than the function with the most
