@@ -1,3 +1,4 @@
 pub mod Arguments
+pub mod FaultNumbers
 pub mod Laws
 pub mod Table

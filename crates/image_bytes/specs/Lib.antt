@@ -1,0 +1,4 @@
+pub mod Bytes
+pub mod Encodable
+pub mod Parts
+pub mod Worked

@@ -1,0 +1,28 @@
+-- A small image, and its bytes.
+use Rattle.std.specs.Prelude.{ℕ, pos, List, [], ◌∷◌, Some}
+use Rattle.code_form.specs.declared.form.Kind.TheVariants.{Int}
+use Rattle.code_form.specs.declared.form.Operation.TheVariants.{Const}
+use Rattle.code_form.specs.Form.{Simple, Return, Image}
+
+-- one function without parameters and scopes, which returns 0
+abbrev pub returns_zero : Image
+returns_zero = record {
+  head = record { texts = []; layouts = [] };
+  functions = record {
+    result = Some Int;
+    parameters = 0;
+    kinds = Int ∷ [];
+    scopes = 0;
+    blocks = record { facts = []; code = Simple (Const 0 (pos 0)) ∷ Return 0 ∷ [] } ∷ [];
+  } ∷ [];
+}
+
+-- its 55 bytes
+abbrev pub bytes_of_returns_zero : List ℕ
+bytes_of_returns_zero =
+    67 ∷ 48 ∷ 70 ∷ 73 ∷ 1 ∷ 0
+    ∷ 0 ∷ 0 ∷ 0 ∷ 0 ∷ 0 ∷ 0 ∷ 0 ∷ 0 ∷ 1 ∷ 0 ∷ 0 ∷ 0
+    ∷ 1 ∷ 0 ∷ 0 ∷ 0 ∷ 0 ∷ 1 ∷ 0 ∷ 0 ∷ 0 ∷ 1 ∷ 0 ∷ 1 ∷ 0 ∷ 0 ∷ 0
+    ∷ 0 ∷ 0 ∷ 0 ∷ 0 ∷ 2 ∷ 0 ∷ 0 ∷ 0
+    ∷ 1 ∷ 0 ∷ 0 ∷ 0 ∷ 0 ∷ 0 ∷ 0 ∷ 0 ∷ 0
+    ∷ 98 ∷ 0 ∷ 0 ∷ 0 ∷ 0 ∷ []

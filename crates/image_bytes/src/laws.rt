@@ -1,0 +1,10 @@
+//! A law of the definition of an image's bytes: a function that does nothing, and whose contract holds.
+ghost use Rattle.image_bytes.specs.Bytes.{image_bytes};
+ghost use Rattle.image_bytes.specs.Worked.{bytes_of_returns_zero, returns_zero};
+ghost use Rattle.std.specs.Prelude.{◌≡◌, length};
+
+/// The bytes of a small image.
+pub fn worked()
+    ensures bytes { image_bytes returns_zero ≡ bytes_of_returns_zero }
+    ensures count { length bytes_of_returns_zero ≡ 55 }
+{}
