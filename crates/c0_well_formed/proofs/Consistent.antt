@@ -18,6 +18,7 @@ use Rattle.c0_typed.specs.declared.tree.Typed.{Typed}
 use Rattle.c0_rules.specs.Programs.{typed_program}
 use Rattle.c0_rules.proofs.Programs.{elaborated_fits}
 use Rattle.c0_rules.proofs.Rules.{some_has}
+use Rattle.code_form.specs.declared.form.Fact.{Fact}
 use Rattle.code_form.specs.declared.form.Kind.{Kind}
 use Rattle.code_form.specs.Counts.{has_few_items}
 use Rattle.code_form.specs.Form as image
@@ -30,9 +31,10 @@ use Rattle.lower.specs.Lowered as l
 use Rattle.lower.specs.Lowered.{lowered, result_kind, with_main_first}
 use Rattle.lower_expressions.specs.Expressions.{checked, constant_kind, unary_kind}
 use Rattle.lower.proofs.Layouts.{layouts_length}
-use Rattle.codegen.specs.Generated.{all_shut, block_with, blocks, function_of, generated, scopes_of, uses_cells}
-use Rattle.code_verification.specs.Verified.{NamesFact}
+use Rattle.codegen.specs.Generated.{asked_of, blocks, blocks_with, function_of, generated, scopes_of, uses_cells}
+use Rattle.code_verification.specs.Verified.{NamesFacts}
 use Rattle.c0_well_formed.specs.Laws.{ImagesAreConsistent, IsCellKind, IsConsistent, IsConsistentFunction, IsResultKind, NamesNumbers, names_layout}
+use Rattle.c0_well_formed.proofs.Images.{images_ok}
 use Rattle.c0_well_formed.proofs.Ordered.{in_order}
 use Rattle.c0_well_formed.proofs.Numbers.{CodeNames, blocks_names, function_names}
 use Rattle.c0_well_formed.proofs.CellKinds.{Each, all_sound, each_all, each_append, each_as, kind_good, number_named, singles_good, structs_good}
@@ -145,17 +147,10 @@ module _ (structs : List (List Ty)) (singles : List Kind) (texts : List (List �
 
   -- ---- functions
 
-  shut_named : (ks : List Kind) (n m : ℕ) → m ≤ n → Each (NamesFact ks n) (all_shut m)
-  shut_named ks n zero le = tt
-  shut_named ks n (suc m) le = ((let z : m < n = omega (arith, le) in z), shut_named ks n m (omega (arith, le)))
-
-  facts_named : (ks : List Kind) (n : ℕ) (bs : List (List image.Instruction)) → Each (λ (b : image.Block). All (NamesFact ks n) b.facts) (map (block_with n) bs)
-  facts_named ks n [] = tt
-  facts_named ks n (b ∷ bs) = (each_all (NamesFact ks n) (all_shut n) (shut_named ks n n (omega arith)), facts_named ks n bs)
-
-  blocks_named : (n : ℕ) (bs : List (List image.Instruction)) → Each (Each NamesNumbers) bs → Each (λ (b : image.Block). All NamesNumbers b.code) (map (block_with n) bs)
-  blocks_named n [] h = tt
-  blocks_named n (b ∷ bs) h = (each_all NamesNumbers b h.0, blocks_named n bs h.1)
+  blocks_named : (n : ℕ) (ws : List (List Fact)) (bs : List (List image.Instruction)) → Each (Each NamesNumbers) bs → Each (λ (b : image.Block). All NamesNumbers b.code) (blocks_with n ws bs)
+  blocks_named n ws [] h = tt
+  blocks_named n [] (b ∷ bs) h = (each_all NamesNumbers b h.0, blocks_named n [] bs h.1)
+  blocks_named n (w ∷ ws) (b ∷ bs) h = (each_all NamesNumbers b h.0, blocks_named n ws bs h.1)
 
   abbrev kind_at : ValueType → Kind
   kind_at ty = parts.kind_at structs singles texts functions main ty
@@ -200,9 +195,8 @@ module _ (structs : List (List Ty)) (singles : List Kind) (texts : List (List �
         parameters = each_all (IsCellKind count) _ (first_good h.parameters.items (map kind_at h.locals.items ++ (kind_at h.result ∷ rest)));
         result = result_good (type_of h.result);
         scopes = one_scope (uses_cells (code h).body);
-        numbers = each_all (λ (b : image.Block). All NamesNumbers b.code) (map (block_with (scopes_of (code h).body)) (blocks (code h))) (blocks_named (scopes_of (code h).body) (blocks (code h)) (blocks_names (code h) names));
-        facts = each_all (λ (b : image.Block). All (NamesFact (code h).kinds (scopes_of (code h).body)) b.facts) (map (block_with (scopes_of (code h).body)) (blocks (code h)))
-            (facts_named (code h).kinds (scopes_of (code h).body) (blocks (code h)));
+        numbers = each_all (λ (b : image.Block). All NamesNumbers b.code) (blocks_with (scopes_of (code h).body) (asked_of (code h)) (blocks (code h)))
+            (blocks_named (scopes_of (code h).body) (asked_of (code h)) (blocks (code h)) (blocks_names (code h) names));
       }
 
   functions_consistent : (fs : List Function) → Each (λ h. CodeNames (code h).body) fs → Each (IsConsistentFunction count) (map function_of (map code fs))
@@ -234,8 +228,8 @@ each_function : (Q : Function → Type 0) (texts : List (List ℕ)) (fs : List F
 each_function Q texts [] go = tt
 each_function Q texts (x ∷ rest) go = (go 0 x refl, each_function Q texts rest (λ i h e. go (suc i) h e))
 
-image_consistent : (checks : Bool) (typed : Typed) → FitsProgram (program_of typed) → has_few_items (generated (lowered (singles_of typed) checks typed)) ≡ true → IsConsistent (generated (lowered (singles_of typed) checks typed))
-image_consistent checks typed fp few =
+image_consistent : (checks : Bool) (typed : Typed) → FitsProgram (program_of typed) → All NamesFacts (generated (lowered (singles_of typed) checks typed)).functions → has_few_items (generated (lowered (singles_of typed) checks typed)) ≡ true → IsConsistent (generated (lowered (singles_of typed) checks typed))
+image_consistent checks typed fp named few =
     let structs = (program_of typed).structs in
     let singles = singles_of typed in
     let count = layouts_count structs singles in
@@ -254,10 +248,11 @@ image_consistent checks typed fp few =
           (in_order (λ h. CodeNames (l.function_code structs singles (texts_of typed) typed.functions.items typed.main checks h).body) typed.main typed.functions.items
           (each_function (λ h. CodeNames (l.function_code structs singles (texts_of typed) typed.functions.items typed.main checks h).body) (texts_of typed) typed.functions.items
           (λ i h e. function_names typed singles checks h (fp.functions i (typed_function (texts_of typed) h) e))))));
+      facts = named;
     }
 
 pub images_consistent : ImagesAreConsistent
 images_consistent text checks C is =
     let fits : FitsProgram is.program = some_has FitsProgram (typed_program is.typed.program) is.program (elaborated_fits is.typed.program) is.typed.rules in
     let tree : FitsProgram (program_of is.tree) = subst FitsProgram (sym is.read_as) fits in
-    subst IsConsistent (sym is.made) (image_consistent checks is.tree tree (subst (λ D. has_few_items D ≡ true) is.made is.few))
+    subst IsConsistent (sym is.made) (image_consistent checks is.tree tree (subst (λ D. All NamesFacts D.functions) is.made (images_ok text checks C is).facts) (subst (λ D. has_few_items D ≡ true) is.made is.few))

@@ -13,8 +13,8 @@ use Rattle.code_form.specs.Form.{Simple, Instruction, Block, Function, Image}
 use Rattle.middle_form.specs.WellFormed.{is_well_formed}
 use Rattle.lower_tables.specs.Gathered.{singles_of}
 use Rattle.lower.specs.Lowered.{lowered}
-use Rattle.code_verification.specs.Verified.{NamesFact}
-use Rattle.code_verification.specs.WellFormed.{IsWellFormed}
+use Rattle.code_verification.specs.Entries.{EntryFactsHold}
+use Rattle.code_verification.specs.Verified.{IsVerified, NamesFacts}
 use Rattle.codegen.specs.Guarded.{is_guarded_program}
 use Rattle.c0_image.specs.Compiled.{IsCompiled}
 
@@ -26,9 +26,13 @@ LoweredIsWellFormed = (checks : Bool) (typed : Typed) → FitsProgram (program_o
 abbrev pub LoweredIsGuarded : Type 0
 LoweredIsGuarded = (checks : Bool) (typed : Typed) → FitsProgram (program_of typed) → is_guarded_program (lowered (singles_of typed) checks typed) ≡ true
 
--- an image of a text is well formed
-abbrev pub ImagesAreWellFormed : Type 0
-ImagesAreWellFormed = (text : List ℕ) (checks : Bool) (C : Image) → IsCompiled text checks C → IsWellFormed C
+-- an image of a text is verified
+abbrev pub ImagesAreVerified : Type 0
+ImagesAreVerified = (text : List ℕ) (checks : Bool) (C : Image) → IsCompiled text checks C → IsVerified C
+
+-- and whenever a run of it enters a block, the block's entry facts hold
+abbrev pub FactsOfImagesHold : Type 0
+FactsOfImagesHold = (text : List ℕ) (checks : Bool) (C : Image) → IsCompiled text checks C → EntryFactsHold C
 
 -- the layout that a kind names is one of so many
 abbrev pub names_layout : ℕ → Kind → Bool
@@ -63,21 +67,22 @@ NamesNumbers (Simple o) = NamesNumber o
 NamesNumbers _ = Unit {0}
 
 -- the kinds of a function's registers name one of so many layouts; those of its parameters and of its result are kinds of values; it has at most four scopes,
--- its instructions name numbers of 32 bits and characters below 128, and the facts at the entries of its blocks what is there
+-- and its instructions name numbers of 32 bits and characters below 128
 pub record IsConsistentFunction (count : ℕ) (f : Function) : Type 0 where
   pub kinds : All (λ k. names_layout count k ≡ true) f.kinds
   pub parameters : All (IsCellKind count) (take f.parameters f.kinds)
   pub result : IsResultKind count f.result
   pub scopes : f.scopes ≤ 4
   pub numbers : All (λ (b : Block). All NamesNumbers b.code) f.blocks
-  pub facts : All (λ (b : Block). All (NamesFact f.kinds f.scopes) b.facts) f.blocks
 
--- No list has 2^32 items; each kind names a layout that is there, and no cell of a layout is an offset; each byte of a text is below 128
+-- No list has 2^32 items; each kind names a layout that is there, and no cell of a layout is an offset; each byte of a text is below 128; entry facts
+-- name registers and scopes that are there
 pub record IsConsistent (C : Image) : Type 0 where
   pub few : has_few_items C ≡ true
   pub texts : All (All (λ b. b < 128)) C.head.texts
   pub layouts : All (All (IsCellKind (length C.head.layouts))) C.head.layouts
   pub functions : All (IsConsistentFunction (length C.head.layouts)) C.functions
+  pub facts : All NamesFacts C.functions
 
 -- so is an image of a text
 abbrev pub ImagesAreConsistent : Type 0

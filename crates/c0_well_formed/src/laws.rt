@@ -1,8 +1,10 @@
 //! Functions that compute nothing, and whose contracts are the laws.
 
-ghost use Rattle.c0_well_formed.specs.Laws.{ImagesAreConsistent, ImagesAreWellFormed, IsConsistent, LoweredIsGuarded, LoweredIsWellFormed};
+ghost use Rattle.c0_well_formed.specs.Laws.{FactsOfImagesHold, ImagesAreConsistent, ImagesAreVerified, IsConsistent, LoweredIsGuarded, LoweredIsWellFormed};
 ghost use Rattle.c0_well_formed.specs.Worked.{consistent_image, five_scopes, large_byte, large_character, large_number, missing_scope, offset_as_parameter, offset_in_layout, with_texts, without_layout};
 ghost use Rattle.std.specs.Prelude.{◌^◌, ◌≤◌, ℕ};
+
+use code_verification::verified_is_covered;
 
 /// The structured code of a well-typed program is well formed.
 pub fn lowered_is_well_formed()
@@ -15,12 +17,16 @@ pub fn lowered_is_guarded()
     ensures { LoweredIsGuarded }
 {}
 
-/// The image of every text is well formed too: each jump leads to a block of its function and brings what is known at its entry, each block ends in one
-/// instruction that leads out of it, all that an instruction names is there and of the right kind, each load and store is by a scope that is freshly aimed,
-/// and no scope is open at an allocation, a call or a return.
-pub fn images_are_well_formed()
-    ensures { ImagesAreWellFormed }
-{}
+/// The image of every text is verified: each jump leads to a block of its function and brings what is known at its entry, each block ends in one
+/// instruction that leads out of it, all that an instruction names is there and of the right kind, each load and store is by a scope that is freshly aimed
+/// at a place whose check was made, and no scope is open at an allocation, a call or a return. Whenever a run of it enters a block, the block's entry facts
+/// hold.
+pub fn images_are_verified()
+    ensures verified { ImagesAreVerified }
+    ensures facts { FactsOfImagesHold }
+{
+    verified_is_covered();
+}
 
 /// In the image of a text no list has 2^32 items, each kind names a layout that is there, offsets stand in registers alone, no function has more than four
 /// scopes, numbers are of 32 bits, characters and texts are ASCII, and entry facts name what is there.

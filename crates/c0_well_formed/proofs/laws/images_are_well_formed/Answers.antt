@@ -1,5 +1,0 @@
-use Rattle.c0_well_formed.proofs.Images.{images_ok}
-use Rattle.c0_well_formed.proofs.laws.images_are_well_formed.Goals as goal
-
-pub returns : goal.returns
-returns c = images_ok
