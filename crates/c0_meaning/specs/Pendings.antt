@@ -101,7 +101,7 @@ module _ (c : Context) where
   combines (t.And e f) k d (a ∷ vs) ps s = giving k d vs ps (m.if_true a (evaluates d f s) (Done a s))
   combines (t.Or e f) k d (a ∷ vs) ps s = giving k d vs ps (m.if_true a (Done a s) (evaluates d f s))
   combines (t.Choose ty e f g) k d (a ∷ vs) ps s = giving k d vs ps (m.if_true a (evaluates d f s) (evaluates d g s))
-  combines (t.Read ty p) k d vs (at ∷ ps) s = k m.Next d (v.load s.heap at ∷ vs) ps s
+  combines (t.Load ty p) k d vs (at ∷ ps) s = k m.Next d (v.load s.heap at ∷ vs) ps s
   combines (t.AllocArray ty e) k d (a ∷ vs) ps s = giving k d vs ps (m.allocate_array (m.default (structs_in c) ty) (v.as_number a) s)
   combines (t.Length ty e) k d (a ∷ vs) ps s = k m.Next d (v.Number (pos (v.array_length s.heap (v.as_ref a))) ∷ vs) ps s
   combines _ k d vs ps s = Cut []

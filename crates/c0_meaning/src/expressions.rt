@@ -43,7 +43,7 @@ impl<'p> PlainRun<'p> {
                 let given = Vec::new(context.alloc);
                 self.arguments(context, arguments, given, Callee::Library(*output))
             }
-            Expression::Read(_, place) => {
+            Expression::Load(_, place) => {
                 self.then_two(Task::Locate(place), Task::Combine(expression))
             }
             Expression::Alloc(ty) => self.allocate_one(context, ty),
@@ -65,7 +65,7 @@ impl<'p> PlainRun<'p> {
             Expression::And(_, right) => self.and(right),
             Expression::Or(_, right) => self.or(right),
             Expression::Choose(_, _, first, second) => self.choose(first, second),
-            Expression::Read(_, _) => self.load(),
+            Expression::Load(_, _) => self.load(),
             Expression::AllocArray(ty, _) => self.allocate_array(context, ty),
             Expression::Length(_, _) => self.length(),
             _ => Err(Halt::Memory),

@@ -1,6 +1,6 @@
 //! The plain run of places.
 ghost use Rattle.std.specs.Prelude.{ℕ};
-ghost use Rattle.c0_typed.specs.Trees.{Deref, Exp, Field, Index, Place as PlaceTree, Read, Ty};
+ghost use Rattle.c0_typed.specs.Trees.{Deref, Exp, Field, Index, Place as PlaceTree, Load, Ty};
 ghost use Rattle.c0_meaning.specs.Pendings.{Combines, Performs, Reaches};
 ghost use Rattle.c0_meaning.specs.declared.context.Context.{Context as ContextOf};
 ghost use Rattle.c0_meaning.specs.declared.task.Task.TheVariants as task;
@@ -68,7 +68,7 @@ impl<'p> PlainRun<'p> {
 
     /// What stands at the place.
     pub(crate) fn load(&mut self) -> Result<(), Halt>
-        ensures { (c : ContextOf) (ty : Ty) (p : PlaceTree) → Combines c (Read ty p) self.old result self.new }
+        ensures { (c : ContextOf) (ty : Ty) (p : PlaceTree) → Combines c (Load ty p) self.old result self.new }
     {
         let place = self.take_place()?;
         let value = self.state.load(&place);

@@ -178,7 +178,7 @@ module _ (env : Environment) where
 
   -- the value at a place, where it is small
   abbrev pub read_of : Place → Option Typing
-  read_of q = provided (is_small q.resolved) (Some (Has q.resolved (t.Read (num q.resolved) q.place)))
+  read_of q = provided (is_small q.resolved) (Some (Has q.resolved (t.Load (num q.resolved) q.place)))
 
   -- what a prefix `*` finds
   abbrev pub dereferenced : PrefixOperator → Typing → Option Place

@@ -133,7 +133,7 @@ module _ (env : Environment) (at : Context) where
   struct_value : (e : ExpressionKind) (span : Span) (q : Place) → typed_place env at (expression_of_kind e) ≡ Some q → NoValue (read_of env q) → Caused (λ f. StructValue env at f AsValue e span)
   struct_value e span q h v = by (is_small q.resolved) refl v
     where
-      by : (b : Bool) → is_small q.resolved ≡ b → NoValue (provided b (Some (Has q.resolved (t.Read (num env q.resolved) q.place)))) → Caused (λ f. StructValue env at f AsValue e span)
+      by : (b : Bool) → is_small q.resolved ≡ b → NoValue (provided b (Some (Has q.resolved (t.Load (num env q.resolved) q.place)))) → Caused (λ f. StructValue env at f AsValue e span)
       by true w z = let y : true ≡ false = sym (small_value q.resolved _ w) ∙ z in absurd (cc y)
       by false w z = let f = told k.NotSmall span in (f.0, (q, h, w, f.1))
 

@@ -9,7 +9,7 @@ use Rattle.std.proofs.lemmas.Option.{get_or_from_slice_get, slice_get-get_or}
 use Rattle.cells.specs.declared.int32.Int32Op.{Int32Op}
 use Rattle.cells.specs.Numbers.{op_value, wrap32}
 use Rattle.c0_typed.specs.Values.{Value, Number, Truth, Letter, Text, Ref, Void, Tree, Leaf, Node, Trees, Nil, Cons, as_number, as_truth, as_ref, leaf, parts, count, part, with_part, copies, Spot, part_at, with_part_at, allocated, load, store, array_length}
-use Rattle.c0_typed.specs.Trees.{Ty, VoidTy, IntTy, BoolTy, CharTy, TextTy, StructTy, PointerTy, ArrayTy, UnaryOp, Negate, Complement, Not, Exp, Constant, Null, Local, Unary, Binary, Compare, And, Or, Choose, Call, Out, Read, Alloc, AllocArray, Length, Exps, NoExp, More, Place, Deref, Index, Field, Stmt, Skip, Seq, Set, Update, Store, StoreUpdate, Do, If, Loop, Return, ReturnValue, Assert, Error, Check, Function, Program}
+use Rattle.c0_typed.specs.Trees.{Ty, VoidTy, IntTy, BoolTy, CharTy, TextTy, StructTy, PointerTy, ArrayTy, UnaryOp, Negate, Complement, Not, Exp, Constant, Null, Local, Unary, Binary, Compare, And, Or, Choose, Call, Out, Load, Alloc, AllocArray, Length, Exps, NoExp, More, Place, Deref, Index, Field, Stmt, Skip, Seq, Set, Update, Store, StoreUpdate, Do, If, Loop, Return, ReturnValue, Assert, Error, Check, Function, Program}
 use Rattle.cells.specs.Stops.{ArithFault, BoundsFault, AssertFailed}
 use Rattle.cells.specs.Outcomes.{Done, Stopped, Cut, then_do}
 use Rattle.c0_typed.specs.Meaning.{State, Outcome, stop, value_or, if_true, turn, local, unary_value, binary_value, relation_value, default, fields, struct_defaults, allocate, allocate_array, pointed, element, blank, locals_at_entry, eval, evals, locate, Way, Next, Returned, and_then, holds, loop, all_hold, checked, exec, in_function, no_function, call}
@@ -410,7 +410,7 @@ module _ (ops : OpsFit) (nots : NotFits) (p : Program) (types : List Ty) where
           as_type made t VoidTy _ h.0
           (fine_then made (GivesAll p types (output_types o)) (Gives p types VoidTy) _ _ (fine_evals args (output_types o) made s h.1 g) (λ new vs u e q.
           (new, extends_refl new, (q.0, refl))))
-      fine_eval (Read w q) t made s h g =
+      fine_eval (Load w q) t made s h g =
           as_type made t w _ h.0
           (fine_then made (Finds p types w) (Gives p types w) _ _ (fine_locate q w made s h.2 g) (λ new at u e k.
           done new w (load u.heap at) u k.0 (load_is p new u.heap w at k.0.0 k.1 h.1)))

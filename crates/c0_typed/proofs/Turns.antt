@@ -2,7 +2,7 @@
 use Rattle.std.proofs.Common.{◌≡◌, ℕ, zero, suc, ◌≤◌, List, [], ◌∷◌, ◌++◌, get_or, refl, sym, ap, ◌∙◌, subst, arith, append_assoc, append-nil, Bool, true, false, Option, Some, None, ℤ, pos, negsuc}
 use Rattle.std.specs.Prelude.{nat_lt}
 use Rattle.c0_typed.specs.Values.{Value, Ref, Tree, Spot, as_ref, as_number, as_truth, array_length, load}
-use Rattle.c0_typed.specs.Trees.{Exp, Constant, Null, Local, Unary, Binary, Compare, And, Or, Choose, Call, Out, Read, Alloc, AllocArray, Length, Exps, NoExp, More, Place, Deref, Index, Field, Stmt, Skip, Seq, Set, Update, Store, StoreUpdate, Do, If, Loop, Return, ReturnValue, Assert, Error, Check, Function, Program}
+use Rattle.c0_typed.specs.Trees.{Exp, Constant, Null, Local, Unary, Binary, Compare, And, Or, Choose, Call, Out, Load, Alloc, AllocArray, Length, Exps, NoExp, More, Place, Deref, Index, Field, Stmt, Skip, Seq, Set, Update, Store, StoreUpdate, Do, If, Loop, Return, ReturnValue, Assert, Error, Check, Function, Program}
 use Rattle.cells.specs.Stops.{Stop, ArithFault, NullFault, BoundsFault, AssertFailed}
 use Rattle.cells.specs.Outcomes.{Done, Stopped, Cut, then_do}
 use Rattle.c0_typed.specs.Meaning.{State, Outcome, stop, value_or, if_true, turn, local, binary_value, printed, default, allocate_array, pointed, element, eval, evals, locate, Way, Next, Returned, and_then, holds, loop, all_hold, checked, exec, locals_at_entry, in_function, no_function, struct_defaults, call, told}
@@ -163,7 +163,7 @@ module _ (structs : List Tree) (g : Calls) (grow : CallsGrow g) where
     grow_eval (Choose ty c a b) s = grow_then _ _ _ (grow_eval c s) (λ v t. grow_if _ v _ _ (grow_eval a t) (grow_eval b t))
     grow_eval (Call f args) s = grow_then _ _ _ (grow_evals args s) (λ vs t. grow f vs t)
     grow_eval (Out o args) s = grow_then _ _ _ (grow_evals args s) (λ vs t. (printed o vs, refl))
-    grow_eval (Read ty p) s = grow_then _ _ _ (grow_locate p s) (λ at t. prefix_refl t.output)
+    grow_eval (Load ty p) s = grow_then _ _ _ (grow_locate p s) (λ at t. prefix_refl t.output)
     grow_eval (Alloc ty) s = prefix_refl s.output
     grow_eval (AllocArray ty n) s = grow_then _ _ _ (grow_eval n s) (λ v t. grow_array (default structs ty) (as_number v) t)
     grow_eval (Length ty a) s = grow_then _ _ _ (grow_eval a s) (λ v t. prefix_refl t.output)
@@ -201,7 +201,7 @@ module _ (structs : List Tree) (f g : Calls) (cap : ℕ) (grow : CallsGrow g) (e
     ext_eval (Call i args) s m h c = ext_then _ _ _ _ _ (ext_evals args s m h c) (λ vs t n k l. extend i vs t n k (omega arith)) (λ vs t. grow i vs t)
     ext_eval (Out o args) s m h c =
         ext_then _ _ _ _ _ (ext_evals args s m h c) (λ vs t n k l. (n, k, omega arith, refl)) (λ vs t. (printed o vs, refl))
-    ext_eval (Read ty p) s m h c = ext_then _ _ _ _ _ (ext_locate p s m h c) (λ at t n k l. ext_done n _ t k) (λ at t. prefix_refl t.output)
+    ext_eval (Load ty p) s m h c = ext_then _ _ _ _ _ (ext_locate p s m h c) (λ at t n k l. ext_done n _ t k) (λ at t. prefix_refl t.output)
     ext_eval (Alloc ty) s m h c = (m, h, omega arith, refl)
     ext_eval (AllocArray ty a) s m h c =
         ext_then _ _ _ _ _ (ext_eval a s m h c) (λ v t n k l. ext_array (default structs ty) (as_number v) t n k) (λ v t. grow_array (default structs ty) (as_number v) t)

@@ -8,7 +8,7 @@ use Rattle.cells.specs.Stops.{Stop, Ended, AssertFailed, ErrorCalled, NullFault,
 use Rattle.cells.specs.Outcomes as b
 use Rattle.cells.specs.Outcomes.{Done, Stopped, Cut, then_do, Meant}
 use Rattle.c0_typed.specs.Values.{Value, Number, Truth, Letter, Text, Ref, Void, Tree, Leaf, Node, Trees, Nil, Cons, as_number, as_truth, as_letter, as_text, as_ref, same_value, value_below, copies, Spot, load, store, array_length, leaf}
-use Rattle.c0_typed.specs.Trees.{Ty, VoidTy, IntTy, BoolTy, CharTy, TextTy, StructTy, PointerTy, ArrayTy, UnaryOp, Negate, Complement, Not, Relation, Equal, Unequal, Below, AtMost, Above, AtLeast, Output, Print, Println, Printint, Printbool, Printchar, Exp, Constant, Null, Local, Unary, Binary, Compare, And, Or, Choose, Call, Out, Read, Alloc, AllocArray, Length, Exps, NoExp, More, Place, Deref, Index, Field, Stmt, Skip, Seq, Set, Update, Store, StoreUpdate, Do, If, Loop, Return, ReturnValue, Assert, Error, Check, Function, Program}
+use Rattle.c0_typed.specs.Trees.{Ty, VoidTy, IntTy, BoolTy, CharTy, TextTy, StructTy, PointerTy, ArrayTy, UnaryOp, Negate, Complement, Not, Relation, Equal, Unequal, Below, AtMost, Above, AtLeast, Output, Print, Println, Printint, Printbool, Printchar, Exp, Constant, Null, Local, Unary, Binary, Compare, And, Or, Choose, Call, Out, Load, Alloc, AllocArray, Length, Exps, NoExp, More, Place, Deref, Index, Field, Stmt, Skip, Seq, Set, Update, Store, StoreUpdate, Do, If, Loop, Return, ReturnValue, Assert, Error, Check, Function, Program}
 
 -- ---- states and outcomes
 
@@ -152,7 +152,7 @@ module _ (structs : List Tree) (call : ℕ → List Value → State → Outcome 
     eval (Choose ty c a b) s = then_do (eval c s) (λ v t. if_true v (eval a t) (eval b t))
     eval (Call f args) s = then_do (evals args s) (call f)
     eval (Out o args) s = then_do (evals args s) (λ vs t. Done Void (record t { output = t.output ++ printed o vs }))
-    eval (Read ty p) s = then_do (locate p s) (λ at t. Done (load t.heap at) t)
+    eval (Load ty p) s = then_do (locate p s) (λ at t. Done (load t.heap at) t)
     eval (Alloc ty) s = allocate (default structs ty) s
     eval (AllocArray ty n) s = then_do (eval n s) (λ v t. allocate_array (default structs ty) (as_number v) t)
     eval (Length ty a) s = then_do (eval a s) (λ v t. Done (Number (pos (array_length t.heap (as_ref v)))) t)

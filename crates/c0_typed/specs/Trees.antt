@@ -53,7 +53,7 @@ mutual
     Choose : Ty → Exp → Exp → Exp → Exp
     Call : ℕ → Exps → Exp
     Out : Output → Exps → Exp
-    Read : Ty → Place → Exp
+    Load : Ty → Place → Exp
     Alloc : Ty → Exp
     AllocArray : Ty → Exp → Exp
     Length : Ty → Exp → Exp

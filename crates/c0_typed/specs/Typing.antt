@@ -3,7 +3,7 @@ use Rattle.std.specs.Prelude.{◌≡◌, ℕ, zero, suc, ◌<◌, ◌≤◌, ◌
 use Rattle.std.specs.List.{All}
 use Rattle.std.specs.Int.{w32}
 use Rattle.c0_typed.specs.Values.{Value, Number, Truth, Letter, Text, Ref, Void, Tree, Leaf, Node, Trees, Nil, Cons, count, Spot, load, store}
-use Rattle.c0_typed.specs.Trees.{Ty, VoidTy, IntTy, BoolTy, CharTy, TextTy, StructTy, PointerTy, ArrayTy, UnaryOp, Not, Relation, Equal, Unequal, Output, Print, Println, Printint, Printbool, Printchar, Flush, Exp, Constant, Null, Local, Unary, Binary, Compare, And, Or, Choose, Call, Out, Read, Alloc, AllocArray, Length, Exps, NoExp, More, Place, Deref, Index, Field, Stmt, Skip, Seq, Set, Update, Store, StoreUpdate, Do, If, Loop, Return, ReturnValue, Assert, Error, Check, Function, Program}
+use Rattle.c0_typed.specs.Trees.{Ty, VoidTy, IntTy, BoolTy, CharTy, TextTy, StructTy, PointerTy, ArrayTy, UnaryOp, Not, Relation, Equal, Unequal, Output, Print, Println, Printint, Printbool, Printchar, Flush, Exp, Constant, Null, Local, Unary, Binary, Compare, And, Or, Choose, Call, Out, Load, Alloc, AllocArray, Length, Exps, NoExp, More, Place, Deref, Index, Field, Stmt, Skip, Seq, Set, Update, Store, StoreUpdate, Do, If, Loop, Return, ReturnValue, Assert, Error, Check, Function, Program}
 use Rattle.cells.specs.Outcomes.{Done, Stopped, Cut}
 use Rattle.c0_typed.specs.Layouts.{flats}
 use Rattle.c0_typed.specs.Meaning.{State, Outcome, Way, eval, locate, exec, call, default, fields, struct_defaults}
@@ -83,7 +83,7 @@ module _ (p : Program) (types : List Ty) where
     Has (Choose u c a b) t = (t ≡ u) × Has c BoolTy × Has a u × Has b u
     Has (Call f args) t = (g : Function) × (slice_get p.functions f ≡ Some g) × (t ≡ g.result) × HasAll args g.parameters
     Has (Out o args) t = (t ≡ VoidTy) × HasAll args (output_types o)
-    Has (Read u q) t = (t ≡ u) × IsSmall u × Holds q u
+    Has (Load u q) t = (t ≡ u) × IsSmall u × Holds q u
     Has (Alloc u) t = (t ≡ PointerTy u) × IsHeld (length p.structs) u
     Has (AllocArray u n) t = (t ≡ ArrayTy u) × IsHeld (length p.structs) u × Has n IntTy
     Has (Length u a) t = (t ≡ IntTy) × Has a (ArrayTy u)

@@ -11,7 +11,7 @@ use Rattle.c0_typed.specs.declared.tree.Constant.{Constant as ConstantValue}
 use Rattle.c0_typed.specs.declared.tree.Constant.TheVariants as c
 use Rattle.c0_typed.specs.declared.tree.Output.{Output}
 use Rattle.c0_typed.specs.declared.tree.Output.TheVariants as o
-use Rattle.c0_typed.specs.declared.tree.Expression.{Expression, Row_of-Expression, end_of-Expression, more_of-Expression, Constant, Null, Local, Unary', Binary', Compare', And', Or', Choose', Call', Print', Read', Alloc, AllocArray', Length'}
+use Rattle.c0_typed.specs.declared.tree.Expression.{Expression, Row_of-Expression, end_of-Expression, more_of-Expression, Constant, Null, Local, Unary', Binary', Compare', And', Or', Choose', Call', Print', Load', Alloc, AllocArray', Length'}
 use Rattle.c0_typed.specs.declared.tree.Place.{Place, Deref', Index', Field'}
 use Rattle.c0_typed.specs.declared.tree.Statement.{Statement, Row_of-Statement, end_of-Statement, more_of-Statement, Block', Set, Update, Store, StoreUpdate, Do, If', Loop', Return, ReturnValue, Assert, Error, Check}
 use Rattle.c0_typed.specs.declared.tree.Function.{Function}
@@ -81,7 +81,7 @@ module _ (texts : List (List ℕ)) where
     exp_of (Choose' ty p c q a r b) = t.Choose (type_of ty) (exp_of c) (exp_of a) (exp_of b)
     exp_of (Call' f shape es) = t.Call f (row_of es)
     exp_of (Print' out shape es) = t.Out (output_of out) (row_of es)
-    exp_of (Read' ty p place) = t.Read (type_of ty) (place_of place)
+    exp_of (Load' ty p place) = t.Load (type_of ty) (place_of place)
     exp_of (Alloc ty) = t.Alloc (type_of ty)
     exp_of (AllocArray' ty p n) = t.AllocArray (type_of ty) (exp_of n)
     exp_of (Length' ty p a) = t.Length (type_of ty) (exp_of a)

@@ -82,7 +82,7 @@ pub enum Expression {
     /// A call of the library.
     Print(Output, Vec<Expression>),
     /// What stands at a place, of this type.
-    Read(ValueType, Box<Place>),
+    Load(ValueType, Box<Place>),
     /// A fresh pointer to what has this type.
     Alloc(ValueType),
     /// A fresh array of elements of this type, and how many.

@@ -10,7 +10,7 @@ use Rattle.c0_typed.specs.declared.tree.Constant.TheVariants as c
 use Rattle.c0_typed.specs.declared.tree.UnaryOperator.{UnaryOperator}
 use Rattle.c0_typed.specs.declared.tree.UnaryOperator.TheVariants as u
 use Rattle.c0_typed.specs.declared.tree.ValueType.{ValueType}
-use Rattle.c0_typed.specs.declared.tree.Expression.{Expression, Row_of-Expression, end_of-Expression, more_of-Expression, Constant, Null, Local, Unary', Binary', Compare', And', Or', Choose', Call', Print', Read', Alloc, AllocArray', Length'}
+use Rattle.c0_typed.specs.declared.tree.Expression.{Expression, Row_of-Expression, end_of-Expression, more_of-Expression, Constant, Null, Local, Unary', Binary', Compare', And', Or', Choose', Call', Print', Load', Alloc, AllocArray', Length'}
 use Rattle.c0_typed.specs.declared.tree.Place.{Place, Deref', Index', Field'}
 use Rattle.c0_typed.specs.declared.tree.Statement.{Statement, Row_of-Statement, end_of-Statement, more_of-Statement, Block', Set, Update, Store, StoreUpdate, Do, If', Loop', Return, ReturnValue, Assert, Error, Check}
 use Rattle.c0_typed.specs.declared.tree.Function.{Function}
@@ -101,7 +101,7 @@ module _ (structs : List (List Ty)) (singles : List Kind) (texts : List (List â„
         (here ty, each_append Named (exp_kinds a) (exp_kinds b ++ exp_kinds e) (exp_named a) (each_append Named (exp_kinds b) (exp_kinds e) (exp_named b) (exp_named e)))
     exp_named (Call' i shape es) = ((kind_good n singles (parts.type_given structs singles texts functions main functions i)).0, row_named es)
     exp_named (Print' out shape es) = (refl, row_named es)
-    exp_named (Read' ty w q) = (here ty, place_named q)
+    exp_named (Load' ty w q) = (here ty, place_named q)
     exp_named (Alloc ty) = (number ty, tt)
     exp_named (AllocArray' ty w a) = (number ty, exp_named a)
     exp_named (Length' ty w a) = (refl, exp_named a)

@@ -12,7 +12,7 @@ use Rattle.c0_typed.specs.declared.tree.Constant.TheVariants as c
 use Rattle.c0_typed.specs.declared.tree.UnaryOperator.{UnaryOperator}
 use Rattle.c0_typed.specs.declared.tree.UnaryOperator.TheVariants as u
 use Rattle.c0_typed.specs.declared.tree.ValueType.{ValueType}
-use Rattle.c0_typed.specs.declared.tree.Expression.{Expression, Row_of-Expression, end_of-Expression, more_of-Expression, Constant, Null, Local, Unary', Binary', Compare', And', Or', Choose', Call', Print', Read', Alloc, AllocArray', Length'}
+use Rattle.c0_typed.specs.declared.tree.Expression.{Expression, Row_of-Expression, end_of-Expression, more_of-Expression, Constant, Null, Local, Unary', Binary', Compare', And', Or', Choose', Call', Print', Load', Alloc, AllocArray', Length'}
 use Rattle.c0_typed.specs.declared.tree.Place.{Place, Deref', Index', Field'}
 use Rattle.c0_typed.specs.declared.tree.Typed.{Typed}
 use Rattle.code_form.specs.declared.form.Kind.{Kind}
@@ -268,7 +268,7 @@ module _ (typed : Typed) (singles : List Kind) (checks : Bool) (fp : FitsProgram
           let behind = at_tail ks d kind.Int (kinds_row es) at in
           fit_append P ks around (code_row es (suc d)) _ (row_fits es (output_types (output_of out)) (suc d) behind known h.1)
           (fit_one P ks around _ (print_fits typed singles types locals ks H out (at_row es (suc d)) (row_of_kinds typed singles types locals ks locals_at es (output_types (output_of out)) (suc d) behind h.1)) refl)
-      exp_fits (Read' w v q) ty d at known h =
+      exp_fits (Load' w v q) ty d at known h =
           let here = at_head ks d (k.kind_of n singles (type_of w)) (kinds_place q) at in
           let behind = at_tail ks d (k.kind_of n singles (type_of w)) (kinds_place q) at in
           let place = place_is q (type_of w) (suc d) behind known h.2 in

@@ -6,7 +6,7 @@ use Rattle.c0_typed.specs.declared.tree.Constant.{Constant as ConstantValue}
 use Rattle.c0_typed.specs.declared.tree.Constant.TheVariants as c
 use Rattle.c0_typed.specs.declared.tree.Output.{Output}
 use Rattle.c0_typed.specs.declared.tree.Output.TheVariants as o
-use Rattle.c0_typed.specs.declared.tree.Expression.{Expression, Row_of-Expression, end_of-Expression, more_of-Expression, Constant, Null, Local, Unary', Binary', Compare', And', Or', Choose', Call', Print', Read', Alloc, AllocArray', Length'}
+use Rattle.c0_typed.specs.declared.tree.Expression.{Expression, Row_of-Expression, end_of-Expression, more_of-Expression, Constant, Null, Local, Unary', Binary', Compare', And', Or', Choose', Call', Print', Load', Alloc, AllocArray', Length'}
 use Rattle.c0_typed.specs.declared.tree.Place.{Place, Deref', Index', Field'}
 use Rattle.c0_typed.specs.declared.tree.Function.{Function}
 use Rattle.code_form.specs.declared.form.Kind.{Kind}
@@ -139,7 +139,7 @@ module _ (structs : List (List t.Ty)) (singles : List Kind) (texts : List (List 
     exp_guards (Call' i shape es) d low =
         guard_append (code_row es (suc d)) _ (row_guards es (suc d) (next d low)) (guard_one _ (result_written (parts.type_given structs singles texts functions main functions i) d low))
     exp_guards (Print' out shape es) d low = guard_append (code_row es (suc d)) _ (row_guards es (suc d) (next d low)) (guard_one _ (printed out (at_row es (suc d))))
-    exp_guards (Read' w v q) d low = guard_append (code_place q (suc d)) _ (place_guards q (suc d) (next d low)) (guard_one _ (loaded q (suc d) d (parts.displacement structs singles texts functions main locals q) low))
+    exp_guards (Load' w v q) d low = guard_append (code_place q (suc d)) _ (place_guards q (suc d) (next d low)) (guard_one _ (loaded q (suc d) d (parts.displacement structs singles texts functions main locals q) low))
     exp_guards (Alloc w) d low = guard_one _ (written d low)
     exp_guards (AllocArray' w v a) d low = guard_append (code a (suc d)) _ (exp_guards a (suc d) (next d low)) (guard_one _ (written d low))
     exp_guards (Length' w v a) d low = guard_append (code a (suc d)) _ (exp_guards a (suc d) (next d low)) (guard_one _ (written d low))

@@ -5,7 +5,7 @@ use Rattle.std.proofs.lemmas.List.{length-append}
 use Rattle.c0_typed.specs.Trees.{Program, Ty, StructTy, PointerTy, ArrayTy}
 use Rattle.c0_typed.specs.Typing.{Has, Holds}
 use Rattle.c0_typed.specs.Views.{exp_of, place_of, program_of, texts_of, type_of}
-use Rattle.c0_typed.specs.declared.tree.Expression.{Expression, Constant, Null, Local, Unary', Binary', Compare', And', Or', Choose', Call', Print', Read', Alloc, AllocArray', Length'}
+use Rattle.c0_typed.specs.declared.tree.Expression.{Expression, Constant, Null, Local, Unary', Binary', Compare', And', Or', Choose', Call', Print', Load', Alloc, AllocArray', Length'}
 use Rattle.c0_typed.specs.declared.tree.Place.{Place, Deref', Index', Field'}
 use Rattle.c0_typed.specs.declared.tree.Typed.{Typed}
 use Rattle.code_form.specs.declared.form.Kind.{Kind}
@@ -66,7 +66,7 @@ module _ (typed : Typed) (singles : List Kind) (types : List Ty) (locals : ℕ) 
   value_within (Choose' w v a q b s c) ty d h = own d _
   value_within (Call' i shape es) ty d h = own d _
   value_within (Print' out shape es) ty d h = own d _
-  value_within (Read' w v q) ty d h = own d _
+  value_within (Load' w v q) ty d h = own d _
   value_within (Alloc w) ty d h = own d 0
   value_within (AllocArray' w v a) ty d h = own d _
   value_within (Length' w v a) ty d h = own d _

@@ -7,7 +7,7 @@ use Rattle.c0_typed.specs.declared.tree.Constant.{Constant as ConstantValue}
 use Rattle.c0_typed.specs.declared.tree.Constant.TheVariants as c
 use Rattle.c0_typed.specs.declared.tree.Output.{Output}
 use Rattle.c0_typed.specs.declared.tree.Output.TheVariants as o
-use Rattle.c0_typed.specs.declared.tree.Expression.{Expression, Row_of-Expression, end_of-Expression, more_of-Expression, Constant, Null, Local, Unary', Binary', Compare', And', Or', Choose', Call', Print', Read', Alloc, AllocArray', Length'}
+use Rattle.c0_typed.specs.declared.tree.Expression.{Expression, Row_of-Expression, end_of-Expression, more_of-Expression, Constant, Null, Local, Unary', Binary', Compare', And', Or', Choose', Call', Print', Load', Alloc, AllocArray', Length'}
 use Rattle.c0_typed.specs.declared.tree.Place.{Place, Deref', Index', Field'}
 use Rattle.c0_typed.specs.declared.tree.Statement.{Statement, Row_of-Statement, end_of-Statement, more_of-Statement, Block', Set, Update, Store, StoreUpdate, Do, If', Loop', Return, ReturnValue, Assert, Error, Check}
 use Rattle.c0_typed.specs.declared.tree.Function.{Function}
@@ -170,7 +170,7 @@ module _ (typed : Typed) (singles : List Kind) (checks : Bool) (types : List Ty)
         )
     exp_names (Call' i shape es) ty d h = each_append CodeNames (code_row es (suc d)) _ (row_names es h.0.parameters (suc d) h.3) (tt, tt)
     exp_names (Print' out shape es) ty d h = each_append CodeNames (code_row es (suc d)) _ (row_names es (output_types (output_of out)) (suc d) h.1) (print_names out _, tt)
-    exp_names (Read' w v q) ty d h = each_append CodeNames (code_place q (suc d)) _ (place_names q (type_of w) (suc d) h.2) (tt, tt)
+    exp_names (Load' w v q) ty d h = each_append CodeNames (code_place q (suc d)) _ (place_names q (type_of w) (suc d) h.2) (tt, tt)
     exp_names (Alloc w) ty d h = (tt, tt)
     exp_names (AllocArray' w v a) ty d h = each_append CodeNames (code a (suc d)) _ (exp_names a IntTy (suc d) h.2) (tt, tt)
     exp_names (Length' w v a) ty d h = each_append CodeNames (code a (suc d)) _ (exp_names a (ArrayTy (type_of w)) (suc d) h.1) (tt, tt)

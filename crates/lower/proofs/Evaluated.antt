@@ -16,7 +16,7 @@ use Rattle.c0_typed.specs.declared.tree.Output.{Output}
 use Rattle.c0_typed.specs.declared.tree.Relation.{Relation}
 use Rattle.c0_typed.specs.declared.tree.UnaryOperator.{UnaryOperator}
 use Rattle.c0_typed.specs.declared.tree.ValueType.{ValueType}
-use Rattle.c0_typed.specs.declared.tree.Expression.{Expression, Row_of-Expression, end_of-Expression, more_of-Expression, Constant, Null, Local, Unary', Binary', Compare', And', Or', Choose', Call', Print', Read', Alloc, AllocArray', Length'}
+use Rattle.c0_typed.specs.declared.tree.Expression.{Expression, Row_of-Expression, end_of-Expression, more_of-Expression, Constant, Null, Local, Unary', Binary', Compare', And', Or', Choose', Call', Print', Load', Alloc, AllocArray', Length'}
 use Rattle.c0_typed.specs.declared.tree.Place.{Place, Deref', Index', Field'}
 use Rattle.c0_typed.specs.declared.tree.Typed.{Typed}
 use Rattle.code_form.specs.declared.form.Kind.{Kind}
@@ -271,7 +271,7 @@ module _ (typed : Typed) (singles : List Kind) (checks : Bool) (call : ℕ → L
       one_last new (Gives d VoidTy d rs) (Done Void (record y { output = y.output ++ printed (output_of out) x })) (f.Do (print_code out (at_row es (suc d)))) xs z
       (output_ok typed singles checks types locals ks call' out (at_row es (suc d)) d x new y rs xs z (row_of_kinds typed singles types locals ks locals_at es (output_types (output_of out)) (suc d) after h.1) r)))
 
-  read_case : (ty : ValueType) (q : Box (Unit {0}) Global) (pl : Place) → PlaceOk pl → ExpOk (Read' ty q pl)
+  read_case : (ty : ValueType) (q : Box (Unit {0}) Global) (pl : Place) → PlaceOk pl → ExpOk (Load' ty q pl)
   read_case ty q pl ok_pl t d made s rs w low at long kn h g =
       let u : Ty = type_of ty in
       as_type made t u d d rs _ _ h.0
@@ -359,7 +359,7 @@ module _ (typed : Typed) (singles : List Kind) (checks : Bool) (call : ℕ → L
     exp_ok (Choose' ty q a r b x c) = conditional_case ty q a r b x c (exp_ok a) (exp_ok b) (exp_ok c)
     exp_ok (Call' i shape es) = call_of_case i shape es (row_ok es)
     exp_ok (Print' out shape es) = print_case out shape es (row_ok es)
-    exp_ok (Read' ty q pl) = read_case ty q pl (place_ok pl)
+    exp_ok (Load' ty q pl) = read_case ty q pl (place_ok pl)
     exp_ok (Alloc ty) = alloc_case ty
     exp_ok (AllocArray' ty q a) = alloc_array_case ty q a (exp_ok a)
     exp_ok (Length' ty q a) = length_of_case ty q a (exp_ok a)

@@ -15,7 +15,7 @@ use Rattle.c0_typed.specs.Typing.{AreAll, Extends, Has, HasAll, Holds, Is, IsCon
 use Rattle.c0_typed.specs.Views.{constant_of, exp_of, function_of, output_of, place_of, program_of, relation_of, row_of, text_at, texts_of, type_of, unary_of}
 use Rattle.c0_typed.proofs.Ops.{not_fits, ops_fit}
 use Rattle.c0_typed.proofs.Soundness.{constant_is, extends_refl, is_more, local_is, number_fits, unary_is}
-use Rattle.c0_typed.specs.declared.tree.Expression.{Expression, Row_of-Expression, end_of-Expression, more_of-Expression, Constant, Null, Local, Unary', Binary', Compare', And', Or', Choose', Call', Print', Read', Alloc, AllocArray', Length'}
+use Rattle.c0_typed.specs.declared.tree.Expression.{Expression, Row_of-Expression, end_of-Expression, more_of-Expression, Constant, Null, Local, Unary', Binary', Compare', And', Or', Choose', Call', Print', Load', Alloc, AllocArray', Length'}
 use Rattle.c0_typed.specs.declared.tree.Place.{Place, Deref', Index', Field'}
 use Rattle.c0_typed.specs.declared.tree.Typed.{Typed}
 use Rattle.code_form.specs.declared.form.Kind.{Kind}

@@ -11,7 +11,7 @@ use Rattle.c0_typed.specs.declared.tree.Constant.{Constant as ConstantValue}
 use Rattle.c0_typed.specs.declared.tree.Constant.TheVariants as c
 use Rattle.c0_typed.specs.declared.tree.UnaryOperator.{UnaryOperator}
 use Rattle.c0_typed.specs.declared.tree.UnaryOperator.TheVariants as u
-use Rattle.c0_typed.specs.declared.tree.Expression.{Expression, Row_of-Expression, end_of-Expression, more_of-Expression, Constant, Null, Local, Unary', Binary', Compare', And', Or', Choose', Call', Print', Read', Alloc, AllocArray', Length'}
+use Rattle.c0_typed.specs.declared.tree.Expression.{Expression, Row_of-Expression, end_of-Expression, more_of-Expression, Constant, Null, Local, Unary', Binary', Compare', And', Or', Choose', Call', Print', Load', Alloc, AllocArray', Length'}
 use Rattle.c0_typed.specs.declared.tree.Function.{Function}
 use Rattle.c0_typed.specs.declared.tree.Typed.{Typed}
 use Rattle.code_form.specs.declared.form.Kind.{Kind}
@@ -85,7 +85,7 @@ module _ (typed : Typed) (singles : List Kind) (types : List Ty) (locals : ℕ) 
     value_kind (Choose' ty q b r e s z) t d a h = as_kind d _ t _ (kinds b ++ (kinds e ++ kinds z)) a refl h.0
     value_kind (Call' f shape es) t d a h = as_kind d _ t h.0.result (kinds_row es) a (ap (kind_of n singles) (given_type typed.functions.items f h.0 h.1)) h.2
     value_kind (Print' out shape es) t d a h = as_kind d _ t VoidTy (kinds_row es) a refl h.0
-    value_kind (Read' ty q pl) t d a h = as_kind d _ t _ _ a refl h.0
+    value_kind (Load' ty q pl) t d a h = as_kind d _ t _ _ a refl h.0
     value_kind (Alloc ty) t d a h = as_kind d _ t _ [] a refl h.0
     value_kind (AllocArray' ty q b) t d a h = as_kind d _ t _ (kinds b) a refl h.0
     value_kind (Length' ty q b) t d a h = as_kind d _ t IntTy (kinds b) a refl h.0
@@ -121,7 +121,7 @@ module _ (typed : Typed) (singles : List Kind) (types : List Ty) (locals : ℕ) 
     value_before (Choose' ty q b r e s z) t d l h = above d _
     value_before (Call' f shape es) t d l h = above d _
     value_before (Print' out shape es) t d l h = above d _
-    value_before (Read' ty q pl) t d l h = above d _
+    value_before (Load' ty q pl) t d l h = above d _
     value_before (Alloc ty) t d l h = above d _
     value_before (AllocArray' ty q b) t d l h = above d _
     value_before (Length' ty q b) t d l h = above d _
@@ -139,7 +139,7 @@ module _ (typed : Typed) (singles : List Kind) (types : List Ty) (locals : ℕ) 
     value_apart (Choose' ty q x r e s z) t d b l lt h = omega arith
     value_apart (Call' f shape es) t d b l lt h = omega arith
     value_apart (Print' out shape es) t d b l lt h = omega arith
-    value_apart (Read' ty q pl) t d b l lt h = omega arith
+    value_apart (Load' ty q pl) t d b l lt h = omega arith
     value_apart (Alloc ty) t d b l lt h = omega arith
     value_apart (AllocArray' ty q x) t d b l lt h = omega arith
     value_apart (Length' ty q x) t d b l lt h = omega arith

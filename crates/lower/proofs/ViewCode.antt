@@ -12,7 +12,7 @@ use Rattle.c0_typed.specs.declared.tree.Constant.{Constant as ConstantValue}
 use Rattle.c0_typed.specs.declared.tree.Constant.TheVariants as c
 use Rattle.c0_typed.specs.declared.tree.Output.{Output}
 use Rattle.c0_typed.specs.declared.tree.Output.TheVariants as o
-use Rattle.c0_typed.specs.declared.tree.Expression.{Expression, Row_of-Expression, end_of-Expression, more_of-Expression, Constant, Null, Local, Unary', Binary', Compare', And', Or', Choose', Call', Print', Read', Alloc, AllocArray', Length'}
+use Rattle.c0_typed.specs.declared.tree.Expression.{Expression, Row_of-Expression, end_of-Expression, more_of-Expression, Constant, Null, Local, Unary', Binary', Compare', And', Or', Choose', Call', Print', Load', Alloc, AllocArray', Length'}
 use Rattle.c0_typed.specs.declared.tree.Place.{Place, Deref', Index', Field'}
 use Rattle.c0_typed.specs.declared.tree.Statement.{Statement, Row_of-Statement, end_of-Statement, more_of-Statement, Block', Set, Update, Store, StoreUpdate, Do, If', Loop', Return, ReturnValue, Assert, Error, Check}
 use Rattle.c0_typed.specs.declared.tree.Function.{Function}
@@ -310,7 +310,7 @@ module _ (structs : List (List t.Ty)) (singles : List Kind) (texts : List (List 
     exp_part (t.Choose ty a b e) = chosen (kind_at ty) (exp_part a) (exp_part b) (exp_part e)
     exp_part (t.Call f es) = on_row (kind_at (given f)) (λ d rs. m.Call (result_register (given f) d) (swapped main f) rs) (row_part es)
     exp_part (t.Out p es) = on_row kind.Int (λ d rs. m.Do (print_code p rs)) (row_part es)
-    exp_part (t.Read ty q) = loaded (kind_at ty) (place_part q)
+    exp_part (t.Load ty q) = loaded (kind_at ty) (place_part q)
     exp_part (t.Alloc ty) = leaf (kind.Ptr (layout_at ty)) (λ d. op.Alloc d (layout_at ty))
     exp_part (t.AllocArray ty a) = on_one (kind.Arr (layout_at ty)) (λ d x. op.AllocArray d (layout_at ty) x) (exp_part a)
     exp_part (t.Length ty a) = on_one kind.Int op.Len (exp_part a)
@@ -399,7 +399,7 @@ module _ (structs : List (List t.Ty)) (singles : List Kind) (texts : List (List 
     exp_is (Choose' ty p a q b s e) = λ i. chosen (kind_at structs singles texts given main locals (type_of ty)) (exp_is a i) (exp_is b i) (exp_is e i)
     exp_is (Call' f shape es) = λ i. on_row (kind_at structs singles texts given main locals (given f)) (λ d rs. m.Call (result_register (given f) d) (swapped main f) rs) (row_is es i)
     exp_is (Print' p shape es) = λ i. on_row kind.Int (λ d rs. m.Do (print_is p rs i)) (row_is es i)
-    exp_is (Read' ty p q) = λ i. loaded (kind_at structs singles texts given main locals (type_of ty)) (place_is q i)
+    exp_is (Load' ty p q) = λ i. loaded (kind_at structs singles texts given main locals (type_of ty)) (place_is q i)
     exp_is (Alloc ty) = refl
     exp_is (AllocArray' ty p a) =
         λ i. on_one (kind.Arr (layout_at structs singles texts given main locals (type_of ty))) (λ d x. op.AllocArray d (layout_at structs singles texts given main locals (type_of ty)) x) (exp_is a i)

@@ -3,7 +3,7 @@ use Rattle.std.proofs.Common.{◌≡◌, ℕ, List, [], ◌∷◌, ◌++◌, len
 use Rattle.std.proofs.lemmas.List.{length-map}
 use Rattle.c0_typed.specs.Trees as t
 use Rattle.c0_typed.specs.Views.{block_of, block_row, exp_of, exps_of, function_of, place_of, program_of, row_of, stmt_of, struct_of, texts_of, type_of}
-use Rattle.c0_typed.specs.declared.tree.Expression.{Expression, Row_of-Expression, end_of-Expression, more_of-Expression, Constant, Null, Local, Unary', Binary', Compare', And', Or', Choose', Call', Print', Read', Alloc, AllocArray', Length'}
+use Rattle.c0_typed.specs.declared.tree.Expression.{Expression, Row_of-Expression, end_of-Expression, more_of-Expression, Constant, Null, Local, Unary', Binary', Compare', And', Or', Choose', Call', Print', Load', Alloc, AllocArray', Length'}
 use Rattle.c0_typed.specs.declared.tree.Place.{Place, Deref', Index', Field'}
 use Rattle.c0_typed.specs.declared.tree.Statement.{Statement, Row_of-Statement, end_of-Statement, more_of-Statement, Block', Set, Update, Store, StoreUpdate, Do, If', Loop', Return, ReturnValue, Assert, Error, Check}
 use Rattle.c0_typed.specs.declared.tree.Function.{Function}
@@ -25,7 +25,7 @@ abbrev mutual
   types_in (t.Choose ty c a b) = types_in c ++ (types_in a ++ types_in b)
   types_in (t.Call f es) = types_in_all es
   types_in (t.Out p es) = types_in_all es
-  types_in (t.Read ty q) = types_at q
+  types_in (t.Load ty q) = types_at q
   types_in (t.Alloc ty) = ty ∷ []
   types_in (t.AllocArray ty a) = ty ∷ types_in a
   types_in (t.Length ty a) = types_in a
@@ -81,7 +81,7 @@ module _ (texts : List (List ℕ)) where
     exp_types (Choose' ty p a q b s e) = ap₂ ◌++◌ (exp_types a) (ap₂ ◌++◌ (exp_types b) (exp_types e))
     exp_types (Call' f shape es) = row_types es
     exp_types (Print' out shape es) = row_types es
-    exp_types (Read' ty p q) = place_types q
+    exp_types (Load' ty p q) = place_types q
     exp_types (Alloc ty) = refl
     exp_types (AllocArray' ty p a) = ap (λ l. type_of ty ∷ l) (exp_types a)
     exp_types (Length' ty p a) = exp_types a

@@ -12,7 +12,7 @@ use Rattle.c0_typed.specs.declared.tree.Constant.{Constant as ConstantValue}
 use Rattle.c0_typed.specs.declared.tree.Constant.TheVariants as c
 use Rattle.c0_typed.specs.declared.tree.Output.{Output}
 use Rattle.c0_typed.specs.declared.tree.Output.TheVariants as o
-use Rattle.c0_typed.specs.declared.tree.Expression.{Expression, Row_of-Expression, end_of-Expression, more_of-Expression, Constant, Null, Local, Unary', Binary', Compare', And', Or', Choose', Call', Print', Read', Alloc, AllocArray', Length'}
+use Rattle.c0_typed.specs.declared.tree.Expression.{Expression, Row_of-Expression, end_of-Expression, more_of-Expression, Constant, Null, Local, Unary', Binary', Compare', And', Or', Choose', Call', Print', Load', Alloc, AllocArray', Length'}
 use Rattle.c0_typed.specs.declared.tree.Place.{Place, Deref', Index', Field'}
 use Rattle.c0_typed.specs.declared.tree.Function.{Function}
 use Rattle.code_form.specs.declared.form.Kind.{Kind}
@@ -139,7 +139,7 @@ module _ (structs : List (List t.Ty)) (singles : List Kind) (texts : List (List 
     exp_kinds (Choose' ty p a q b s e) = kind_at ty ∷ (exp_kinds a ++ (exp_kinds b ++ exp_kinds e))
     exp_kinds (Call' f shape es) = kind_of (length structs) singles (type_given functions f) ∷ row_kinds es
     exp_kinds (Print' out shape es) = kind.Int ∷ row_kinds es
-    exp_kinds (Read' ty p q) = kind_at ty ∷ place_kinds q
+    exp_kinds (Load' ty p q) = kind_at ty ∷ place_kinds q
     exp_kinds (Alloc ty) = kind.Ptr (layout_at ty) ∷ []
     exp_kinds (AllocArray' ty p a) = kind.Arr (layout_at ty) ∷ exp_kinds a
     exp_kinds (Length' ty p a) = kind.Int ∷ exp_kinds a
@@ -207,7 +207,7 @@ module _ (structs : List (List t.Ty)) (singles : List Kind) (texts : List (List 
           (sequence (moved locals e (exp_code e (suc d + length (exp_kinds a) + length (exp_kinds b))) (suc d + length (exp_kinds a) + length (exp_kinds b)) d)) ∷ [])
       exp_code (Call' f shape es) d = row_code es (suc d) ++ (m.Call (result_register (type_given functions f) d) (swapped main f) (row_at es (suc d)) ∷ [])
       exp_code (Print' out shape es) d = row_code es (suc d) ++ (m.Do (print_code out (row_at es (suc d))) ∷ [])
-      exp_code (Read' ty p q) d = place_code q (suc d) ++ (m.Load d (base_at q (suc d)) (offset_at q (suc d)) (displacement q) ∷ [])
+      exp_code (Load' ty p q) d = place_code q (suc d) ++ (m.Load d (base_at q (suc d)) (offset_at q (suc d)) (displacement q) ∷ [])
       exp_code (Alloc ty) d = m.Do (op.Alloc d (layout_at ty)) ∷ []
       exp_code (AllocArray' ty p a) d = exp_code a (suc d) ++ (m.Do (op.AllocArray d (layout_at ty) (value_at locals a (suc d))) ∷ [])
       exp_code (Length' ty p a) d = exp_code a (suc d) ++ (m.Do (op.Len d (value_at locals a (suc d))) ∷ [])

@@ -1,6 +1,6 @@
 //! The code of expressions.
 ghost use Rattle.c0_typed.specs.Views.{type_of};
-ghost use Rattle.c0_typed.specs.declared.tree.Expression.TheViews.{AllocArray, And, Binary, Call, Choose, Compare, Length, Or, Print, Read, Unary};
+ghost use Rattle.c0_typed.specs.declared.tree.Expression.TheViews.{AllocArray, And, Binary, Call, Choose, Compare, Length, Or, Print, Load, Unary};
 ghost use Rattle.c0_typed.specs.declared.tree.Expression.{Alloc, Constant, Null};
 ghost use Rattle.lower_expressions.specs.Building.{codes, exp_code, exp_kinds, list_at, list_code, list_kinds, moved, structs_in, type_given};
 ghost use Rattle.lower_tables.specs.Kinds.{kind_of as kind_with};
@@ -52,7 +52,7 @@ pub fn expression(
         }
         Expression::Call(function, given) => call(context, kinds, code, *function, given),
         Expression::Print(output, given) => print(context, kinds, code, *output, given),
-        Expression::Read(ty, from) => read(context, kinds, code, ty, from),
+        Expression::Load(ty, from) => load(context, kinds, code, ty, from),
         Expression::Alloc(ty) => allocate(context, kinds, code, ty),
         Expression::AllocArray(ty, count) => allocate_array(context, kinds, code, ty, count),
         Expression::Length(ty, array) => array_length(context, kinds, code, ty, array),
@@ -339,7 +339,7 @@ fn print(
 
 /// What stands at a place.
 #[cycle(expressions)]
-fn read(
+fn load(
     context: &Context,
     kinds: &mut Vec<Kind>,
     code: &mut Vec<Code>,
@@ -347,8 +347,8 @@ fn read(
     from: &Box<Place>,
 ) -> Result<u32, AllocError>
     ensures value { IfOk result (λ r. r ≡ length kinds.old.items) }
-    ensures registers { OnOk result (kinds.new.items ≡ kinds.old.items ++ exp_kinds context.now (Read ty.now from.now)) }
-    ensures added { OnOk result (codes code.new.items ≡ codes code.old.items ++ exp_code context.now (Read ty.now from.now) (length kinds.old.items)) }
+    ensures registers { OnOk result (kinds.new.items ≡ kinds.old.items ++ exp_kinds context.now (Load ty.now from.now)) }
+    ensures added { OnOk result (codes code.new.items ≡ codes code.old.items ++ exp_code context.now (Load ty.now from.now) (length kinds.old.items)) }
 {
     let to = fresh(kinds, kind_of(context.structs, context.singles, ty))?;
     let cell = place(context, kinds, code, from)?;

@@ -4,7 +4,7 @@ use Rattle.std.proofs.lemmas.Bool.Decides.{nat_tests}
 use Rattle.c0_typed.specs.Trees as t
 use Rattle.c0_typed.specs.Typing.{IsSmall}
 use Rattle.c0_typed.specs.Views.{type_of}
-use Rattle.c0_typed.specs.declared.tree.Expression.{Expression, Row_of-Expression, end_of-Expression, more_of-Expression, Constant, Null, Local, Unary', Binary', Compare', And', Or', Choose', Call', Print', Read', Alloc, AllocArray', Length'}
+use Rattle.c0_typed.specs.declared.tree.Expression.{Expression, Row_of-Expression, end_of-Expression, more_of-Expression, Constant, Null, Local, Unary', Binary', Compare', And', Or', Choose', Call', Print', Load', Alloc, AllocArray', Length'}
 use Rattle.c0_typed.specs.declared.tree.Place.{Place, Deref', Index', Field'}
 use Rattle.c0_typed.specs.declared.tree.Statement.{Statement, Row_of-Statement, end_of-Statement, more_of-Statement, Block', Set, Update, Store, StoreUpdate, Do, If', Loop', Return, ReturnValue, Assert, Error, Check}
 use Rattle.c0_typed.specs.declared.tree.Function.{Function}
@@ -185,7 +185,7 @@ module _ (n : ℕ) (s : List Kind) where
     knows (Choose' ty p a q b r e) h = let z = both (types_in a) (types_in b ++ types_in e) h in let y = both (types_in b) (types_in e) z.1 in (knows a z.0, knows b y.0, knows e y.1)
     knows (Call' f shape es) h = knows_row es h
     knows (Print' out shape es) h = knows_row es h
-    knows (Read' ty p q) h = knows_place q h
+    knows (Load' ty p q) h = knows_place q h
     knows (Alloc ty) h = h.0
     knows (AllocArray' ty p a) h = (h.0, knows a h.1)
     knows (Length' ty p a) h = knows a h

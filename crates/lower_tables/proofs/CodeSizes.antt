@@ -1,6 +1,6 @@
 -- How many parts a tree of the program has, which falls where the code of its parts is made.
 use Rattle.std.specs.Prelude.{ℕ, suc, ◌+◌, List, [], ◌∷◌}
-use Rattle.c0_typed.specs.declared.tree.Expression.{Expression, Row_of-Expression, end_of-Expression, more_of-Expression, Constant, Null, Local, Unary', Binary', Compare', And', Or', Choose', Call', Print', Read', Alloc, AllocArray', Length'}
+use Rattle.c0_typed.specs.declared.tree.Expression.{Expression, Row_of-Expression, end_of-Expression, more_of-Expression, Constant, Null, Local, Unary', Binary', Compare', And', Or', Choose', Call', Print', Load', Alloc, AllocArray', Length'}
 use Rattle.c0_typed.specs.declared.tree.Place.{Place, Deref', Index', Field'}
 use Rattle.c0_typed.specs.declared.tree.Statement.{Statement, Row_of-Statement, end_of-Statement, more_of-Statement, Block', Set, Update, Store, StoreUpdate, Do, If', Loop', Return, ReturnValue, Assert, Error, Check}
 
@@ -17,7 +17,7 @@ abbrev mutual
   size (Choose' ty p a q b s e) = suc (size a + size b + size e)
   size (Call' f shape es) = suc (size_row es)
   size (Print' out shape es) = suc (size_row es)
-  size (Read' ty p q) = suc (size_place q)
+  size (Load' ty p q) = suc (size_place q)
   size (Alloc ty) = 1
   size (AllocArray' ty p a) = suc (size a)
   size (Length' ty p a) = suc (size a)

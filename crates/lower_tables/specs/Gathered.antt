@@ -2,7 +2,7 @@
 use Rattle.std.specs.Prelude.{ℕ, ◌++◌, nat_lt, cond, List, [], ◌∷◌, length}
 use Rattle.c0_typed.specs.Trees as t
 use Rattle.c0_typed.specs.Views.{type_of}
-use Rattle.c0_typed.specs.declared.tree.Expression.{Expression, Row_of-Expression, end_of-Expression, more_of-Expression, Constant, Null, Local, Unary', Binary', Compare', And', Or', Choose', Call', Print', Read', Alloc, AllocArray', Length'}
+use Rattle.c0_typed.specs.declared.tree.Expression.{Expression, Row_of-Expression, end_of-Expression, more_of-Expression, Constant, Null, Local, Unary', Binary', Compare', And', Or', Choose', Call', Print', Load', Alloc, AllocArray', Length'}
 use Rattle.c0_typed.specs.declared.tree.Place.{Place, Deref', Index', Field'}
 use Rattle.c0_typed.specs.declared.tree.Statement.{Statement, Row_of-Statement, end_of-Statement, more_of-Statement, Block', Set, Update, Store, StoreUpdate, Do, If', Loop', Return, ReturnValue, Assert, Error, Check}
 use Rattle.c0_typed.specs.declared.tree.Function.{Function}
@@ -45,7 +45,7 @@ abbrev mutual
   types_in (Choose' ty p a q b s e) = types_in a ++ (types_in b ++ types_in e)
   types_in (Call' f shape es) = types_in_row es
   types_in (Print' out shape es) = types_in_row es
-  types_in (Read' ty p q) = types_at q
+  types_in (Load' ty p q) = types_at q
   types_in (Alloc ty) = type_of ty ∷ []
   types_in (AllocArray' ty p a) = type_of ty ∷ types_in a
   types_in (Length' ty p a) = types_in a

@@ -4,7 +4,7 @@ use Rattle.c0_typed.specs.Trees as t
 use Rattle.c0_typed.specs.Typing.{IsSmall}
 use Rattle.c0_typed.specs.Views.{struct_of, type_of}
 use Rattle.c0_typed.specs.declared.tree.ValueType.{ValueType}
-use Rattle.c0_typed.specs.declared.tree.Expression.{Expression, Row_of-Expression, end_of-Expression, more_of-Expression, Constant, Null, Local, Unary', Binary', Compare', And', Or', Choose', Call', Print', Read', Alloc, AllocArray', Length'}
+use Rattle.c0_typed.specs.declared.tree.Expression.{Expression, Row_of-Expression, end_of-Expression, more_of-Expression, Constant, Null, Local, Unary', Binary', Compare', And', Or', Choose', Call', Print', Load', Alloc, AllocArray', Length'}
 use Rattle.c0_typed.specs.declared.tree.Place.{Place, Deref', Index', Field'}
 use Rattle.c0_typed.specs.declared.tree.Statement.{Statement, Row_of-Statement, end_of-Statement, more_of-Statement, Block', Set, Update, Store, StoreUpdate, Do, If', Loop', Return, ReturnValue, Assert, Error, Check}
 use Rattle.c0_typed.specs.declared.tree.Function.{Function}
@@ -32,7 +32,7 @@ module _ (n : ℕ) (singles : List Kind) where
     Knows (Choose' ty p a q b s e) = Knows a × Knows b × Knows e
     Knows (Call' f shape es) = KnowsRow es
     Knows (Print' out shape es) = KnowsRow es
-    Knows (Read' ty p q) = KnowsPlace q
+    Knows (Load' ty p q) = KnowsPlace q
     Knows (Alloc ty) = IsKnown (type_of ty)
     Knows (AllocArray' ty p a) = IsKnown (type_of ty) × Knows a
     Knows (Length' ty p a) = Knows a

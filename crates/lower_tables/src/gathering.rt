@@ -78,7 +78,7 @@ fn from_expression(
         }
         Expression::Call(_, given) => from_expressions(structs, singles, given),
         Expression::Print(_, given) => from_expressions(structs, singles, given),
-        Expression::Read(_, place) => from_place(structs, singles, place),
+        Expression::Load(_, place) => from_place(structs, singles, place),
         Expression::Alloc(ty) => learn(structs, singles, ty),
         Expression::AllocArray(ty, count) => {
             learn(structs, singles, ty)?;

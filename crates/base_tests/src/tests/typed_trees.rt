@@ -12,10 +12,10 @@ fn types_and_trees(rt: HostRuntime) -> Result<(), Fail> {
     more_turns();
     let pointer = Box::new(rt.alloc(), Expression::Local(1))?;
     let place = Box::new(rt.alloc(), Place::Deref(ValueType::Int, pointer))?;
-    let read = Expression::Read(ValueType::Int, place);
+    let read = Expression::Load(ValueType::Int, place);
     assert_eq!(rt;
         format!(in rt.alloc(); "{read:?}")?.as_str(),
-        "Read(Int, Deref(Int, Local(1)))"
+        "Load(Int, Deref(Int, Local(1)))"
     );
     let to_int = ValueType::Pointer(Box::new(rt.alloc(), ValueType::Int)?);
     assert!(rt; to_int != ValueType::Int);

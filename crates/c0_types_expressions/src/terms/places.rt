@@ -256,10 +256,10 @@ impl<'a> Terms<'a> {
 
     // What stands at this place, of this type.
     fn reading(&self, resolved: ResolvedType, place: Box<TypedPlace>) -> Result<Typing, AllocError>
-        ensures { IfOk result (λ r. typing_of self.now.texts.now r ≡ x.Has (resolved_of resolved) (y.Read (x.num (env_of self.now) (resolved_of resolved)) (at_of self.now.texts.now place.value))) }
+        ensures { IfOk result (λ r. typing_of self.now.texts.now r ≡ x.Has (resolved_of resolved) (y.Load (x.num (env_of self.now) (resolved_of resolved)) (at_of self.now.texts.now place.value))) }
     {
         match self.numbered(&resolved) {
-            Ok(value_type) => Ok(Typing::Has(resolved, Expression::Read(value_type, place))),
+            Ok(value_type) => Ok(Typing::Has(resolved, Expression::Load(value_type, place))),
             Err(refused) => {
                 drop(resolved);
                 Err(refused)

@@ -30,8 +30,8 @@ decreases-expression_code::call l = 2 + 3 * size_list l.given.now.items
 abbrev pub decreases-expression_code::print : goal.decreases-expression_code::print
 decreases-expression_code::print l = 2 + 3 * size_list l.given.now.items
 
-abbrev pub decreases-expression_code::read : goal.decreases-expression_code::read
-decreases-expression_code::read l = 2 + 3 * size_place l.from.now.value
+abbrev pub decreases-expression_code::load : goal.decreases-expression_code::load
+decreases-expression_code::load l = 2 + 3 * size_place l.from.now.value
 
 abbrev pub decreases-expression_code::allocate_array : goal.decreases-expression_code::allocate_array
 decreases-expression_code::allocate_array l = 2 + 3 * size l.count.now.value

@@ -43,11 +43,11 @@ returns-in-Choose c =
     ∙ ap (λ x. t.Choose (type_of c.in-Choose.field-0) (exp_of texts c.in-Choose.field-1.value) (exp_of texts c.deref-in-Choose.result.now) (exp_of texts x)) (sym c.deref-in-Choose-2.ensures) in
     combines_as c.args.context.now _ _ c.args.self.now c.choose.result c.choose.new.self shape (c.choose.ensures c.args.context.now (type_of c.in-Choose.field-0) (exp_of texts c.in-Choose.field-1.value))
 
-pub returns-in-Read : goal.returns-in-Read
-returns-in-Read c =
+pub returns-in-Load : goal.returns-in-Load
+returns-in-Load c =
     let texts = texts_in c.args.context.now in
-    let shape = ap (exp_of texts) c.in-Read.is in
-    combines_as c.args.context.now _ _ c.args.self.now c.load.result c.load.new.self shape (c.load.ensures c.args.context.now (type_of c.in-Read.field-0) (place_of texts c.in-Read.field-1.value))
+    let shape = ap (exp_of texts) c.in-Load.is in
+    combines_as c.args.context.now _ _ c.args.self.now c.load.result c.load.new.self shape (c.load.ensures c.args.context.now (type_of c.in-Load.field-0) (place_of texts c.in-Load.field-1.value))
 
 pub returns-in-AllocArray : goal.returns-in-AllocArray
 returns-in-AllocArray c =
