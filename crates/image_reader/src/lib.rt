@@ -1,1 +1,12 @@
+//! Images from bytes.
 #![tactic(auto)]
+
+mod decoding;
+mod failure;
+mod fields;
+mod instructions;
+mod laws;
+mod lists;
+
+pub use decoding::decode;
+pub use laws::round_trips;

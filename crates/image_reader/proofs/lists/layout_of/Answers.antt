@@ -1,0 +1,18 @@
+use Rattle.std.proofs.lemmas.Result.{err_from_is_err_and}
+use Rattle.image_reader.specs.Reading.{list_at, cell_at, layout_at}
+use Rattle.image_reader.proofs.Loops.{goes_on, ends, is_done}
+use Rattle.image_reader.proofs.lists.layout_of.Goals as goal
+
+pub returns-in_err-kind : goal.returns-in_err-kind
+unfolding layout_at
+returns-in_err-kind c =
+    let p = err_from_is_err_and c.from_residual-in_err-kind.result c.from_residual-in_err-kind.ensures.1 in
+    rw (p.1, p.2) (ends cell_at c.in_err-kind.field-0.0 c.loop.items.items c.in_ok-count.count c.loop.counter c.loop.rest.now (list_at cell_at c.args.bytes.now) c.loop-test.true c.in_err-kind.ensures c.loop.invariant)
+
+pub loop-preserved : goal.loop-preserved
+loop-preserved c =
+    rw c.in_ok-push.ensures.items (goes_on cell_at c.loop.items.items c.in_ok-count.count c.loop.counter c.loop.rest.now c.in_ok-kind.kind c.in_ok-kind.behind.now (list_at cell_at c.args.bytes.now) c.loop-test.true c.in_ok-kind.ensures c.loop.invariant)
+
+pub returns : goal.returns
+unfolding layout_at
+returns c = is_done cell_at c.loop.items.items c.in_ok-count.count c.loop.counter c.loop.rest.now (list_at cell_at c.args.bytes.now) c.loop-test.false c.loop.invariant
