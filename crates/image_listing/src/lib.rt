@@ -1,1 +1,8 @@
+//! Listings of images.
 #![tactic(auto)]
+
+mod laws;
+mod listing;
+
+pub use laws::worked;
+pub use listing::list;

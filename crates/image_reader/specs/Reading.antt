@@ -18,8 +18,8 @@ use Rattle.instruction_table.specs.Table.{Value, Values, cases_of, made, name_wi
 abbrev pub Reading : Type 0 → Type 0
 Reading A = List ℕ → Result (A × List ℕ) ImageFault
 
--- what follows a value, unless something is wrong
 infixl 10 ◌>>=◌
+-- what follows a value, unless something is wrong
 abbrev pub ◌>>=◌ : {A B : Type 0} → Result A ImageFault → (A → Result B ImageFault) → Result B ImageFault
 (Ok x) >>= f = f x
 (Err e) >>= f = Err e
