@@ -8,7 +8,8 @@ use Rattle.code_form.specs.declared.form.Kind.{Kind}
 use Rattle.code_form.specs.declared.form.Kind.TheVariants as kind
 use Rattle.lower_tables.specs.Gathered.{all_learned, learned, with_kind}
 use Rattle.lower_tables.specs.Kinds.{cell_kinds, field_kinds, kind_of, layout_number, position, single_layout, struct_layouts}
-use Rattle.c0_well_formed.specs.Laws.{IsCellKind, names_layout}
+use Rattle.scope_verifier_laws.specs.Numbers.{names_layout}
+use Rattle.c0_well_formed.specs.Laws.{IsCellKind}
 
 -- ---- lists
 

@@ -33,7 +33,8 @@ use Rattle.lower_expressions.specs.Expressions.{checked, constant_kind, unary_ki
 use Rattle.lower.proofs.Layouts.{layouts_length}
 use Rattle.codegen.specs.Generated.{asked_of, blocks, blocks_with, function_of, generated, scopes_of, uses_cells}
 use Rattle.code_verification.specs.Verified.{NamesFacts}
-use Rattle.c0_well_formed.specs.Laws.{ImagesAreConsistent, IsCellKind, IsConsistent, IsConsistentFunction, IsResultKind, NamesNumbers, names_layout}
+use Rattle.scope_verifier_laws.specs.Numbers.{names_layout}
+use Rattle.c0_well_formed.specs.Laws.{ImagesAreConsistent, IsCellKind, IsConsistent, IsConsistentFunction, IsResultKind, NamesNumbers}
 use Rattle.c0_well_formed.proofs.Images.{images_ok}
 use Rattle.c0_well_formed.proofs.Ordered.{in_order}
 use Rattle.c0_well_formed.proofs.Numbers.{CodeNames, blocks_names, function_names}

@@ -1,11 +1,10 @@
 -- What holds of the code and of the image of every program.
-use Rattle.std.specs.Prelude.{◌≡◌, ℕ, ◌<◌, ◌≤◌, nat_lt, Bool, true, false, List, All, Option, Some, None, FitsSigned, length, take}
+use Rattle.std.specs.Prelude.{◌≡◌, ℕ, ◌<◌, ◌≤◌, Bool, true, List, All, Option, Some, None, FitsSigned, length, take}
 use Rattle.std.specs.Int.{w32}
 use Rattle.c0_typed.specs.Typing.{FitsProgram}
 use Rattle.c0_typed.specs.Views.{program_of}
 use Rattle.c0_typed.specs.declared.tree.Typed.{Typed}
 use Rattle.code_form.specs.declared.form.Kind.{Kind}
-use Rattle.code_form.specs.declared.form.Kind.TheVariants as kind
 use Rattle.code_form.specs.declared.form.Operation.{Operation}
 use Rattle.code_form.specs.declared.form.Operation.TheVariants as op
 use Rattle.code_form.specs.Counts.{has_few_items}
@@ -16,6 +15,7 @@ use Rattle.lower.specs.Lowered.{lowered}
 use Rattle.code_verification.specs.Entries.{EntryFactsHold}
 use Rattle.code_verification.specs.Verified.{IsVerified, NamesFacts}
 use Rattle.codegen.specs.Guarded.{is_guarded_program}
+use Rattle.scope_verifier_laws.specs.Numbers.{is_value, names_layout}
 use Rattle.c0_image.specs.Compiled.{IsCompiled}
 
 -- the structured code of a well-typed program is well formed
@@ -33,18 +33,6 @@ ImagesAreVerified = (text : List ℕ) (checks : Bool) (C : Image) → IsCompiled
 -- and whenever a run of it enters a block, the block's entry facts hold
 abbrev pub FactsOfImagesHold : Type 0
 FactsOfImagesHold = (text : List ℕ) (checks : Bool) (C : Image) → IsCompiled text checks C → EntryFactsHold C
-
--- the layout that a kind names is one of so many
-abbrev pub names_layout : ℕ → Kind → Bool
-names_layout count (kind.Ptr l) = nat_lt l count
-names_layout count (kind.Arr l) = nat_lt l count
-names_layout count (kind.Off l) = nat_lt l count
-names_layout count _ = true
-
--- a kind of cells, of parameters and of results: no offset
-abbrev pub is_value : Kind → Bool
-is_value (kind.Off l) = false
-is_value _ = true
 
 -- a kind of values that names one of so many layouts
 abbrev pub IsCellKind : ℕ → Kind → Type 0
