@@ -12,4 +12,5 @@ mod Images
 mod CellKinds
 mod Numbers
 mod Consistent
+mod Accepted
 mod Ordered

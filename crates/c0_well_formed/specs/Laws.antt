@@ -16,6 +16,7 @@ use Rattle.code_verification.specs.Entries.{EntryFactsHold}
 use Rattle.code_verification.specs.Verified.{IsVerified, NamesFacts}
 use Rattle.codegen.specs.Guarded.{is_guarded_program}
 use Rattle.scope_verifier_laws.specs.Numbers.{is_value, names_layout}
+use Rattle.scope_verifier_laws.specs.Faults.{fault_of}
 use Rattle.c0_image.specs.Compiled.{IsCompiled}
 
 -- the structured code of a well-typed program is well formed
@@ -75,3 +76,7 @@ pub record IsConsistent (C : Image) : Type 0 where
 -- so is an image of a text
 abbrev pub ImagesAreConsistent : Type 0
 ImagesAreConsistent = (text : List ℕ) (checks : Bool) (C : Image) → IsCompiled text checks C → IsConsistent C
+
+-- and has no fault
+abbrev pub ImagesHaveNoFault : Type 0
+ImagesHaveNoFault = (text : List ℕ) (checks : Bool) (C : Image) → IsCompiled text checks C → fault_of C ≡ None

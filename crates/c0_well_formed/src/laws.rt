@@ -1,10 +1,11 @@
 //! Functions that compute nothing, and whose contracts are the laws.
 
-ghost use Rattle.c0_well_formed.specs.Laws.{FactsOfImagesHold, ImagesAreConsistent, ImagesAreVerified, IsConsistent, LoweredIsGuarded, LoweredIsWellFormed};
+ghost use Rattle.c0_well_formed.specs.Laws.{FactsOfImagesHold, ImagesAreConsistent, ImagesAreVerified, ImagesHaveNoFault, IsConsistent, LoweredIsGuarded, LoweredIsWellFormed};
 ghost use Rattle.c0_well_formed.specs.Worked.{consistent_image, five_scopes, large_byte, large_character, large_number, missing_scope, offset_as_parameter, offset_in_layout, with_texts, without_layout};
 ghost use Rattle.std.specs.Prelude.{◌^◌, ◌≤◌, ℕ};
 
 use code_verification::verified_is_covered;
+use scope_verifier_laws::verified_is_accepted;
 
 /// The structured code of a well-typed program is well formed.
 pub fn lowered_is_well_formed()
@@ -33,6 +34,13 @@ pub fn images_are_verified()
 pub fn images_are_consistent()
     ensures { ImagesAreConsistent }
 {}
+
+/// The verifier finds no fault in the image of a text.
+pub fn images_are_accepted()
+    ensures { ImagesHaveNoFault }
+{
+    verified_is_accepted();
+}
 
 /// Which images are consistent, and each cause why another is not.
 pub fn worked_images()
