@@ -14,11 +14,13 @@ use Rattle.c0_front.specs.Texts as Unchecked
 use Rattle.code_form.specs.Form.{Image}
 use Rattle.clap.specs.Words.{Text}
 use Rattle.c0_image.specs.Compiled.{IsCompiled}
+use Rattle.image_listing.specs.Listing.{listing}
 use Rattle.image_run.specs.Executed.{IsExecuted}
 use Rattle.c0far.specs.FileTexts.{HasText, IsMissing, Known}
 use Rattle.c0far.specs.MeantLines.{last_line}
 use Rattle.command_line.specs.Help.{help_text}
 use Rattle.command_line.specs.Shell.{Check, Command, Mean, Names, Run}
+use Rattle.command_line.specs.Shell as shell
 use Rattle.c0far.specs.Statuses.{ended_status, run_status}
 use Rattle.c0far.specs.Streams.{IsQuiet, Says, Writes}
 
@@ -106,6 +108,19 @@ pub record HasFailed (file : Text) (held : Known) (out err : Writes) (result : �
 abbrev pub Checks : Text → Known → Writes → Writes → ℕ → Type 0
 Checks file held out err result = HasPassed held out err result ⊎ (HasFailed file held out err result ⊎ (IsUnread file held out err result ⊎ LacksMemory out err result))
 
+-- the program of the file's text was compiled, with no contracts: the lines of its image are shown
+pub record HasListed (held : Known) (out err : Writes) (result : ℕ) : Type 0 where
+  pub text : List ℕ
+  pub read : HasText held text
+  pub image : Image
+  pub compiled : IsCompiled text false image
+  pub shown : Says out (listing image) 0 result
+  pub quiet : IsQuiet err
+
+-- the command `list` of this file, which holds this
+abbrev pub Lists : Text → Known → Writes → Writes → ℕ → Type 0
+Lists file held out err result = HasListed held out err result ⊎ (HasFailed file held out err result ⊎ (IsUnread file held out err result ⊎ LacksMemory out err result))
+
 -- the program of the file's text means this within so many turns: what it printed and its end are shown
 pub record HasMeant (checks : Bool) (turns : ℕ) (held : Known) (out err : Writes) (result : ℕ) : Type 0 where
   pub text : List ℕ
@@ -126,6 +141,7 @@ Runs file checks held out err result = HasRun checks held out err result ⊎ (Ha
 -- the command, where files hold this
 abbrev pub Does : (Text → Known) → Command → Writes → Writes → ℕ → Type 0
 Does held (Check file) out err result = Checks file (held file) out err result
+Does held (shell.Lists file) out err result = Lists file (held file) out err result
 Does held (Mean checks turns file) out err result = Means file checks turns (held file) out err result
 Does held (Run checks file) out err result = Runs file checks (held file) out err result
 

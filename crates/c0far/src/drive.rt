@@ -7,6 +7,7 @@ ghost use Rattle.c0far.specs.Statuses.{run_status};
 ghost use Rattle.c0far.specs.Streams.{Says, writes};
 
 use crate::files::{FileError, Files};
+use crate::listing::list;
 use crate::plain::{Bound, mean};
 use crate::say::{
     REFUSED, STOPPED, WANTED, after, say_memory, say_refused, say_unread, write_output,
@@ -158,6 +159,7 @@ pub fn drive<W: Wait + Threads, F: Files, O: Stream, E: Stream>(
 {
     match line(alloc, words) {
         Ok(Line::Check { file }) => check(alloc, file, files, out, err),
+        Ok(Line::List { file }) => list(alloc, file, files, out, err),
         Ok(
             Line::Mean {
                 checks,

@@ -3,6 +3,7 @@
 
 pub mod drive;
 pub mod files;
+mod listing;
 mod plain;
 pub mod say;
 pub mod stream;

@@ -24,7 +24,7 @@ checks_rule = record (new_rule (codes "checks")) { short = Some 100; action = So
 abbrev pub turns_rule : Rule
 turns_rule = record (new_rule (codes "turns")) { long = Some (codes "turns"); required = true; action = Some Set }
 
--- check FILE
+-- check FILE, or list FILE
 abbrev pub file_shape : Text → Shape
 file_shape name = (with_rule (new_app name) file_rule).top
 
@@ -42,7 +42,7 @@ top_shape = record (new_app (codes "c0far")).top { subcommand_required = true }
 
 -- the program with its commands
 unfoldable pub shell : App
-shell = with_subcommand (with_subcommand (with_subcommand (record { top = top_shape; subs = [] }) (file_shape (codes "check"))) mean_shape) run_shape
+shell = with_subcommand (with_subcommand (with_subcommand (with_subcommand (record { top = top_shape; subs = [] }) (file_shape (codes "check"))) (file_shape (codes "list"))) mean_shape) run_shape
 
 -- what clap builds for a command has no argument that is the commands' below it too
 abbrev pub IsLocal : Built → Type 0
@@ -51,6 +51,7 @@ IsLocal c = (out-Command c).has_globals ≡ false
 -- a command, with its file; `mean` and `run` with whether contracts are checked, `mean` with its turns
 pub data Command : Type 0 where
   Check : Text → Command
+  Lists : Text → Command
   Mean : Bool → ℕ → Text → Command
   Run : Bool → Text → Command
 
@@ -78,8 +79,9 @@ mean_command rows file = option_map (λ turns. Mean (has_checks rows) turns file
 abbrev pub named_command : Text → List Row → Text → Option Command
 named_command name rows file =
     cond (bytes_eq name (codes "check")) (Some (Check file))
+    (cond (bytes_eq name (codes "list")) (Some (Lists file))
     (cond (bytes_eq name (codes "mean")) (mean_command rows file)
-    (cond (bytes_eq name (codes "run")) (Some (Run (has_checks rows) file)) None))
+    (cond (bytes_eq name (codes "run")) (Some (Run (has_checks rows) file)) None)))
 
 -- the command that clap found, with its rows
 abbrev pub command_in : Option (Text × List Row) → Option Command
@@ -89,6 +91,7 @@ command_in (Some p) = option_and_then (named_command p.0 p.1) (first_of (codes "
 -- a command as code has it
 abbrev pub command_of : Line → Command
 command_of (line.Check file) = Check file.now
+command_of (line.List file) = Lists file.now
 command_of (line.Mean checks turns file) = Mean checks turns file.now
 command_of (line.Run checks file) = Run checks file.now
 

@@ -10,6 +10,7 @@ pub const PAGE: &str = "usage: c0far COMMAND ..
 
 commands:
   check FILE                  tells whether a text is a program, and where not
+  list FILE                   prints the instructions that a text is compiled to
   mean [-d] --turns N FILE    runs the text's program plainly, for at most N turns
   run [-d] FILE               compiles the text, and runs it over a store
   help [COMMAND]              shows this page, or that of a command
@@ -30,6 +31,18 @@ status: 0 where it is accepted; 2 where it is refused, or cannot be read;
   3 where memory ran out
 
 docs/LANGUAGE.md shows each fault with a text that has it";
+
+/// The page of `list`.
+pub const LIST_PAGE: &str = "usage: c0far list FILE
+
+Compiles the text in FILE and prints each instruction of its image on a line of
+its own: fF bB K: NAME OPERANDS, with the numbers of the function, of its block
+and of the instruction in it
+
+status: 0 where it is printed; 2 where the text is refused, or cannot be read,
+  or a write failed; 3 where memory ran out
+
+docs/IMAGES.md tells what each instruction does";
 
 /// The page of `mean`.
 pub const MEAN_PAGE: &str = "usage: c0far mean [-d] --turns N FILE
@@ -86,7 +99,7 @@ fn ask(words: &[&str]) -> bool
 fn is_name(word: &str) -> bool
     ensures { result ≡ is_command word.now }
 {
-    word == "check" || word == "mean" || word == "run"
+    word == "check" || word == "list" || word == "mean" || word == "run"
 }
 
 /// The first of the words that names a command. None is the empty text.
@@ -105,6 +118,7 @@ fn named_page(name: &str) -> &'static str
 {
     match name {
         "check" => CHECK_PAGE,
+        "list" => LIST_PAGE,
         "mean" => MEAN_PAGE,
         "run" => RUN_PAGE,
         _ => PAGE,

@@ -59,11 +59,13 @@ fn command<'a>(alloc: Global) -> Result<Command<'a>, AllocError>
     ensures { IfOk result (λ c. app_of c ≡ shell) }
 {
     let check = of_a_file(alloc, "check")?;
+    let list = of_a_file(alloc, "list")?;
     let mean = mean(alloc)?;
     let run = run(alloc)?;
     Command::new(alloc, "c0far")
         .subcommand_required(true)
         .subcommand(check)?
+        .subcommand(list)?
         .subcommand(mean)?
         .subcommand(run)
 }
@@ -131,6 +133,7 @@ fn named<'a>(name: &str, matches: &ArgMatches<'a>, file: &'a str) -> Option<Line
 {
     match name {
         "check" => Some(Line::Check { file }),
+        "list" => Some(Line::List { file }),
         "mean" => plain_run(matches, file),
         "run" => Some(Line::Run {
             checks: checks(matches),

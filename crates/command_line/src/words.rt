@@ -8,6 +8,10 @@ pub enum Line<'a> {
     Check {
         file: &'a str,
     },
+    /// Lists the instructions of a text's image.
+    List {
+        file: &'a str,
+    },
     /// The plain run of a text: what its program means within so many turns, with contracts checked or not.
     Mean {
         checks: bool,
