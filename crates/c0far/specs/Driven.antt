@@ -1,5 +1,5 @@
 -- What a command writes, and its exit status.
-use Rattle.std.specs.Prelude.{◌≡◌, ◌⊎◌, ℕ, ◌+◌, ◌-◌, ◌==◌, min, Bool, false, not, List, [], ◌∷◌, ◌++◌, length, take, count_by, Option, Some, None, slice_get, codes, cond, decimal}
+use Rattle.std.specs.Prelude.{◌≡◌, ◌⊎◌, ℕ, ◌+◌, ◌-◌, ◌==◌, min, Bool, true, false, not, List, [], ◌∷◌, ◌++◌, length, take, count_by, Err, Option, Some, None, slice_get, codes, cond, decimal}
 use Rattle.cells.specs.declared.ending.Ended.{Ended}
 use Rattle.cells.specs.Lines.{run_line}
 use Rattle.cells.specs.Outcomes.{Meant}
@@ -13,9 +13,17 @@ use Rattle.c0_front.specs.Texts.{IsTypedAs}
 use Rattle.c0_front.specs.Texts as Unchecked
 use Rattle.code_form.specs.Form.{Image}
 use Rattle.clap.specs.Words.{Text}
-use Rattle.c0_image.specs.Compiled.{IsCompiled}
+use Rattle.image_bytes.specs.Bytes.{image_bytes}
+use Rattle.image_bytes.specs.Encodable.{IsImage}
 use Rattle.image_listing.specs.Listing.{listing}
+use Rattle.image_reader.specs.Reading.{reads}
 use Rattle.image_run.specs.Executed.{IsExecuted}
+use Rattle.instruction_table.specs.FaultNumbers.{fault_line as image_line}
+use Rattle.instruction_table.specs.declared.fault.ImageFault.{ImageFault}
+use Rattle.scope_verifier_laws.specs.Faults.{fault_of}
+use Rattle.scope_verifier_laws.specs.FaultNumbers.{fault_line as verify_line}
+use Rattle.scope_verifier_laws.specs.declared.fault.VerifyFault.{VerifyFault}
+use Rattle.c0far.specs.FileCode.{HoldsCode, HoldsImage, names_image}
 use Rattle.c0far.specs.FileTexts.{HasText, IsMissing, Known}
 use Rattle.c0far.specs.MeantLines.{last_line}
 use Rattle.command_line.specs.Help.{help_text}
@@ -58,17 +66,6 @@ StandsAt text at line column = (line ≡ count_by (λ b. b == 10) (take at text)
 
 -- ---- what is done
 
--- the program of the file's text ran, with contracts checked or not: what it printed and its end are shown
-pub record HasRun (checks : Bool) (held : Known) (out err : Writes) (result : ℕ) : Type 0 where
-  pub text : List ℕ
-  pub read : HasText held text
-  pub image : Image
-  pub ended : Ended
-  pub compiled : IsCompiled text checks image
-  pub executed : IsExecuted image ended
-  pub shown : Says out (shown_end ended) (run_status ended.run) result
-  pub quiet : IsQuiet err
-
 -- the file was not read
 pub record IsUnread (file : Text) (held : Known) (out err : Writes) (result : ℕ) : Type 0 where
   pub missing : IsMissing held
@@ -104,22 +101,85 @@ pub record HasFailed (file : Text) (held : Known) (out err : Writes) (result : �
   pub shown : Says err (shown_fault file line column fault) 2 result
   pub quiet : IsQuiet out
 
+-- the file's bytes are no image: the first thing that is wrong with them is shown
+pub record HasImageFault (file : Text) (held : Known) (out err : Writes) (result : ℕ) : Type 0 where
+  pub bytes : List ℕ
+  pub read : HasText held bytes
+  pub fault : ImageFault
+  pub cause : reads bytes ≡ Err fault
+  pub shown : Says err (file ++ (codes ": " ++ (image_line fault ++ newline))) 2 result
+  pub quiet : IsQuiet out
+
+-- the file's image may not be run: its first fault is shown
+pub record HasVerifyFault (file : Text) (held : Known) (out err : Writes) (result : ℕ) : Type 0 where
+  pub bytes : List ℕ
+  pub read : HasText held bytes
+  pub image : Image
+  pub is : IsImage bytes image
+  pub fault : VerifyFault
+  pub cause : fault_of image ≡ Some fault
+  pub shown : Says err (file ++ (codes ": " ++ (verify_line fault ++ newline))) 2 result
+  pub quiet : IsQuiet out
+
+-- the file's image is refused
+abbrev pub IsUnfit : Text → Known → Writes → Writes → ℕ → Type 0
+IsUnfit file held out err result = HasImageFault file held out err result ⊎ HasVerifyFault file held out err result
+
+-- the file's code is refused: an image, or a text
+abbrev pub IsRefused : Text → Known → Writes → Writes → ℕ → Type 0
+IsRefused file held out err result = elim (names_image file) as (λ b. Type 0) [ true ↦ IsUnfit file held out err result | false ↦ HasFailed file held out err result ]
+
+-- there is no code of the file: it is refused, or was not read, or memory was wanted
+abbrev pub HasNoCode : Text → Known → Writes → Writes → ℕ → Type 0
+HasNoCode file held out err result = IsRefused file held out err result ⊎ (IsUnread file held out err result ⊎ LacksMemory out err result)
+
+-- the command `check` of this file, which holds this text
+abbrev pub ChecksText : Text → Known → Writes → Writes → ℕ → Type 0
+ChecksText file held out err result = HasPassed held out err result ⊎ (HasFailed file held out err result ⊎ (IsUnread file held out err result ⊎ LacksMemory out err result))
+
+-- the file's image may be run
+pub record IsFit (held : Known) (out err : Writes) (result : ℕ) : Type 0 where
+  pub image : Image
+  pub code : HoldsImage held image
+  pub shown : Says out (codes "ok" ++ newline) 0 result
+  pub quiet : IsQuiet err
+
 -- the command `check` of this file, which holds this
 abbrev pub Checks : Text → Known → Writes → Writes → ℕ → Type 0
-Checks file held out err result = HasPassed held out err result ⊎ (HasFailed file held out err result ⊎ (IsUnread file held out err result ⊎ LacksMemory out err result))
+Checks file held out err result = elim (names_image file) as (λ b. Type 0) [ true ↦ IsFit held out err result ⊎ HasNoCode file held out err result | false ↦ ChecksText file held out err result ]
 
--- the program of the file's text was compiled, with no contracts: the lines of its image are shown
-pub record HasListed (held : Known) (out err : Writes) (result : ℕ) : Type 0 where
-  pub text : List ℕ
-  pub read : HasText held text
+-- the lines of the file's code are shown, of a text with no contracts
+pub record HasListed (file : Text) (held : Known) (out err : Writes) (result : ℕ) : Type 0 where
   pub image : Image
-  pub compiled : IsCompiled text false image
+  pub code : HoldsCode file false held image
   pub shown : Says out (listing image) 0 result
   pub quiet : IsQuiet err
 
 -- the command `list` of this file, which holds this
 abbrev pub Lists : Text → Known → Writes → Writes → ℕ → Type 0
-Lists file held out err result = HasListed held out err result ⊎ (HasFailed file held out err result ⊎ (IsUnread file held out err result ⊎ LacksMemory out err result))
+Lists file held out err result = HasListed file held out err result ⊎ HasNoCode file held out err result
+
+-- the bytes of the file's code, of a text with contracts checked or not, are those of another file, which holds this now
+pub record HasBuilt (file : Text) (checks : Bool) (held now : Known) (out err : Writes) (result : ℕ) : Type 0 where
+  pub image : Image
+  pub code : HoldsCode file checks held image
+  pub written : HasText now (image_bytes image)
+  pub status : result ≡ 0
+  pub silent : IsQuiet out
+  pub quiet : IsQuiet err
+
+-- the other file was not written
+pub record IsUnwritten (file : Text) (out err : Writes) (result : ℕ) : Type 0 where
+  pub shown : Says err (file ++ (codes ": cannot be written" ++ newline)) 2 result
+  pub quiet : IsQuiet out
+
+-- nothing is built: the file that was to be written holds what it held
+abbrev pub HasNotBuilt : Text → Text → (held before now : Known) → Writes → Writes → ℕ → Type 0
+HasNotBuilt file target held before now out err result = (now ≡ before) × (HasNoCode file held out err result ⊎ IsUnwritten target out err result)
+
+-- the command `build` of this file, which holds this, into a file which held this and holds that now
+abbrev pub Builds : Text → Bool → Text → (held before now : Known) → Writes → Writes → ℕ → Type 0
+Builds file checks target held before now out err result = HasBuilt file checks held now out err result ⊎ HasNotBuilt file target held before now out err result
 
 -- the program of the file's text means this within so many turns: what it printed and its end are shown
 pub record HasMeant (checks : Bool) (turns : ℕ) (held : Known) (out err : Writes) (result : ℕ) : Type 0 where
@@ -134,16 +194,39 @@ pub record HasMeant (checks : Bool) (turns : ℕ) (held : Known) (out err : Writ
 abbrev pub Means : Text → Bool → ℕ → Known → Writes → Writes → ℕ → Type 0
 Means file checks turns held out err result = HasMeant checks turns held out err result ⊎ (HasFailed file held out err result ⊎ (IsUnread file held out err result ⊎ LacksMemory out err result))
 
+-- the code of the file ran, that of a text with contracts checked or not: what it printed and its end are shown
+pub record HasRun (file : Text) (checks : Bool) (held : Known) (out err : Writes) (result : ℕ) : Type 0 where
+  pub image : Image
+  pub ended : Ended
+  pub code : HoldsCode file checks held image
+  pub executed : IsExecuted image ended
+  pub shown : Says out (shown_end ended) (run_status ended.run) result
+  pub quiet : IsQuiet err
+
 -- the command `run` of this file, which holds this
 abbrev pub Runs : Text → Bool → Known → Writes → Writes → ℕ → Type 0
-Runs file checks held out err result = HasRun checks held out err result ⊎ (HasFailed file held out err result ⊎ (IsUnread file held out err result ⊎ LacksMemory out err result))
+Runs file checks held out err result = HasRun file checks held out err result ⊎ HasNoCode file held out err result
 
--- the command, where files hold this
-abbrev pub Does : (Text → Known) → Command → Writes → Writes → ℕ → Type 0
-Does held (Check file) out err result = Checks file (held file) out err result
-Does held (shell.Lists file) out err result = Lists file (held file) out err result
-Does held (Mean checks turns file) out err result = Means file checks turns (held file) out err result
-Does held (Run checks file) out err result = Runs file checks (held file) out err result
+-- the command, where files held this and hold that now
+abbrev pub Does : (held now : Text → Known) → Command → Writes → Writes → ℕ → Type 0
+Does held now (shell.Build checks target file) out err result = Builds file checks target (held file) (held target) (now target) out err result
+Does held now (Check file) out err result = Checks file (held file) out err result
+Does held now (shell.Lists file) out err result = Lists file (held file) out err result
+Does held now (Mean checks turns file) out err result = Means file checks turns (held file) out err result
+Does held now (Run checks file) out err result = Runs file checks (held file) out err result
+
+-- the command may write this file
+abbrev pub MayWrite : Command → Text → Type 0
+MayWrite (shell.Build checks target file) name = name ≡ target
+MayWrite _ name = ⊥
+
+-- all files that it may not write hold what they held
+abbrev pub KeepsOthers : (held now : Text → Known) → Command → Type 0
+KeepsOthers held now command = (name : Text) → (MayWrite command name → ⊥) → now name ≡ held name
+
+-- all files do
+abbrev pub KeepsFiles : (held now : Text → Known) → Type 0
+KeepsFiles held now = (name : Text) → now name ≡ held name
 
 -- the words are no command: it is told what is refused, and a page of help is shown
 pub record IsUsage (words : List Text) (out err : Writes) (result : ℕ) : Type 0 where
@@ -151,6 +234,13 @@ pub record IsUsage (words : List Text) (out err : Writes) (result : ℕ) : Type 
   pub shown : Says err (help_text words) 2 result
   pub quiet : IsQuiet out
 
--- what the words ask for was done, where files hold this
-abbrev pub IsDriven : (Text → Known) → List Text → Writes → Writes → ℕ → Type 0
-IsDriven held words out err result = ((command : Command) × Names words command × Does held command out err result) ⊎ (IsUsage words out err result ⊎ LacksMemory out err result)
+-- the words are this command, and it was done
+pub record IsDone (held now : Text → Known) (words : List Text) (out err : Writes) (result : ℕ) : Type 0 where
+  pub command : Command
+  pub named : Names words command
+  pub done : Does held now command out err result
+  pub others : KeepsOthers held now command
+
+-- what the words ask for was done, where files held this and hold that now
+abbrev pub IsDriven : (held now : Text → Known) → List Text → Writes → Writes → ℕ → Type 0
+IsDriven held now words out err result = IsDone held now words out err result ⊎ (KeepsFiles held now × (IsUsage words out err result ⊎ LacksMemory out err result))

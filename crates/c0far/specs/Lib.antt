@@ -1,4 +1,5 @@
 pub mod Driven
+pub mod FileCode
 pub mod FileTexts
 pub mod MeantLines
 pub mod MemTexts

@@ -1,20 +1,20 @@
 //! The commands, over files and two streams.
 ghost use Rattle.std.specs.Prelude.{◌≡◌, ◌++◌, ℕ, List, codes, map};
 ghost use Rattle.command_line.specs.Help.{help_text};
-ghost use Rattle.c0far.specs.Driven.{Checks, IsDriven, Runs, newline, shown_end};
+ghost use Rattle.c0far.specs.Driven.{Checks, ChecksText, IsDriven, Runs, newline, shown_end};
 ghost use Rattle.c0far.specs.FileTexts.{HasText, Known};
 ghost use Rattle.c0far.specs.Statuses.{run_status};
 ghost use Rattle.c0far.specs.Streams.{Says, writes};
 
+use crate::code::{code_of, is_image_name};
 use crate::files::{FileError, Files};
-use crate::listing::list;
+use crate::images::{Target, build, list};
 use crate::plain::{Bound, mean};
 use crate::say::{
     REFUSED, STOPPED, WANTED, after, say_memory, say_refused, say_unread, write_output,
 };
 use crate::stream::Stream;
 use c0_front::check_text;
-use c0_image::compile;
 use c0_source::fault::FaultKind;
 use c0_syntax::level::Level;
 use cells::{Ended, Run, Stop};
@@ -65,30 +65,7 @@ fn say_end<O: Stream>(out: &mut O, ended: &Ended) -> u8
     after(writeln!(out, "{run}"), status)
 }
 
-/// Runs the program of a text, which stands in this file.
-fn run_text<W: Wait, O: Stream, E: Stream>(
-    alloc: Global,
-    rt: &W,
-    checks: bool,
-    file: &str,
-    text: &[u8],
-    out: &mut O,
-    err: &mut E,
-) -> u8
-    ensures { (held : Known) → HasText held text.now → Runs file.now checks held (writes O.contents O.failures out.old out.new) (writes E.contents E.failures err.old err.new) result }
-{
-    let image = match compile(alloc, text, checks) {
-        Ok(image) => image,
-        Err(fault) if fault.kind == FaultKind::OutOfMemory => return say_memory(err),
-        Err(fault) => return say_refused(err, file, text, fault),
-    };
-    match execute(alloc, rt, &image) {
-        Ok(ended) => say_end(out, &ended),
-        Err(_refused) => say_memory(err),
-    }
-}
-
-/// Runs the program of a file's text.
+/// Runs the code of a file.
 fn run<W: Wait, F: Files, O: Stream, E: Stream>(
     alloc: Global,
     rt: &W,
@@ -101,10 +78,13 @@ fn run<W: Wait, F: Files, O: Stream, E: Stream>(
     ensures files { (name : List ℕ) → F.holds files.new name ≡ F.holds files.old name }
     ensures done { Runs file.now checks (F.holds files.old file.now) (writes O.contents O.failures out.old out.new) (writes E.contents E.failures err.old err.new) result }
 {
-    match files.read(alloc, file) {
-        Ok(text) => run_text(alloc, rt, checks, file, &text, out, err),
-        Err(FileError::Cannot) => say_unread(err, file),
-        Err(FileError::OutOfMemory) => say_memory(err),
+    let image = match code_of(alloc, checks, file, files, err) {
+        Ok(image) => image,
+        Err(status) => return status,
+    };
+    match execute(alloc, rt, &image) {
+        Ok(ended) => say_end(out, &ended),
+        Err(_refused) => say_memory(err),
     }
 }
 
@@ -126,6 +106,24 @@ fn check_named<O: Stream, E: Stream>(
 }
 
 /// Tells whether a file's text keeps the static rules.
+fn check_text_of<F: Files, O: Stream, E: Stream>(
+    alloc: Global,
+    file: &str,
+    files: &mut F,
+    out: &mut O,
+    err: &mut E,
+) -> u8
+    ensures files { (name : List ℕ) → F.holds files.new name ≡ F.holds files.old name }
+    ensures done { ChecksText file.now (F.holds files.old file.now) (writes O.contents O.failures out.old out.new) (writes E.contents E.failures err.old err.new) result }
+{
+    match files.read(alloc, file) {
+        Ok(text) => check_named(alloc, file, &text, out, err),
+        Err(FileError::Cannot) => say_unread(err, file),
+        Err(FileError::OutOfMemory) => say_memory(err),
+    }
+}
+
+/// Tells whether a file's text keeps the static rules, or its image may be run.
 fn check<F: Files, O: Stream, E: Stream>(
     alloc: Global,
     file: &str,
@@ -136,10 +134,12 @@ fn check<F: Files, O: Stream, E: Stream>(
     ensures files { (name : List ℕ) → F.holds files.new name ≡ F.holds files.old name }
     ensures done { Checks file.now (F.holds files.old file.now) (writes O.contents O.failures out.old out.new) (writes E.contents E.failures err.old err.new) result }
 {
-    match files.read(alloc, file) {
-        Ok(text) => check_named(alloc, file, &text, out, err),
-        Err(FileError::Cannot) => say_unread(err, file),
-        Err(FileError::OutOfMemory) => say_memory(err),
+    if !is_image_name(file) {
+        return check_text_of(alloc, file, files, out, err);
+    }
+    match code_of(alloc, false, file, files, err) {
+        Ok(_image) => say_ok(out),
+        Err(status) => status,
     }
 }
 
@@ -154,10 +154,26 @@ pub fn drive<W: Wait + Threads, F: Files, O: Stream, E: Stream>(
     out: &mut O,
     err: &mut E,
 ) -> u8
-    ensures files { (name : List ℕ) → F.holds files.new name ≡ F.holds files.old name }
-    ensures done { IsDriven (F.holds files.old) (map (λ w. w.now) words.now) (writes O.contents O.failures out.old out.new) (writes E.contents E.failures err.old err.new) result }
+    ensures done { IsDriven (F.holds files.old) (F.holds files.new) (map (λ w. w.now) words.now) (writes O.contents O.failures out.old out.new) (writes E.contents E.failures err.old err.new) result }
 {
     match line(alloc, words) {
+        Ok(
+            Line::Build {
+                checks,
+                out: target,
+                file,
+            },
+        ) => build(
+            alloc,
+            Target {
+                checks,
+                out: target,
+                file,
+            },
+            files,
+            out,
+            err,
+        ),
         Ok(Line::Check { file }) => check(alloc, file, files, out, err),
         Ok(Line::List { file }) => list(alloc, file, files, out, err),
         Ok(

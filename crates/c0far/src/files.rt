@@ -2,7 +2,7 @@
 ghost use Rattle.std.specs.Prelude.{◌≡◌, ℕ, IfErr, IfOk, List, [], None, OnOk, Option};
 ghost use Rattle.c0far.specs.FileTexts.{HasText, IsMissing};
 
-use std::alloc::Global;
+use std::alloc::{AllocError, Global};
 use std::collections::BTreeMap;
 use std::rt::Files as SystemFiles;
 use std::{fs, io};
@@ -30,9 +30,11 @@ pub trait Files {
         ensures missing { IfErr result (λ e. e ≡ FileError.Cannot → IsMissing (holds self.old name.now)) }
         ensures same { (n : List ℕ) → holds self.new n ≡ holds self.old n };
 
-    /// Makes these bytes the whole of a file, which need not be there.
+    /// Makes these bytes the whole of a file, which need not be there. Where it fails the file is as it was, and so are all others.
     fn write(&mut self, alloc: Global, name: &str, bytes: &[u8]) -> Result<(), FileError>
-        ensures { OnOk result (HasText (holds self.new name.now) bytes.now) };
+        ensures text { OnOk result (HasText (holds self.new name.now) bytes.now) }
+        ensures failed { IfErr result (λ _. holds self.new name.now ≡ holds self.old name.now) }
+        ensures others { (n : List ℕ) → (n ≡ name.now → ⊥) → holds self.new n ≡ holds self.old n };
 }
 
 /// The files of the folder in which the program works.
@@ -57,13 +59,42 @@ fn refusal(error: io::Error) -> FileError {
     }
 }
 
+/// The name of a file while it is written.
+fn unfinished_name(alloc: Global, name: &str) -> Result<String, AllocError> {
+    let mut fresh = String::from_str(alloc, name)?;
+    fresh.push_str(".unfinished")?;
+    Ok(fresh)
+}
+
+/// Writes a file whole, and gives it its name.
+fn write_whole<R: SystemFiles + AllocGlobal>(
+    rt: &R,
+    fresh: &str,
+    name: &str,
+    bytes: &[u8],
+) -> io::Result<()> {
+    fs::write(rt, fresh, bytes)?;
+    fs::rename(rt, fresh, name)
+}
+
 impl<'a, R: SystemFiles + AllocGlobal> Files for FolderFiles<'a, R> {
     fn read(&mut self, _alloc: Global, name: &str) -> Result<Vec<u8>, FileError> {
         fs::read(self.rt, name).map_err(refusal)
     }
 
-    fn write(&mut self, _alloc: Global, name: &str, bytes: &[u8]) -> Result<(), FileError> {
-        fs::write(self.rt, name, bytes).map_err(refusal)
+    // A file of another name is written and takes this one's place, so that no half of it is ever seen.
+    fn write(&mut self, alloc: Global, name: &str, bytes: &[u8]) -> Result<(), FileError> {
+        let Ok(fresh) = unfinished_name(alloc, name) else {
+            return Err(FileError::OutOfMemory);
+        };
+        match write_whole(self.rt, &fresh, name, bytes) {
+            Ok(()) => Ok(()),
+            Err(error) => {
+                // where it is not there, nothing is left to take away
+                let _removed = fs::remove_file(self.rt, &fresh);
+                Err(refusal(error))
+            }
+        }
     }
 }
 

@@ -1,9 +1,10 @@
 //! The commands of the compiler and its runtime, over files and two streams.
 #![tactic(auto)]
 
+mod code;
 pub mod drive;
 pub mod files;
-mod listing;
+mod images;
 mod plain;
 pub mod say;
 pub mod stream;

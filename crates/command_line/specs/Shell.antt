@@ -24,6 +24,14 @@ checks_rule = record (new_rule (codes "checks")) { short = Some 100; action = So
 abbrev pub turns_rule : Rule
 turns_rule = record (new_rule (codes "turns")) { long = Some (codes "turns"); required = true; action = Some Set }
 
+-- -o OUT
+abbrev pub out_rule : Rule
+out_rule = record (new_rule (codes "out")) { short = Some 111; required = true; action = Some Set }
+
+-- build [-d] -o OUT FILE
+abbrev pub build_shape : Shape
+build_shape = (with_rule (with_rule (with_rule (new_app (codes "build")) checks_rule) out_rule) file_rule).top
+
 -- check FILE, or list FILE
 abbrev pub file_shape : Text → Shape
 file_shape name = (with_rule (new_app name) file_rule).top
@@ -42,14 +50,16 @@ top_shape = record (new_app (codes "c0far")).top { subcommand_required = true }
 
 -- the program with its commands
 unfoldable pub shell : App
-shell = with_subcommand (with_subcommand (with_subcommand (with_subcommand (record { top = top_shape; subs = [] }) (file_shape (codes "check"))) (file_shape (codes "list"))) mean_shape) run_shape
+shell =
+    with_subcommand (with_subcommand (with_subcommand (with_subcommand (with_subcommand (record { top = top_shape; subs = [] }) build_shape) (file_shape (codes "check"))) (file_shape (codes "list"))) mean_shape) run_shape
 
 -- what clap builds for a command has no argument that is the commands' below it too
 abbrev pub IsLocal : Built → Type 0
 IsLocal c = (out-Command c).has_globals ≡ false
 
--- a command, with its file; `mean` and `run` with whether contracts are checked, `mean` with its turns
+-- a command, with its file; `build`, `mean` and `run` with whether contracts are checked, `build` with the file that it writes, `mean` with its turns
 pub data Command : Type 0 where
+  Build : Bool → (out file : Text) → Command
   Check : Text → Command
   Lists : Text → Command
   Mean : Bool → ℕ → Text → Command
@@ -75,13 +85,18 @@ has_checks rows = option_map_or (λ text. bytes_eq text (codes "true")) (first_o
 abbrev pub mean_command : List Row → Text → Option Command
 mean_command rows file = option_map (λ turns. Mean (has_checks rows) turns file) (option_and_then number_in (first_of (codes "turns") rows))
 
+-- the image of this file, written to the file of the rows
+abbrev pub build_command : List Row → Text → Option Command
+build_command rows file = option_map (λ out. Build (has_checks rows) out file) (first_of (codes "out") rows)
+
 -- the command of this name, with the other rows and with this file
 abbrev pub named_command : Text → List Row → Text → Option Command
 named_command name rows file =
-    cond (bytes_eq name (codes "check")) (Some (Check file))
+    cond (bytes_eq name (codes "build")) (build_command rows file)
+    (cond (bytes_eq name (codes "check")) (Some (Check file))
     (cond (bytes_eq name (codes "list")) (Some (Lists file))
     (cond (bytes_eq name (codes "mean")) (mean_command rows file)
-    (cond (bytes_eq name (codes "run")) (Some (Run (has_checks rows) file)) None)))
+    (cond (bytes_eq name (codes "run")) (Some (Run (has_checks rows) file)) None))))
 
 -- the command that clap found, with its rows
 abbrev pub command_in : Option (Text × List Row) → Option Command
@@ -90,6 +105,7 @@ command_in (Some p) = option_and_then (named_command p.0 p.1) (first_of (codes "
 
 -- a command as code has it
 abbrev pub command_of : Line → Command
+command_of (line.Build checks out file) = Build checks out.now file.now
 command_of (line.Check file) = Check file.now
 command_of (line.List file) = Lists file.now
 command_of (line.Mean checks turns file) = Mean checks turns file.now

@@ -9,17 +9,36 @@ use crate::complaint::Complaint;
 pub const PAGE: &str = "usage: c0far COMMAND ..
 
 commands:
+  build [-d] -o OUT FILE      compiles the text, and writes its image into OUT
   check FILE                  tells whether a text is a program, and where not
-  list FILE                   prints the instructions that a text is compiled to
+  list FILE                   prints the instructions that the text is compiled to
   mean [-d] --turns N FILE    runs the text's program plainly, for at most N turns
   run [-d] FILE               compiles the text, and runs it over a store
   help [COMMAND]              shows this page, or that of a command
 
+A FILE whose name ends in .c0i is an image, as build writes it: check tells whether
+it may be run, list and run take it as it is. To mean each FILE is a text.
+
 status: 0 where a text is accepted, or a program ended with a result or was cut;
-  1 where it stopped otherwise; 2 where a text, a file or the words are refused,
-  or a write failed; 3 where memory or objects ran out
+  1 where it stopped otherwise; 2 where a text, an image, a file or the words are
+  refused, or a write failed; 3 where memory or objects ran out
 
 docs/LANGUAGE.md tells what is accepted, docs/LIMITS.md the limits";
+
+/// The page of `build`.
+pub const BUILD_PAGE: &str = "usage: c0far build [-d] -o OUT FILE
+
+Compiles the text in FILE and writes its image into OUT; prints nothing. An image
+in FILE is written again. What is refused leaves OUT as it was.
+
+options:
+  -d        contracts are checked when the image runs; not for an image
+  -o OUT    the file to write, best with a name that ends in .c0i
+
+status: 0 where it is written; 2 where the text or the image is refused, or a file
+  cannot be read or written; 3 where memory ran out
+
+docs/IMAGES.md tells what stands in an image";
 
 /// The page of `check`.
 pub const CHECK_PAGE: &str = "usage: c0far check FILE
@@ -27,20 +46,24 @@ pub const CHECK_PAGE: &str = "usage: c0far check FILE
 Prints `ok` where the text in FILE is a program of C0, and else one line to the
 standard error: FILE:LINE:COLUMN: fault NUMBER NAME
 
+Of an image in FILE it prints `ok` where it may be run, and else FILE: image fault
+NUMBER, or FILE: verify fault NUMBER.
+
 status: 0 where it is accepted; 2 where it is refused, or cannot be read;
   3 where memory ran out
 
-docs/LANGUAGE.md shows each fault with a text that has it";
+docs/LANGUAGE.md shows each fault with a text that has it, docs/IMAGES.md those of
+images";
 
 /// The page of `list`.
 pub const LIST_PAGE: &str = "usage: c0far list FILE
 
 Compiles the text in FILE and prints each instruction of its image on a line of
 its own: fF bB K: NAME OPERANDS, with the numbers of the function, of its block
-and of the instruction in it
+and of the instruction in it. An image in FILE is printed as it is.
 
-status: 0 where it is printed; 2 where the text is refused, or cannot be read,
-  or a write failed; 3 where memory ran out
+status: 0 where it is printed; 2 where the text or the image is refused, or cannot
+  be read, or a write failed; 3 where memory ran out
 
 docs/IMAGES.md tells what each instruction does";
 
@@ -66,15 +89,15 @@ docs/LANGUAGE.md tells what is accepted, docs/LIMITS.md how deep calls nest";
 pub const RUN_PAGE: &str = "usage: c0far run [-d] FILE
 
 Compiles the text in FILE and runs its program, whose objects move between local
-memory and a store. When it has ended it prints its output and then how it ended:
+memory and a store; an image in FILE is run as it is. When it has ended it prints its output and then how it ended:
 `result: N`, `assertion failed`, `error: TEXT`, `null fault`, `bounds fault`,
 `length fault`, `arithmetic fault`, `out of memory`, or `no objects`.
 
 options:
-  -d    checks contracts while it runs
+  -d    checks contracts while it runs; not for an image
 
 status: 0 where it ended with a result; 1 where it stopped otherwise; 2 where the
-  text is refused, or cannot be read; 3 where memory or objects ran out
+  text or the image is refused, or cannot be read; 3 where memory or objects ran out
 
 docs/LIMITS.md tells how many objects there are, docs/LANGUAGE.md what is accepted";
 
@@ -99,7 +122,7 @@ fn ask(words: &[&str]) -> bool
 fn is_name(word: &str) -> bool
     ensures { result ≡ is_command word.now }
 {
-    word == "check" || word == "list" || word == "mean" || word == "run"
+    word == "build" || word == "check" || word == "list" || word == "mean" || word == "run"
 }
 
 /// The first of the words that names a command. None is the empty text.
@@ -117,6 +140,7 @@ fn named_page(name: &str) -> &'static str
     ensures { result.now ≡ page_named name.now }
 {
     match name {
+        "build" => BUILD_PAGE,
         "check" => CHECK_PAGE,
         "list" => LIST_PAGE,
         "mean" => MEAN_PAGE,
@@ -137,6 +161,7 @@ fn has_option(name: &str, word: &str) -> bool
     ensures { result ≡ is_option name.now word.now }
 {
     match name {
+        "build" => word == "-d" || begins(word, "-o"),
         "mean" => word == "-d" || begins(word, "--turns"),
         "run" => word == "-d",
         _ => false,

@@ -1,7 +1,7 @@
 //! From words to a command.
 ghost use Rattle.std.specs.Prelude.{◌≡◌, [], IfErr, IfOk, List, ℕ, map, option_map, true};
 ghost use Rattle.clap.specs.Words.{app_of, found_of, kind_of, rows_of, subcommand_rows_of};
-ghost use Rattle.command_line.specs.Shell.{Command as Asked, IsLocal, Names, command_in, command_of, file_shape, has_checks, is_signed, mean_command, mean_shape, named_command, number_in, run_shape, shell};
+ghost use Rattle.command_line.specs.Shell.{Command as Asked, IsLocal, Names, build_command, build_shape, command_in, command_of, file_shape, has_checks, is_signed, mean_command, mean_shape, named_command, number_in, run_shape, shell};
 
 use crate::words::{Line, Usage};
 use clap::error::ErrorKind;
@@ -17,6 +17,27 @@ fn of_a_file<'a>(alloc: Global, name: &'a str) -> Result<Command<'a>, AllocError
         .required(true)
         .action(ArgAction::Set);
     Command::new(alloc, name).arg(file)
+}
+
+/// The writing of an image, with its options and its file.
+fn build<'a>(alloc: Global) -> Result<Command<'a>, AllocError>
+    ensures shape { IfOk result (λ c. app_of c ≡ record { top = build_shape; subs = [] }) }
+    ensures local { IfOk result IsLocal }
+{
+    let checks = Arg::new(alloc, "checks")
+        .short('d')
+        .action(ArgAction::SetTrue);
+    let out = Arg::new(alloc, "out")
+        .short('o')
+        .required(true)
+        .action(ArgAction::Set);
+    let file = Arg::new(alloc, "file")
+        .required(true)
+        .action(ArgAction::Set);
+    Command::new(alloc, "build")
+        .arg(checks)?
+        .arg(out)?
+        .arg(file)
 }
 
 /// The plain run, with its options and its file.
@@ -58,12 +79,14 @@ fn run<'a>(alloc: Global) -> Result<Command<'a>, AllocError>
 fn command<'a>(alloc: Global) -> Result<Command<'a>, AllocError>
     ensures { IfOk result (λ c. app_of c ≡ shell) }
 {
+    let build = build(alloc)?;
     let check = of_a_file(alloc, "check")?;
     let list = of_a_file(alloc, "list")?;
     let mean = mean(alloc)?;
     let run = run(alloc)?;
     Command::new(alloc, "c0far")
         .subcommand_required(true)
+        .subcommand(build)?
         .subcommand(check)?
         .subcommand(list)?
         .subcommand(mean)?
@@ -127,11 +150,23 @@ fn plain_run<'a>(matches: &ArgMatches<'a>, file: &'a str) -> Option<Line<'a>>
     })
 }
 
+/// The writing of this file's image, with the options that clap found.
+fn written<'a>(matches: &ArgMatches<'a>, file: &'a str) -> Option<Line<'a>>
+    ensures { option_map command_of result ≡ build_command (rows_of (found_of matches.now)) file.now }
+{
+    let Some(out) = matches.get_str("out") else {
+        return None;
+    };
+    let checks = checks(matches);
+    Some(Line::Build { checks, out, file })
+}
+
 /// The command of this name, with this file and what else clap found.
 fn named<'a>(name: &str, matches: &ArgMatches<'a>, file: &'a str) -> Option<Line<'a>>
     ensures { option_map command_of result ≡ named_command name.now (rows_of (found_of matches.now)) file.now }
 {
     match name {
+        "build" => written(matches, file),
         "check" => Some(Line::Check { file }),
         "list" => Some(Line::List { file }),
         "mean" => plain_run(matches, file),

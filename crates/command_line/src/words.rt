@@ -4,11 +4,17 @@ use thiserror::Error;
 /// A command, with its files and options.
 #[derive(Clone, Copy, Debug, PartialEq, Eq)]
 pub enum Line<'a> {
-    /// Tells whether a text keeps the static rules.
+    /// Writes the image of a text, with contracts checked or not, into the file `out`.
+    Build {
+        checks: bool,
+        out: &'a str,
+        file: &'a str,
+    },
+    /// Tells whether a text keeps the static rules, or an image may be run.
     Check {
         file: &'a str,
     },
-    /// Lists the instructions of a text's image.
+    /// Lists the instructions of an image, or of a text's.
     List {
         file: &'a str,
     },
@@ -18,7 +24,7 @@ pub enum Line<'a> {
         turns: u64,
         file: &'a str,
     },
-    /// Runs the program of a text, with contracts checked or not.
+    /// Runs an image, or the program of a text, with contracts checked or not.
     Run {
         checks: bool,
         file: &'a str,

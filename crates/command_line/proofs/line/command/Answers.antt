@@ -8,7 +8,8 @@ pub returns : goal.returns
 unfolding shell
 returns c =
     let top : app_of c.subcommand_required.result ≡ record { top = top_shape; subs = [] } = search rules in
-    let first = c.in_ok-subcommand.ensures.shape c.in_ok-check.ensures.local ∙ ap₂ with_subcommand top (ap (λ (a : App). a.top) c.in_ok-check.ensures.shape) in
-    let second = c.in_ok-subcommand-2.ensures.shape c.in_ok-list.ensures.local ∙ ap₂ with_subcommand first (ap (λ (a : App). a.top) c.in_ok-list.ensures.shape) in
-    let third = c.in_ok-subcommand-3.ensures.shape c.in_ok-mean.ensures.local ∙ ap₂ with_subcommand second (ap (λ (a : App). a.top) c.in_ok-mean.ensures.shape) in
-    IfOk-weaker c.subcommand-4.result _ _ (λ r h. h.shape c.in_ok-run.ensures.local ∙ ap₂ with_subcommand third (ap (λ (a : App). a.top) c.in_ok-run.ensures.shape)) c.subcommand-4.ensures
+    let first = c.in_ok-subcommand.ensures.shape c.in_ok-build.ensures.local ∙ ap₂ with_subcommand top (ap (λ (a : App). a.top) c.in_ok-build.ensures.shape) in
+    let second = c.in_ok-subcommand-2.ensures.shape c.in_ok-check.ensures.local ∙ ap₂ with_subcommand first (ap (λ (a : App). a.top) c.in_ok-check.ensures.shape) in
+    let third = c.in_ok-subcommand-3.ensures.shape c.in_ok-list.ensures.local ∙ ap₂ with_subcommand second (ap (λ (a : App). a.top) c.in_ok-list.ensures.shape) in
+    let fourth = c.in_ok-subcommand-4.ensures.shape c.in_ok-mean.ensures.local ∙ ap₂ with_subcommand third (ap (λ (a : App). a.top) c.in_ok-mean.ensures.shape) in
+    IfOk-weaker c.subcommand-5.result _ _ (λ r h. h.shape c.in_ok-run.ensures.local ∙ ap₂ with_subcommand fourth (ap (λ (a : App). a.top) c.in_ok-run.ensures.shape)) c.subcommand-5.ensures

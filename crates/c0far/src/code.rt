@@ -1,0 +1,121 @@
+//! The code of a file: the image of a text, or an image as it stands.
+ghost use Rattle.std.specs.Prelude.{◌≡◌, ◌⊎◌, ◌++◌, ℕ, List, IfErr, IfOk, codes};
+ghost use Rattle.c0_image.specs.Compiled.{IsCompiled};
+ghost use Rattle.code_verification.specs.Verified.{IsVerified};
+ghost use Rattle.image_bytes.specs.Encodable.{IsImage};
+ghost use Rattle.code_form.specs.Code.{Covered};
+ghost use Rattle.code_form.specs.Form.{image_of};
+ghost use Rattle.c0far.specs.Driven.{HasFailed, HasNoCode, IsUnfit, LacksMemory, newline};
+ghost use Rattle.c0far.specs.FileCode.{HoldsCode, names_image};
+ghost use Rattle.c0far.specs.FileTexts.{HasText, Known};
+ghost use Rattle.c0far.specs.Streams.{IsQuiet, Says, Writes, writes};
+ghost use Rattle.instruction_table.specs.FaultNumbers.{fault_line as image_line};
+ghost use Rattle.scope_verifier_laws.specs.FaultNumbers.{fault_line as verify_line};
+
+use crate::files::{FileError, Files};
+use crate::say::{REFUSED, after, say_memory, say_refused, say_unread};
+use crate::stream::Stream;
+use c0_image::compile;
+use c0_source::fault::FaultKind;
+use code_form::Image;
+use image_reader::decode;
+use instruction_table::ImageFault;
+use scope_verifier::verify;
+use scope_verifier_laws::VerifyFault;
+use std::alloc::Global;
+
+/// Whether a file's name is that of an image.
+pub fn is_image_name(file: &str) -> bool
+    ensures { result ≡ names_image file.now }
+{
+    file.ends_with(".c0i")
+}
+
+/// Says what is wrong with the bytes of an image.
+fn say_image_fault<E: Stream>(err: &mut E, file: &str, fault: ImageFault) -> u8
+    ensures { Says (writes E.contents E.failures err.old err.new) (file.now ++ (codes ": " ++ (image_line fault ++ newline))) 2 result }
+{
+    after(writeln!(err, "{file}: {fault}"), REFUSED)
+}
+
+/// Says why an image may not be run.
+fn say_verify_fault<E: Stream>(err: &mut E, file: &str, fault: VerifyFault) -> u8
+    ensures { Says (writes E.contents E.failures err.old err.new) (file.now ++ (codes ": " ++ (verify_line fault ++ newline))) 2 result }
+{
+    after(writeln!(err, "{file}: {fault}"), REFUSED)
+}
+
+/// The image that these bytes of a file are, or the status behind what was said of them.
+fn of_bytes<E: Stream>(alloc: Global, file: &str, bytes: &[u8], err: &mut E) -> Result<Image, u8>
+    ensures code { IfOk result (λ v. IsImage bytes.now (image_of v) × IsVerified (image_of v) × Covered (image_of v) × IsQuiet (writes E.contents E.failures err.old err.new)) }
+    ensures refused { IfErr result (λ status. (held : Known) (out : Writes) → HasText held bytes.now → IsQuiet out → IsUnfit file.now held out (writes E.contents E.failures err.old err.new) status ⊎ LacksMemory out (writes E.contents E.failures err.old err.new) status) }
+{
+    let image = match decode(alloc, bytes) {
+        Ok(image) => image,
+        Err(ImageFault::OutOfMemory) => return Err(say_memory(err)),
+        Err(fault) => return Err(say_image_fault(err, file, fault)),
+    };
+    match verify(alloc, image) {
+        Ok(verified) => Ok(verified.into_image()),
+        Err(VerifyFault::OutOfMemory) => Err(say_memory(err)),
+        Err(fault) => Err(say_verify_fault(err, file, fault)),
+    }
+}
+
+/// The image of this text of a file, or the status behind what was said of it.
+fn of_text<E: Stream>(
+    alloc: Global,
+    checks: bool,
+    file: &str,
+    text: &[u8],
+    err: &mut E,
+) -> Result<Image, u8>
+    ensures code { IfOk result (λ v. IsCompiled text.now checks (image_of v) × Covered (image_of v) × IsQuiet (writes E.contents E.failures err.old err.new)) }
+    ensures refused { IfErr result (λ status. (held : Known) (out : Writes) → HasText held text.now → IsQuiet out → HasFailed file.now held out (writes E.contents E.failures err.old err.new) status ⊎ LacksMemory out (writes E.contents E.failures err.old err.new) status) }
+{
+    match compile(alloc, text, checks) {
+        Ok(image) => Ok(image),
+        Err(fault) if fault.kind == FaultKind::OutOfMemory => Err(say_memory(err)),
+        Err(fault) => Err(say_refused(err, file, text, fault)),
+    }
+}
+
+/// The code of a file with these bytes, or the status behind what was said of them.
+fn of_named<E: Stream>(
+    alloc: Global,
+    checks: bool,
+    file: &str,
+    bytes: &[u8],
+    err: &mut E,
+) -> Result<Image, u8>
+    ensures code { IfOk result (λ v. (held : Known) → HasText held bytes.now → HoldsCode file.now checks held (image_of v)) }
+    ensures covered { IfOk result (λ v. Covered (image_of v) × IsQuiet (writes E.contents E.failures err.old err.new)) }
+    ensures refused { IfErr result (λ status. (held : Known) (out : Writes) → HasText held bytes.now → IsQuiet out → HasNoCode file.now held out (writes E.contents E.failures err.old err.new) status) }
+{
+    if is_image_name(file) {
+        of_bytes(alloc, file, bytes, err)
+    } else {
+        of_text(alloc, checks, file, bytes, err)
+    }
+}
+
+/// The code of a file, or the status behind what was said of it: of a file that cannot be read, of a text or an image that is refused, or of want
+/// of memory.
+pub fn code_of<F: Files, E: Stream>(
+    alloc: Global,
+    checks: bool,
+    file: &str,
+    files: &mut F,
+    err: &mut E,
+) -> Result<Image, u8>
+    ensures files { (name : List ℕ) → F.holds files.new name ≡ F.holds files.old name }
+    ensures code { IfOk result (λ v. HoldsCode file.now checks (F.holds files.old file.now) (image_of v)) }
+    ensures covered { IfOk result (λ v. Covered (image_of v) × IsQuiet (writes E.contents E.failures err.old err.new)) }
+    ensures refused { IfErr result (λ status. (out : Writes) → IsQuiet out → HasNoCode file.now (F.holds files.old file.now) out (writes E.contents E.failures err.old err.new) status) }
+{
+    match files.read(alloc, file) {
+        Ok(bytes) => of_named(alloc, checks, file, &bytes, err),
+        Err(FileError::Cannot) => Err(say_unread(err, file)),
+        Err(FileError::OutOfMemory) => Err(say_memory(err)),
+    }
+}

@@ -1,0 +1,80 @@
+//! The commands `list` and `build`: the code of a file, shown and written.
+ghost use Rattle.std.specs.Prelude.{◌≡◌, ◌++◌, ℕ, List, codes, string_bytes};
+ghost use Rattle.c0far.specs.Driven.{Builds, Lists, newline};
+ghost use Rattle.c0far.specs.Streams.{Says, writes};
+
+use crate::code::code_of;
+use crate::files::{FileError, Files};
+use crate::say::{REFUSED, after, say_memory};
+use crate::stream::Stream;
+use image_bytes::encode;
+use image_listing::list as list_image;
+use std::alloc::Global;
+
+/// Says the lines of an image.
+fn say_code<O: Stream>(out: &mut O, code: &String) -> u8
+    ensures { Says (writes O.contents O.failures out.old out.new) (string_bytes code.now) 0 result }
+{
+    after(out.write_all(code.as_bytes()), 0)
+}
+
+/// Says that a file was not written.
+fn say_unwritten<E: Stream>(err: &mut E, file: &str) -> u8
+    ensures { Says (writes E.contents E.failures err.old err.new) (file.now ++ (codes ": cannot be written" ++ newline)) 2 result }
+{
+    after(writeln!(err, "{file}: cannot be written"), REFUSED)
+}
+
+/// Lists the code of a file.
+pub fn list<F: Files, O: Stream, E: Stream>(
+    alloc: Global,
+    file: &str,
+    files: &mut F,
+    out: &mut O,
+    err: &mut E,
+) -> u8
+    ensures files { (name : List ℕ) → F.holds files.new name ≡ F.holds files.old name }
+    ensures done { Lists file.now (F.holds files.old file.now) (writes O.contents O.failures out.old out.new) (writes E.contents E.failures err.old err.new) result }
+{
+    let image = match code_of(alloc, false, file, files, err) {
+        Ok(image) => image,
+        Err(status) => return status,
+    };
+    match list_image(alloc, &image) {
+        Ok(code) => say_code(out, &code),
+        Err(_refused) => say_memory(err),
+    }
+}
+
+/// Where an image is written from, and where to.
+#[derive(Clone, Copy, Debug, PartialEq, Eq)]
+pub struct Target<'a> {
+    pub checks: bool,
+    pub out: &'a str,
+    pub file: &'a str,
+}
+
+/// Writes the code of a file into another.
+pub fn build<F: Files, O: Stream, E: Stream>(
+    alloc: Global,
+    target: Target<'_>,
+    files: &mut F,
+    out: &mut O,
+    err: &mut E,
+) -> u8
+    ensures files { (name : List ℕ) → (name ≡ target.out.now → ⊥) → F.holds files.new name ≡ F.holds files.old name }
+    ensures done { Builds target.file.now target.checks target.out.now (F.holds files.old target.file.now) (F.holds files.old target.out.now) (F.holds files.new target.out.now) (writes O.contents O.failures out.old out.new) (writes E.contents E.failures err.old err.new) result }
+{
+    let image = match code_of(alloc, target.checks, target.file, files, err) {
+        Ok(image) => image,
+        Err(status) => return status,
+    };
+    let Ok(bytes) = encode(alloc, &image) else {
+        return say_memory(err);
+    };
+    match files.write(alloc, target.out, &bytes) {
+        Ok(()) => 0,
+        Err(FileError::Cannot) => say_unwritten(err, target.out),
+        Err(FileError::OutOfMemory) => say_memory(err),
+    }
+}
