@@ -126,12 +126,14 @@ module _ (P : Program) (f : image.Function) where
   load_formed : (to r : ℕ) (off : Option ℕ) (disp : ℕ) (w : List Fact) (next : List Instruction) → f.scopes ≡ 1 → place_fits f.kinds r off ≡ true → IsCell to r disp → is_by_pointer f.kinds r off ≡ true → is_kept (Some to) w ≡ true → R w next
       → R (with_check (place_check r off) w) (Aim 0 r off disp ∷ Load to 0 ∷ Leave 0 ∷ next)
   load_formed to r off disp w next one p q by_pointer kept n =
-      let there : 0 < f.scopes = omega (arith, one) in
-      (fit_with f.kinds (place_check r off) w (fit_place f.kinds r off by_pointer p) n.0, λ k h c.
-      let aimed : Known = with_scope 0 (KnownAimed r off disp) k in
-      let both = with_known (place_check r off) k w c in
-      let rest = left w next one n (wrote to aimed) (checks_kept_some (Some to) aimed w kept (checks_at_scope f.kinds 0 (KnownAimed r off disp) k w n.0 both.1)) in
-      ((((λ e. absurd (cc e)), (p, there)), (((λ e. absurd (cc e)), (there, (p, q))), (((λ e. absurd (cc e)), there), rest.0))), (tt, (checked_at r off disp k both.0, (tt, rest.1)))))
+      let there : 0 < f.scopes = omega (arith, one) in (
+        fit_with f.kinds (place_check r off) w (fit_place f.kinds r off by_pointer p) n.0,
+        λ k h c.
+            let aimed : Known = with_scope 0 (KnownAimed r off disp) k in
+            let both = with_known (place_check r off) k w c in
+            let rest = left w next one n (wrote to aimed) (checks_kept_some (Some to) aimed w kept (checks_at_scope f.kinds 0 (KnownAimed r off disp) k w n.0 both.1)) in
+            ((((λ e. absurd (cc e)), (p, there)), (((λ e. absurd (cc e)), (there, (p, q))), (((λ e. absurd (cc e)), there), rest.0))), (tt, (checked_at r off disp k both.0, (tt, rest.1)))),
+      )
     where
       checked_at : (r : ℕ) (off : Option ℕ) (disp : ℕ) (k : Known) → IsKnown k (place_check r off) → IsChecked (with_scope 0 (KnownAimed r off disp) k) r off
       checked_at r None disp k z = z
@@ -140,12 +142,14 @@ module _ (P : Program) (f : image.Function) where
   store_formed : (r : ℕ) (off : Option ℕ) (disp from : ℕ) (w : List Fact) (next : List Instruction) → f.scopes ≡ 1 → place_fits f.kinds r off ≡ true → IsCell from r disp → is_by_pointer f.kinds r off ≡ true → R w next
       → R (with_check (place_check r off) w) (Aim 0 r off disp ∷ Store 0 from ∷ Leave 0 ∷ next)
   store_formed r off disp from w next one p q by_pointer n =
-      let there : 0 < f.scopes = omega (arith, one) in
-      (fit_with f.kinds (place_check r off) w (fit_place f.kinds r off by_pointer p) n.0, λ k h c.
-      let aimed : Known = with_scope 0 (KnownAimed r off disp) k in
-      let both = with_known (place_check r off) k w c in
-      let rest = left w next one n aimed (checks_at_scope f.kinds 0 (KnownAimed r off disp) k w n.0 both.1) in
-      ((((λ e. absurd (cc e)), (p, there)), (((λ e. absurd (cc e)), (there, (p, q))), (((λ e. absurd (cc e)), there), rest.0))), (tt, (checked_at r off disp k both.0, (tt, rest.1)))))
+      let there : 0 < f.scopes = omega (arith, one) in (
+        fit_with f.kinds (place_check r off) w (fit_place f.kinds r off by_pointer p) n.0,
+        λ k h c.
+            let aimed : Known = with_scope 0 (KnownAimed r off disp) k in
+            let both = with_known (place_check r off) k w c in
+            let rest = left w next one n aimed (checks_at_scope f.kinds 0 (KnownAimed r off disp) k w n.0 both.1) in
+            ((((λ e. absurd (cc e)), (p, there)), (((λ e. absurd (cc e)), (there, (p, q))), (((λ e. absurd (cc e)), there), rest.0))), (tt, (checked_at r off disp k both.0, (tt, rest.1)))),
+      )
     where
       checked_at : (r : ℕ) (off : Option ℕ) (disp : ℕ) (k : Known) → IsKnown k (place_check r off) → IsChecked (with_scope 0 (KnownAimed r off disp) k) r off
       checked_at r None disp k z = z
