@@ -1,34 +1,35 @@
 -- the world behind an event that code took
-use Rattle.std.proofs.Common.{◌≡◌, ◌≢◌, ◌⊎◌, inl, inr, ℕ, suc, ◌+◌, ◌*◌, ◌/◌, ◌<◌, ◌≤◌, Bool, true, false, cond, ◌&&◌, List, [], ◌∷◌, ◌++◌, length, get_or, Option, Some, None, refl, sym, ap, ◌∙◌, subst, suc-mul, arith}
+use Rattle.std.proofs.Common.{◌≡◌, ◌≢◌, ◌⊎◌, inl, inr, ℕ, suc, ◌+◌, ◌*◌, ◌/◌, ◌<◌, ◌≤◌, Bool, true, cond, ◌&&◌, List, [], ◌∷◌, ◌++◌, length, get_or, Option, Some, None, refl, sym, ap, ◌∙◌, subst, suc-mul, arith}
 use Rattle.std.specs.Prelude.{nat_lt, slice_get}
 use Rattle.std.proofs.Math.ListN.{set}
 use Rattle.std.proofs.Math.Nat.{mul-div-le, mul-le-mul_right}
 use Rattle.std.proofs.lemmas.Bool.Decides.{nat_tests}
 use Rattle.std.proofs.lemmas.List.{length-set, get_or-set_same, get_or-set_other, set-get_or}
-use Rattle.std.proofs.lemmas.Option.{slice_get-get_or, slice_get_past, slice_get_within}
+use Rattle.std.proofs.lemmas.Option.{slice_get-get_or, slice_get_within}
 use Rattle.code_form.specs.Form.{Image}
 use Rattle.pointer_word.specs.Hands.{upd}
-use Rattle.pointer_word.specs.Machine.{State}
 use Rattle.pointer_word.specs.Sound.{Inv}
 use Rattle.pointer_word.proofs.Upd.{same_or, upd-same, upd-other}
 use Rattle.remote_store.specs.Kept.{piece_cells}
 use Rattle.remote_store.specs.declared.berth.Berth.{Berth}
 use Rattle.remote_store.specs.declared.port.Port.{Port}
-use Rattle.world.specs.Answered.{AnswersSo, Asked, StoreTold, asked_idly, asked_in}
-use Rattle.world.specs.declared.evacuator.Evacuator.{Evacuator}
-use Rattle.world_semantics.specs.declared.event.Actor.{Actor}
+use Rattle.world_memory.specs.Answered.{AnswersSo, Asked}
+use Rattle.world_actors.specs.Asking.{asked_idly, asked_in}
+use Rattle.world.specs.Telling.{StoreTold}
+use Rattle.world_actors.specs.declared.evacuator.Evacuator.{Evacuator}
 use Rattle.world_semantics.specs.declared.event.Actor.TheVariants as actor
 use Rattle.world_semantics.specs.declared.event.Choice.{Choice}
 use Rattle.world_semantics.specs.declared.event.Step.{Step}
 use Rattle.world_semantics.specs.declared.event.Step.TheVariants as step
-use Rattle.world.specs.Acting.{Evacuates, Goes, IsProgram, IsWorld, Seated, Shows, Stepped, UnreadSo, eviction_in}
+use Rattle.world_actors.specs.Acting.{Evacuates, Goes, IsProgram, Seated, Shows, UnreadSo, eviction_in}
+use Rattle.world.specs.Stepped.{IsWorld, Stepped}
 use Rattle.world_semantics.specs.InHand.{FitsEvacuator, FitsMode}
 use Rattle.world_semantics.specs.Programs.{Eviction, Setting}
-use Rattle.world.specs.Seats.{Seat}
+use Rattle.world_actors.specs.Seats.{Seat}
 use Rattle.world_semantics.specs.Steps.{IsSound}
-use Rattle.world.specs.Tables.{Tables}
+use Rattle.world_memory.specs.Tables.{Tables}
 use Rattle.world_semantics.specs.Turns.{Answer, evacuator_turn, program_turn, taken}
-use Rattle.world_semantics.specs.Worlds.{Event, Follows, IsHonest, ReadsHonestly, Sizes, World, acted, event, in_range, is_actor, mover_of, setting, start, with_evacuator, with_program}
+use Rattle.world_semantics.specs.Worlds.{Event, Follows, IsHonest, ReadsHonestly, Sizes, World, event, in_range, setting, start, with_evacuator, with_program}
 use Rattle.world_semantics.proofs.Stepping.{reached}
 
 -- one more event

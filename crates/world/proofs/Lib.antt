@@ -1,13 +1,3 @@
 pub mod Opened
-pub mod Dispatched
-pub mod Instructed
-pub mod Firsts
-pub mod BroughtIn
 pub mod Happening
-pub mod Evacuating
-pub mod MovedOut
-pub mod Acting
-pub mod Answered
-pub mod Placing
-pub mod Showing
 pub mod Replaying

@@ -10,20 +10,19 @@ use Rattle.pointer_word.specs.Machine.{Never, State, Object as ObjectHolds}
 use Rattle.pointer_word.specs.Sound.{Inv, FrameOk, PlaceOk}
 use Rattle.remote_store.specs.Kept.{piece_cells}
 use Rattle.remote_store.specs.declared.berth.Berth.{Berth}
-use Rattle.world.specs.declared.evacuator.Evacuator.{Evacuator}
-use Rattle.world.specs.declared.memory.Frame.{Frame}
-use Rattle.world.specs.declared.memory.Object.{Object}
-use Rattle.world.specs.declared.program.Eviction.{Eviction as RustEviction}
-use Rattle.world.specs.Acting.{IsProgram, IsWorld}
-use Rattle.cells.specs.declared.ending.Ended.{Ended}
-use Rattle.code_form.specs.Code.{output_of}
+use Rattle.world_actors.specs.declared.evacuator.Evacuator.{Evacuator}
+use Rattle.world_memory.specs.declared.memory.Frame.{Frame}
+use Rattle.world_memory.specs.declared.memory.Object.{Object}
+use Rattle.world_actors.specs.declared.program.Eviction.{Eviction as RustEviction}
+use Rattle.world_actors.specs.Acting.{IsProgram}
+use Rattle.world.specs.Stepped.{IsWorld}
 use Rattle.world.specs.Opened.{AreBegun, AreIdle, cell_of, images_of, sizes_of}
-use Rattle.world_semantics.specs.Programs.{Program, begun}
-use Rattle.world.specs.Seats.{Seat, begin, eviction_of}
-use Rattle.world.specs.Shown.{AreFar, IsFar, IsObject, Shown}
-use Rattle.world.specs.Tables.{FrameFits, Tables, cells_at, frame_word, free, object_at, place_of, resting}
+use Rattle.world_semantics.specs.Programs.{begun}
+use Rattle.world_actors.specs.Seats.{Seat, begin, eviction_of}
+use Rattle.world_memory.specs.Shown.{AreFar, IsFar, IsObject, Shown}
+use Rattle.world_memory.specs.Tables.{FrameFits, Tables, cells_at, frame_word, free, object_at, place_of, resting}
 use Rattle.world_semantics.specs.Worlds.{Sizes, World, start}
-use Rattle.world.proofs.Acting.{frame_inside}
+use Rattle.world_actors.proofs.Acting.{frame_inside}
 use Rattle.world.proofs.Happening.{sound}
 
 -- what stands where, behind a push

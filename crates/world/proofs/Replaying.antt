@@ -1,5 +1,5 @@
 -- the lines of a schedule, one after another
-use Rattle.std.proofs.Common.{◌≡◌, ◌≢◌, ◌&&◌, inl, inr, Bool, true, false, ℕ, zero, suc, ◌+◌, ◌<◌, List, [], ◌∷◌, ◌++◌, length, Option, Some, None, append_assoc, append-nil, length-append, refl, sym, ap, ◌∙◌, subst, arith}
+use Rattle.std.proofs.Common.{◌≡◌, ◌&&◌, inl, inr, Bool, true, false, ℕ, suc, ◌+◌, ◌<◌, List, [], ◌∷◌, ◌++◌, length, Option, Some, None, append_assoc, append-nil, length-append, refl, sym, ap, ◌∙◌, subst, arith}
 use Rattle.std.specs.Prelude.{codes, cond, nat_lt, slice_get}
 use Rattle.std.proofs.lemmas.Bool.{ltb-true}
 use Rattle.std.proofs.lemmas.Option.{slice_get_cases}
@@ -9,11 +9,11 @@ use Rattle.world_semantics.specs.declared.event.Actor.{Actor}
 use Rattle.world_semantics.specs.declared.event.Actor.TheVariants as actor
 use Rattle.world_semantics.specs.Programs.{Program}
 use Rattle.schedule_lines.specs.Lines.{Line, IsLine, IsLine32, spell, spell_actor, spell_choice}
-use Rattle.world.specs.Acting.{IsWorld}
-use Rattle.world.specs.Answered.{IsPortOf, StoreTold}
-use Rattle.world.specs.Seats.{Seat}
-use Rattle.world.specs.Tables.{Tables}
-use Rattle.world.specs.declared.evacuator.Evacuator.{Evacuator}
+use Rattle.world.specs.Stepped.{IsWorld}
+use Rattle.world.specs.Telling.{IsPortOf, StoreTold}
+use Rattle.world_actors.specs.Seats.{Seat}
+use Rattle.world_memory.specs.Tables.{Tables}
+use Rattle.world_actors.specs.declared.evacuator.Evacuator.{Evacuator}
 use Rattle.world_semantics.specs.declared.event.Choice.{Choice}
 use Rattle.world.specs.Reports.{event_of, AreEnds, AreLines, HasCome, HasLed, IsEnded, LinesLead, Told, Ways}
 use Rattle.world_semantics.specs.Turns.{Answer}

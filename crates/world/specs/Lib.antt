@@ -1,7 +1,4 @@
 pub mod Reports
-pub mod Seats
-pub mod Tables
-pub mod Shown
-pub mod Acting
-pub mod Answered
+pub mod Stepped
+pub mod Telling
 pub mod Opened

@@ -1,12 +1,12 @@
 -- What a world is made of where code opens it, and what is told of a world.
-use Rattle.std.specs.Prelude.{◌≡◌, ℕ, suc, ◌+◌, ◌*◌, Option, Some, None, List, [], length, map, option_map, slice_get, slice_index_or}
+use Rattle.std.specs.Prelude.{◌≡◌, ℕ, suc, ◌+◌, ◌*◌, Option, Some, None, List, [], map, option_map, slice_get, slice_index_or}
 use Rattle.code_form.specs.declared.form.Image.{Image as RustImage}
 use Rattle.code_form.specs.Form.{Image, image_of}
 use Rattle.pointer_word.specs.Machine.{State}
 use Rattle.pointer_word.specs.Words.{framed}
 use Rattle.remote_store.specs.Kept.{piece_cells}
-use Rattle.world.specs.declared.evacuator.Evacuator.{Evacuator}
-use Rattle.world.specs.Seats.{Seat, begin}
+use Rattle.world_actors.specs.declared.evacuator.Evacuator.{Evacuator}
+use Rattle.world_actors.specs.Seats.{Seat, begin}
 use Rattle.world_semantics.specs.Worlds.{Sizes}
 
 -- an image without a function

@@ -1,5 +1,5 @@
 -- What is told of a world after the lines of a schedule.
-use Rattle.std.specs.Prelude.{◌≡◌, ◌≢◌, ◌⊎◌, ℕ, suc, ◌%◌, ◌<◌, List, [], ◌∷◌, ◌++◌, length, Option, Some, None, slice_get}
+use Rattle.std.specs.Prelude.{◌≡◌, ◌≢◌, ◌⊎◌, ℕ, suc, ◌%◌, ◌<◌, List, [], ◌∷◌, ◌++◌, length, Some, None}
 use Rattle.cells.specs.declared.ending.Ended.{Ended}
 use Rattle.cells.specs.declared.ending.Run.{Run}
 use Rattle.cells.specs.declared.ending.Run.TheVariants as run
@@ -12,9 +12,10 @@ use Rattle.remote_store.specs.declared.port.Port.{Port}
 use Rattle.schedule_lines.specs.Lines.{Line, IsLine, IsLine32, IsNoLine, spell}
 use Rattle.world_semantics.specs.declared.event.Actor.{Actor}
 use Rattle.world_semantics.specs.Programs.{Program, Wanted}
-use Rattle.world.specs.Answered.{AnswersSo, IsPortOf, asked_by}
-use Rattle.world.specs.Seats.{Seat}
-use Rattle.world.specs.declared.evacuator.Evacuator.{Evacuator}
+use Rattle.world_memory.specs.Answered.{AnswersSo}
+use Rattle.world.specs.Telling.{IsPortOf, asked_by}
+use Rattle.world_actors.specs.Seats.{Seat}
+use Rattle.world_actors.specs.declared.evacuator.Evacuator.{Evacuator}
 use Rattle.world.specs.declared.schedule.Refused.{Refused}
 use Rattle.world.specs.declared.schedule.Refused.TheVariants as refused
 use Rattle.world_semantics.specs.Turns.{Answer}

@@ -1,33 +1,17 @@
 //! What is told of programs.
-ghost use Rattle.std.specs.Prelude.{◌≡◌, ◌≢◌, ◌<◌, ℕ, IfOk, List, MatchOption, length};
-ghost use Rattle.cells.specs.declared.ending.Want.{Want as WantOf};
+ghost use Rattle.std.specs.Prelude.{◌≡◌, ◌<◌, ℕ, IfOk, length};
 ghost use Rattle.code_form.specs.Form.{Image};
-ghost use Rattle.world.specs.Acting.{IsProgram, IsWorld};
-ghost use Rattle.world_semantics.specs.Programs.{Program as Defined, Wanted};
+ghost use Rattle.world_actors.specs.Acting.{IsProgram};
+ghost use Rattle.world.specs.Stepped.{IsWorld};
+ghost use Rattle.world_semantics.specs.Programs.{Program as Defined};
 ghost use Rattle.world.specs.Reports.{AreEnds, IsEnded, RunsAs};
-ghost use Rattle.world.specs.Seats.{mode_of};
 ghost use Rattle.world_semantics.specs.Worlds.{Sizes, World as DefinedWorld};
 
-use crate::program::{Mode, Program};
 use crate::world::World;
-use cells::{Ended, Run, Want};
+use cells::{Ended, Run};
 use remote_store::RawStore;
 use std::alloc::{AllocError, Global};
-
-impl Mode {
-    /// What the program wants, if it wants something.
-    fn want(self) -> Option<Want>
-        ensures { MatchOption result ((words : List ℕ) (want : WantOf) → mode_of self words ≢ Wanted want) (λ want. self ≡ Mode.Wanted want) }
-    {
-        match self {
-            Mode::Wanted(want) => Some(want),
-            Mode::Ready | Mode::Closing => None,
-            Mode::Missing(_) | Mode::Bringing(_) | Mode::Retreating(_) => None,
-            Mode::Reading { .. } | Mode::Releasing { .. } | Mode::Evicting { .. } => None,
-            Mode::Filling { .. } | Mode::Clearing { .. } => None,
-        }
-    }
-}
+use world_actors::Program;
 
 /// How a program has stopped or what it wants, or that it runs. `Err` where memory is refused for the text of an error.
 fn run_of(alloc: Global, program: &Program<'_>) -> Result<Run, AllocError>

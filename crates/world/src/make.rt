@@ -2,15 +2,14 @@
 ghost use Rattle.code_form.specs.Form.{image_of};
 ghost use Rattle.pointer_word.specs.Machine.{Never};
 ghost use Rattle.std.specs.Prelude.{◌≡◌, ◌≢◌, ◌+◌, ◌*◌, ◌<◌, ◌≤◌, ℕ, IfErr, IfOk, None, length};
-ghost use Rattle.world.specs.Shown.{AreFar};
+ghost use Rattle.world_memory.specs.Shown.{AreFar};
 ghost use Rattle.world.specs.Opened.{AreBegun, AreIdle};
 
-use crate::evacuator::Evacuator;
-use crate::program::Program;
 use cells::Want;
 use code_form::Image;
 use remote_store::{Berth, Port, RawStore, Stores};
 use std::alloc::Global;
+use world_actors::{Evacuator, Program};
 
 /// A berth for each object, into which nothing was put yet.
 pub(crate) fn new_berths<S: RawStore>(

@@ -1,7 +1,7 @@
 //! Schedules, replayed.
 ghost use Rattle.std.specs.Prelude.{◌≡◌, ◌<◌, ◌≤◌, ℕ, MatchOption, MatchResult, length};
 ghost use Rattle.code_form.specs.Form.{Image as ImageOf};
-ghost use Rattle.world.specs.Acting.{IsWorld};
+ghost use Rattle.world.specs.Stepped.{IsWorld};
 ghost use Rattle.world.specs.Opened.{images_of, sizes_of};
 ghost use Rattle.world.specs.Reports.{HasLed, IsRefusal, IsRefusedLine, IsReport};
 ghost use Rattle.world_semantics.specs.Worlds.{Sizes, World as Defined};

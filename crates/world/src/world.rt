@@ -4,20 +4,18 @@ ghost use Rattle.code_form.specs.Form.{Image as ImageOf};
 ghost use Rattle.remote_store.specs.Kept.{piece_cells};
 ghost use Rattle.world.specs.Opened.{cell_of, images_of, sizes_of};
 ghost use Rattle.pointer_word.specs.Words.{pack};
-ghost use Rattle.world.specs.Acting.{IsWorld, Stepped};
-ghost use Rattle.world.specs.Answered.{StoreTold};
+ghost use Rattle.world.specs.Stepped.{IsWorld, Stepped};
+ghost use Rattle.world.specs.Telling.{StoreTold};
 ghost use Rattle.world_semantics.specs.Worlds.{Sizes, World as Defined, in_range, start};
 
-use crate::evacuator::Evacuator;
-use crate::lock::Lock;
 use crate::make::{new_berths, new_evacuators, new_programs};
-use crate::memory::Memory;
-use crate::program::Program;
 use cells::Want;
 use code_form::Image;
 use pointer_word::Word;
 use remote_store::{Config, Port, RawStore, Stores};
 use std::alloc::Global;
+use world_actors::{Evacuator, Program};
+use world_memory::{Lock, Memory};
 use world_semantics::event::{Actor, Choice, Step};
 
 /// A world as code keeps it: its memory with the berths, and each actor with its way to the store.

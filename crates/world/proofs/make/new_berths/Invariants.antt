@@ -1,6 +1,6 @@
 use Rattle.std.proofs.Common.{◌-◌, ◌≤◌, length}
 use Rattle.pointer_word.specs.Machine.{Never}
-use Rattle.world.specs.Shown.{AreFar}
+use Rattle.world_memory.specs.Shown.{AreFar}
 use Rattle.world.proofs.make.new_berths.Given as goal
 
 abbrev pub invariant-loop-alloc : goal.invariant-loop-alloc

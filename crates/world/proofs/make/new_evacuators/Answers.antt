@@ -1,6 +1,6 @@
-use Rattle.std.proofs.Common.{◌≡◌, ◌+◌, ◌≤◌, suc, ◌∷◌, ◌++◌, [], length, length-append, ap, ◌∙◌, arith}
+use Rattle.std.proofs.Common.{◌≡◌, ◌+◌, suc, ◌∷◌, ◌++◌, [], length, length-append, ap, ◌∙◌, arith}
 use Rattle.remote_store.specs.declared.port.Port.{Port}
-use Rattle.world.specs.declared.evacuator.Evacuator.{Evacuator}
+use Rattle.world_actors.specs.declared.evacuator.Evacuator.{Evacuator}
 use Rattle.world.proofs.Opened.{idle_push}
 use Rattle.world.proofs.make.new_evacuators.Goals as goal
 

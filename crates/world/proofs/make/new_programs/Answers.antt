@@ -1,6 +1,6 @@
-use Rattle.std.proofs.Common.{◌≡◌, ◌≤◌, ◌<◌, ◌∷◌, ◌++◌, [], length, length-append, ap, arith}
+use Rattle.std.proofs.Common.{◌≡◌, ◌<◌, ◌∷◌, ◌++◌, [], length, length-append, ap, arith}
 use Rattle.remote_store.specs.declared.port.Port.{Port}
-use Rattle.world.specs.Seats.{Seat}
+use Rattle.world_actors.specs.Seats.{Seat}
 use Rattle.world.proofs.Opened.{begun_next, begun_push}
 use Rattle.world.proofs.make.new_programs.Goals as goal
 

@@ -1,6 +1,6 @@
-use Rattle.std.proofs.Common.{◌≡◌, ℕ, suc, ◌+◌, ◌≤◌, length}
+use Rattle.std.proofs.Common.{ℕ, suc, ◌+◌, ◌≤◌, length}
 use Rattle.code_form.specs.Form.{Image}
-use Rattle.world.specs.Acting.{IsWorld}
+use Rattle.world.specs.Stepped.{IsWorld}
 use Rattle.world.specs.Reports.{HasCome}
 use Rattle.world_semantics.specs.Worlds.{Sizes}
 use Rattle.world_semantics.specs.Worlds.{World as Defined}

@@ -1,7 +1,7 @@
-use Rattle.std.proofs.Common.{sym, ap, ◌∙◌}
+use Rattle.std.proofs.Common.{ap, ◌∙◌}
 use Rattle.pointer_word.specs.Words.{framed}
-use Rattle.world.specs.declared.memory.Object.{Object}
-use Rattle.world.specs.Tables.{place_of}
+use Rattle.world_memory.specs.declared.memory.Object.{Object}
+use Rattle.world_memory.specs.Tables.{place_of}
 use Rattle.world.proofs.Opened.{no_cell, the_cell}
 use Rattle.world.proofs.world.World.cell.Goals as goal
 

@@ -1,7 +1,7 @@
 use Rattle.std.proofs.Common.{sym, subst, ap, ◌∙◌}
 use Rattle.pointer_word.specs.Words.{pack}
-use Rattle.world.specs.declared.memory.Object.{Object}
-use Rattle.world.specs.Tables.{FrameFits, place_of, word_of}
+use Rattle.world_memory.specs.declared.memory.Object.{Object}
+use Rattle.world_memory.specs.Tables.{FrameFits, place_of, word_of}
 use Rattle.world.proofs.Opened.{frame_fits}
 use Rattle.world.proofs.world.World.word.Goals as goal
 

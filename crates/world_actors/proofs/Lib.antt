@@ -1,0 +1,9 @@
+pub mod Dispatched
+pub mod Instructed
+pub mod Firsts
+pub mod BroughtIn
+pub mod Evacuating
+pub mod MovedOut
+pub mod Acting
+pub mod Answered
+pub mod Placing

@@ -1,0 +1,22 @@
+use Rattle.std.proofs.Common.{◌≡◌, ℕ, suc, ◌+◌, ap, arith}
+use Rattle.world_semantics.specs.declared.event.Step.TheVariants as step
+use Rattle.world_semantics.specs.Programs.{Filling}
+use Rattle.world_actors.specs.Seats.{mode_of}
+use Rattle.world_actors.proofs.Dispatched.{fills_all, fills_cell}
+use Rattle.world_actors.proofs.Instructed.{goes_turn}
+use Rattle.world_actors.proofs.program.Program.fill_next.Goals as goal
+
+next : (k : ℕ) → suc k ≡ k + 1
+next k = omega arith
+
+pub returns-then-index-lt-PIECE_CELLS : goal.returns-then-index-lt-PIECE_CELLS
+returns-then-index-lt-PIECE_CELLS g c z s p is =
+    let x = c.args.self.now in
+    let mode = ap (λ y. mode_of y x.words) c.requires.mode in
+    goes_turn s _ _ _ _ (Unit {0}) step.Took (λ a. fills_cell x.setting p c.args.object c.args.frame c.args.index x.words is.size c.if-index-lt-PIECE_CELLS.true) (c.fill.ensures x.words mode c.word-value.ensures (ap (Filling c.args.object c.args.frame x.words) (next c.args.index)) z s p is)
+
+pub returns-else-index-lt-PIECE_CELLS : goal.returns-else-index-lt-PIECE_CELLS
+returns-else-index-lt-PIECE_CELLS g c z s p is =
+    let x = c.args.self.now in
+    let mode = ap (λ y. mode_of y x.words) c.requires.mode in
+    goes_turn s _ _ _ _ _ c.arrive.result (λ a. fills_all x.setting p c.args.object c.args.frame c.args.index x.words is.size c.if-index-lt-PIECE_CELLS.false) (c.arrive.ensures x.words c.args.index mode c.if-index-lt-PIECE_CELLS.false z s p is)

@@ -1,0 +1,3 @@
+pub mod Seats
+pub mod Asking
+pub mod Acting

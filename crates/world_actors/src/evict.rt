@@ -1,0 +1,185 @@
+//! Moving an object out of its frame, an event at a time.
+ghost use Rattle.std.specs.Prelude.{◌≡◌, ◌<◌, ◌≤◌, ℕ, List, None, Some, false, length, option_map};
+ghost use Rattle.pointer_word.specs.Calls.{Aborts, Marks, Releases, act};
+ghost use Rattle.pointer_word.specs.Legal.{holds};
+ghost use Rattle.pointer_word.specs.Machine.{State};
+ghost use Rattle.pointer_word.specs.Sound.{Inv};
+ghost use Rattle.remote_store.specs.Kept.{piece_cells};
+ghost use Rattle.world_actors.specs.Acting.{Done, Failed, Leads, Moves, On, Shows, Unread, UnreadSo, outcome_of, resumes};
+ghost use Rattle.world_memory.specs.Answered.{AnswersSo, Puts};
+ghost use Rattle.world_actors.specs.Asking.{asked_out};
+ghost use Rattle.world_semantics.specs.InHand.{MovesOut};
+ghost use Rattle.world_actors.specs.Seats.{IsSteady, Waits, eviction_of, mode_of};
+ghost use Rattle.world_semantics.specs.Programs.{Bringing, Evicting, Retreating};
+ghost use Rattle.code_form.specs.declared.touch.Touch.{Touch};
+ghost use Rattle.world_semantics.specs.Turns.{evicts};
+ghost use Rattle.world_semantics.specs.Worlds.{Sizes};
+
+use crate::program::{Eviction, Mode};
+use remote_store::{PIECE_CELLS, Port, RawStore};
+use world_memory::{Lock, Place};
+
+/// What an event of moving out leads to.
+#[derive(Clone, Copy, PartialEq, Eq, Debug)]
+pub(crate) enum Evicted {
+    /// It goes on.
+    On(Eviction),
+    /// It has ended well.
+    Done,
+    /// It has ended, because the store failed.
+    Failed,
+}
+
+impl Evicted {
+    /// How it goes on, if it does.
+    pub(crate) fn eviction(self) -> Option<Eviction>
+        ensures { (words : List ℕ) → option_map (λ e. eviction_of e words) result ≡ resumes Some None None (outcome_of self words) }
+    {
+        match self {
+            Evicted::On(eviction) => Some(eviction),
+            Evicted::Done | Evicted::Failed => None,
+        }
+    }
+}
+
+impl Evicted {
+    /// The mode of a program that moves an object out to bring this one in.
+    pub(crate) fn mode(self, object: usize) -> Mode
+        ensures mode { (words : List ℕ) → mode_of result words ≡ resumes (λ e. Evicting object e) (Bringing object) (Retreating object) (outcome_of self words) }
+        ensures waits { (x : Touch) → IsSteady x → Waits result x }
+    {
+        match self {
+            Evicted::On(eviction) => Mode::Evicting { object, eviction },
+            Evicted::Done => Mode::Bringing(object),
+            Evicted::Failed => Mode::Retreating(object),
+        }
+    }
+}
+
+/// Tries to mark the object in the frame, to move it out. False where it isn't there, or is held, or moves already.
+pub(crate) fn mark<S: RawStore>(lock: &mut Lock<S>, mover: u16, object: usize, frame: usize) -> bool
+    ensures marks { (z : Sizes) (s : State) → object < z.objects → (s.hand mover).leaving ≡ None → Shows S.content z lock.old.memory lock.old.berths.items s
+        → let t = act s (Marks mover object frame) in Shows S.content z lock.new.memory lock.new.berths.items t × (holds (t.hand mover).leaving object ≡ result) }
+    ensures refused { result ≡ false → lock.new ≡ lock.old }
+{
+    if lock.memory.object(object).is_at_rest(frame) {
+        lock.memory
+            .put_place(object, Place::Leaving(frame, mover, true));
+        true
+    } else {
+        false
+    }
+}
+
+/// Copies the next cell.
+fn copy<S: RawStore>(
+    lock: &Lock<S>,
+    object: usize,
+    frame: usize,
+    copied: usize,
+    words: &mut [u64],
+) -> Evicted
+    requires { (length words.old ≡ piece_cells) × (copied < piece_cells) }
+    ensures length { length words.new ≡ piece_cells }
+    ensures leads { (m : ℕ) (z : Sizes) (s : State) → let e = eviction_of (Eviction.Copying object frame copied) words.old in
+        Moves S.content S.honest z lock.now.memory lock.now.berths.items m e s → Leads s (λ a. evicts piece_cells m a e On Done Failed) Unread
+        (λ u r. Shows S.content z lock.now.memory lock.now.berths.items u × (r ≡ outcome_of result words.new)) }
+{
+    words[copied] = lock.memory.cell(frame, copied);
+    Evicted::On(Eviction::Copying {
+        object,
+        frame,
+        at: copied + 1,
+    })
+}
+
+/// Puts the words that were copied.
+fn put<S: RawStore>(
+    lock: &mut Lock<S>,
+    port: &mut Port<S>,
+    object: usize,
+    frame: usize,
+    copied: usize,
+    words: &[u64],
+) -> Evicted
+    requires { (length words.now ≡ piece_cells) × (piece_cells ≤ copied) }
+    ensures { (m : ℕ) (z : Sizes) (s : State) → let e = eviction_of (Eviction.Copying object frame copied) words.now in
+        Moves S.content S.honest z lock.old.memory lock.old.berths.items m e s → Leads s (λ a. evicts piece_cells m a e On Done Failed)
+        (UnreadSo (AnswersSo S.reliable S.failures S.read_gives piece_cells lock.old.berths.items port.old port.new s.far (Puts object)))
+        (λ u r. Shows S.content z lock.new.memory lock.new.berths.items u × (r ≡ outcome_of result words.now)) }
+{
+    if lock.put(port, object, words) {
+        Evicted::On(Eviction::Stored { object, frame })
+    } else {
+        Evicted::On(Eviction::NotStored { object, frame })
+    }
+}
+
+/// Tries to commit: the object is away where its mark still stands and it has no hold.
+fn commit<S: RawStore>(lock: &mut Lock<S>, mover: u16, object: usize, frame: usize) -> Evicted
+    ensures { (words : List ℕ) (z : Sizes) (s : State) → let e = eviction_of (Eviction.Stored object frame) words in
+        Moves S.content S.honest z lock.old.memory lock.old.berths.items mover e s → Leads s (λ a. evicts piece_cells mover a e On Done Failed) Unread
+        (λ u r. Shows S.content z lock.new.memory lock.new.berths.items u × (r ≡ outcome_of result words)) }
+{
+    if lock.memory.object(object).is_marked(frame, mover) {
+        lock.memory.put_place(object, Place::Away);
+        Evicted::On(Eviction::Freed(frame))
+    } else {
+        Evicted::On(Eviction::Refused { object, frame })
+    }
+}
+
+/// Gives the object's berth back: it stays in its frame.
+fn abort<S: RawStore>(lock: &mut Lock<S>, object: usize, frame: usize)
+    ensures { (m : ℕ) (z : Sizes) (s : State) → Inv S.honest piece_cells s → MovesOut object frame (s.hand m) → Shows S.content z lock.old.memory lock.old.berths.items s
+        → Shows S.content z lock.new.memory lock.new.berths.items (act s (Aborts m object frame)) }
+{
+    lock.memory.put_place(object, Place::Here(frame));
+}
+
+/// Gives the freed frame back.
+fn release<S: RawStore>(lock: &mut Lock<S>, frame: usize)
+    ensures { (m : ℕ) (z : Sizes) (s : State) → Inv S.honest piece_cells s → (s.hand m).freed ≡ Some frame → Shows S.content z lock.old.memory lock.old.berths.items s
+        → Shows S.content z lock.new.memory lock.new.berths.items (act s (Releases m frame)) }
+{
+    lock.memory.hold_frame(frame, None);
+}
+
+/// An event of a mover that moves an object out. It is always enabled.
+pub(crate) fn evict<S: RawStore>(
+    lock: &mut Lock<S>,
+    port: &mut Port<S>,
+    mover: u16,
+    eviction: Eviction,
+    words: &mut [u64],
+) -> Evicted
+    requires { length words.old ≡ piece_cells }
+    ensures length { length words.new ≡ piece_cells }
+    ensures leads { (z : Sizes) (s : State) → let e = eviction_of eviction words.old in
+        Moves S.content S.honest z lock.old.memory lock.old.berths.items mover e s → Leads s (λ a. evicts piece_cells mover a e On Done Failed)
+        (UnreadSo (AnswersSo S.reliable S.failures S.read_gives piece_cells lock.old.berths.items port.old port.new s.far (asked_out piece_cells e)))
+        (λ u r. Shows S.content z lock.new.memory lock.new.berths.items u × (r ≡ outcome_of result words.new)) }
+{
+    match eviction {
+        Eviction::Copying { object, frame, at } => {
+            if at < PIECE_CELLS {
+                copy(lock, object, frame, at, words)
+            } else {
+                put(lock, port, object, frame, at, words)
+            }
+        }
+        Eviction::Stored { object, frame } => commit(lock, mover, object, frame),
+        Eviction::NotStored { object, frame } => {
+            abort(lock, object, frame);
+            Evicted::Failed
+        }
+        Eviction::Refused { object, frame } => {
+            abort(lock, object, frame);
+            Evicted::Done
+        }
+        Eviction::Freed(frame) => {
+            release(lock, frame);
+            Evicted::Done
+        }
+    }
+}

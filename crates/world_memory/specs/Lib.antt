@@ -1,0 +1,3 @@
+pub mod Tables
+pub mod Shown
+pub mod Answered

@@ -1,0 +1,88 @@
+-- What code keeps of the machine: a row for each object, and one for each frame.
+use Rattle.std.specs.Prelude.{◌≡◌, ℕ, suc, ◌<◌, Bool, true, false, ◌&&◌, ◌==◌, Option, Some, None, List, slice_index_or, slice_set, replicate}
+use Rattle.pointer_word.specs.Words as words
+use Rattle.remote_store.specs.Kept.{piece_cells}
+use Rattle.world_memory.specs.declared.memory.Place.{Place}
+use Rattle.world_memory.specs.declared.memory.Place.TheVariants as p
+use Rattle.world_memory.specs.declared.memory.Object.{Object}
+use Rattle.world_memory.specs.declared.memory.Frame.{Frame}
+
+-- an object's word with what its owner knows, and a frame's word with its cells, by their numbers
+pub record Tables : Type 0 where
+  pub objects : List Object
+  pub frames : List Frame
+
+-- the place that code holds; no object is clean
+abbrev pub place_of : Place → words.Place
+place_of p.Away = words.Away
+place_of (p.Coming m) = words.Coming m
+place_of (p.Here f) = words.Here f false
+place_of (p.Leaving f m k) = words.Leaving f m k
+
+-- the word that code holds
+abbrev pub word_of : Object → words.Word
+word_of x = words.counted x.count (place_of x.place)
+
+-- an object in its store cell, with no hold
+abbrev pub resting : Object
+resting = record { count = 0; place = p.Away; told = None; writing = false }
+
+-- a frame that nobody holds
+abbrev pub free : Frame
+free = record { held_for = None; cells = replicate piece_cells 0 }
+
+-- outside the table objects rest
+abbrev pub object_at : Tables → ℕ → Object
+object_at t o = slice_index_or t.objects o resting
+
+-- outside the table frames are free
+abbrev pub frame_at : Tables → ℕ → Frame
+frame_at t f = slice_index_or t.frames f free
+
+-- the word of a frame that is held for this object, or is free
+abbrev pub frame_word : Option ℕ → ℕ
+frame_word None = 0
+frame_word (Some o) = suc o
+
+-- the cells of a frame
+abbrev pub cells_at : Tables → ℕ → List ℕ
+cells_at t f = (frame_at t f).cells
+
+-- one object changed
+abbrev pub with_object : Tables → ℕ → Object → Tables
+with_object t o x = record t { objects = slice_set t.objects o x }
+
+-- one frame held for another object, or free
+abbrev pub with_frame : Tables → ℕ → Option ℕ → Tables
+with_frame t f y = record t { frames = slice_set t.frames f (record (frame_at t f) { held_for = y }) }
+
+-- one cell of a frame changed
+abbrev pub with_cell : Tables → ℕ → ℕ → ℕ → Tables
+with_cell t f i v = record t { frames = slice_set t.frames f (record (frame_at t f) { cells = slice_set (cells_at t f) i v }) }
+
+-- in this frame with no hold, and marked by this mover
+abbrev pub is_marked_at : Place → ℕ → ℕ → ℕ → Bool
+is_marked_at (p.Leaving g j true) c f m = (g == f) && ((j == m) && (c == 0))
+is_marked_at _ c f m = false
+
+-- so of an object
+abbrev pub is_marked_by : Object → ℕ → ℕ → Bool
+is_marked_by x f m = is_marked_at x.place x.count f m
+
+-- in this frame with no hold, and no mover moves it
+abbrev pub is_here_at : Place → ℕ → ℕ → Bool
+is_here_at (p.Here g) c f = (g == f) && (c == 0)
+is_here_at _ c f = false
+
+-- so of an object
+abbrev pub is_at_rest_in : Object → ℕ → Bool
+is_at_rest_in x f = is_here_at x.place x.count f
+
+-- in its store cell
+abbrev pub is_away_at : Place → Bool
+is_away_at p.Away = true
+is_away_at _ = false
+
+-- the number of the frame, if any, has 24 bits
+abbrev pub FrameFits : words.Place → Type 0
+FrameFits p = (f : ℕ) → words.framed p ≡ Some f → f < 16777216

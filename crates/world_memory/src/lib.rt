@@ -1,0 +1,8 @@
+//! The memory of a world: the words of its objects, its frames and cells, and the berth of each object.
+#![tactic(auto)]
+
+mod lock;
+mod memory;
+
+pub use lock::Lock;
+pub use memory::{Memory, Object, Place};
