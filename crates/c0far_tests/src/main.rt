@@ -2,7 +2,7 @@
 //!
 //! A row is a line of such a file:
 //! - `= NAME` begins the text of a file in memory, which is the lines behind it, up to the next row;
-//! - `* N TEXT`, in a text, stands for `N` times `TEXT`, with no newline behind it;
+//! - `* N BYTES`, in a text, stands for `N` times these bytes, with no newline behind it;
 //! - `! out N` and `! err N` have one write of that stream of the next command fail, after `N` others;
 //! - `$ WORDS` does the command line of these words, with one blank between two of them;
 //! - `? WORDS` does the same, and tells only the first line that is written to each stream.

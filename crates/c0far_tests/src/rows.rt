@@ -29,10 +29,13 @@ fn behind<'a>(line: &'a [u8], mark: &[u8]) -> Option<&'a str> {
     }
 }
 
-/// The number and the text of `N TEXT`.
-fn repeated(text: &str) -> Option<(usize, &[u8])> {
-    let (number, rest) = text.split_once(' ')?;
-    Some((number.parse().ok()?, rest.as_bytes()))
+/// The number and the bytes of a line `* N BYTES`.
+fn repeated(line: &[u8]) -> Option<(usize, &[u8])> {
+    let mark: &[u8] = b"* ";
+    let rest = line.strip_prefix(mark)?;
+    let end = rest.iter().position(|byte| *byte == b' ')?;
+    let number = from_utf8(rest.get(..end)?).ok()?;
+    Some((number.parse().ok()?, rest.get(end + 1..)?))
 }
 
 impl<'a> Row<'a> {
@@ -47,8 +50,8 @@ impl<'a> Row<'a> {
         if let Some(words) = behind(line, b"? ") {
             return Row::Refused(words);
         }
-        if let Some((count, text)) = behind(line, b"* ").and_then(repeated) {
-            return Row::Repeated(count, text);
+        if let Some((count, bytes)) = repeated(line) {
+            return Row::Repeated(count, bytes);
         }
         if let Some(Ok(after)) = behind(line, b"! out ").map(|number| number.parse()) {
             return Row::FailingOut(after);
