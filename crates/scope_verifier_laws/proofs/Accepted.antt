@@ -23,7 +23,7 @@ use Rattle.scope_verifier_laws.proofs.Deciding.{all_decides, checked_decides, kn
 module _ (C : Image) (f : Function) where
   -- ---- an instruction
 
-  contents : (a : ℕ) (o : Option Kind) → content_fault C f a o ≡ None → on_kind (λ k. has f.kinds a k) o ≡ true
+  contents : (a : ℕ) (o : Option Kind) → content_fault f a o ≡ None → on_kind (λ k. has f.kinds a k) o ≡ true
   contents a None e = absurd (cc e)
   contents a (Some k) e = holds (has f.kinds a k) OperandKind e
 
@@ -33,28 +33,28 @@ module _ (C : Image) (f : Function) where
   place k (KnownAimed r off disp) a e =
       let p = unless (place_fits f.kinds r off) OperandKind in
       let c = unless (is_checked k r off) NotChecked in
-      let t = content_fault C f a (cell_kind C.head f.kinds r disp) in
+      let t = content_fault f a (cell_kind C.head f.kinds r disp) in
       let q = neither p (first_of c t) e in
       let w = neither c t q.1 in
       ((holds (place_fits f.kinds r off) OperandKind q.0, contents a (cell_kind C.head f.kinds r disp) w.1), (checked_decides k r off).0 (holds (is_checked k r off) NotChecked w.0))
 
-  scope : (s : ℕ) → scope_fault C f s ≡ None → s < f.scopes
+  scope : (s : ℕ) → scope_fault f s ≡ None → s < f.scopes
   scope s e = less s f.scopes (holds (nat_lt s f.scopes) TooManyScopes e)
 
-  enters : (k : Known) (b : ℕ) (o : Option Block) → slice_get f.blocks b ≡ o → entering_fault C f k o ≡ None → Enters C f k b
+  enters : (k : Known) (b : ℕ) (o : Option Block) → slice_get f.blocks b ≡ o → entering_fault k o ≡ None → Enters C f k b
   enters k b None i e = absurd (cc e)
   enters k b (Some x) i e = (x, i, (all_decides k x.facts).0 (holds (are_known k x.facts) EntryFacts e))
 
-  aimed : (k : Known) (s a : ℕ) → first_of (scope_fault C f s) (place_fault C f k (k.scope s) a) ≡ None → ((s < f.scopes) × IsAimedAt C f (k.scope s) a) × IsAimChecked k (k.scope s)
+  aimed : (k : Known) (s a : ℕ) → first_of (scope_fault f s) (place_fault C f k (k.scope s) a) ≡ None → ((s < f.scopes) × IsAimedAt C f (k.scope s) a) × IsAimChecked k (k.scope s)
   aimed k s a e =
-      let q = neither (scope_fault C f s) (place_fault C f k (k.scope s) a) e in
+      let q = neither (scope_fault f s) (place_fault C f k (k.scope s) a) e in
       let p = place k (k.scope s) a q.1 in
       ((scope s q.0, p.0), p.1)
 
-  fits : (k : Known) (i : Instruction) → fitting_fault C f k i ≡ None → Fits C f k i × IsGuarded k i
+  pub fits : (k : Known) (i : Instruction) → fitting_fault C f k i ≡ None → Fits C f k i × IsGuarded k i
   fits k (Simple o) e = (holds (op_fits C.head f.kinds o) OperandKind e, tt)
   fits k (Aim s r off disp) e =
-      let q = neither (scope_fault C f s) (unless (place_fits f.kinds r off) OperandKind) e in
+      let q = neither (scope_fault f s) (unless (place_fits f.kinds r off) OperandKind) e in
       ((holds (place_fits f.kinds r off) OperandKind q.1, scope s q.0), tt)
   fits k (Load to s) e = aimed k s to e
   fits k (Store s from) e = aimed k s from e
@@ -62,8 +62,8 @@ module _ (C : Image) (f : Function) where
   fits k (Call to g args) e = (holds (callee_fits C f (slice_get C.functions g) to args) OperandKind e, tt)
   fits k (Jump b) e = (enters k b (slice_get f.blocks b) refl e, tt)
   fits k (Branch a b c) e =
-      let x = entering_fault C f k (slice_get f.blocks b) in
-      let y = entering_fault C f k (slice_get f.blocks c) in
+      let x = entering_fault k (slice_get f.blocks b) in
+      let y = entering_fault k (slice_get f.blocks c) in
       let q = neither (unless (has f.kinds a kind.Bool) OperandKind) (first_of x y) e in
       let w = neither x y q.1 in
       ((holds (has f.kinds a kind.Bool) OperandKind q.0, enters k b (slice_get f.blocks b) refl w.0, enters k c (slice_get f.blocks c) refl w.1), tt)
@@ -71,9 +71,9 @@ module _ (C : Image) (f : Function) where
   fits k ReturnVoid e = (holds (is_none f.result) OperandKind e, tt)
   fits k (Error a) e = (holds (has f.kinds a kind.Text) OperandKind e, tt)
 
-  allowed : (k : Known) (i : Instruction) → instruction_fault C f k i ≡ None → IsAllowed C f k i × IsGuarded k i
+  pub allowed : (k : Known) (i : Instruction) → instruction_fault C f k i ≡ None → IsAllowed C f k i × IsGuarded k i
   allowed k i e =
-      let q = neither (fitting_fault C f k i) (open_fault C f k i) e in
+      let q = neither (fitting_fault C f k i) (open_fault f k i) e in
       let w = fits k i q.0 in
       let o = holds (not (needs_shut i) || are_shut k f.scopes) OpenScope q.1 in
       (((λ n. shut_below k f.scopes (where_true (needs_shut i) (are_shut k f.scopes) o n)), w.0), w.1)
@@ -88,7 +88,7 @@ module _ (C : Image) (f : Function) where
   goes true X Y e y = absurd (cc e)
   goes false X Y e y = y
 
-  behind : (k : Known) (i : Instruction) (rest : List Instruction) → is_placed C f i rest ≡ true → (0 < length rest → IsRest C f (after i k) rest)
+  behind : (k : Known) (i : Instruction) (rest : List Instruction) → is_placed i rest ≡ true → (0 < length rest → IsRest C f (after i k) rest)
       → elim (leads_out i) as (λ b. Type 0) [ true ↦ rest ≡ [] | false ↦ IsRest C f (after i k) rest ]
   behind k i [] e h = let none : List Instruction = [] in last (leads_out i) (none ≡ none) (IsRest C f (after i k) []) e refl
   behind k i (j ∷ rest) e h = goes (leads_out i) (j ∷ rest ≡ []) (IsRest C f (after i k) (j ∷ rest)) e (h (omega arith))
@@ -96,10 +96,10 @@ module _ (C : Image) (f : Function) where
   pub rests : (k : Known) (is : List Instruction) → 0 < length is → code_numbers C f is ≡ None → code_fault C f k is ≡ None → IsRest C f k is
   rests k [] l n e = absurd (let z : ⊥ = omega arith in z)
   rests k (i ∷ rest) l n e =
-      let p = neither (unless (is_placed C f i rest) OutOfCode) (first_of (instruction_numbers C f i) (code_numbers C f rest)) n in
+      let p = neither (unless (is_placed i rest) OutOfCode) (first_of (instruction_numbers C f i) (code_numbers C f rest)) n in
       let m = neither (instruction_numbers C f i) (code_numbers C f rest) p.1 in
       let q = neither (instruction_fault C f k i) (code_fault C f (after i k) rest) e in
-      ((allowed k i q.0).0, behind k i rest (holds (is_placed C f i rest) OutOfCode p.0) (λ t. rests (after i k) rest t m.1 q.1))
+      ((allowed k i q.0).0, behind k i rest (holds (is_placed i rest) OutOfCode p.0) (λ t. rests (after i k) rest t m.1 q.1))
 
   pub guarded : (k : Known) (is : List Instruction) → code_fault C f k is ≡ None → AreGuarded k is
   guarded k [] e = tt
@@ -110,44 +110,44 @@ module _ (C : Image) (f : Function) where
   block_formed : (b : Block) → block_numbers C f b ≡ None → block_fault C f b ≡ None → IsWellFormedBlock C f b
   block_formed b n e =
       let some = unless (nat_lt 0 (length b.code)) OutOfCode in
-      let p = neither (first_in (fact_numbers C f) b.facts) (first_of some (code_numbers C f b.code)) n in
+      let p = neither (first_in (fact_numbers f) b.facts) (first_of some (code_numbers C f b.code)) n in
       let m = neither some (code_numbers C f b.code) p.1 in
-      let q = neither (first_in (naming_fault C f) b.facts) (code_fault C f (facts_known b.facts) b.code) e in
+      let q = neither (first_in (naming_fault f) b.facts) (code_fault C f (facts_known b.facts) b.code) e in
       rests (facts_known b.facts) b.code (less 0 (length b.code) (holds (nat_lt 0 (length b.code)) OutOfCode m.0)) m.1 q.1
 
   block_guarded : (b : Block) → block_fault C f b ≡ None → IsGuardedBlock b
-  block_guarded b e = let q = neither (first_in (naming_fault C f) b.facts) (code_fault C f (facts_known b.facts) b.code) e in guarded (facts_known b.facts) b.code q.1
+  block_guarded b e = let q = neither (first_in (naming_fault f) b.facts) (code_fault C f (facts_known b.facts) b.code) e in guarded (facts_known b.facts) b.code q.1
 
-  named : (x : Fact) → naming_fault C f x ≡ None → NamesFact f.kinds f.scopes x
+  named : (x : Fact) → naming_fault f x ≡ None → NamesFact f.kinds f.scopes x
   named x e = (names_decides f.kinds f.scopes x).0 (holds (names_fact f.kinds f.scopes x) OperandKind e)
 
   block_named : (b : Block) → block_fault C f b ≡ None → All (NamesFact f.kinds f.scopes) b.facts
   block_named b e =
-      let q = neither (first_in (naming_fault C f) b.facts) (code_fault C f (facts_known b.facts) b.code) e in
-      All-weaker (λ x. naming_fault C f x ≡ None) (NamesFact f.kinds f.scopes) named b.facts (none_in (naming_fault C f) b.facts q.0)
+      let q = neither (first_in (naming_fault f) b.facts) (code_fault C f (facts_known b.facts) b.code) e in
+      All-weaker (λ x. naming_fault f x ≡ None) (NamesFact f.kinds f.scopes) named b.facts (none_in (naming_fault f) b.facts q.0)
 
-  known_first : (facts : List Fact) → first_in (beginning_fault C f) facts ≡ None → AreKnown at_entry facts
+  known_first : (facts : List Fact) → first_in (beginning_fault f) facts ≡ None → AreKnown at_entry facts
   known_first [] e = tt
   known_first (x ∷ facts) e =
-      let q = neither (beginning_fault C f x) (first_in (beginning_fault C f) facts) e in
-      let w = neither (naming_fault C f x) (unless (is_known at_entry x) EntryFacts) q.0 in
+      let q = neither (beginning_fault f x) (first_in (beginning_fault f) facts) e in
+      let w = neither (naming_fault f x) (unless (is_known at_entry x) EntryFacts) q.0 in
       ((known_decides at_entry x).0 (holds (is_known at_entry x) EntryFacts w.1), known_first facts q.1)
 
-  begins : (o : Option Block) → slice_get f.blocks 0 ≡ o → beginning C f o ≡ None → Enters C f at_entry 0
+  begins : (o : Option Block) → slice_get f.blocks 0 ≡ o → beginning f o ≡ None → Enters C f at_entry 0
   begins None i e = absurd (cc e)
   begins (Some b) i e = (b, i, known_first b.facts e)
 
   -- ---- a function
 
   all_blocks : function_fault C f ≡ None → All (λ b. block_fault C f b ≡ None) f.blocks
-  all_blocks e = none_in (block_fault C f) f.blocks (neither (beginning C f (slice_get f.blocks 0)) (first_in (block_fault C f) f.blocks) e).1
+  all_blocks e = none_in (block_fault C f) f.blocks (neither (beginning f (slice_get f.blocks 0)) (first_in (block_fault C f) f.blocks) e).1
 
   pub function_formed : function_numbers C f ≡ None → function_fault C f ≡ None → IsWellFormedFunction C f
   function_formed n e =
       let some = unless (nat_lt 0 (length f.blocks)) OutOfCode in
       let result = unless (is_result_kind (length C.head.layouts) f.result) OperandKind in
       let few = unless (nat_le f.parameters (length f.kinds)) OperandKind in
-      let kinds = first_of (first_in (kind_fault C f) f.kinds) (unless (nat_le f.scopes 4) TooManyScopes) in
+      let kinds = first_of (first_in (kind_fault (length C.head.layouts)) f.kinds) (unless (nat_le f.scopes 4) TooManyScopes) in
       let p = neither (outer_numbers C f) (first_of some (first_in (block_numbers C f) f.blocks)) n in
       let m = neither some (first_in (block_numbers C f) f.blocks) p.1 in
       let o = neither few kinds (neither result (first_of few kinds) p.0).1 in
@@ -155,7 +155,7 @@ module _ (C : Image) (f : Function) where
       let right = all_blocks e in
       record {
         parameters = leb-true f.parameters (length f.kinds) (holds (nat_le f.parameters (length f.kinds)) OperandKind o.0);
-        begins = begins (slice_get f.blocks 0) refl (neither (beginning C f (slice_get f.blocks 0)) (first_in (block_fault C f) f.blocks) e).0;
+        begins = begins (slice_get f.blocks 0) refl (neither (beginning f (slice_get f.blocks 0)) (first_in (block_fault C f) f.blocks) e).0;
         blocks = λ i d l. block_formed _ (all i d l) (right i d l);
       }
 
@@ -165,7 +165,7 @@ module _ (C : Image) (f : Function) where
       let result = unless (is_result_kind (length C.head.layouts) f.result) OperandKind in
       let few = unless (nat_le f.parameters (length f.kinds)) OperandKind in
       let four = unless (nat_le f.scopes 4) TooManyScopes in
-      let kinds = first_in (kind_fault C f) f.kinds in
+      let kinds = first_in (kind_fault (length C.head.layouts)) f.kinds in
       let p = neither (outer_numbers C f) (first_of some (first_in (block_numbers C f) f.blocks)) n in
       let o = neither few (first_of kinds four) (neither result (first_of few (first_of kinds four)) p.0).1 in
       leb-true f.scopes 4 (holds (nat_le f.scopes 4) TooManyScopes (neither kinds four o.1).1)

@@ -64,7 +64,7 @@ module _ (ks : List Kind) where
   on_there test r h = there ks r (some_on test (slice_get ks r) h)
 
   -- register a has the kind of what is there
-  like_there : (a : ℕ) (o : Option Kind) → on_kind (λ k. has ks a k) o ≡ true → nat_lt a (length ks) ≡ true
+  pub like_there : (a : ℕ) (o : Option Kind) → on_kind (λ k. has ks a k) o ≡ true → nat_lt a (length ks) ≡ true
   like_there a None h = absurd (cc h)
   like_there a (Some k) h = has_there a k h
 
@@ -72,10 +72,10 @@ module _ (ks : List Kind) where
   compared_there b test None h = absurd (cc h)
   compared_there b test (Some k) h = has_there b k (both_true (test k) (has ks b k) h).1
 
-  offset_there : (d r : ℕ) → is_array_of (slice_get ks d) (slice_get ks r) ≡ true → nat_lt d (length ks) ≡ true
+  pub offset_there : (d r : ℕ) → is_array_of (slice_get ks d) (slice_get ks r) ≡ true → nat_lt d (length ks) ≡ true
   offset_there d r h = there ks d (some_offset (slice_get ks d) (slice_get ks r) h)
 
-  array_there : (d r : ℕ) → is_array_of (slice_get ks d) (slice_get ks r) ≡ true → nat_lt r (length ks) ≡ true
+  pub array_there : (d r : ℕ) → is_array_of (slice_get ks d) (slice_get ks r) ≡ true → nat_lt r (length ks) ≡ true
   array_there d r h = there ks r (some_array (slice_get ks d) (slice_get ks r) h)
 
 -- ---- instructions
@@ -133,20 +133,20 @@ module _ (C : Image) (f : Function) where
   aim s r None disp h l = rw (is_less s f.scopes l, on_there ks is_reference r h) refl
   aim s r (Some d) disp h l = rw (is_less s f.scopes l, array_there ks d r h, offset_there ks d r h) refl
 
-  aimed_there : (z : Knows) (a : ℕ) → IsAimedAt C f z a → nat_lt a (length ks) ≡ true
+  pub aimed_there : (z : Knows) (a : ℕ) → IsAimedAt C f z a → nat_lt a (length ks) ≡ true
   aimed_there Unknown a h = absurd h
   aimed_there KnownShut a h = absurd h
   aimed_there (KnownAimed r off disp) a h = like_there ks a (cell_kind C.head ks r disp) h.1
 
-  arguments : (theirs : List Kind) (n : ℕ) (args : List ℕ) → args_fit ks theirs n args ≡ true → first_in (register_fault C f) args ≡ None
+  arguments : (theirs : List Kind) (n : ℕ) (args : List ℕ) → args_fit ks theirs n args ≡ true → first_in (register_fault f) args ≡ None
   arguments theirs n [] h = refl
   arguments theirs zero (a ∷ args) h = absurd (cc h)
   arguments [] (suc n) (a ∷ args) h = absurd (cc h)
   arguments (k ∷ theirs) (suc n) (a ∷ args) h =
       let q = both_true (has ks a k) (args_fit ks theirs n args) h in
-      both (register_fault C f a) (first_in (register_fault C f) args) (unless_true (nat_lt a (length ks)) OperandKind (has_there ks a k q.0)) (arguments theirs n args q.1)
+      both (register_fault f a) (first_in (register_fault f) args) (unless_true (nat_lt a (length ks)) OperandKind (has_there ks a k q.0)) (arguments theirs n args q.1)
 
-  to_there : (result : Option Kind) (d : ℕ) → result_fits ks result (Some d) ≡ true → nat_lt d (length ks) ≡ true
+  pub to_there : (result : Option Kind) (d : ℕ) → result_fits ks result (Some d) ≡ true → nat_lt d (length ks) ≡ true
   to_there None d h = absurd (cc h)
   to_there (Some k) d h = has_there ks d k h
 
@@ -175,7 +175,7 @@ module _ (C : Image) (f : Function) where
   instruction k ReturnVoid h = refl
   instruction k (Error a) h = rw (has_there ks a kind.Text h) refl
 
-  pub entry_fact : (x : Fact) → NamesFact ks f.scopes x → fact_numbers C f x ≡ None
+  pub entry_fact : (x : Fact) → NamesFact ks f.scopes x → fact_numbers f x ≡ None
   entry_fact (fact.Nonnull r) h = rw (on_there ks is_pointer r h) refl
   entry_fact (fact.Inside d r) h = rw (offset_there ks d r h, array_there ks d r h) refl
   entry_fact (fact.Aimed s r None disp) h = rw (is_less s f.scopes h.0, on_there ks is_reference r h.1) refl

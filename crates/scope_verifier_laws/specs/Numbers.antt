@@ -6,7 +6,7 @@ use Rattle.code_form.specs.declared.form.Kind.TheVariants as kind
 use Rattle.code_form.specs.declared.form.Fact.{Fact}
 use Rattle.code_form.specs.declared.form.Fact.TheVariants as fact
 use Rattle.code_form.specs.declared.form.Operation.TheVariants.{TextOf, Alloc, AllocArray}
-use Rattle.code_form.specs.Form.{Instruction, Simple, Block, Function, Image}
+use Rattle.code_form.specs.Form.{Instruction, Simple, Block, Function, Head, Image}
 use Rattle.code_form.specs.Asked.{leads_out}
 use Rattle.instruction_table.specs.declared.parts.Argument.{Argument}
 use Rattle.instruction_table.specs.declared.parts.Argument.TheVariants as argument
@@ -40,7 +40,7 @@ is_result_kind count (Some k) = is_cell_kind count k
 
 -- ---- numbers of one function
 
-module _ (C : Image) (f : Function) where
+module _ (f : Function) where
   -- a register's number
   abbrev pub register_fault : ℕ → Option VerifyFault
   register_fault r = unless (nat_lt r (length f.kinds)) OperandKind
@@ -55,27 +55,10 @@ module _ (C : Image) (f : Function) where
   leading_fault (argument.Scope s) = scope_fault s
   leading_fault _ = None
 
-  -- the number of a register or a function
-  abbrev pub other_fault : Argument → Option VerifyFault
-  other_fault (argument.Register r) = register_fault r
-  other_fault (argument.Function g) = unless (nat_lt g (length C.functions)) OperandKind
-  other_fault _ = None
-
   -- the numbers of a list of registers, where there is one
   abbrev pub registers_fault : Option (List ℕ) → Option VerifyFault
   registers_fault None = None
   registers_fault (Some rs) = first_in register_fault rs
-
-  -- the number of a text, of which 0 is the empty one, or of a layout
-  abbrev pub head_fault : Instruction → Option VerifyFault
-  head_fault (Simple (TextOf d n)) = unless (nat_lt n (suc (length C.head.texts))) OperandKind
-  head_fault (Simple (Alloc d l)) = unless (nat_lt l (length C.head.layouts)) OperandKind
-  head_fault (Simple (AllocArray d l n)) = unless (nat_lt l (length C.head.layouts)) OperandKind
-  head_fault _ = None
-
-  -- the numbers of an instruction
-  abbrev pub instruction_numbers : Instruction → Option VerifyFault
-  instruction_numbers i = first_of (first_in leading_fault (arguments_of i)) (first_of (first_in other_fault (arguments_of i)) (first_of (registers_fault (registers_of i)) (head_fault i)))
 
   -- the numbers of an entry fact
   abbrev pub fact_numbers : Fact → Option VerifyFault
@@ -85,10 +68,33 @@ module _ (C : Image) (f : Function) where
   fact_numbers (fact.Aimed s r (Some d) disp) = first_of (scope_fault s) (first_of (register_fault r) (register_fault d))
   fact_numbers (fact.Shut s) = scope_fault s
 
-  -- an instruction with these behind it stands where it belongs: last in its block exactly where it leads out of it
-  abbrev pub is_placed : Instruction → List Instruction → Bool
-  is_placed i [] = leads_out i
-  is_placed i (j ∷ rest) = not (leads_out i)
+-- the number of a text, of which 0 is the empty one, or of a layout
+abbrev pub head_fault : Head → Instruction → Option VerifyFault
+head_fault H (Simple (TextOf d n)) = unless (nat_lt n (suc (length H.texts))) OperandKind
+head_fault H (Simple (Alloc d l)) = unless (nat_lt l (length H.layouts)) OperandKind
+head_fault H (Simple (AllocArray d l n)) = unless (nat_lt l (length H.layouts)) OperandKind
+head_fault H _ = None
+
+-- an instruction with these behind it stands where it belongs: last in its block exactly where it leads out of it
+abbrev pub is_placed : Instruction → List Instruction → Bool
+is_placed i [] = leads_out i
+is_placed i (j ∷ rest) = not (leads_out i)
+
+-- the kind of a register, where there are so many layouts
+abbrev pub kind_fault : ℕ → Kind → Option VerifyFault
+kind_fault count k = unless (names_layout count k) OperandKind
+
+module _ (C : Image) (f : Function) where
+  -- the number of a register or a function
+  abbrev pub other_fault : Argument → Option VerifyFault
+  other_fault (argument.Register r) = register_fault f r
+  other_fault (argument.Function g) = unless (nat_lt g (length C.functions)) OperandKind
+  other_fault _ = None
+
+  -- the numbers of an instruction
+  abbrev pub instruction_numbers : Instruction → Option VerifyFault
+  instruction_numbers i =
+      first_of (first_in (leading_fault f) (arguments_of i)) (first_of (first_in other_fault (arguments_of i)) (first_of (registers_fault f (registers_of i)) (head_fault C.head i)))
 
   -- the numbers of instructions
   abbrev pub code_numbers : List Instruction → Option VerifyFault
@@ -97,17 +103,13 @@ module _ (C : Image) (f : Function) where
 
   -- the numbers of a block, which has an instruction
   abbrev pub block_numbers : Block → Option VerifyFault
-  block_numbers b = first_of (first_in fact_numbers b.facts) (first_of (unless (nat_lt 0 (length b.code)) OutOfCode) (code_numbers b.code))
-
-  -- the kind of a register
-  abbrev pub kind_fault : Kind → Option VerifyFault
-  kind_fault k = unless (names_layout (length C.head.layouts) k) OperandKind
+  block_numbers b = first_of (first_in (fact_numbers f) b.facts) (first_of (unless (nat_lt 0 (length b.code)) OutOfCode) (code_numbers b.code))
 
   -- the numbers before the blocks: the kinds of the result and of the registers, of which the first are the parameters, and the number of scopes
   abbrev pub outer_numbers : Option VerifyFault
   outer_numbers =
       first_of (unless (is_result_kind (length C.head.layouts) f.result) OperandKind)
-      (first_of (unless (nat_le f.parameters (length f.kinds)) OperandKind) (first_of (first_in kind_fault f.kinds) (unless (nat_le f.scopes 4) TooManyScopes)))
+      (first_of (unless (nat_le f.parameters (length f.kinds)) OperandKind) (first_of (first_in (kind_fault (length C.head.layouts)) f.kinds) (unless (nat_le f.scopes 4) TooManyScopes)))
 
   -- the numbers of a function, which has a block
   abbrev pub function_numbers : Option VerifyFault

@@ -1,0 +1,7 @@
+pub mod Calls
+pub mod Changes
+pub mod Lists
+pub mod Places
+pub mod Showing
+pub mod Steps
+pub mod Walks

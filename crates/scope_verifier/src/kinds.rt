@@ -1,0 +1,171 @@
+//! Whether the kinds of an instruction's operands fit.
+ghost use Rattle.code_form.specs.Asked.{callee_fits as callee_fits_in};
+ghost use Rattle.code_form.specs.Code.{args_fit, op_fits, result_fits as result_fits_in};
+ghost use Rattle.code_form.specs.Form.{function_of, image_of};
+ghost use Rattle.code_form.specs.declared.form.Operation.TheVariants.{CheckIndex, Unary};
+ghost use Rattle.code_verification.specs.WellFormed.{main_fits};
+ghost use Rattle.scope_verifier.specs.Answers.{is_of_values};
+ghost use Rattle.std.specs.Prelude.{◌≡◌, is_some, option_map, slice_get, true};
+
+use code_form::{
+    Function, Image, Kind, Operation, UnaryOperator, are_numbers, can_compare, has_array,
+    has_array_of, has_kind, has_pointer, has_reference, has_size, have_same_kind, is_place,
+    kind_at,
+};
+
+/// Whether the image has this layout.
+fn has_layout(image: &Image, layout: u32) -> bool
+    ensures { result ≡ is_some (slice_get (image_of image.now).head.layouts layout) }
+{
+    image.layouts.get(layout as usize).is_some()
+}
+
+/// Whether the operands of a check of an index fit.
+fn index_fits(image: &Image, kinds: &[Kind], to: u32, register: u32, index: u32, size: u32) -> bool
+    ensures { result ≡ op_fits (image_of image.now).head kinds.now (CheckIndex to register index size) }
+{
+    has_array_of(kinds, to, register)
+        && (has_kind(kinds, index, Kind::Int) && has_size(image, size, kind_at(kinds, register)))
+}
+
+/// Whether the operands of an operator on one value fit.
+fn unary_fits(image: &Image, kinds: &[Kind], operator: UnaryOperator, to: u32, from: u32) -> bool
+    ensures { result ≡ op_fits (image_of image.now).head kinds.now (Unary operator to from) }
+{
+    match operator {
+        UnaryOperator::Not => has_kind(kinds, to, Kind::Bool) && has_kind(kinds, from, Kind::Bool),
+        UnaryOperator::Negate => has_kind(kinds, to, Kind::Int) && has_kind(kinds, from, Kind::Int),
+        UnaryOperator::Complement => {
+            has_kind(kinds, to, Kind::Int) && has_kind(kinds, from, Kind::Int)
+        }
+    }
+}
+
+/// Whether the kinds of a simple instruction that computes fit; of another one, no.
+fn value_fits(image: &Image, kinds: &[Kind], operation: &Operation) -> bool
+    ensures { is_of_values operation.now ≡ true → result ≡ op_fits (image_of image.now).head kinds.now operation.now }
+{
+    match *operation {
+        Operation::Const { to, .. } => has_kind(kinds, to, Kind::Int),
+        Operation::TextOf { to, number } => {
+            has_kind(kinds, to, Kind::Text) && number as usize <= image.texts.len()
+        }
+        Operation::BoolOf { to, .. } => has_kind(kinds, to, Kind::Bool),
+        Operation::CharOf { to, .. } => has_kind(kinds, to, Kind::Char),
+        Operation::Null { to } => has_reference(kinds, to),
+        Operation::Move { to, from } => have_same_kind(kinds, to, from),
+        Operation::Binary {
+            to,
+            left,
+            right,
+            ..
+        } => are_numbers(kinds, to, left, right),
+        Operation::Unary { operator, to, from } => unary_fits(image, kinds, operator, to, from),
+        Operation::Compare {
+            relation,
+            to,
+            left,
+            right,
+        } => has_kind(kinds, to, Kind::Bool) && can_compare(kinds, relation, left, right),
+        _ => false,
+    }
+}
+
+/// Whether the kinds of a simple instruction fit.
+pub(crate) fn operation_fits(image: &Image, kinds: &[Kind], operation: &Operation) -> bool
+    ensures { result ≡ op_fits (image_of image.now).head kinds.now operation.now }
+{
+    match *operation {
+        Operation::CheckNull { register } => has_pointer(kinds, register),
+        Operation::CheckIndex {
+            to,
+            register,
+            index,
+            size,
+        } => index_fits(image, kinds, to, register, index, size),
+        Operation::Len { to, register } => {
+            has_kind(kinds, to, Kind::Int) && has_array(kinds, register)
+        }
+        Operation::Prefetch {
+            register,
+            offset,
+            ..
+        } => is_place(kinds, register, offset),
+        Operation::Alloc { to, layout } => {
+            has_kind(kinds, to, Kind::Ptr(layout)) && has_layout(image, layout)
+        }
+        Operation::AllocArray { to, layout, length } => {
+            has_kind(kinds, to, Kind::Arr(layout))
+                && (has_kind(kinds, length, Kind::Int) && has_layout(image, layout))
+        }
+        Operation::Print { from } => has_kind(kinds, from, Kind::Text),
+        Operation::Println { from } => has_kind(kinds, from, Kind::Text),
+        Operation::Printint { from } => has_kind(kinds, from, Kind::Int),
+        Operation::Printbool { from } => has_kind(kinds, from, Kind::Bool),
+        Operation::Printchar { from } => has_kind(kinds, from, Kind::Char),
+        Operation::Flush => true,
+        Operation::Assert { condition } => has_kind(kinds, condition, Kind::Bool),
+        _ => value_fits(image, kinds, operation),
+    }
+}
+
+/// Whether the arguments are there, and have the kinds of the parameters.
+fn arguments_fit(kinds: &[Kind], theirs: &[Kind], parameters: u32, arguments: &[u32]) -> bool
+    ensures { result ≡ args_fit kinds.now theirs.now parameters arguments.now }
+{
+    if arguments.len() != parameters as usize {
+        return false;
+    }
+    if theirs.len() < arguments.len() {
+        return false;
+    }
+    for number in 0..arguments.len() {
+        if !has_kind(kinds, arguments[number], theirs[number]) {
+            return false;
+        }
+    }
+    true
+}
+
+/// Whether the register for the result is named where the function has one, and has its kind.
+fn result_fits(kinds: &[Kind], kind: Option<Kind>, to: Option<u32>) -> bool
+    ensures { result ≡ result_fits_in kinds.now kind to }
+{
+    match kind {
+        None => to.is_none(),
+        Some(kind) => match to {
+            None => false,
+            Some(to) => has_kind(kinds, to, kind),
+        },
+    }
+}
+
+/// Whether the function that is called is there, and takes and gives what the call names.
+pub(crate) fn call_fits(
+    image: &Image,
+    function: &Function,
+    to: Option<u32>,
+    number: u32,
+    arguments: &[u32],
+) -> bool
+    ensures { result ≡ callee_fits_in (image_of image.now) (function_of function.now) (slice_get (image_of image.now).functions number) to arguments.now }
+{
+    match image.functions.get(number as usize) {
+        None => false,
+        Some(callee) => arguments_fit(&function.kinds, &callee.kinds, callee.parameters, arguments)
+            && result_fits(&function.kinds, callee.result, to),
+    }
+}
+
+/// Whether `main` takes nothing and gives a number.
+pub(crate) fn is_main(function: Option<&Function>) -> bool
+    ensures { result ≡ main_fits (option_map (λ f. function_of f.now) function.entry) }
+{
+    match function {
+        None => false,
+        Some(function) => {
+            arguments_fit(&[Kind::Int], &function.kinds, function.parameters, &[])
+                && result_fits(&[Kind::Int], function.result, Some(0))
+        }
+    }
+}
