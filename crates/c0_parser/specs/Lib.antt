@@ -1,3 +1,4 @@
+pub mod Ended
 pub mod Found
 pub mod FoundPrograms
 pub mod Stands

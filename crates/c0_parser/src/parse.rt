@@ -9,6 +9,7 @@ ghost use Rattle.c0_syntax.specs.Trees as t;
 ghost use Rattle.c0_syntax.specs.Views.{declaration_of, program_of};
 ghost use Rattle.c0_grammar_laws.specs.Outcome.{Gives};
 ghost use Rattle.c0_grammar_laws.specs.ReadPrograms.{read_program};
+ghost use Rattle.c0_parser.specs.Ended.{IsEnded};
 ghost use Rattle.c0_parser.specs.Stands.{first_position};
 ghost use Rattle.c0_grammar_laws.specs.PlacedPrograms.{PlacedDeclarations, PlacedIn};
 ghost use Rattle.c0_grammar_laws.specs.Parsing.{IsReadFault, before_last, fault_by, place_of, read_from};
@@ -86,7 +87,8 @@ fn declarations_of<'a>(
 /// no reading goes on, 21 at one where a tree is more than 200 nodes deep, 22 at the name of a local or a function that is too many, or 50,
 /// where memory runs out.
 pub fn parse<'a>(alloc: Global, tokens: &'a [Token<'a>], level: Level) -> Result<Program, Fault>
-    requires { AreTokens (map lexeme tokens.now) }
+    requires tokens { AreTokens (map lexeme tokens.now) }
+    requires ended { IsEnded (map lexeme tokens.now) }
     // What is given is what the tokens read as.
     ensures found { IfOk result (λ p. Reads (has_loops level) (read_from (map lexeme tokens.now)) (program_of p)) }
     // Each of its parts begins where the first of its tokens does, and ends where the last one does.

@@ -43,7 +43,7 @@ impl<'a> Model for Cursor<'a> {
 
     ghost Value = { Remaining };
 
-    ghost view = { λ c. record { seen = terminals (map lexeme c.tokens.now); position = record { tokens = map lexeme c.tokens.now; end = c.end } } };
+    ghost view = { λ c. record { seen = terminals (map lexeme c.tokens.now); position = record { tokens = map lexeme c.tokens.now; end = c.end }; alloc = c.alloc } };
 
     ghost invariant = { λ c. AreTokens (map lexeme c.tokens.now) };
 }
@@ -52,7 +52,7 @@ impl<'a> Cursor<'a> {
     /// All of these tokens, still to be read.
     pub fn new(alloc: Global, tokens: &'a [Token<'a>]) -> Cursor<'a>
         requires { AreTokens (map lexeme tokens.now) }
-        ensures { result ≡ record { seen = terminals (map lexeme tokens.now); position = record { tokens = map lexeme tokens.now; end = 0 } } }
+        ensures { result ≡ record { seen = terminals (map lexeme tokens.now); position = record { tokens = map lexeme tokens.now; end = 0 }; alloc = alloc } }
     {
         Cursor {
             alloc,
@@ -62,7 +62,9 @@ impl<'a> Cursor<'a> {
     }
 
     /// The allocator of what is read.
-    pub fn alloc(&self) -> Global {
+    pub fn alloc(&self) -> Global
+        ensures { result ≡ self.now.alloc }
+    {
         self.alloc
     }
 
