@@ -8,7 +8,7 @@ ghost use Rattle.c0far.specs.Streams.{Says, writes};
 
 use crate::code::{code_of, is_image_name};
 use crate::files::{FileError, Files};
-use crate::images::{Target, build, list};
+use crate::images::{build, list};
 use crate::plain::{Bound, mean};
 use crate::say::{
     REFUSED, STOPPED, WANTED, after, say_memory, say_refused, say_unread, write_output,
@@ -163,17 +163,7 @@ pub fn drive<W: Wait + Threads, F: Files, O: Stream, E: Stream>(
                 out: target,
                 file,
             },
-        ) => build(
-            alloc,
-            Target {
-                checks,
-                out: target,
-                file,
-            },
-            files,
-            out,
-            err,
-        ),
+        ) => build(alloc, checks, target, file, files, out, err),
         Ok(Line::Check { file }) => check(alloc, file, files, out, err),
         Ok(Line::List { file }) => list(alloc, file, files, out, err),
         Ok(

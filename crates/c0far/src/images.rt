@@ -46,35 +46,29 @@ pub fn list<F: Files, O: Stream, E: Stream>(
     }
 }
 
-/// Where an image is written from, and where to.
-#[derive(Clone, Copy, Debug, PartialEq, Eq)]
-pub struct Target<'a> {
-    pub checks: bool,
-    pub out: &'a str,
-    pub file: &'a str,
-}
-
 /// Writes the code of a file into another.
 pub fn build<F: Files, O: Stream, E: Stream>(
     alloc: Global,
-    target: Target<'_>,
+    checks: bool,
+    target: &str,
+    file: &str,
     files: &mut F,
     out: &mut O,
     err: &mut E,
 ) -> u8
-    ensures files { (name : List ℕ) → (name ≡ target.out.now → ⊥) → F.holds files.new name ≡ F.holds files.old name }
-    ensures done { Builds target.file.now target.checks target.out.now (F.holds files.old target.file.now) (F.holds files.old target.out.now) (F.holds files.new target.out.now) (writes O.contents O.failures out.old out.new) (writes E.contents E.failures err.old err.new) result }
+    ensures files { (name : List ℕ) → (name ≡ target.now → ⊥) → F.holds files.new name ≡ F.holds files.old name }
+    ensures done { Builds file.now checks target.now (F.holds files.old file.now) (F.holds files.old target.now) (F.holds files.new target.now) (writes O.contents O.failures out.old out.new) (writes E.contents E.failures err.old err.new) result }
 {
-    let image = match code_of(alloc, target.checks, target.file, files, err) {
+    let image = match code_of(alloc, checks, file, files, err) {
         Ok(image) => image,
         Err(status) => return status,
     };
     let Ok(bytes) = encode(alloc, &image) else {
         return say_memory(err);
     };
-    match files.write(alloc, target.out, &bytes) {
+    match files.write(alloc, target, &bytes) {
         Ok(()) => 0,
-        Err(FileError::Cannot) => say_unwritten(err, target.out),
+        Err(FileError::Cannot) => say_unwritten(err, target),
         Err(FileError::OutOfMemory) => say_memory(err),
     }
 }
