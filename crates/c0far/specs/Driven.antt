@@ -23,7 +23,7 @@ use Rattle.instruction_table.specs.declared.fault.ImageFault.{ImageFault}
 use Rattle.scope_verifier_laws.specs.Faults.{fault_of}
 use Rattle.scope_verifier_laws.specs.FaultNumbers.{fault_line as verify_line}
 use Rattle.scope_verifier_laws.specs.declared.fault.VerifyFault.{VerifyFault}
-use Rattle.c0far.specs.FileCode.{HoldsCode, HoldsImage, names_image}
+use Rattle.c0far.specs.FileCode.{HoldsCode, names_image}
 use Rattle.c0far.specs.FileTexts.{HasText, IsMissing, Known}
 use Rattle.c0far.specs.MeantLines.{last_line}
 use Rattle.command_line.specs.Help.{help_text}
@@ -138,15 +138,19 @@ abbrev pub ChecksText : Text → Known → Writes → Writes → ℕ → Type 0
 ChecksText file held out err result = HasPassed held out err result ⊎ (HasFailed file held out err result ⊎ (IsUnread file held out err result ⊎ LacksMemory out err result))
 
 -- the file's image may be run
-pub record IsFit (held : Known) (out err : Writes) (result : ℕ) : Type 0 where
+pub record IsFit (file : Text) (held : Known) (out err : Writes) (result : ℕ) : Type 0 where
   pub image : Image
-  pub code : HoldsImage held image
+  pub code : HoldsCode file false held image
   pub shown : Says out (codes "ok" ++ newline) 0 result
   pub quiet : IsQuiet err
 
+-- the command `check` of this file, which holds this image
+abbrev pub ChecksImage : Text → Known → Writes → Writes → ℕ → Type 0
+ChecksImage file held out err result = IsFit file held out err result ⊎ HasNoCode file held out err result
+
 -- the command `check` of this file, which holds this
 abbrev pub Checks : Text → Known → Writes → Writes → ℕ → Type 0
-Checks file held out err result = elim (names_image file) as (λ b. Type 0) [ true ↦ IsFit held out err result ⊎ HasNoCode file held out err result | false ↦ ChecksText file held out err result ]
+Checks file held out err result = elim (names_image file) as (λ b. Type 0) [ true ↦ ChecksImage file held out err result | false ↦ ChecksText file held out err result ]
 
 -- the lines of the file's code are shown, of a text with no contracts
 pub record HasListed (file : Text) (held : Known) (out err : Writes) (result : ℕ) : Type 0 where

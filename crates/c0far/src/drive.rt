@@ -1,7 +1,7 @@
 //! The commands, over files and two streams.
 ghost use Rattle.std.specs.Prelude.{◌≡◌, ◌++◌, ℕ, List, codes, map};
 ghost use Rattle.command_line.specs.Help.{help_text};
-ghost use Rattle.c0far.specs.Driven.{Checks, ChecksText, IsDriven, Runs, newline, shown_end};
+ghost use Rattle.c0far.specs.Driven.{Checks, ChecksImage, ChecksText, IsDriven, Runs, newline, shown_end};
 ghost use Rattle.c0far.specs.FileTexts.{HasText, Known};
 ghost use Rattle.c0far.specs.Statuses.{run_status};
 ghost use Rattle.c0far.specs.Streams.{Says, writes};
@@ -123,6 +123,23 @@ fn check_text_of<F: Files, O: Stream, E: Stream>(
     }
 }
 
+/// Tells whether a file's image may be run.
+fn check_image<F: Files, O: Stream, E: Stream>(
+    alloc: Global,
+    file: &str,
+    files: &mut F,
+    out: &mut O,
+    err: &mut E,
+) -> u8
+    ensures files { (name : List ℕ) → F.holds files.new name ≡ F.holds files.old name }
+    ensures done { ChecksImage file.now (F.holds files.old file.now) (writes O.contents O.failures out.old out.new) (writes E.contents E.failures err.old err.new) result }
+{
+    match code_of(alloc, false, file, files, err) {
+        Ok(_image) => say_ok(out),
+        Err(status) => status,
+    }
+}
+
 /// Tells whether a file's text keeps the static rules, or its image may be run.
 fn check<F: Files, O: Stream, E: Stream>(
     alloc: Global,
@@ -134,12 +151,10 @@ fn check<F: Files, O: Stream, E: Stream>(
     ensures files { (name : List ℕ) → F.holds files.new name ≡ F.holds files.old name }
     ensures done { Checks file.now (F.holds files.old file.now) (writes O.contents O.failures out.old out.new) (writes E.contents E.failures err.old err.new) result }
 {
-    if !is_image_name(file) {
-        return check_text_of(alloc, file, files, out, err);
-    }
-    match code_of(alloc, false, file, files, err) {
-        Ok(_image) => say_ok(out),
-        Err(status) => status,
+    if is_image_name(file) {
+        check_image(alloc, file, files, out, err)
+    } else {
+        check_text_of(alloc, file, files, out, err)
     }
 }
 

@@ -1,0 +1,16 @@
+use Rattle.std.proofs.Common.{inl, inr, refl}
+use Rattle.code_form.specs.Form.{image_of}
+use Rattle.c0far.proofs.drive.run.Goals as goal
+
+pub returns-in-Err-clause-done : goal.returns-in-Err-clause-done
+returns-in-Err-clause-done g c = inr (c.in-Err.ensures.refused _ refl)
+
+pub returns-in-Ok-execute-clause-done : goal.returns-in-Ok-execute-clause-done
+returns-in-Ok-execute-clause-done g c = inl (record {
+  image = image_of c.in-Ok.image;
+  ended = c.in-Ok-execute.ended;
+  code = c.in-Ok.ensures.code;
+  executed = c.in-Ok-execute.ensures;
+  shown = c.say_end.ensures;
+  quiet = c.in-Ok.ensures.covered.1;
+})

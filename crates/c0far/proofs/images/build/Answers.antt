@@ -1,0 +1,17 @@
+use Rattle.std.proofs.Common.{List, ℕ, inl, inr, refl, subst, ◌∙◌}
+use Rattle.code_form.specs.Form.{image_of}
+use Rattle.c0far.specs.FileTexts.{HasText}
+use Rattle.c0far.proofs.images.build.Goals as goal
+
+pub returns-in-Err-clause-done : goal.returns-in-Err-clause-done
+returns-in-Err-clause-done g c = inr (c.in-Err.ensures.files c.args.target.now, inl (c.in-Err.ensures.refused _ refl))
+
+pub returns-in-Ok-write-clause-done : goal.returns-in-Ok-write-clause-done
+returns-in-Ok-write-clause-done g c = inl (record {
+  image = image_of c.in-Ok.image;
+  code = c.in-Ok.ensures.code;
+  written = subst (λ (bytes : List ℕ). HasText (g.F.Files.holds c.write.new.self c.args.target.now) bytes) (c.deref.ensures.value ∙ c.in-Ok-encode.ensures) c.in-Ok-write.ensures.text;
+  status = refl;
+  silent = refl;
+  quiet = c.in-Ok.ensures.covered.1;
+})

@@ -1,0 +1,15 @@
+use Rattle.std.proofs.Common.{List, ℕ, inl, inr, refl, subst}
+use Rattle.code_form.specs.Form.{image_of}
+use Rattle.c0far.specs.Streams.{Says, writes}
+use Rattle.c0far.proofs.images.list.Goals as goal
+
+pub returns-in-Err-clause-done : goal.returns-in-Err-clause-done
+returns-in-Err-clause-done g c = inr (c.in-Err.ensures.refused _ refl)
+
+pub returns-in-Ok-list_image-clause-done : goal.returns-in-Ok-list_image-clause-done
+returns-in-Ok-list_image-clause-done g c = inl (record {
+  image = image_of c.in-Ok.image;
+  code = c.in-Ok.ensures.code;
+  shown = subst (λ (lines : List ℕ). Says (writes g.O.Stream.contents g.O.Stream.failures c.args.out.now c.say_code.new.out) lines 0 c.say_code.result) c.in-Ok-list_image.ensures c.say_code.ensures;
+  quiet = c.in-Ok.ensures.covered.1;
+})
