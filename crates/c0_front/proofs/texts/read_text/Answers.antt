@@ -28,7 +28,7 @@ parse-requires-clause-tokens c =
 pub parse-requires-clause-ended : goal.parse-requires-clause-ended
 parse-requires-clause-ended c =
     let lexed = c.in_ok-tokens.ensures.spelled in
-    subst (λ (xs : List Token). IsEnded (map lexeme xs)) (sym c.deref.ensures.value) (record { before = lexed.all; at = length c.source.result.now; whole = lexed.given })
+    subst (λ (xs : List Token). IsEnded (map lexeme xs)) (sym c.deref.ensures.value) (record { before = lexed.all; at = _; whole = lexed.given })
 
 pub returns-clause-read : goal.returns-clause-read
 returns-clause-read c =
