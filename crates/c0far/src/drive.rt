@@ -96,7 +96,7 @@ fn check_named<O: Stream, E: Stream>(
     out: &mut O,
     err: &mut E,
 ) -> u8
-    ensures { (held : Known) → HasText held text.now → Checks file.now held (writes O.contents O.failures out.old out.new) (writes E.contents E.failures err.old err.new) result }
+    ensures { (held : Known) → HasText held text.now → ChecksText file.now held (writes O.contents O.failures out.old out.new) (writes E.contents E.failures err.old err.new) result }
 {
     match check_text(alloc, text, Level::C0) {
         Ok(_typed) => say_ok(out),
@@ -169,7 +169,7 @@ pub fn drive<W: Wait + Threads, F: Files, O: Stream, E: Stream>(
     out: &mut O,
     err: &mut E,
 ) -> u8
-    ensures done { IsDriven (F.holds files.old) (F.holds files.new) (map (λ w. w.now) words.now) (writes O.contents O.failures out.old out.new) (writes E.contents E.failures err.old err.new) result }
+    ensures { IsDriven (F.holds files.old) (F.holds files.new) (map (λ w. w.now) words.now) (writes O.contents O.failures out.old out.new) (writes E.contents E.failures err.old err.new) result }
 {
     match line(alloc, words) {
         Ok(
