@@ -211,26 +211,21 @@ pub record HasRun (file : Text) (checks : Bool) (held : Known) (out err : Writes
 abbrev pub Runs : Text → Bool → Known → Writes → Writes → ℕ → Type 0
 Runs file checks held out err result = HasRun file checks held out err result ⊎ HasNoCode file held out err result
 
--- the command, where files held this and hold that now
-abbrev pub Does : (held now : Text → Known) → Command → Writes → Writes → ℕ → Type 0
-Does held now (shell.Build checks target file) out err result = Builds file checks target (held file) (held target) (now target) out err result
-Does held now (Check file) out err result = Checks file (held file) out err result
-Does held now (shell.Lists file) out err result = Lists file (held file) out err result
-Does held now (Mean checks turns file) out err result = Means file checks turns (held file) out err result
-Does held now (Run checks file) out err result = Runs file checks (held file) out err result
-
--- the command may write this file
-abbrev pub MayWrite : Command → Text → Type 0
-MayWrite (shell.Build checks target file) name = name ≡ target
-MayWrite _ name = ⊥
-
--- all files that it may not write hold what they held
-abbrev pub KeepsOthers : (held now : Text → Known) → Command → Type 0
-KeepsOthers held now command = (name : Text) → (MayWrite command name → ⊥) → now name ≡ held name
+-- all files but this one hold what they held
+pub record KeepsOthers (target : Text) (held now : Text → Known) : Type 0 where
+  pub others : (name : Text) → (name ≡ target → ⊥) → now name ≡ held name
 
 -- all files do
 abbrev pub KeepsFiles : (held now : Text → Known) → Type 0
 KeepsFiles held now = (name : Text) → now name ≡ held name
+
+-- the command, where files held this and hold that now: `build` alone may write a file, the one that it names
+abbrev pub Does : (held now : Text → Known) → Command → Writes → Writes → ℕ → Type 0
+Does held now (shell.Build checks target file) out err result = Builds file checks target (held file) (held target) (now target) out err result × KeepsOthers target held now
+Does held now (Check file) out err result = Checks file (held file) out err result × KeepsFiles held now
+Does held now (shell.Lists file) out err result = Lists file (held file) out err result × KeepsFiles held now
+Does held now (Mean checks turns file) out err result = Means file checks turns (held file) out err result × KeepsFiles held now
+Does held now (Run checks file) out err result = Runs file checks (held file) out err result × KeepsFiles held now
 
 -- the words are no command: it is told what is refused, and a page of help is shown
 pub record IsUsage (words : List Text) (out err : Writes) (result : ℕ) : Type 0 where
@@ -238,13 +233,7 @@ pub record IsUsage (words : List Text) (out err : Writes) (result : ℕ) : Type 
   pub shown : Says err (help_text words) 2 result
   pub quiet : IsQuiet out
 
--- the words are this command, and it was done
-pub record IsDone (held now : Text → Known) (words : List Text) (out err : Writes) (result : ℕ) : Type 0 where
-  pub command : Command
-  pub named : Names words command
-  pub done : Does held now command out err result
-  pub others : KeepsOthers held now command
-
 -- what the words ask for was done, where files held this and hold that now
 abbrev pub IsDriven : (held now : Text → Known) → List Text → Writes → Writes → ℕ → Type 0
-IsDriven held now words out err result = IsDone held now words out err result ⊎ (KeepsFiles held now × (IsUsage words out err result ⊎ LacksMemory out err result))
+IsDriven held now words out err result =
+    ((command : Command) × Names words command × Does held now command out err result) ⊎ (KeepsFiles held now × (IsUsage words out err result ⊎ LacksMemory out err result))

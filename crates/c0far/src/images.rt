@@ -1,6 +1,6 @@
 //! The commands `list` and `build`: the code of a file, shown and written.
 ghost use Rattle.std.specs.Prelude.{◌≡◌, ◌++◌, ℕ, List, codes, string_bytes};
-ghost use Rattle.c0far.specs.Driven.{Builds, Lists, newline};
+ghost use Rattle.c0far.specs.Driven.{Builds, KeepsOthers, Lists, newline};
 ghost use Rattle.c0far.specs.Streams.{Says, writes};
 
 use crate::code::code_of;
@@ -56,7 +56,7 @@ pub fn build<F: Files, O: Stream, E: Stream>(
     out: &mut O,
     err: &mut E,
 ) -> u8
-    ensures files { (name : List ℕ) → (name ≡ target.now → ⊥) → F.holds files.new name ≡ F.holds files.old name }
+    ensures files { KeepsOthers target.now (F.holds files.old) (F.holds files.new) }
     ensures done { Builds file.now checks target.now (F.holds files.old file.now) (F.holds files.old target.now) (F.holds files.new target.now) (writes O.contents O.failures out.old out.new) (writes E.contents E.failures err.old err.new) result }
 {
     let image = match code_of(alloc, checks, file, files, err) {

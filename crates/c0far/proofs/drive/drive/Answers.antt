@@ -13,12 +13,3 @@ returns-in-Err-Refused g c =
         quiet = refl;
       }),
     )
-
--- of the files it may write the one that it names
-pub returns-in-Ok-Build : goal.returns-in-Ok-Build
-returns-in-Ok-Build g c = inl (record {
-  command = _;
-  named = c.in-Ok-Build.ensures.named;
-  done = c.build.ensures.done;
-  others = c.build.ensures.files;
-})
