@@ -1,6 +1,10 @@
-use Rattle.std.proofs.Common.{◌≡◌, ◌∙◌, inl, inr, refl, sym}
+use Rattle.std.proofs.Common.{◌≡◌, ◌∙◌, inl, inr, map, refl, rules, subst, sym}
+use Rattle.command_line.specs.Shell.{Names, command_of}
+use Rattle.command_line.specs.Shell as shell
+use Rattle.command_line.specs.declared.words.Line.{Line}
 use Rattle.command_line.specs.declared.words.Usage.{Usage}
 use Rattle.command_line.specs.declared.words.Usage.TheVariants.{Refused, OutOfMemory}
+use Rattle.c0far.proofs.Moved.{built_at, keeps_at}
 use Rattle.c0far.proofs.drive.drive.Goals as goal
 
 pub returns-in-Err-Refused : goal.returns-in-Err-Refused
@@ -12,4 +16,19 @@ returns-in-Err-Refused g c =
         shown = c.say_help.ensures;
         quiet = refl;
       }),
+    )
+
+-- the words named this file and that
+pub returns-in-Ok-Build : goal.returns-in-Ok-Build
+returns-in-Ok-Build g c =
+    let held = g.F.Files.holds c.args.files.now in
+    let now = g.F.Files.holds c.build.new.files in
+    let asked = c.in-Ok-Build in
+    inl (
+      shell.Build asked.checks asked.target.now asked.file.now,
+      subst (λ (l : Line). Names (map (λ w. w.now) c.args.words.now) (command_of l)) asked.field-0-is asked.ensures.named,
+      (
+        built_at held now _ asked.file.now _ asked.checks _ asked.target.now _ _ _ (search rules) (search rules) (search rules) c.build.ensures.done,
+        keeps_at held now _ asked.target.now (search rules) c.build.ensures.files,
+      ),
     )
