@@ -58,7 +58,7 @@ impl<'a> Decision<'a> {
             Decision::Does(command) => command.touch(),
             Decision::Aims { scope, aim } => Touch::Aims(scope as usize, aim.cell(allocations)),
             Decision::Loads { scope, cell, .. } => Touch::Loads(scope as usize, cell),
-            Decision::Saves { scope, cell, value } => Touch::Saves(scope as usize, cell, value),
+            Decision::Stores { scope, cell, value } => Touch::Stores(scope as usize, cell, value),
             Decision::Leaves { scope } => Touch::Leaves(scope as usize),
             Decision::Calls { .. } | Decision::Jumps(_) => Touch::Plain,
             Decision::Returns { .. } => if waiting == 0 {
@@ -106,7 +106,7 @@ impl<'a> Status<'a> {
         };
         match decision {
             Decision::Does(command) => return self.obey(alloc, output, command),
-            Decision::Saves { .. } => calls.advance(),
+            Decision::Stores { .. } => calls.advance(),
             Decision::Aims { scope, aim } => calls.change_scope(scope, Scope::Aimed(aim)),
             Decision::Loads { to, .. } => calls.write(to, loaded),
             Decision::Leaves { scope } => calls.change_scope(scope, Scope::Shut),

@@ -1,4 +1,5 @@
 mod Addresses
+mod Arguments
 mod Computing
 mod Endings
 mod Heaps

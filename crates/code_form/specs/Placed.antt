@@ -1,7 +1,7 @@
 -- Where the cells of a program's allocations lie. A piece is n cells; base is the program's first object, and an allocation takes
 -- its objects behind those of the one before it. Allocations are lists of numbers of cells, the newest first.
 use Rattle.std.specs.Prelude.{◌≡◌, ℕ, suc, ◌+◌, ◌-◌, ◌/◌, ◌%◌, ◌<◌, ◌≤◌, ◌==◌, cond, List, [], ◌∷◌, length}
-use Rattle.code_form.specs.Effects.{Heap, saved, upd}
+use Rattle.code_form.specs.Effects.{Heap, with_cell, upd}
 use Rattle.code_form.specs.Code.{cells_of}
 
 -- how many pieces this many cells are
@@ -39,9 +39,9 @@ abbrev pub HaveAddresses : Type 0
 HaveAddresses = (n base : ℕ) (cells : List ℕ) → 0 < n → Addresses n base cells
 
 -- a store at a cell's address is a store into the heap
-abbrev pub HeapSaved : Type 0
-HeapSaved = (n base limit : ℕ) (cells : List ℕ) (latest : ℕ → ℕ → ℕ) (heap : Heap) (r x v : ℕ) → 0 < n → x < cells_of cells r → SameHeap n base limit cells latest heap
-    → SameHeap n base limit cells (upd latest (object_at n base cells r x) (upd (latest (object_at n base cells r x)) (x % n) v)) (saved heap r x v)
+abbrev pub HeapStored : Type 0
+HeapStored = (n base limit : ℕ) (cells : List ℕ) (latest : ℕ → ℕ → ℕ) (heap : Heap) (r x v : ℕ) → 0 < n → x < cells_of cells r → SameHeap n base limit cells latest heap
+    → SameHeap n base limit cells (upd latest (object_at n base cells r x) (upd (latest (object_at n base cells r x)) (x % n) v)) (with_cell heap r x v)
 
 -- a new allocation within the limit is as the heap has it
 abbrev pub HeapAllocated : Type 0

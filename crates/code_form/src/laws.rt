@@ -6,7 +6,7 @@ ghost use Rattle.code_form.specs.Computed.{image_of_each, image_v, image_with, t
 ghost use Rattle.code_form.specs.Effects.{code_run};
 ghost use Rattle.code_form.specs.Form.{Aim, Alloc, Binary, CheckNull, Const, Jump, Leave, Load, Move, Prefetch, Simple};
 ghost use Rattle.code_form.specs.Laws.{OutputGrows, StepsAdd, StepsSuc, StoppedStays, StuckStays};
-ghost use Rattle.code_form.specs.Placed.{HaveAddresses, HeapAllocated, HeapSaved};
+ghost use Rattle.code_form.specs.Placed.{HaveAddresses, HeapAllocated, HeapStored};
 ghost use Rattle.code_form.specs.Touches.{cell};
 ghost use Rattle.code_form.specs.Tracked.{AlwaysEndsSo, AlwaysTidy, AlwaysTracked, AlwaysWaitsShut};
 ghost use Rattle.code_form.specs.WorkedFacts.{IsTold};
@@ -87,6 +87,6 @@ pub fn effect_laws()
 /// How the cells of allocations lie in objects.
 pub fn heap_laws()
     ensures addresses { HaveAddresses }
-    ensures saved { HeapSaved }
+    ensures stored { HeapStored }
     ensures allocated { HeapAllocated }
 {}

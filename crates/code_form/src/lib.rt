@@ -2,12 +2,14 @@
 #![tactic(auto)]
 
 mod allocation;
+mod calls;
 mod form;
 mod kinds;
 mod laws;
 mod touch;
 
 pub use allocation::Allocation;
+pub use calls::{call_fits, needs_shut};
 pub use form::{
     Block, Fact, Function, Image, Instruction, Kind, Operation, Relation, UnaryOperator,
 };

@@ -19,7 +19,7 @@ pub enum Touch {
     /// The cell is read by the scope.
     Loads(usize, Cell),
     /// The value is put into the cell by the scope.
-    Saves(usize, Cell, u64),
+    Stores(usize, Cell, u64),
     /// The scope is shut.
     Leaves(usize),
     /// A new allocation of this many cells.

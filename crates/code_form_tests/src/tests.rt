@@ -80,7 +80,7 @@ fn step(execution: &mut Execution, loaded: u64) -> Result<(), AllocError> {
         | Touch::Hints(_)
         | Touch::Aims(..)
         | Touch::Loads(..)
-        | Touch::Saves(..)
+        | Touch::Stores(..)
         | Touch::Leaves(_)
         | Touch::Ends
         | Touch::Wrong
@@ -115,7 +115,7 @@ fn touches_in_order(rt: HostRuntime) -> Result<(), Fail> {
         Touch::Plain,
         Touch::Plain,
         Touch::Aims(0, Some(cell)),
-        Touch::Saves(0, cell, 5),
+        Touch::Stores(0, cell, 5),
         Touch::Leaves(0),
         Touch::Aims(0, Some(cell)),
         Touch::Loads(0, cell),
@@ -213,7 +213,7 @@ fn a_cell_holds_its_number_modulo_2_to_the_32(rt: HostRuntime) -> Result<(), Fai
         reference: 1,
         index: 0,
     };
-    assert_eq!(rt; execution.next(), Touch::Saves(0, cell, 4294967293));
+    assert_eq!(rt; execution.next(), Touch::Stores(0, cell, 4294967293));
     for _ in 0..4 {
         step(&mut execution, 4294967293)?;
     }

@@ -6,7 +6,7 @@ use Rattle.std.proofs.lemmas.Nat.{mod-mul-add}
 use Rattle.std.proofs.lemmas.Option.{slice_get_within}
 use Rattle.code_form.specs.declared.form.Kind.{Kind}
 use Rattle.code_form.specs.Form.{Head}
-use Rattle.code_form.specs.Effects.{Heap, saved, upd}
+use Rattle.code_form.specs.Effects.{Heap, with_cell, upd}
 use Rattle.code_form.specs.declared.allocation.Allocation.{Allocation}
 use Rattle.code_form.specs.Code.{cells_of, sizes}
 use Rattle.code_verification.proofs.States.{IsKind, IsTypedHeap, allocation_at}
@@ -36,9 +36,9 @@ upd-other : {A : Type 0} (f : ℕ → A) (k : ℕ) (v : A) (i : ℕ) → i ≢ k
 upd-other f k v i n = elim (eqb_tells i k) [ inl t ↦ absurd (n t.1) | inr t ↦ ap (λ b. cond b v (f i)) t.0 ]
 
 -- a store of a value of the cell's kind
-pub heap_saved : (H : Head) (al : List Allocation) (h : Heap) (v : ℕ) (a : Allocation) (cs : List Kind) (i d : ℕ) (k : Kind) (x : ℕ) → IsTypedHeap H al h → allocation_at al v ≡ Some a → slice_get H.layouts a.layout ≡ Some cs
-    → slice_get cs d ≡ Some k → d < length cs → IsKind H al k x → IsTypedHeap H al (saved h v (i * length cs + d) x)
-heap_saved H al h v a cs i d k x typed e l is lt ok = record {
+pub heap_stored : (H : Head) (al : List Allocation) (h : Heap) (v : ℕ) (a : Allocation) (cs : List Kind) (i d : ℕ) (k : Kind) (x : ℕ) → IsTypedHeap H al h → allocation_at al v ≡ Some a → slice_get H.layouts a.layout ≡ Some cs
+    → slice_get cs d ≡ Some k → d < length cs → IsKind H al k x → IsTypedHeap H al (with_cell h v (i * length cs + d) x)
+heap_stored H al h v a cs i d k x typed e l is lt ok = record {
   sized = typed.sized;
   cells = λ w j g b bs m eb lb ltj isg. elim (same_or w v) [
     | inl s ↦
@@ -51,16 +51,16 @@ heap_saved H al h v a cs i d k x typed e l is lt ok = record {
               let t' : j * length cs + g ≡ i * length cs + d = ap (λ (q : List Kind). j * length q + g) (sym sames) ∙ t in
               let g_is : g ≡ d = sym (mod-mul-add j (length cs) g ltg') ∙ ap (λ q. q % length cs) t' ∙ mod-mul-add i (length cs) d lt in
               let m_is : k ≡ m = let z : Some k ≡ Some m = sym is ∙ ap (slice_get cs) (sym g_is) ∙ ap (λ (q : List Kind). slice_get q g) (sym sames) ∙ isg in cc z in
-              let val : saved h v (i * length cs + d) x w (j * length bs + g) ≡ x =
+              let val : with_cell h v (i * length cs + d) x w (j * length bs + g) ≡ x =
               ap (λ (f : ℕ → ℕ). f (j * length bs + g)) (upd-same h v (upd (h v) (i * length cs + d) x) w s) ∙ upd-same (h v) (i * length cs + d) x (j * length bs + g) t in
               subst (IsKind H al m) (sym val) (subst (λ q. IsKind H al q x) m_is ok)
           | inr n ↦
-              let val : saved h v (i * length cs + d) x w (j * length bs + g) ≡ h w (j * length bs + g) =
+              let val : with_cell h v (i * length cs + d) x w (j * length bs + g) ≡ h w (j * length bs + g) =
               ap (λ (f : ℕ → ℕ). f (j * length bs + g)) (upd-same h v (upd (h v) (i * length cs + d) x) w s) ∙ upd-other (h v) (i * length cs + d) x (j * length bs + g) n ∙ ap (λ q. h q (j * length bs + g)) (sym s) in
               subst (IsKind H al m) (sym val) (typed.cells w j g b bs m eb lb ltj isg)
         ]
     | inr n ↦
-        let val : saved h v (i * length cs + d) x w (j * length bs + g) ≡ h w (j * length bs + g) = ap (λ (f : ℕ → ℕ). f (j * length bs + g)) (upd-other h v (upd (h v) (i * length cs + d) x) w n) in
+        let val : with_cell h v (i * length cs + d) x w (j * length bs + g) ≡ h w (j * length bs + g) = ap (λ (f : ℕ → ℕ). f (j * length bs + g)) (upd-other h v (upd (h v) (i * length cs + d) x) w n) in
         subst (IsKind H al m) (sym val) (typed.cells w j g b bs m eb lb ltj isg)
   ];
   fresh = λ w y ltw.

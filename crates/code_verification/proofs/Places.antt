@@ -6,14 +6,14 @@ use Rattle.code_form.specs.declared.allocation.Allocation.{Allocation}
 use Rattle.code_form.specs.declared.form.Kind.{Kind}
 use Rattle.code_form.specs.declared.form.Kind.TheVariants as kind
 use Rattle.code_form.specs.Form.{Function, Head, Image}
-use Rattle.code_form.specs.Effects.{Heap, saved}
+use Rattle.code_form.specs.Effects.{Heap, with_cell}
 use Rattle.code_form.specs.Code.{Scope, and_then, cell_kind, cells_of, has, is_pointer, layout_of, length_of, offset, on_kind, sizes}
 use Rattle.code_form.specs.Known.{Known, Knows, KnownAimed, KnownShut, Unknown}
 use Rattle.code_form.specs.Asked.{IsAimChecked, IsAimedAt, IsChecked}
 use Rattle.code_verification.proofs.States.{AreTyped, Holds, IsKind, IsTypedHeap, allocation_at}
 use Rattle.code_verification.proofs.SameKinds.{has_is, on_kind_is}
 use Rattle.code_verification.proofs.Allocations.{length_at, length_zero}
-use Rattle.code_verification.proofs.Heaps.{heap_saved, is_within}
+use Rattle.code_verification.proofs.Heaps.{heap_stored, is_within}
 
 pointer_is : (k : Kind) → is_pointer k ≡ true → (l : ℕ) × (k ≡ kind.Ptr l)
 pointer_is (kind.Ptr l) e = (l, refl)
@@ -100,7 +100,7 @@ module _ (H : Head) (al : List Allocation) (ks : List Kind) (h : Heap) (rs : Lis
   pub loaded_kind : (q x a : ℕ) (u : IsUsable H al ks q x a) → IsKind H al u.kind (h q x)
   loaded_kind q x a u = subst (λ y. IsKind H al u.kind (h q y)) (sym u.cell_is) (heap.cells q u.element u.disp u.owner u.cs u.kind u.there u.laid u.below u.kind_is)
 
-  pub stored_heap : (q x a : ℕ) (u : IsUsable H al ks q x a) → IsTypedHeap H al (saved h q x (slice_index rs a))
+  pub stored_heap : (q x a : ℕ) (u : IsUsable H al ks q x a) → IsTypedHeap H al (with_cell h q x (slice_index rs a))
   stored_heap q x a u =
-      subst (λ y. IsTypedHeap H al (saved h q y (slice_index rs a))) (sym u.cell_is)
-      (heap_saved H al h q u.owner u.cs u.element u.disp u.kind (slice_index rs a) heap u.there u.laid u.kind_is (slice_get_within u.cs u.disp u.kind u.kind_is) (typed a u.kind u.register))
+      subst (λ y. IsTypedHeap H al (with_cell h q y (slice_index rs a))) (sym u.cell_is)
+      (heap_stored H al h q u.owner u.cs u.element u.disp u.kind (slice_index rs a) heap u.there u.laid u.kind_is (slice_get_within u.cs u.disp u.kind u.kind_is) (typed a u.kind u.register))

@@ -5,7 +5,7 @@ use Rattle.std.proofs.lemmas.List.{length-set}
 use Rattle.code_form.specs.declared.allocation.Allocation.{Allocation}
 use Rattle.code_form.specs.declared.form.Kind.TheVariants as kind
 use Rattle.code_form.specs.Form.{Instruction, Simple, Aim, Load, Store, Leave, Call, Jump, Branch, Return, ReturnVoid, Error, Image}
-use Rattle.code_form.specs.Effects.{Effect, Leaves, Loads, Saves, Wrong, Heap, step, steps}
+use Rattle.code_form.specs.Effects.{Effect, Leaves, Loads, Stores, Wrong, Heap, step, steps}
 use Rattle.code_form.specs.Code.{Aimed, Shut, Core, Frame, Running, Stopped, Stuck, act, aims_at, code, errs, if_zero, jumps, load_by, offset, on, scoped, set_to, store_by, text_at}
 use Rattle.code_form.specs.Known.{KnownAimed, KnownShut, facts_known, with_scope, wrote}
 use Rattle.code_form.specs.Asked.{Enters}
@@ -90,7 +90,7 @@ module _ (C : Image) (V : IsVerified C) (f : Frame) (st : List Frame) (al : List
       let u = cell_used s a m in
       let ok = both _ _ m.cell (is_below _ _ (in_cells C.head al f.function.kinds h f.registers T G.typed q x a u)) in
       subst (λ z. So (store_by C.head z s a rest f st al o)) (sym (aimed_is s m.r m.off m.disp c.0.0.1.0 m.is))
-      (subst (λ b. So (cond b (Saves s q x (slice_index f.registers a) (Running (on f rest) st al o)) (Wrong (Stuck al o)))) (sym ok)
+      (subst (λ b. So (cond b (Stores s q x (slice_index f.registers a) (Running (on f rest) st al o)) (Wrong (Stuck al o)))) (sym ok)
       (behind C V f st al o h G T W rest G.known o _ (stored_heap C.head al f.function.kinds h f.registers T G.typed q x a u) (c.0.1, c.1.1) G.holds))
 
   -- ---- other blocks, and an end

@@ -7,7 +7,7 @@ use Rattle.std.proofs.lemmas.Option.{get_or_from_slice_get, slice_get_within}
 use Rattle.code_form.specs.declared.allocation.Allocation.{Allocation}
 use Rattle.code_form.specs.declared.form.Kind.TheVariants as kind
 use Rattle.code_form.specs.Form.{Instruction, Simple, Aim, Load, Store, Leave, Call, Jump, Branch, Return, ReturnVoid, Error, Block, Function, Image}
-use Rattle.code_form.specs.Effects.{Effect, Plain, Hints, Aims, Loads, Saves, Leaves, Allocs, Ends, Wrong, Nothing, Heap, code_run, run_effect, step, steps}
+use Rattle.code_form.specs.Effects.{Effect, Plain, Hints, Aims, Loads, Stores, Leaves, Allocs, Ends, Wrong, Nothing, Heap, code_run, run_effect, step, steps}
 use Rattle.code_form.specs.Code.{if_zero, has, on_kind, place_fits, Did, Goes, Tells, Sets, Makes, Prints, Stops, Fails, op_did, text_at, Scope, Shut, Aimed, Stale, Frame, Core, Running, Stopped, Stuck, entry, on, set_to, scoped, written, after, can_use, load_by, store_by, jumps, call_fits, enters_at, calls, gives, returns, errs, act, code, effect, begins, entered, all_shut, needs_shut, is_blocked_at, IsStuck, opens_of, IsCovered, most_scopes, Covered}
 use Rattle.middle_form.specs.Form.{Program}
 use Rattle.codegen.specs.Correct.{Keeps}
@@ -69,7 +69,7 @@ Next gs (Plain d) = Good gs d
 Next gs (Hints w d) = Good gs d
 Next gs (Aims s w d) = Good gs d
 Next gs (Loads s r x k) = (v : ℕ) → Good gs (k v)
-Next gs (Saves s r x v d) = Good gs d
+Next gs (Stores s r x v d) = Good gs d
 Next gs (Leaves s d) = Good gs d
 Next gs (Allocs n d) = Good gs d
 Next gs (Ends d) = Good gs d
@@ -81,7 +81,7 @@ run_good gs (Plain d) c h n g = n
 run_good gs (Hints w d) c h n g = n
 run_good gs (Aims s w d) c h n g = n
 run_good gs (Loads s r x k) c h n g = n (h r x)
-run_good gs (Saves s r x v d) c h n g = n
+run_good gs (Stores s r x v d) c h n g = n
 run_good gs (Leaves s d) c h n g = n
 run_good gs (Allocs m d) c h n g = n
 run_good gs (Ends d) c h n g = n

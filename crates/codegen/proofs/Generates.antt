@@ -5,7 +5,7 @@ use Rattle.code_form.specs.declared.form.Kind.TheVariants as kind
 use Rattle.code_form.specs.declared.form.Operation.{Operation}
 use Rattle.code_form.specs.Form.{Instruction, Simple, Aim, Load, Store, Leave, Call, Jump, Branch, Error, Image}
 use Rattle.code_form.specs.Form as image
-use Rattle.code_form.specs.Effects.{Loads, Saves, Wrong, run_effect, saved, step, steps}
+use Rattle.code_form.specs.Effects.{Loads, Stores, Wrong, run_effect, with_cell, step, steps}
 use Rattle.code_form.specs.Code.{Did, Goes, Tells, Sets, Makes, Prints, Stops, Fails, Aimed, Core, Frame, Running, Scope, Shut, after, aims_at, call_fits, can_use, code, errs, has, if_zero, jumps, offset, op_did, place_fits, set_to, scoped, text_at, written}
 use Rattle.code_form.specs.Code as machine
 use Rattle.middle_form.specs.Form.{Code, Nothing, Do, Fail, Then, Choose, Loop, Block, Exit, Function, Program}
@@ -126,7 +126,7 @@ module _ (C : Image) (fn : image.Function) (dest : Option ℕ) (st : List Frame)
         ∙ shut_is next (slice_set rs to (s.heap q x)) s)
 
     store_lands : (r : ℕ) (off : Option ℕ) (disp from : ℕ) (next : List Instruction) (exits : List ℕ) (rs : Registers) (s : State) (placed fits : Bool) → place_fits fn.kinds r off ≡ placed → can_use C.head fn.kinds s.allocations from r disp (slice_index rs r) (offset rs off + disp) ≡ fits
-        → Lands C (there next exits) (aiming Shut (Aim 0 r off disp ∷ Store 0 from ∷ Leave 0 ∷ next) rs s) s.turns (where_so (placed && fits) (on rs (record s { heap = saved s.heap (slice_index rs r) (offset rs off + disp) (slice_index rs from) })))
+        → Lands C (there next exits) (aiming Shut (Aim 0 r off disp ∷ Store 0 from ∷ Leave 0 ∷ next) rs s) s.turns (where_so (placed && fits) (on rs (record s { heap = with_cell s.heap (slice_index rs r) (offset rs off + disp) (slice_index rs from) })))
     store_lands r off disp from next exits rs s false fits h k = tt
     store_lands r off disp from next exits rs s true false h k = tt
     store_lands r off disp from next exits rs s true true h k =
@@ -135,8 +135,8 @@ module _ (C : Image) (fn : image.Function) (dest : Option ℕ) (st : List Frame)
         let f : Frame = frame_with (Aimed r off disp q x ∷ []) (Store 0 from ∷ Leave 0 ∷ next) rs in
         let c : Core = Running f st s.allocations s.output in
         moves C _ _ s.turns 3 (ap (steps (code C) 2) (aimed_step r off disp (Store 0 from ∷ Leave 0 ∷ next) rs s h)
-        ∙ ap (λ b. steps (code C) 1 (run_effect (cond b (Saves 0 q x (slice_index rs from) (Running (machine.on f (Leave 0 ∷ next)) st s.allocations s.output)) (Wrong (machine.Stuck s.allocations s.output))) c s.heap)) k
-        ∙ shut_is next rs (record s { heap = saved s.heap q x (slice_index rs from) }))
+        ∙ ap (λ b. steps (code C) 1 (run_effect (cond b (Stores 0 q x (slice_index rs from) (Running (machine.on f (Leave 0 ∷ next)) st s.allocations s.output)) (Wrong (machine.Stuck s.allocations s.output))) c s.heap)) k
+        ∙ shut_is next rs (record s { heap = with_cell s.heap q x (slice_index rs from) }))
 
   fail_lands : (a : ℕ) (next : List Instruction) (exits : List ℕ) (rs : Registers) (s : State) (fits : Bool) (t : Option (List ℕ)) → has fn.kinds a kind.Text ≡ fits → text_at C.head (slice_index rs a) ≡ t
       → Lands C (there next exits) (at fn dest st (Error a ∷ []) rs s) s.turns (where_so fits (failed t s))

@@ -153,8 +153,8 @@ used_hold s k a safe e = match_object s a (hold_at s.holds k) (subst (λ z. Matc
 loads_cell : Laws → (s : State) (k : ℕ) (a : Cell) → IsSafe s → IsNext (touch.Loads k a) s → cell_option (held s.core k) ≡ Some a
 loads_cell laws s k a safe next = (does laws s (touch.Loads k a) 0 safe.waits next).tracks.0
 
-saves_cell : Laws → (s : State) (k : ℕ) (a : Cell) (v : ℕ) → IsSafe s → IsNext (touch.Saves k a v) s → cell_option (held s.core k) ≡ Some a
-saves_cell laws s k a v safe next = (does laws s (touch.Saves k a v) 0 safe.waits next).tracks.0
+stores_cell : Laws → (s : State) (k : ℕ) (a : Cell) (v : ℕ) → IsSafe s → IsNext (touch.Stores k a v) s → cell_option (held s.core k) ≡ Some a
+stores_cell laws s k a v safe next = (does laws s (touch.Stores k a v) 0 safe.waits next).tracks.0
 
 is_some_hold : (x : Option Hold) (h : Hold) → x ≡ Some h → x ≢ None
 is_some_hold x h e = λ n. let z : Some h ≡ None = sym e ∙ n in cc
@@ -162,8 +162,8 @@ is_some_hold x h e = λ n. let z : Some h ≡ None = sym e ∙ n in cc
 pub load_held : Laws → (s : State) (k : ℕ) (a : Cell) → IsSafe s → IsNext (touch.Loads k a) s → hold_at s.holds k ≢ None
 load_held laws s k a safe next = let h = used_hold s k a safe (loads_cell laws s k a safe next) in is_some_hold (hold_at s.holds k) h.0 h.1
 
-pub save_held : Laws → (s : State) (k : ℕ) (a : Cell) (v : ℕ) → IsSafe s → IsNext (touch.Saves k a v) s → hold_at s.holds k ≢ None
-save_held laws s k a v safe next = let h = used_hold s k a safe (saves_cell laws s k a v safe next) in is_some_hold (hold_at s.holds k) h.0 h.1
+pub store_held : Laws → (s : State) (k : ℕ) (a : Cell) (v : ℕ) → IsSafe s → IsNext (touch.Stores k a v) s → hold_at s.holds k ≢ None
+store_held laws s k a v safe next = let h = used_hold s k a safe (stores_cell laws s k a v safe next) in is_some_hold (hold_at s.holds k) h.0 h.1
 
 object_is : (s : State) (k : ℕ) (a : Cell) (h : Hold) → IsSafe s → cell_option (held s.core k) ≡ Some a → hold_at s.holds k ≡ Some h → h.object ≡ object_of s a
 object_is s k a h safe c e =
@@ -186,16 +186,16 @@ load_low s k h x i ok e p = let a = cell_low s k h x ok e in (a.0, subst (λ n. 
 pub load_may : (s : State) (k : ℕ) (h : Hold) → IsHolding s → hold_at s.holds k ≡ Some h → Owns s.view h.object × ((note s.view h.object).frame ≡ Some h.frame)
 load_may s k h ok e = let a = ok.held k h e in (a.owns, a.here)
 
-pub save_low : (t : State) (k : ℕ) (h : Hold) (x i : ℕ) → IsHolding t → HasWriter t k h → i ≡ x % t.view.sizes.cells → (h.frame < t.view.sizes.frames) × (i < t.view.sizes.cells)
-save_low t k h x i ok w p = load_low t k (a_hold h.object h.frame true) x i ok w p
+pub store_low : (t : State) (k : ℕ) (h : Hold) (x i : ℕ) → IsHolding t → HasWriter t k h → i ≡ x % t.view.sizes.cells → (h.frame < t.view.sizes.frames) × (i < t.view.sizes.cells)
+store_low t k h x i ok w p = load_low t k (a_hold h.object h.frame true) x i ok w p
 
-pub save_may : (t : State) (k : ℕ) (h : Hold) → IsHolding t → HasWriter t k h → Owns t.view h.object × ((note t.view h.object).frame ≡ Some h.frame) × ((note t.view h.object).writing ≡ true)
-save_may t k h ok w = let a = ok.held k (a_hold h.object h.frame true) w in (a.owns, a.here, a.writing refl)
+pub store_may : (t : State) (k : ℕ) (h : Hold) → IsHolding t → HasWriter t k h → Owns t.view h.object × ((note t.view h.object).frame ≡ Some h.frame) × ((note t.view h.object).writing ≡ true)
+store_may t k h ok w = let a = ok.held k (a_hold h.object h.frame true) w in (a.owns, a.here, a.writing refl)
 
-pub safe_saved : Laws → (s t v u : State) (k : ℕ) (a : Cell) (n i : ℕ) (h : Hold) → IsSafe s → IsNext (touch.Saves k a n) s → k < length s.holds → hold_at s.holds k ≡ Some h → IsHolding t → Changes k s t → HasWriter t k h
+pub safe_stored : Laws → (s t v u : State) (k : ℕ) (a : Cell) (n i : ℕ) (h : Hold) → IsSafe s → IsNext (touch.Stores k a n) s → k < length s.holds → hold_at s.holds k ≡ Some h → IsHolding t → Changes k s t → HasWriter t k h
     → v ≡ written t h i n → u ≡ finished v 0 → IsSafe u
-safe_saved laws s t v u k a n i h safe next l e ok ch w d f =
-    let x = touch.Saves k a n in
+safe_stored laws s t v u k a n i h safe next l e ok ch w d f =
+    let x = touch.Stores k a n in
     let lt : k < length t.holds = let z = ch.many in omega arith in
     let hv : IsHolding v = holding_written t v k h i n ok lt w d in
     let image : v.image ≡ s.image = ap (λ (y : State). y.image) d ∙ ch.image in
@@ -203,9 +203,9 @@ safe_saved laws s t v u k a n i h safe next l e ok ch w d f =
     let low : v.view.low ≡ s.view.low = ap (λ (y : State). y.view.low) d ∙ ch.low in
     let holds : v.holds ≡ t.holds = ap (λ (y : State). y.holds) d in
     let p = did laws s v u x 0 safe next hv image core low f in
-    let o = object_is s k a h safe (saves_cell laws s k a n safe next) e in
+    let o = object_is s k a h safe (stores_cell laws s k a n safe next) e in
     let mine : Matches s (cell_option (held s.core k)) (hold_at v.holds k) =
-    subst (λ z. Matches s z (hold_at v.holds k)) (sym (saves_cell laws s k a n safe next))
+    subst (λ z. Matches s z (hold_at v.holds k)) (sym (stores_cell laws s k a n safe next))
     (subst (λ z. Matches s (Some a) z) (sym (ap (λ hs. hold_at hs k) holds ∙ w)) o) in
     safe_after laws s v u x 0 safe next hv image core low f p.tidies
     (λ j. subst (λ z. Matches s (cell_option z) (hold_at v.holds j)) (sym (p.tracks.1 j)) (kept v mine holds j))
@@ -348,13 +348,13 @@ upd_same f g o x n h p i =
       | false ↦ h p i
     ]
 
-pub moves_saved : (honest : Type 0) → Laws → (s t v u : State) (k : ℕ) (a : Cell) (n i : ℕ) (h : Hold) → IsSafe s → IsNext (touch.Saves k a n) s → hold_at s.holds k ≡ Some h → IsHolding t → Changes k s t → HasWriter t k h
-    → i ≡ a.index % t.view.sizes.cells → v ≡ written t h i n → u ≡ finished v 0 → Moves honest (touch.Saves k a n) s u
-moves_saved honest laws s t v u k a n i h safe next e ok ch w at d f =
+pub moves_stored : (honest : Type 0) → Laws → (s t v u : State) (k : ℕ) (a : Cell) (n i : ℕ) (h : Hold) → IsSafe s → IsNext (touch.Stores k a n) s → hold_at s.holds k ≡ Some h → IsHolding t → Changes k s t → HasWriter t k h
+    → i ≡ a.index % t.view.sizes.cells → v ≡ written t h i n → u ≡ finished v 0 → Moves honest (touch.Stores k a n) s u
+moves_stored honest laws s t v u k a n i h safe next e ok ch w at d f =
     let p : i ≡ a.index % s.view.sizes.cells = at ∙ ap (λ c. a.index % c) (ok.cells ∙ sym safe.holding.cells) in
     let image : v.image ≡ s.image = ap (λ (y : State). y.image) d ∙ ch.image in
     let core : v.core ≡ s.core = ap (λ (y : State). y.core) d ∙ ch.core in
-    let o = object_is s k a h safe (saves_cell laws s k a n safe next) e in
+    let o = object_is s k a h safe (stores_cell laws s k a n safe next) e in
     let here = owned_here t h.object ok (ok.held k (a_hold h.object h.frame true) w).owns in
     record {
       image = ap (λ (y : State). y.image) f ∙ image;

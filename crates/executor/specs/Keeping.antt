@@ -97,7 +97,7 @@ IsSimple _ = Unit {0}
 
 -- what the latest stores became
 abbrev pub Stores : Touch → State → State → Type 0
-Stores (touch.Saves k a v) s t = (o i : ℕ) → latest_in t.view o i ≡ upd (latest_in s.view) (object_of s a) (upd (latest_in s.view (object_of s a)) (a.index % s.view.sizes.cells) v) o i
+Stores (touch.Stores k a v) s t = (o i : ℕ) → latest_in t.view o i ≡ upd (latest_in s.view) (object_of s a) (upd (latest_in s.view (object_of s a)) (a.index % s.view.sizes.cells) v) o i
 Stores _ s t = (o i : ℕ) → latest_in t.view o i ≡ latest_in s.view o i
 
 -- what was loaded

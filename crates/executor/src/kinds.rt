@@ -1,5 +1,5 @@
 //! Each kind of instruction, by what it touches.
-ghost use Rattle.code_form.specs.declared.touch.Touch.TheVariants.{Aims, Allocs, Ends, Hints, Leaves, Loads, Plain, Saves};
+ghost use Rattle.code_form.specs.declared.touch.Touch.TheVariants.{Aims, Allocs, Ends, Hints, Leaves, Loads, Plain, Stores};
 ghost use Rattle.code_form.specs.Growth.{may_grow, rest_of};
 ghost use Rattle.code_form.specs.Placed.{pieces as pieces_of};
 ghost use Rattle.executor.specs.Keeping.{Allocated, IsHolding, IsNext, IsSafe, IsSimple, Made, Moves};
@@ -99,12 +99,12 @@ impl<'a, S: RawStore> Program<'a, S> {
         self.finish(value);
     }
 
-    fn saves(&mut self, scope: usize, cell: Cell, value: u64)
+    fn stores(&mut self, scope: usize, cell: Cell, value: u64)
         requires safe { IsSafe self.old }
-        requires next { IsNext (Saves scope cell value) self.old }
+        requires next { IsNext (Stores scope cell value) self.old }
         requires room { self.old.completed + 1 < 2 ^ 64 }
         ensures safe { IsSafe self.new }
-        ensures moves { Moves S.honest (Saves scope cell value) self.old self.new }
+        ensures moves { Moves S.honest (Stores scope cell value) self.old self.new }
     {
         effect_laws();
         let hold = self.held(scope);
@@ -156,7 +156,7 @@ impl<'a, S: RawStore> Program<'a, S> {
         match touch {
             Touch::Aims(scope, wanted) => return self.aims(rt, scope, wanted),
             Touch::Loads(scope, cell) => self.loads(scope, cell),
-            Touch::Saves(scope, cell, value) => self.saves(scope, cell, value),
+            Touch::Stores(scope, cell, value) => self.stores(scope, cell, value),
             Touch::Leaves(scope) => self.leaves(scope),
             Touch::Hints(wanted) => self.hints(wanted),
             Touch::Plain => unreachable!(),

@@ -20,7 +20,7 @@ use Rattle.code_form.specs.declared.form.Kind.TheVariants as kind
 use Rattle.code_form.specs.declared.form.Operation.TheVariants as op
 use Rattle.code_form.specs.Code.{Makes, Sets, Stops, and_then, can_use, cell_kind, cells_of, has, int_of, is_array, layout_of, length_of, makes, natural, offset, of_int, on_kind, op_does, op_fits, place_fits, sizes}
 use Rattle.code_form.specs.declared.allocation.Allocation.{Allocation}
-use Rattle.code_form.specs.Effects.{Heap, saved}
+use Rattle.code_form.specs.Effects.{Heap, with_cell}
 use Rattle.code_form.specs.Form.{Head}
 use Rattle.middle_form.specs.Form.{Code}
 use Rattle.middle_form.specs.Form as f
@@ -162,10 +162,10 @@ module _ (typed : Typed) (singles : List Kind) (checks : Bool) (call : ℕ → L
   )
     where
       after : m.State
-      after = record w { heap = saved w.heap (slice_index xs (base pl d)) (m.cell_at xs (off pl d) (shift pl)) (slice_index xs a) }
+      after = record w { heap = with_cell w.heap (slice_index xs (base pl d)) (m.cell_at xs (off pl d) (shift pl)) (slice_index xs a) }
 
-      same : saved w.heap (slice_index xs (base pl d)) (m.cell_at xs (off pl d) (shift pl)) (slice_index xs a) ≡ saved w.heap at.allocation (kept_offset p.structs singles h.place.kept at.path) (slice_index xs a)
-      same = ap (λ z. saved w.heap z (m.cell_at xs (off pl d) (shift pl)) (slice_index xs a)) h.base_is ∙ ap (λ z. saved w.heap at.allocation z (slice_index xs a)) h.cell
+      same : with_cell w.heap (slice_index xs (base pl d)) (m.cell_at xs (off pl d) (shift pl)) (slice_index xs a) ≡ with_cell w.heap at.allocation (kept_offset p.structs singles h.place.kept at.path) (slice_index xs a)
+      same = ap (λ z. with_cell w.heap z (m.cell_at xs (off pl d) (shift pl)) (slice_index xs a)) h.base_is ∙ ap (λ z. with_cell w.heap at.allocation z (slice_index xs a)) h.cell
 
   -- one more allocation, whose reference goes to a register
   added : (kept : Kept) (t : Ty) (a : Tree) (new : Allocation) (d b : ℕ) (rs xs : List ℕ) (made : List Kept) (s : State) (w : m.State) → suc locals ≤ d → d ≤ b → d < length rs → Goes b rs made s xs w

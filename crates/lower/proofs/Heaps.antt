@@ -14,7 +14,7 @@ use Rattle.c0_typed.proofs.Soundness.{allocated_object, fresh_fits, object_at, s
 use Rattle.code_form.specs.declared.allocation.Allocation.{Allocation}
 use Rattle.code_form.specs.declared.form.Kind.{Kind}
 use Rattle.code_form.specs.Code.{cells_of, length_of, sizes}
-use Rattle.code_form.specs.Effects.{Heap, saved, upd}
+use Rattle.code_form.specs.Effects.{Heap, with_cell, upd}
 use Rattle.code_form.specs.Form.{Head}
 use Rattle.lower_tables.specs.Kinds as layout
 use Rattle.lower.specs.Coded.{Coded, Heaps, kept_offset}
@@ -24,12 +24,12 @@ use Rattle.lower.proofs.Offsets.{kept_cell, kept_offset_is, kept_set, size_is}
 
 -- ---- a heap with one cell changed
 
-pub saved_same : (h : Heap) (r x v : ℕ) → saved h r x v r x ≡ v
-saved_same h r x v = ap (λ b. cond b (upd (h r) x v) (h r) x) (eq-eqb r r refl) ∙ ap (λ b. cond b v (h r x)) (eq-eqb x x refl)
+pub stored_same : (h : Heap) (r x v : ℕ) → with_cell h r x v r x ≡ v
+stored_same h r x v = ap (λ b. cond b (upd (h r) x v) (h r) x) (eq-eqb r r refl) ∙ ap (λ b. cond b v (h r x)) (eq-eqb x x refl)
 
-pub saved_other : (h : Heap) (r x v q y : ℕ) → (q ≢ r) ⊎ (y ≢ x) → saved h r x v q y ≡ h q y
-saved_other h r x v q y (inl d) = ap (λ b. cond b (upd (h r) x v) (h q) y) (ne_eqb q r d)
-saved_other h r x v q y (inr d) = elim (eqb_tells q r) [
+pub stored_other : (h : Heap) (r x v q y : ℕ) → (q ≢ r) ⊎ (y ≢ x) → with_cell h r x v q y ≡ h q y
+stored_other h r x v q y (inl d) = ap (λ b. cond b (upd (h r) x v) (h q) y) (ne_eqb q r d)
+stored_other h r x v q y (inr d) = elim (eqb_tells q r) [
   | inl e ↦ ap (λ b. cond b (upd (h r) x v) (h q) y) e.0 ∙ ap (λ b. cond b v (h r y)) (ne_eqb y x d) ∙ ap (λ z. h z y) (sym e.1)
   | inr e ↦ ap (λ b. cond b (upd (h r) x v) (h q) y) e.0
 ]
@@ -84,14 +84,14 @@ module _ (p : Program) (fp : FitsProgram p) (singles : List Kind) (H : Head) (ma
   -- ---- stores
 
   store_at : (r x : ℕ) (kept : Kept) (path : List ℕ) (u : Ty) (v : Value) (n : ℕ) → slice_get made r ≡ Some kept → IsWayIn p kept path u → IsSmall u → Coded H v n → x ≡ kept_offset p.structs singles kept path
-      → Heaps H made (set trees r (with_part_at path (Leaf v) (get_or trees r (Leaf Void)))) al (saved h (suc r) x n)
+      → Heaps H made (set trees r (with_part_at path (Leaf v) (get_or trees r (Leaf Void)))) al (with_cell h (suc r) x n)
   store_at r x kept path u v n m w s c at_x =
       record {
         count = same.count ∙ sym (length-set trees r new);
         cells = λ q b g. by_place q b g (same_or q r);
         lengths = same.lengths;
         coded = λ q y b z g f. by_cell q y b z g f (same_or q r) (same_or y x);
-        fresh = λ q y l. saved_other h (suc r) x n q y (inl (λ e. absurd (let no : ⊥ = omega (arith, l, e, there, length-set trees r new) in no)))
+        fresh = λ q y l. stored_other h (suc r) x n q y (inl (λ e. absurd (let no : ⊥ = omega (arith, l, e, there, length-set trees r new) in no)))
             ∙ same.fresh q y (omega (arith, l, length-set trees r new));
       }
     where
@@ -122,31 +122,31 @@ module _ (p : Program) (fp : FitsProgram p) (singles : List Kind) (H : Head) (ma
           ∙ ap (λ z. length (flat z)) (is_new q b g e)
       by_place q b g (inr d) = same.cells q b (sym (get_set_other trees r q new d) ∙ g)
 
-      by_cell : (q y : ℕ) (b : Tree) (z : Value) → slice_get (set trees r new) q ≡ Some b → slice_get (flat b) y ≡ Some z → ((q ≡ r) ⊎ (q ≢ r)) → ((y ≡ x) ⊎ (y ≢ x)) → Coded H z (saved h (suc r) x n (suc q) y)
+      by_cell : (q y : ℕ) (b : Tree) (z : Value) → slice_get (set trees r new) q ≡ Some b → slice_get (flat b) y ≡ Some z → ((q ≡ r) ⊎ (q ≢ r)) → ((y ≡ x) ⊎ (y ≢ x)) → Coded H z (with_cell h (suc r) x n (suc q) y)
       by_cell q y b z g f (inl e) (inl i) =
           let known : slice_get (flat b) y ≡ Some v = ap (λ t. slice_get (flat t) y) (sym (is_new q b g e)) ∙ ap (λ (l : List Value). slice_get l y) cells_new ∙ ap (slice_get (set (flat a) x v)) i ∙ get_set (flat a) x v inside in
           let value : v ≡ z = cc (known, f) in
-          let cell : n ≡ saved h (suc r) x n (suc q) y = sym (ap (λ k. saved h (suc r) x n (suc k) y) e ∙ ap (saved h (suc r) x n (suc r)) i ∙ saved_same h (suc r) x n) in
+          let cell : n ≡ with_cell h (suc r) x n (suc q) y = sym (ap (λ k. with_cell h (suc r) x n (suc k) y) e ∙ ap (with_cell h (suc r) x n (suc r)) i ∙ stored_same h (suc r) x n) in
           subst (λ k. Coded H z k) cell (subst (λ k. Coded H k n) value c)
       by_cell q y b z g f (inl e) (inr d) =
           let old : slice_get (flat a) y ≡ Some z = sym (get_set_other (flat a) x y v d) ∙ ap (λ (l : List Value). slice_get l y) (sym cells_new) ∙ ap (λ t. slice_get (flat t) y) (is_new q b g e) ∙ f in
-          let cell : h (suc r) y ≡ saved h (suc r) x n (suc q) y = sym (saved_other h (suc r) x n (suc q) y (inr d) ∙ ap (λ k. h (suc k) y) e) in
+          let cell : h (suc r) y ≡ with_cell h (suc r) x n (suc q) y = sym (stored_other h (suc r) x n (suc q) y (inr d) ∙ ap (λ k. h (suc k) y) e) in
           subst (λ k. Coded H z k) cell (same.coded r y a z (tree_there r kept m) old)
       by_cell q y b z g f (inr d) k =
-          let cell : h (suc q) y ≡ saved h (suc r) x n (suc q) y = sym (saved_other h (suc r) x n (suc q) y (inl (λ e. d (let i : q ≡ r = cc e in i)))) in
+          let cell : h (suc q) y ≡ with_cell h (suc r) x n (suc q) y = sym (stored_other h (suc r) x n (suc q) y (inl (λ e. d (let i : q ≡ r = cc e in i)))) in
           subst (λ i. Coded H z i) cell (same.coded q y b z (sym (get_set_other trees r q new d) ∙ g) f)
 
   -- a value that is stored is stored in its cell
   pub store_heaps : (u : Ty) (at : Spot) (q : IsPlace p made u at) (v : Value) (n : ℕ) → IsSmall u → Coded H v n
-      → Heaps H made (store trees at v) al (saved h at.allocation (kept_offset p.structs singles q.kept at.path) n)
+      → Heaps H made (store trees at v) al (with_cell h at.allocation (kept_offset p.structs singles q.kept at.path) n)
   store_heaps u at q v n s c = by_number at.allocation q.made_so
     where
-      by_number : (r : ℕ) → IsMade made r q.kept → Heaps H made (set trees (r - 1) (with_part_at at.path (Leaf v) (allocated trees r))) al (saved h r (kept_offset p.structs singles q.kept at.path) n)
+      by_number : (r : ℕ) → IsMade made r q.kept → Heaps H made (set trees (r - 1) (with_part_at at.path (Leaf v) (allocated trees r))) al (with_cell h r (kept_offset p.structs singles q.kept at.path) n)
       by_number zero m = absurd m
       by_number (suc r) m =
           let x : ℕ = kept_offset p.structs singles q.kept at.path in
           let less : suc r - 1 ≡ r = omega arith in
-          subst (λ z. Heaps H made (set trees z (with_part_at at.path (Leaf v) (allocated trees (suc r)))) al (saved h (suc r) x n)) (sym less)
+          subst (λ z. Heaps H made (set trees z (with_part_at at.path (Leaf v) (allocated trees (suc r)))) al (with_cell h (suc r) x n)) (sym less)
           (store_at r x q.kept at.path u v n m q.way s c refl)
 
   -- ---- lengths

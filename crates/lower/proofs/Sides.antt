@@ -9,7 +9,7 @@ use Rattle.c0_typed.specs.Typing.{Kept, One, Many, Extends, Is, IsHeap, IsHeld, 
 use Rattle.code_form.specs.declared.form.Kind.{Kind}
 use Rattle.code_form.specs.declared.allocation.Allocation.{Allocation}
 use Rattle.code_form.specs.Code.{cells_of, length_of, sizes}
-use Rattle.code_form.specs.Effects.{Heap, saved}
+use Rattle.code_form.specs.Effects.{Heap, with_cell}
 use Rattle.code_form.specs.Form.{Head}
 use Rattle.middle_form.specs.Form.{Code}
 use Rattle.middle_form.specs.Form as f
@@ -33,7 +33,7 @@ pub record HeapFacts (p : Program) (singles : List Kind) (H : Head) : Type 0 whe
   pub there : (made : List Kept) (trees : List Tree) (al : List Allocation) (h : Heap) (u : Ty) (at : Spot) → Heaps H made trees al h → IsHeap p made trees → (q : IsPlace p made u at) → IsSmall u
       → kept_offset p.structs singles q.kept at.path < cells_of (sizes al) at.allocation
   pub store : (made : List Kept) (trees : List Tree) (al : List Allocation) (h : Heap) (u : Ty) (at : Spot) (v : Value) (n : ℕ) → Heaps H made trees al h → IsHeap p made trees → (q : IsPlace p made u at) → IsSmall u → Is p made u v → Coded H v n
-      → Heaps H made (store trees at v) al (saved h at.allocation (kept_offset p.structs singles q.kept at.path) n)
+      → Heaps H made (store trees at v) al (with_cell h at.allocation (kept_offset p.structs singles q.kept at.path) n)
   pub alloc : (made : List Kept) (trees : List Tree) (al : List Allocation) (h : Heap) (l : ℕ) (t : Ty) → IsHeld (length p.structs) t → Heaps H made trees al h → IsHeap p made trees
       → Heaps H (made ++ One t ∷ []) (trees ++ default (struct_defaults [] p.structs) t ∷ []) (record { layout = l; length = 1; cells = 1 * length (k.cells_of p.structs singles t) } ∷ al) h
   pub array : (made : List Kept) (trees : List Tree) (al : List Allocation) (h : Heap) (l n : ℕ) (t : Ty) → IsHeld (length p.structs) t → Heaps H made trees al h → IsHeap p made trees

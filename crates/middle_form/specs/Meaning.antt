@@ -6,7 +6,7 @@ use Rattle.code_form.specs.declared.allocation.Allocation.{Allocation}
 use Rattle.code_form.specs.declared.form.Kind.{Kind}
 use Rattle.code_form.specs.declared.form.Kind.TheVariants as kind
 use Rattle.code_form.specs.Code.{Did, Goes, Tells, Sets, Makes, Prints, Stops, Fails, call_fits, can_use, has, if_zero, int_of, offset, op_did, place_fits, text_at}
-use Rattle.code_form.specs.Effects.{Heap, saved}
+use Rattle.code_form.specs.Effects.{Heap, with_cell}
 use Rattle.code_form.specs.Form.{Head}
 use Rattle.middle_form.specs.Form.{Code, Nothing, Do, Load, Store, Call, Fail, Then, Choose, Loop, Block, Exit, Function, Program}
 
@@ -91,7 +91,7 @@ loaded H ks to r off disp rs s = where_so (can_access H ks s rs to r off disp) (
 -- a store
 abbrev pub stored : Head → List Kind → (r : ℕ) → Option ℕ → (disp from : ℕ) → Registers → State → Outcome Left
 stored H ks r off disp from rs s =
-    where_so (can_access H ks s rs from r off disp) (on rs (record s { heap = saved s.heap (slice_index rs r) (cell_at rs off disp) (slice_index rs from) }))
+    where_so (can_access H ks s rs from r off disp) (on rs (record s { heap = with_cell s.heap (slice_index rs r) (cell_at rs off disp) (slice_index rs from) }))
 
 -- the program stops by `error`
 abbrev pub failed : Option (List ℕ) → State → Outcome Left

@@ -1,4 +1,3 @@
-pub mod Calls
 pub mod Changes
 pub mod Lists
 pub mod Places

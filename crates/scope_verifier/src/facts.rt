@@ -1,5 +1,5 @@
 //! The kinds and facts of an image in reading order: the first kind that does not fit, or fact that is not known where it is asked.
-ghost use Rattle.code_form.specs.Code.{has, needs_shut as needs_shut_in, on_kind, place_fits};
+ghost use Rattle.code_form.specs.Code.{has, on_kind, place_fits};
 ghost use Rattle.code_form.specs.declared.form.Kind.TheVariants as kind;
 ghost use Rattle.code_form.specs.Form.{block_of, function_of, image_of, instruction_of};
 ghost use Rattle.code_form.specs.Known.{Known, at_entry};
@@ -12,12 +12,12 @@ ghost use Rattle.scope_verifier_laws.specs.Numbers.{scope_fault};
 ghost use Rattle.scope_verifier_laws.specs.declared.fault.VerifyFault.TheVariants.{OperandKind};
 ghost use Rattle.std.specs.Prelude.{◌≡◌, Some, length, map, slice_get};
 
-use crate::kinds::{call_fits, is_main, operation_fits};
+use crate::kinds::{callee_fits, is_main, operation_fits};
 use crate::knowledge::{Knowledge, ScopeState};
 use crate::numbers::{scope_number, unless};
 use code_form::{
-    Block, Fact, Function, Image, Instruction, Kind, Operation, has_array_of, has_kind,
-    has_pointer, is_place, kind_of_cell,
+    Block, Fact, Function, Image, Instruction, Kind, has_array_of, has_kind, has_pointer,
+    is_place, kind_of_cell, needs_shut,
 };
 use scope_verifier_laws::VerifyFault;
 use std::alloc::Global;
@@ -314,7 +314,7 @@ fn fitting(
             function: number,
             arguments,
         } => unless(
-            call_fits(image, function, *to, *number, arguments),
+            callee_fits(image, function, *to, *number, arguments),
             VerifyFault::OperandKind,
         ),
         Instruction::Jump { block } => entering(function, known, *block),
@@ -345,17 +345,6 @@ fn are_shut(known: &Knowledge, scopes: u8) -> bool
         }
     }
     true
-}
-
-/// Whether an instruction needs all scopes shut.
-fn needs_shut(instruction: &Instruction) -> bool
-    ensures { result ≡ needs_shut_in (instruction_of instruction.now) }
-{
-    match instruction {
-        Instruction::Simple(Operation::Alloc { .. } | Operation::AllocArray { .. }) => true,
-        Instruction::Call { .. } | Instruction::Return { .. } | Instruction::ReturnVoid => true,
-        _ => false,
-    }
 }
 
 /// That all scopes are shut at a call, a return and an allocation.

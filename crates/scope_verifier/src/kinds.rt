@@ -1,6 +1,6 @@
 //! Whether the kinds of an instruction's operands fit.
 ghost use Rattle.code_form.specs.Asked.{callee_fits as callee_fits_in};
-ghost use Rattle.code_form.specs.Code.{args_fit, op_fits, result_fits as result_fits_in};
+ghost use Rattle.code_form.specs.Code.{op_fits};
 ghost use Rattle.code_form.specs.Form.{function_of, image_of};
 ghost use Rattle.code_form.specs.declared.form.Operation.TheVariants.{CheckIndex, Unary};
 ghost use Rattle.code_verification.specs.WellFormed.{main_fits};
@@ -8,9 +8,9 @@ ghost use Rattle.scope_verifier.specs.Answers.{is_of_values};
 ghost use Rattle.std.specs.Prelude.{◌≡◌, is_some, option_map, slice_get, true};
 
 use code_form::{
-    Function, Image, Kind, Operation, UnaryOperator, are_numbers, can_compare, has_array,
-    has_array_of, has_kind, has_pointer, has_reference, has_size, have_same_kind, is_place,
-    kind_at,
+    Function, Image, Kind, Operation, UnaryOperator, are_numbers, call_fits, can_compare,
+    has_array, has_array_of, has_kind, has_pointer, has_reference, has_size, have_same_kind,
+    is_place, kind_at,
 };
 
 /// Whether the image has this layout.
@@ -109,39 +109,8 @@ pub(crate) fn operation_fits(image: &Image, kinds: &[Kind], operation: &Operatio
     }
 }
 
-/// Whether the arguments are there, and have the kinds of the parameters.
-fn arguments_fit(kinds: &[Kind], theirs: &[Kind], parameters: u32, arguments: &[u32]) -> bool
-    ensures { result ≡ args_fit kinds.now theirs.now parameters arguments.now }
-{
-    if arguments.len() != parameters as usize {
-        return false;
-    }
-    if theirs.len() < arguments.len() {
-        return false;
-    }
-    for number in 0..arguments.len() {
-        if !has_kind(kinds, arguments[number], theirs[number]) {
-            return false;
-        }
-    }
-    true
-}
-
-/// Whether the register for the result is named where the function has one, and has its kind.
-fn result_fits(kinds: &[Kind], kind: Option<Kind>, to: Option<u32>) -> bool
-    ensures { result ≡ result_fits_in kinds.now kind to }
-{
-    match kind {
-        None => to.is_none(),
-        Some(kind) => match to {
-            None => false,
-            Some(to) => has_kind(kinds, to, kind),
-        },
-    }
-}
-
 /// Whether the function that is called is there, and takes and gives what the call names.
-pub(crate) fn call_fits(
+pub(crate) fn callee_fits(
     image: &Image,
     function: &Function,
     to: Option<u32>,
@@ -152,8 +121,7 @@ pub(crate) fn call_fits(
 {
     match image.functions.get(number as usize) {
         None => false,
-        Some(callee) => arguments_fit(&function.kinds, &callee.kinds, callee.parameters, arguments)
-            && result_fits(&function.kinds, callee.result, to),
+        Some(callee) => call_fits(&function.kinds, callee, to, arguments),
     }
 }
 
@@ -163,9 +131,6 @@ pub(crate) fn is_main(function: Option<&Function>) -> bool
 {
     match function {
         None => false,
-        Some(function) => {
-            arguments_fit(&[Kind::Int], &function.kinds, function.parameters, &[])
-                && result_fits(&[Kind::Int], function.result, Some(0))
-        }
+        Some(function) => call_fits(&[Kind::Int], function, Some(0), &[]),
     }
 }

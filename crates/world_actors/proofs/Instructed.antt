@@ -200,7 +200,7 @@ module _ {C : Type 0} (content : C → Option (List ℕ)) (h : Type 0) (z : Size
       (ap (λ y. loads_by x.setting s p (hold_at x.holds k) y (c.index % x.setting.size)) (cell_object c ∙ sym e) ∙ ap (λ n. loads_by x.setting s p (hold_at x.holds k) o (c.index % n)) is.size)
 
   pub store_turn : (k : ℕ) (c : Cell) (v o : ℕ) (a : Answer) → o ≡ object_at_cell piece_cells x.setting.base (sizes (allocations_of x.core)) c.reference c.index
-      → ready x.setting s p a (touch.Saves k c v) ≡ stores_by x.setting s p k (hold_at x.holds k) o (c.index % piece_cells) v
+      → ready x.setting s p a (touch.Stores k c v) ≡ stores_by x.setting s p k (hold_at x.holds k) o (c.index % piece_cells) v
   store_turn k c v o a e =
       ap (λ y. stores_by x.setting s p k y (object_of x.setting p c) (c.index % x.setting.size) v) (held_now k) ∙
       (ap (λ y. stores_by x.setting s p k (hold_at x.holds k) y (c.index % x.setting.size) v) (cell_object c ∙ sym e) ∙ ap (λ n. stores_by x.setting s p k (hold_at x.holds k) o (c.index % n) v) is.size)

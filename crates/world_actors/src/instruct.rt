@@ -289,7 +289,7 @@ impl<'a> Program<'a> {
         requires steady { IsSteady (next_touch self.old) }
         requires cell { IsCell self.old.core cell }
         ensures { Turns S.content S.honest lock.old.memory lock.new.memory lock.old.berths.items lock.new.berths.items self.old self.new
-            (λ s p a. ready self.old.setting s p a (touch.Saves scope cell value)) ((lock.new ≡ lock.old) × (self.new ≡ self.old)) result }
+            (λ s p a. ready self.old.setting s p a (touch.Stores scope cell value)) ((lock.new ≡ lock.old) × (self.new ≡ self.old)) result }
     {
         let object = self.object_of(cell);
         let index = cell.index % PIECE_CELLS as u64;
@@ -366,7 +366,7 @@ impl<'a> Program<'a> {
             Touch::Hints(_) => self.complete(lock),
             Touch::Aims(scope, wanted) => self.aim(lock, scope, wanted),
             Touch::Loads(scope, cell) => self.load_cell(lock, scope, cell),
-            Touch::Saves(scope, cell, value) => self.store_cell(lock, scope, cell, value),
+            Touch::Stores(scope, cell, value) => self.store_cell(lock, scope, cell, value),
             Touch::Leaves(scope) => self.leave(lock, scope),
             Touch::Allocs(cells) => self.allocate(lock, cells),
             Touch::Ends => self.end(lock),

@@ -72,7 +72,7 @@ module _ (h : Type 0) (g : Setting) (s : State) (p : Program) (a b : Answer) whe
   ready_same (touch.Hints w) = refl
   ready_same (touch.Aims k w) = refl
   ready_same (touch.Loads k x) = refl
-  ready_same (touch.Saves k x v) = refl
+  ready_same (touch.Stores k x v) = refl
   ready_same (touch.Leaves k) = refl
   ready_same (touch.Allocs cells) = same_cond g.size s (nat_le (next_free g p + pieces g.size cells) g.limit) _ _ _ _ refl (λ _. refl)
   ready_same touch.Ends = ends_same (first_hold p.holds)

@@ -196,7 +196,7 @@ module _ (owner : ℕ → ℕ) (h : Type 0) (g : Setting) (s : State) (p : Progr
   asks_ready (touch.Hints w) is told = tt
   asks_ready (touch.Aims k w) is told = asks_if (nat_lt k (length p.holds)) _ _ (λ l. asks_aims k w (below k (length p.holds) l) is) (λ _. tt)
   asks_ready (touch.Loads k x) is told = asks_load (hold_at p.holds k) (s.note (object_of g p x)).frame (object_of g p x) (x.index % g.size) refl
-  asks_ready (touch.Saves k x v) is told = asks_store k (hold_at p.holds k) (object_of g p x) (x.index % g.size) v told refl (mod-lt x.index some)
+  asks_ready (touch.Stores k x v) is told = asks_store k (hold_at p.holds k) (object_of g p x) (x.index % g.size) v told refl (mod-lt x.index some)
   asks_ready (touch.Leaves k) is told = asks_leave k (hold_at p.holds k) refl
   asks_ready (touch.Allocs cells) is told = asks_if (nat_le (next_free g p + pieces g.size cells) g.limit) _ _ (λ _. tt) (λ _. tt)
   asks_ready touch.Ends is told = asks_end (first_hold p.holds) refl

@@ -89,7 +89,7 @@ module _ (g : Setting) (s : State) (p : Program) (a : Answer) where
   ready_so (touch.Hints w) is e = tt
   ready_so (touch.Aims k w) is e = leads_cond s Q (nat_lt k (length p.holds)) _ _ (λ _. aims_so k (hold_at p.holds k) (object_or_none g p w) e) (λ _. tt)
   ready_so (touch.Loads k x) is e = loads_so (hold_at p.holds k) (object_of g p x) (x.index % g.size)
-  ready_so (touch.Saves k x v) is e = stores_so k (hold_at p.holds k) (object_of g p x) (x.index % g.size) v e
+  ready_so (touch.Stores k x v) is e = stores_so k (hold_at p.holds k) (object_of g p x) (x.index % g.size) v e
   ready_so (touch.Leaves k) is e = leaves_so k (hold_at p.holds k)
   ready_so (touch.Allocs cells) is e =
       leads_cond s Q (nat_le (next_free g p + pieces g.size cells) g.limit) _ _ (λ _. grows_so) (λ f. (cells, is, less (next_free g p + pieces g.size cells) g.limit f))

@@ -8,7 +8,7 @@ use Rattle.code_form.specs.declared.form.Kind.TheVariants as kind
 use Rattle.code_form.specs.declared.touch.Cell.{Cell}
 use Rattle.code_form.specs.declared.touch.Touch.TheVariants as touch
 use Rattle.code_form.specs.Form.{Block, Function, Image, Instruction, Simple, Aim, Load, Store, Leave, Call, Jump, Branch, Return, ReturnVoid, Error}
-use Rattle.code_form.specs.Effects.{Effect, Plain, Hints, Aims, Loads, Saves, Leaves, Allocs, Ends, Wrong, Nothing}
+use Rattle.code_form.specs.Effects.{Effect, Plain, Hints, Aims, Loads, Stores, Leaves, Allocs, Ends, Wrong, Nothing}
 use Rattle.code_form.specs.Code.{if_zero, has, on_kind, place_fits, Frame, Core, Running, Stopped, Stuck, Did, Goes, Tells, Sets, Makes, Prints, Stops, Fails, op_did, text_at, Scope, Shut, Aimed, Stale, on, gives, written, act, after, begins, calls, can_use, call_fits, effect, entered, enters_at, held, held_by, jumps, load_by, most_scopes, offset, returns, errs, store_by}
 use Rattle.code_form.specs.Touches.{resumed, touch_of}
 
@@ -29,7 +29,7 @@ FewAfter n (Plain d) = FewScopes n d
 FewAfter n (Hints w d) = FewScopes n d
 FewAfter n (Aims s w d) = (s < n) × FewScopes n d
 FewAfter n (Loads s r x k) = (v : ℕ) → FewScopes n (k v)
-FewAfter n (Saves s r x v d) = FewScopes n d
+FewAfter n (Stores s r x v d) = FewScopes n d
 FewAfter n (Leaves s d) = FewScopes n d
 FewAfter n (Allocs c d) = FewScopes n d
 FewAfter n (Ends d) = FewScopes n d
@@ -133,7 +133,7 @@ few_on n (Plain d) c v here few = few
 few_on n (Hints w d) c v here few = few
 few_on n (Aims s w d) c v here few = few.1
 few_on n (Loads s r x k) c v here few = few v
-few_on n (Saves s r x u d) c v here few = few
+few_on n (Stores s r x u d) c v here few = few
 few_on n (Leaves s d) c v here few = few
 few_on n (Allocs a d) c v here few = few
 few_on n (Ends d) c v here few = few
@@ -149,7 +149,7 @@ aimed_below n (Plain d) s w few e = cc
 aimed_below n (Hints u d) s w few e = cc
 aimed_below n (Aims k u d) s w few e = let same : k ≡ s = cc in let l : k < n = few.0 in omega arith
 aimed_below n (Loads k r x u) s w few e = cc
-aimed_below n (Saves k r x u d) s w few e = cc
+aimed_below n (Stores k r x u d) s w few e = cc
 aimed_below n (Leaves k d) s w few e = cc
 aimed_below n (Allocs a d) s w few e = cc
 aimed_below n (Ends d) s w few e = cc

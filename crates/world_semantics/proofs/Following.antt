@@ -5,10 +5,10 @@ use Rattle.std.proofs.Math.Nat.{mod-lt, mul-le-mul_right}
 use Rattle.code_form.specs.declared.touch.Touch.{Touch}
 use Rattle.code_form.specs.declared.touch.Touch.TheVariants as touch
 use Rattle.code_form.specs.Form.{Image}
-use Rattle.code_form.specs.Effects.{Effect, Plain, Hints, Aims, Loads, Saves, Leaves, Allocs, Ends, Wrong, Nothing, Heap, code_run, run_effect, saved}
+use Rattle.code_form.specs.Effects.{Effect, Plain, Hints, Aims, Loads, Stores, Leaves, Allocs, Ends, Wrong, Nothing, Heap, code_run, run_effect, with_cell}
 use Rattle.code_form.specs.Code.{Core, allocations_of, cells_of, code, effect, most_scopes, sizes}
 use Rattle.code_form.specs.Laws.{StepsSuc}
-use Rattle.code_form.specs.Placed.{HaveAddresses, HeapAllocated, HeapSaved, SameHeap, first_object, next_object, object_at}
+use Rattle.code_form.specs.Placed.{HaveAddresses, HeapAllocated, HeapStored, SameHeap, first_object, next_object, object_at}
 use Rattle.code_form.specs.Touches.{heap_after, loaded, resumed, touch_of}
 use Rattle.code_form.specs.Tracked.{AlwaysTidy, AlwaysTracked, AlwaysWaitsShut, IsTidy, WaitsShut}
 use Rattle.pointer_word.specs.Hands.{upd}
@@ -27,7 +27,7 @@ pub record Laws : Type 0 where
   pub tracked : AlwaysTracked
   pub waits : AlwaysWaitsShut
   pub addresses : HaveAddresses
-  pub saved : HeapSaved
+  pub stored : HeapStored
   pub allocated : HeapAllocated
   pub next : StepsSuc
 
@@ -69,7 +69,7 @@ parts (Plain d) c h = refl
 parts (Hints w d) c h = refl
 parts (Aims s w d) c h = refl
 parts (Loads s r x k) c h = refl
-parts (Saves s r x v d) c h = refl
+parts (Stores s r x v d) c h = refl
 parts (Leaves s d) c h = refl
 parts (Allocs n d) c h = refl
 parts (Ends d) c h = refl
@@ -86,7 +86,7 @@ same_value (Plain d) c v w q = refl
 same_value (Hints a d) c v w q = refl
 same_value (Aims s a d) c v w q = refl
 same_value (Loads s r x k) c v w q = ap k q
-same_value (Saves s r x n d) c v w q = refl
+same_value (Stores s r x n d) c v w q = refl
 same_value (Leaves s d) c v w q = refl
 same_value (Allocs n d) c v w q = refl
 same_value (Ends d) c v w q = refl
@@ -104,7 +104,7 @@ next_run next C j c x e t =
 abbrev pub Tidies : Touch → Core → Core → Type 0
 Tidies (touch.Allocs n) c d = sizes (allocations_of d) ≡ n ∷ sizes (allocations_of c)
 Tidies (touch.Loads k a) c d = (sizes (allocations_of d) ≡ sizes (allocations_of c)) × (a.index < cells_of (sizes (allocations_of c)) a.reference)
-Tidies (touch.Saves k a v) c d = (sizes (allocations_of d) ≡ sizes (allocations_of c)) × (a.index < cells_of (sizes (allocations_of c)) a.reference)
+Tidies (touch.Stores k a v) c d = (sizes (allocations_of d) ≡ sizes (allocations_of c)) × (a.index < cells_of (sizes (allocations_of c)) a.reference)
 Tidies touch.Wrong c d = Unit {0}
 Tidies touch.Nothing c d = Unit {0}
 Tidies _ c d = sizes (allocations_of d) ≡ sizes (allocations_of c)
@@ -114,7 +114,7 @@ tidies C c (Plain d) v t = t
 tidies C c (Hints w d) v t = t
 tidies C c (Aims s w d) v t = t
 tidies C c (Loads s r x k) v t = (t.0 v, t.1)
-tidies C c (Saves s r x w d) v t = (t.0, t.1)
+tidies C c (Stores s r x w d) v t = (t.0, t.1)
 tidies C c (Leaves s d) v t = t
 tidies C c (Allocs n d) v t = t
 tidies C c (Ends d) v t = t
@@ -150,8 +150,8 @@ module _ (laws : Laws) (g : Setting) (some : 0 < g.size) (s : State) (p : Progra
   heap_moves (touch.Hints a) h m tidy st room ok = heap_along g.size _ _ _ _ _ _ h tidy st ok
   heap_moves (touch.Aims k a) h m tidy st room ok = heap_along g.size _ _ _ _ _ _ h tidy st ok
   heap_moves (touch.Loads k a) h m tidy st room ok = heap_along g.size _ _ _ _ _ _ h tidy.0 st ok
-  heap_moves (touch.Saves k a v) h m tidy st room ok =
-      heap_along g.size _ _ _ _ _ _ (saved h a.reference a.index v) tidy.0 st (laws.saved g.size g.base g.limit (cells_in p) (latest s) h a.reference a.index v some tidy.1 ok)
+  heap_moves (touch.Stores k a v) h m tidy st room ok =
+      heap_along g.size _ _ _ _ _ _ (with_cell h a.reference a.index v) tidy.0 st (laws.stored g.size g.base g.limit (cells_in p) (latest s) h a.reference a.index v some tidy.1 ok)
   heap_moves (touch.Leaves k) h m tidy st room ok = heap_along g.size _ _ _ _ _ _ h tidy st ok
   heap_moves (touch.Allocs c) h m tidy st room ok = heap_along g.size _ _ _ _ _ _ h tidy st (laws.allocated g.size g.base g.limit (cells_in p) (latest s) h c some room ok)
   heap_moves touch.Ends h m tidy st room ok = heap_along g.size _ _ _ _ _ _ h tidy st ok
@@ -163,7 +163,7 @@ module _ (laws : Laws) (g : Setting) (some : 0 < g.size) (s : State) (p : Progra
   room_after (touch.Hints a) m tidy room k = subst (λ (z : List ℕ). next_object g.size g.base z ≤ g.limit) (sym tidy) k
   room_after (touch.Aims s a) m tidy room k = subst (λ (z : List ℕ). next_object g.size g.base z ≤ g.limit) (sym tidy) k
   room_after (touch.Loads s a) m tidy room k = subst (λ (z : List ℕ). next_object g.size g.base z ≤ g.limit) (sym tidy.0) k
-  room_after (touch.Saves s a v) m tidy room k = subst (λ (z : List ℕ). next_object g.size g.base z ≤ g.limit) (sym tidy.0) k
+  room_after (touch.Stores s a v) m tidy room k = subst (λ (z : List ℕ). next_object g.size g.base z ≤ g.limit) (sym tidy.0) k
   room_after (touch.Leaves s) m tidy room k = subst (λ (z : List ℕ). next_object g.size g.base z ≤ g.limit) (sym tidy) k
   room_after (touch.Allocs c) m tidy room k = subst (λ (z : List ℕ). next_object g.size g.base z ≤ g.limit) (sym tidy) room
   room_after touch.Ends m tidy room k = subst (λ (z : List ℕ). next_object g.size g.base z ≤ g.limit) (sym tidy) k
@@ -177,7 +177,7 @@ module _ (laws : Laws) (g : Setting) (some : 0 < g.size) (s : State) (p : Progra
   value_is h sure inv (touch.Aims k a) heap v l tidy ok = tt
   value_is h sure inv (touch.Loads k a) heap v l tidy ok =
       l.2 ∙ (load_is_latest h g.size s (object_of g p a) l.0 (a.index % g.size) l.1 (mod-lt a.index some) sure inv ∙ ok.cell a.reference a.index tidy.1)
-  value_is h sure inv (touch.Saves k a u) heap v l tidy ok = tt
+  value_is h sure inv (touch.Stores k a u) heap v l tidy ok = tt
   value_is h sure inv (touch.Leaves k) heap v l tidy ok = tt
   value_is h sure inv (touch.Allocs c) heap v l tidy ok = tt
   value_is h sure inv touch.Ends heap v l tidy ok = tt
@@ -248,7 +248,7 @@ module _ (laws : Laws) (g : Setting) (some : 0 < g.size) (s : State) (p : Progra
   outside (touch.Hints a) tidy st room o i out = st o i
   outside (touch.Aims k a) tidy st room o i out = st o i
   outside (touch.Loads k a) tidy st room o i out = st o i
-  outside (touch.Saves k a v) tidy st room o i out =
+  outside (touch.Stores k a v) tidy st room o i out =
       let u : ℕ = object_of g p a in
       let low : g.base ≤ u = base_object g.size g.base (cells_in p) a.reference a.index in
       let high : u < next_free g p = (laws.addresses g.size g.base (cells_in p) some).inside a.reference a.index tidy.1 in

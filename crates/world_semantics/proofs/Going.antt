@@ -65,7 +65,7 @@ LoadsSo g s p _ v = Unit {0}
 
 -- a store is the latest at its cell
 abbrev pub StoresSo : Setting → State → Program → State → Touch → Type 0
-StoresSo g s p t (touch.Saves k x v) = (o i : ℕ) → latest t o i ≡ upd (latest s) (object_of g p x) (upd (latest s (object_of g p x)) (x.index % g.size) v) o i
+StoresSo g s p t (touch.Stores k x v) = (o i : ℕ) → latest t o i ≡ upd (latest s) (object_of g p x) (upd (latest s (object_of g p x)) (x.index % g.size) v) o i
 StoresSo g s p t _ = (o i : ℕ) → latest t o i ≡ latest s o i
 
 -- an allocation fits in the share
@@ -99,7 +99,7 @@ Goes g s p t q = (Stays s p t q × AimsIn g q q.mode) ⊎ Finishes g s p t q
 -- an instruction that neither loads nor stores nor allocates
 abbrev IsPlain : Touch → Type 0
 IsPlain (touch.Loads k x) = ⊥
-IsPlain (touch.Saves k x v) = ⊥
+IsPlain (touch.Stores k x v) = ⊥
 IsPlain (touch.Allocs cells) = ⊥
 IsPlain touch.Wrong = ⊥
 IsPlain touch.Nothing = ⊥
@@ -116,7 +116,7 @@ module _ (g : Setting) (s : State) (p : Program) (a : Answer) where
   plain (touch.Leaves k) is ok t same hs = inr (record { touch = touch.Leaves k; is = is; moving = tt; value = 0; core = refl; completed = refl; ready = refl; loads = tt; stores = same; room = tt })
   plain touch.Ends is ok t same hs = inr (record { touch = touch.Ends; is = is; moving = tt; value = 0; core = refl; completed = refl; ready = refl; loads = tt; stores = same; room = tt })
   plain (touch.Loads k x) is ok t same hs = absurd ok
-  plain (touch.Saves k x v) is ok t same hs = absurd ok
+  plain (touch.Stores k x v) is ok t same hs = absurd ok
   plain (touch.Allocs cells) is ok t same hs = absurd ok
   plain touch.Wrong is ok t same hs = absurd ok
   plain touch.Nothing is ok t same hs = absurd ok
@@ -184,14 +184,14 @@ module _ (g : Setting) (s : State) (p : Program) (a : Answer) where
   loads_to k x None is = tt
   loads_to k x (Some h) is = leads_cond s Q (h.object == object_of g p x) _ _ (λ _. loads_from_to k x is (s.note (object_of g p x)).frame refl) (λ _. tt)
 
-  stores_to_to : (k : ℕ) (x : Cell) (v : ℕ) → IsNext g p (touch.Saves k x v) → (f : Option ℕ) → Leads s Q (stores_to g p f (object_of g p x) (x.index % g.size) v)
+  stores_to_to : (k : ℕ) (x : Cell) (v : ℕ) → IsNext g p (touch.Stores k x v) → (f : Option ℕ) → Leads s Q (stores_to g p f (object_of g p x) (x.index % g.size) v)
   stores_to_to k x v is None = tt
   stores_to_to k x v is (Some f) =
-      inr (record { touch = touch.Saves k x v; is = is; moving = tt; value = 0; core = refl; completed = refl; ready = refl; loads = tt; stores = stores_latest s (object_of g p x) f (x.index % g.size) v; room = tt })
+      inr (record { touch = touch.Stores k x v; is = is; moving = tt; value = 0; core = refl; completed = refl; ready = refl; loads = tt; stores = stores_latest s (object_of g p x) f (x.index % g.size) v; room = tt })
 
-  saves_to : (k : ℕ) (x : Cell) (v : ℕ) (h : Option Hold) → IsNext g p (touch.Saves k x v) → p.mode ≡ Ready → Leads s Q (stores_by g s p k h (object_of g p x) (x.index % g.size) v)
-  saves_to k x v None is e = tt
-  saves_to k x v (Some h) is e =
+  stores_by_hold : (k : ℕ) (x : Cell) (v : ℕ) (h : Option Hold) → IsNext g p (touch.Stores k x v) → p.mode ≡ Ready → Leads s Q (stores_by g s p k h (object_of g p x) (x.index % g.size) v)
+  stores_by_hold k x v None is e = tt
+  stores_by_hold k x v (Some h) is e =
       leads_cond s Q (h.object == object_of g p x) _ _
       (λ _. leads_cond s Q h.writes _ _ (λ _. stores_to_to k x v is (s.note (object_of g p x)).frame)
       (λ _. stays (act s (Clears (object_of g p x))) (holding p k (Some (record { object = object_of g p x; writes = true }))) refl refl (same_call (Clears (object_of g p x)) refl) (ready_mode p.mode _ e)))
@@ -232,7 +232,7 @@ module _ (g : Setting) (s : State) (p : Program) (a : Answer) where
       below_so : (n m : ℕ) → nat_lt n m ≡ true → n < m
       below_so n m e = grind (arith, nat_tests)
   ready_to (touch.Loads k x) is e = loads_to k x (hold_at p.holds k) is
-  ready_to (touch.Saves k x v) is e = saves_to k x v (hold_at p.holds k) is e
+  ready_to (touch.Stores k x v) is e = stores_by_hold k x v (hold_at p.holds k) is e
   ready_to (touch.Leaves k) is e = leaves_to k (hold_at p.holds k) is
   ready_to (touch.Allocs cells) is e = allocates_to cells is
   ready_to touch.Ends is e = ends_to (first_hold p.holds) is e

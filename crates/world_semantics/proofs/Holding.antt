@@ -7,7 +7,7 @@ use Rattle.code_form.specs.declared.touch.Cell.{Cell}
 use Rattle.code_form.specs.declared.touch.Touch.{Touch}
 use Rattle.code_form.specs.declared.touch.Touch.TheVariants as touch
 use Rattle.code_form.specs.declared.allocation.Allocation.{Allocation}
-use Rattle.code_form.specs.Effects.{Effect, Plain, Hints, Aims, Loads, Saves, Leaves, Allocs, Ends, Wrong, Nothing}
+use Rattle.code_form.specs.Effects.{Effect, Plain, Hints, Aims, Loads, Stores as StoresOf, Leaves, Allocs, Ends, Wrong, Nothing}
 use Rattle.code_form.specs.Code.{Core, Running, Stopped, Stuck, Scope, Shut, Aimed, Stale, allocations_of, cells_of, code, effect, held, held_by, is_blocked, sizes}
 use Rattle.code_form.specs.Placed.{pieces}
 use Rattle.code_form.specs.Touches.{cell, cell_option, touch_of}
@@ -80,7 +80,7 @@ effect_there (Plain d) cells k w e so = cc
 effect_there (Hints v d) cells k w e so = cc
 effect_there (Aims s v d) cells k w e so = let b = so s v d refl in aimed_at s d cells v k w b.0 b.1 e
 effect_there (Loads s r x n) cells k w e so = cc
-effect_there (Saves s r x v d) cells k w e so = cc
+effect_there (StoresOf s r x v d) cells k w e so = cc
 effect_there (Leaves s d) cells k w e so = cc
 effect_there (Allocs n d) cells k w e so = cc
 effect_there (Ends d) cells k w e so = cc
@@ -171,7 +171,7 @@ module _ (g : Setting) (s : State) (p : Program) (a : Answer) (there : (k : ℕ)
   ready_h (touch.Hints w) is = same _ refl
   ready_h (touch.Aims k w) is = leads_cond s Q (nat_lt k (length p.holds)) _ _ (λ l. aims_h k w (less k (length p.holds) l) is) (λ _. tt)
   ready_h (touch.Loads k x) is = loads_h (hold_at p.holds k) (object_of g p x) (x.index % g.size)
-  ready_h (touch.Saves k x v) is = stores_h k (hold_at p.holds k) (object_of g p x) (x.index % g.size) v refl
+  ready_h (touch.Stores k x v) is = stores_h k (hold_at p.holds k) (object_of g p x) (x.index % g.size) v refl
   ready_h (touch.Leaves k) is = leaves_h k (hold_at p.holds k) refl
   ready_h (touch.Allocs cells) is = leads_cond s Q (nat_le (next_free g p + pieces g.size cells) g.limit) _ _ (λ _. grows_h) (λ _. same _ refl)
   ready_h touch.Ends is = ends_h (first_hold p.holds) refl

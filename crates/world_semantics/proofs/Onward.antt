@@ -6,7 +6,7 @@ use Rattle.code_form.specs.declared.touch.Cell.{Cell}
 use Rattle.code_form.specs.declared.touch.Touch.{Touch}
 use Rattle.code_form.specs.declared.touch.Touch.TheVariants as touch
 use Rattle.code_form.specs.Form.{Image}
-use Rattle.code_form.specs.Effects.{Effect, Plain, Hints, Aims, Loads, Saves, Leaves, Allocs, Ends, Wrong, Nothing}
+use Rattle.code_form.specs.Effects.{Effect, Plain, Hints, Aims, Loads, Stores, Leaves, Allocs, Ends, Wrong, Nothing}
 use Rattle.code_form.specs.Code.{Core, effect, held, is_blocked}
 use Rattle.code_form.specs.Placed.{pieces}
 use Rattle.code_form.specs.Touches.{cell, cell_option, touch_of}
@@ -46,15 +46,15 @@ held_load c (Loads s r i n) k x e t = let same : s ≡ k = cc in let also : cell
 held_load c (Plain d) k x e t = cc
 held_load c (Hints w d) k x e t = cc
 held_load c (Aims s w d) k x e t = cc
-held_load c (Saves s r i v d) k x e t = cc
+held_load c (Stores s r i v d) k x e t = cc
 held_load c (Leaves s d) k x e t = cc
 held_load c (Allocs n d) k x e t = cc
 held_load c (Ends d) k x e t = cc
 held_load c (Wrong d) k x e t = cc
 held_load c Nothing k x e t = cc
 
-held_store : (c : Core) (e : Effect Core) (k : ℕ) (x : Cell) (v : ℕ) → touch_of e ≡ touch.Saves k x v → IsTracked c e → cell_option (held c k) ≡ Some x
-held_store c (Saves s r i u d) k x v e t = let same : s ≡ k = cc in let also : cell r i ≡ x = cc in ap (λ j. cell_option (held c j)) (sym same) ∙ (ap cell_option t.0 ∙ ap Some also)
+held_store : (c : Core) (e : Effect Core) (k : ℕ) (x : Cell) (v : ℕ) → touch_of e ≡ touch.Stores k x v → IsTracked c e → cell_option (held c k) ≡ Some x
+held_store c (Stores s r i u d) k x v e t = let same : s ≡ k = cc in let also : cell r i ≡ x = cc in ap (λ j. cell_option (held c j)) (sym same) ∙ (ap cell_option t.0 ∙ ap Some also)
 held_store c (Plain d) k x v e t = cc
 held_store c (Hints w d) k x v e t = cc
 held_store c (Aims s w d) k x v e t = cc
@@ -120,9 +120,9 @@ module _ (laws : Laws) (g : Setting) (s : State) (p : Program) (a : Answer) (is 
   ready_turn (touch.Loads k x) next can =
       let e = held_load p.core (effect g.image p.core) k x next.0 (laws.tracked g.image p.core is.waits next.1) in
       load_turn k (hold_at p.holds k) (object_of g p x) (x.index % g.size) refl (object_there k x e (settled (touch.Loads k x) next k (λ y. y) (scopes k)))
-  ready_turn (touch.Saves k x v) next can =
+  ready_turn (touch.Stores k x v) next can =
       let e = held_store p.core (effect g.image p.core) k x v next.0 (laws.tracked g.image p.core is.waits next.1) in
-      store_turn k (hold_at p.holds k) (object_of g p x) (x.index % g.size) v refl (object_there k x e (settled (touch.Saves k x v) next k (λ y. y) (scopes k)))
+      store_turn k (hold_at p.holds k) (object_of g p x) (x.index % g.size) v refl (object_there k x e (settled (touch.Stores k x v) next k (λ y. y) (scopes k)))
   ready_turn (touch.Leaves k) next can = leave_turn k (hold_at p.holds k)
   ready_turn (touch.Allocs cells) next can = either (nat_le (next_free g p + pieces g.size cells) g.limit) _ _ refl refl
   ready_turn touch.Ends next can = end_turn (first_hold p.holds)

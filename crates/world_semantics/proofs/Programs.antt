@@ -96,7 +96,7 @@ module _ (h : Type 0) (g : Setting) (s : State) (p : Program) (a : Answer) (inv 
     ready_ok (touch.Hints w) e = free
     ready_ok (touch.Aims k w) e = turn_cond h g.size s g.mover Fits (nat_lt k (length p.holds)) _ _ (λ _. aims_ok k (hold_at p.holds k) (object_or_none g p w) e) (λ _. tt)
     ready_ok (touch.Loads k x) e = loads_ok (hold_at p.holds k) (object_of g p x) (x.index % g.size)
-    ready_ok (touch.Saves k x v) e = stores_ok k (hold_at p.holds k) (object_of g p x) (x.index % g.size) v e
+    ready_ok (touch.Stores k x v) e = stores_ok k (hold_at p.holds k) (object_of g p x) (x.index % g.size) v e
     ready_ok (touch.Leaves k) e = leaves_ok k (hold_at p.holds k)
     ready_ok (touch.Allocs cells) e = turn_cond h g.size s g.mover Fits (nat_le (next_free g p + pieces g.size cells) g.limit) _ _ (λ _. grows_ok) (λ _. free)
     ready_ok touch.Ends e = ends_ok (first_hold p.holds) e

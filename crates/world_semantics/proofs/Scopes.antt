@@ -7,7 +7,7 @@ use Rattle.cells.specs.declared.ending.Want.TheVariants.{OutOfMemory}
 use Rattle.code_form.specs.declared.touch.Cell.{Cell}
 use Rattle.code_form.specs.declared.touch.Touch.{Touch}
 use Rattle.code_form.specs.declared.touch.Touch.TheVariants as touch
-use Rattle.code_form.specs.Effects.{Effect, Plain, Hints, Aims, Loads, Saves, Leaves, Allocs, Ends, Wrong, Nothing}
+use Rattle.code_form.specs.Effects.{Effect, Plain, Hints, Aims, Loads, Stores, Leaves, Allocs, Ends, Wrong, Nothing}
 use Rattle.code_form.specs.Code.{Core, effect, held, is_blocked}
 use Rattle.code_form.specs.Placed.{pieces, object_at}
 use Rattle.code_form.specs.Touches.{cell_option, resumed, touch_of}
@@ -60,7 +60,7 @@ Tracks touch.Plain c d = HoldsSame d c
 Tracks (touch.Hints w) c d = HoldsSame d c
 Tracks (touch.Aims k w) c d = (cell_option (held d k) ≡ w) × HoldsSameBut k d c
 Tracks (touch.Loads k x) c d = HoldsSame d c
-Tracks (touch.Saves k x v) c d = HoldsSame d c
+Tracks (touch.Stores k x v) c d = HoldsSame d c
 Tracks (touch.Leaves k) c d = (held d k ≡ None) × HoldsSameBut k d c
 Tracks (touch.Allocs n) c d = (t : ℕ) → (held c t ≡ None) × (held d t ≡ None)
 Tracks touch.Ends c d = (t : ℕ) → held d t ≡ None
@@ -72,7 +72,7 @@ tracks c (Plain d) v t = t
 tracks c (Hints w d) v t = t
 tracks c (Aims s w d) v t = (ap cell_option t.0, t.1)
 tracks c (Loads s r x k) v t = t.1 v
-tracks c (Saves s r x w d) v t = t.1
+tracks c (Stores s r x w d) v t = t.1
 tracks c (Leaves s d) v t = t
 tracks c (Allocs n d) v t = t
 tracks c (Ends d) v t = t
@@ -150,8 +150,8 @@ module _ (laws : Laws) (g : Setting) (some : 0 < g.size) (s : State) (p : Progra
     done_load : (k : ℕ) (x : Cell) (v : ℕ) → IsNext g p (touch.Loads k x) → Q s (finished g p v)
     done_load k x v next j = inl (as_same (Done p.holds v) j (tidied (touch.Loads k x) p.holds v next).0 (tracked (touch.Loads k x) p.holds v next j) refl (settled (touch.Loads k x) next j (λ x. x) (before j)))
 
-    done_store : (t : State) (k : ℕ) (x : Cell) (v : ℕ) → IsNext g p (touch.Saves k x v) → Q t (finished g p 0)
-    done_store t k x v next j = inl (as_same (Done p.holds 0) j (tidied (touch.Saves k x v) p.holds 0 next).0 (tracked (touch.Saves k x v) p.holds 0 next j) refl (settled (touch.Saves k x v) next j (λ x. x) (before j)))
+    done_store : (t : State) (k : ℕ) (x : Cell) (v : ℕ) → IsNext g p (touch.Stores k x v) → Q t (finished g p 0)
+    done_store t k x v next j = inl (as_same (Done p.holds 0) j (tidied (touch.Stores k x v) p.holds 0 next).0 (tracked (touch.Stores k x v) p.holds 0 next j) refl (settled (touch.Stores k x v) next j (λ x. x) (before j)))
 
     done_allocs : (n : ℕ) → IsNext g p (touch.Allocs n) → Q s (finished g p 0)
     done_allocs n next k =
@@ -213,23 +213,23 @@ module _ (laws : Laws) (g : Setting) (some : 0 < g.size) (s : State) (p : Progra
     loads_s k x None o i next = tt
     loads_s k x (Some y) o i next = leads_cond s Q (y.object == o) _ _ (λ _. loads_from_s k x (s.note o).frame i next) (λ _. tt)
 
-    stores_to_s : (k : ℕ) (x : Cell) (f : Option ℕ) (o i v w : ℕ) → IsNext g p (touch.Saves k x w) → Leads s Q (stores_to g p f o i v)
+    stores_to_s : (k : ℕ) (x : Cell) (f : Option ℕ) (o i v w : ℕ) → IsNext g p (touch.Stores k x w) → Leads s Q (stores_to g p f o i v)
     stores_to_s k x None o i v w next = tt
     stores_to_s k x (Some f) o i v w next = done_store s k x w next
 
     -- a hold that may write
-    writes_s : (k : ℕ) (x : Cell) (v o : ℕ) (y : Hold) → hold_at p.holds k ≡ Some y → y.object ≡ o → IsNext g p (touch.Saves k x v) → p.mode ≡ Ready
+    writes_s : (k : ℕ) (x : Cell) (v o : ℕ) (y : Hold) → hold_at p.holds k ≡ Some y → y.object ≡ o → IsNext g p (touch.Stores k x v) → p.mode ≡ Ready
         → (j : ℕ) → ScopeFits g (holding p k (Some (record { object = o; writes = true }))) p.mode j
     writes_s k x v o y here same next m j =
         let z : Hold = record { object = o; writes = true } in
         let q : Program = holding p k (Some z) in
-        let as_code : IsAsCode g p j = settled (touch.Saves k x v) next j (λ x. x) (before j) in
+        let as_code : IsAsCode g p j = settled (touch.Stores k x v) next j (λ x. x) (before j) in
         subst (λ y. ScopeFits g q y j) (sym m) (elim (same_or j k) [
           | inl e ↦ inl (ap (λ i. object_in (hold_at q.holds i)) e ∙ (ap object_in (same_hold p.holds k (Some z) (hold_there p.holds k y here)) ∙ (ap Some (sym same) ∙ (sym (ap object_in here) ∙ (ap (λ i. object_in (hold_at p.holds i)) (sym e) ∙ as_code)))))
           | inr d ↦ inl (as_same q j refl refl (other_hold p.holds k j (Some z) d) as_code)
         ])
 
-    stores_s : (k : ℕ) (x : Cell) (v w : ℕ) (y : Option Hold) (o i : ℕ) → hold_at p.holds k ≡ y → IsNext g p (touch.Saves k x w) → p.mode ≡ Ready → Leads s Q (stores_by g s p k y o i v)
+    stores_s : (k : ℕ) (x : Cell) (v w : ℕ) (y : Option Hold) (o i : ℕ) → hold_at p.holds k ≡ y → IsNext g p (touch.Stores k x w) → p.mode ≡ Ready → Leads s Q (stores_by g s p k y o i v)
     stores_s k x v w None o i e next m = tt
     stores_s k x v w (Some y) o i e next m = leads_cond s Q (y.object == o) _ _
         (λ b. leads_cond s Q y.writes _ _ (λ _. stores_to_s k x (s.note o).frame o i v w next) (λ _. writes_s k x w o y e (equal y.object o b) next m)) (λ _. tt)
@@ -248,7 +248,7 @@ module _ (laws : Laws) (g : Setting) (some : 0 < g.size) (s : State) (p : Progra
     ready_s (touch.Hints w) next m = done_hints w next
     ready_s (touch.Aims k w) next m = leads_cond s Q (nat_lt k (length p.holds)) _ _ (λ l. aims_s k w (below k (length p.holds) l) next m) (λ _. tt)
     ready_s (touch.Loads k x) next m = loads_s k x (hold_at p.holds k) (object_of g p x) (x.index % g.size) next
-    ready_s (touch.Saves k x v) next m = stores_s k x v v (hold_at p.holds k) (object_of g p x) (x.index % g.size) refl next m
+    ready_s (touch.Stores k x v) next m = stores_s k x v v (hold_at p.holds k) (object_of g p x) (x.index % g.size) refl next m
     ready_s (touch.Leaves k) next m = leaves_s k (hold_at p.holds k) refl next
     ready_s (touch.Allocs cells) next m = leads_cond s Q (nat_le (next_free g p + pieces g.size cells) g.limit) _ _ (λ _. grows_s (done_allocs cells next)) (λ _. before)
     ready_s touch.Ends next m = ends_s (first_hold p.holds) refl next m

@@ -138,7 +138,7 @@ module _ (h : Type 0) (g : Setting) (s : State) (p : Program) (a : Answer) (inv 
     ready_t (touch.Hints w) = same (finished g p 0) refl
     ready_t (touch.Aims k w) = leads_cond s Q (nat_lt k (length p.holds)) _ _ (λ l. aims_t k (object_or_none g p w) (below k (length p.holds) l)) (λ _. tt)
     ready_t (touch.Loads k x) = loads_t (hold_at p.holds k) (object_of g p x) (x.index % g.size)
-    ready_t (touch.Saves k x v) = stores_t k (hold_at p.holds k) (object_of g p x) (x.index % g.size) v refl
+    ready_t (touch.Stores k x v) = stores_t k (hold_at p.holds k) (object_of g p x) (x.index % g.size) v refl
     ready_t (touch.Leaves k) = leaves_t k (hold_at p.holds k) refl
     ready_t (touch.Allocs cells) = leads_cond s Q (nat_le (next_free g p + pieces g.size cells) g.limit) _ _ (λ _. grows_t) (λ _. same (in_mode p (Wanted NoObjects)) refl)
     ready_t touch.Ends = ends_t (first_hold p.holds) refl

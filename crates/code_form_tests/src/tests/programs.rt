@@ -82,7 +82,7 @@ fn load(heap: &[Vec<u64>], cell: Cell) -> u64 {
 }
 
 /// Puts the value into the cell.
-fn save(heap: &mut [Vec<u64>], cell: Cell, value: u64) {
+fn store(heap: &mut [Vec<u64>], cell: Cell, value: u64) {
     if let Some(cells) = heap.get_mut(cell.reference as usize)
         && let Some(place) = cells.get_mut(cell.index as usize)
     {
@@ -102,9 +102,9 @@ fn step(
             heap.push(Vec::from_elem(alloc, 0u64, cells as usize)?)?;
         }
         Touch::Loads(_, cell) => execution.proceed(load(heap, cell))?,
-        Touch::Saves(_, cell, value) => {
+        Touch::Stores(_, cell, value) => {
             execution.proceed(0)?;
-            save(heap, cell, value);
+            store(heap, cell, value);
         }
         Touch::Plain
         | Touch::Hints(_)

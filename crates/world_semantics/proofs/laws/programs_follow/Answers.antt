@@ -10,7 +10,7 @@ returns c =
       tracked = c.effect_laws.ensures.tracked;
       waits = c.effect_laws.ensures.waits;
       addresses = c.heap_laws.ensures.addresses;
-      saved = c.heap_laws.ensures.saved;
+      stored = c.heap_laws.ensures.stored;
       allocated = c.heap_laws.ensures.allocated;
       next = c.run_laws.ensures.next;
     } in

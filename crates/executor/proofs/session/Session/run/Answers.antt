@@ -14,7 +14,7 @@ use Rattle.executor.proofs.session.Session.run.Goals.{in-Ok, in-Err}
 pub returns-clause-covered : goal.returns-clause-covered
 returns-clause-covered g c =
     let laws : Laws = record { tidy = c.effect_laws.ensures.tidy; tracked = c.effect_laws.ensures.tracked; waits = c.effect_laws.ensures.waits; ends = c.effect_laws.ensures.ends } in
-    let heaps : HeapLaws = record { saved = c.heap_laws.ensures.saved; allocated = c.heap_laws.ensures.allocated; next = c.run_laws.ensures.next } in
+    let heaps : HeapLaws = record { stored = c.heap_laws.ensures.stored; allocated = c.heap_laws.ensures.allocated; next = c.run_laws.ensures.next } in
     let m = c.self.inside.program in
     let rel = g.S.RawStore.reliable in
     elim c.match-run.branch [

@@ -27,11 +27,11 @@ returns-in-Loads g c z s p is =
     goes_turn s _ _ _ _ _ c.load_cell.result (λ a. next_turn g.S.RawStore.content g.S.RawStore.honest z old.memory old.berths.items c.args.self.now s p is (touch.Loads c.in-Loads.scope c.in-Loads.cell) a (sym c.is_blocked.ensures ∙ c.if-is_blocked.false)
     c.in-Loads.ensures.value) (c.load_cell.ensures z s p is)
 
-pub returns-in-Saves : goal.returns-in-Saves
-returns-in-Saves g c z s p is =
+pub returns-in-Stores : goal.returns-in-Stores
+returns-in-Stores g c z s p is =
     let old = c.args.lock.now in
-    goes_turn s _ _ _ _ _ c.store_cell.result (λ a. next_turn g.S.RawStore.content g.S.RawStore.honest z old.memory old.berths.items c.args.self.now s p is (touch.Saves c.in-Saves.scope c.in-Saves.cell c.in-Saves.value) a (sym c.is_blocked.ensures ∙ c.if-is_blocked.false)
-    c.in-Saves.ensures.value) (c.store_cell.ensures z s p is)
+    goes_turn s _ _ _ _ _ c.store_cell.result (λ a. next_turn g.S.RawStore.content g.S.RawStore.honest z old.memory old.berths.items c.args.self.now s p is (touch.Stores c.in-Stores.scope c.in-Stores.cell c.in-Stores.value) a (sym c.is_blocked.ensures ∙ c.if-is_blocked.false)
+    c.in-Stores.ensures.value) (c.store_cell.ensures z s p is)
 
 pub returns-in-Allocs : goal.returns-in-Allocs
 returns-in-Allocs g c z s p is =
