@@ -1,0 +1,85 @@
+//! What is told of the bytes of an image.
+
+use crate::changes::{passing_changes, short_beginnings};
+use code_form::Image;
+use image_bytes::encode;
+use image_listing::list;
+use image_reader::decode;
+use instruction_table::ImageFault;
+use scope_verifier::verify;
+use std::alloc::{AllocError, Global};
+
+/// What is asked of a row.
+#[derive(Clone, Copy)]
+pub enum Asked {
+    Listing,
+    Verdict,
+    Changes,
+}
+
+impl Asked {
+    /// What a word asks for, if it is no name of a file.
+    pub(crate) fn of(word: &str) -> Option<Asked> {
+        match word {
+            "list" => Some(Asked::Listing),
+            "verify" => Some(Asked::Verdict),
+            "change" => Some(Asked::Changes),
+            _ => None,
+        }
+    }
+}
+
+/// The listing of the image that has these bytes.
+fn listing(alloc: Global, bytes: &[u8], image: &Image) -> Result<String, ImageFault> {
+    let again = encode(alloc, image)?;
+    let mut text = list(alloc, image)?;
+    if again.as_slice() != bytes {
+        text.push_str("other bytes\n")?;
+    }
+    Ok(text)
+}
+
+/// What is wrong with the bytes.
+fn refused(alloc: Global, fault: ImageFault) -> Result<String, AllocError> {
+    let number = fault.number();
+    format!(in alloc; "fault {number}\n")
+}
+
+/// The greatest number of scopes of a verified image, or why it is none.
+fn verdict(alloc: Global, image: Image) -> Result<String, AllocError> {
+    match verify(alloc, image) {
+        Ok(verified) => {
+            let scopes = verified.scopes();
+            format!(in alloc; "scopes {scopes}\n")
+        }
+        Err(fault) => {
+            let number = fault.number();
+            format!(in alloc; "verify fault {number}\n")
+        }
+    }
+}
+
+/// How many beginnings are refused, and how many changes go through.
+fn changed(alloc: Global, bytes: &mut [u8]) -> Result<String, AllocError> {
+    let short = short_beginnings(alloc, bytes);
+    let changes = passing_changes(alloc, bytes);
+    format!(in alloc; "{short} beginnings\n{changes} changes\n")
+}
+
+/// What is told of the bytes that these digits are.
+pub(crate) fn tell(alloc: Global, asked: Asked, digits: &[u8]) -> Result<String, AllocError> {
+    let Ok(mut bytes) = hex::decode(alloc, digits) else {
+        return format!(in alloc; "no hexadecimal digits\n");
+    };
+    if let Asked::Changes = asked {
+        return changed(alloc, &mut bytes);
+    }
+    match (decode(alloc, &bytes), asked) {
+        (Err(fault), _) => refused(alloc, fault),
+        (Ok(image), Asked::Verdict) => verdict(alloc, image),
+        (Ok(image), _) => match listing(alloc, &bytes, &image) {
+            Ok(text) => Ok(text),
+            Err(fault) => refused(alloc, fault),
+        },
+    }
+}
