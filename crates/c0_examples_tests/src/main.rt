@@ -32,8 +32,8 @@ fn reads_back(alloc: Global, text: &[u8]) -> Result<bool, Fault> {
 
 /// The end of the text's program, with its contracts checked.
 fn ended<R: Wait>(alloc: Global, rt: &R, text: &[u8]) -> Result<Ended, Fault> {
-    let image = compile(alloc, text, true)?;
-    Ok(execute(alloc, rt, &image)?)
+    let verified = compile(alloc, text, true)?;
+    Ok(execute(alloc, rt, &verified)?)
 }
 
 /// Tells what the fault of this text is, and where.

@@ -1,15 +1,15 @@
 -- The image of a text.
-use Rattle.std.specs.Prelude.{◌≡◌, ℕ, Bool, false, true, List}
+use Rattle.std.specs.Prelude.{◌≡◌, ℕ, Bool, false, List}
 use Rattle.c0_front.specs.Texts.{IsTypedAs}
 use Rattle.c0_typed.specs.Trees.{Program}
 use Rattle.c0_typed.specs.Views.{program_of}
 use Rattle.c0_typed.specs.declared.tree.Typed.{Typed}
 use Rattle.code_form.specs.Form.{Image}
 use Rattle.code_form.specs.Code.{Covered}
-use Rattle.code_form.specs.Counts.{has_few_items}
-use Rattle.lower_tables.specs.Gathered.{singles_of}
-use Rattle.lower.specs.Lowered.{lowered}
-use Rattle.codegen.specs.Generated.{generated}
+use Rattle.code_verification.specs.Entries.{EntryFactsHold}
+use Rattle.code_verification.specs.Verified.{IsVerified}
+use Rattle.c0_well_formed.specs.Images.{image_of_tree}
+use Rattle.c0_well_formed.specs.Laws.{IsConsistent}
 use Rattle.c0_image.specs.Correct.{Behaves}
 
 -- the image is that of the one program that the text is the text of: it does what that means, both ways
@@ -21,13 +21,18 @@ pub record IsCompiled (text : List ℕ) (checks : Bool) (C : Image) : Type 0 whe
   -- it is the image that the definitions give of a typed tree of that program
   pub tree : Typed
   pub read_as : program_of tree ≡ program
-  pub made : C ≡ generated (lowered (singles_of tree) checks tree)
+  pub made : C ≡ image_of_tree checks tree
   pub behaves : Behaves program checks C
   -- no function has more than four scopes, none of its runs gets stuck or allocates, calls or returns with a scope open
   pub covered : Covered C
-  -- none of its lists has 2^32 items
-  pub few : has_few_items C ≡ true
+  -- it may be run without a look at what it does: it is verified, and names nothing but what is there
+  pub verified : IsVerified C
+  pub consistent : IsConsistent C
 
 -- a text has one image: any two are the same, whichever typed trees of its program they were made of
 abbrev pub OneImage : Type 0
 OneImage = (text : List ℕ) (checks : Bool) (C D : Image) → IsCompiled text checks C → IsCompiled text checks D → C ≡ D
+
+-- whenever a run of an image of a text enters a block, the block's entry facts hold
+abbrev pub FactsOfImagesHold : Type 0
+FactsOfImagesHold = (text : List ℕ) (checks : Bool) (C : Image) → IsCompiled text checks C → EntryFactsHold C

@@ -1,6 +1,7 @@
-//! The law of images: a function that does nothing, and whose contract holds.
-ghost use Rattle.c0_image.specs.Compiled.{OneImage};
+//! The laws of images: functions that do nothing, and whose contracts hold.
+ghost use Rattle.c0_image.specs.Compiled.{FactsOfImagesHold, OneImage};
 
+use code_verification::verified_is_covered;
 use lower::same_program_same_code;
 
 /// A text has one image, with its contracts checked, and one without.
@@ -8,4 +9,11 @@ pub fn one_image()
     ensures { OneImage }
 {
     same_program_same_code();
+}
+
+/// Whenever a run of an image of a text enters a block, each entry fact of the block holds.
+pub fn facts_of_images_hold()
+    ensures { FactsOfImagesHold }
+{
+    verified_is_covered();
 }

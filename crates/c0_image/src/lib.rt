@@ -4,5 +4,5 @@
 mod laws;
 mod texts;
 
-pub use laws::one_image;
+pub use laws::{facts_of_images_hold, one_image};
 pub use texts::compile;

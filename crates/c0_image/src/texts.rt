@@ -1,4 +1,4 @@
-//! From the bytes of a text to the image of its program.
+//! From the bytes of a text to the verified image of its program.
 ghost use Rattle.std.specs.Prelude.{◌≡◌, ◌⊎◌, false, IfErr, IfOk, MatchResult};
 ghost use Rattle.c0_source.specs.declared.fault.FaultKind.TheVariants.{OutOfMemory};
 ghost use Rattle.c0_typed.specs.Trees as y;
@@ -11,24 +11,32 @@ use c0_front::check_text;
 use c0_rules::elaborated;
 use c0_source::fault::Fault;
 use c0_syntax::level::Level;
-use code_form::Image;
-use codegen::{generate, generated_is_covered, generated_keeps_the_meaning};
+use c0_well_formed::{images_are_accepted, images_are_consistent};
+use codegen::{generate, generated_keeps_the_meaning};
 use lower::lower;
+use scope_verifier::{Verified, verify};
+use scope_verifier_laws::VerifyFault;
 use std::alloc::Global;
 
-/// The image of the program that a text is the text of. `checks` tells whether contracts are checked. The fault is of the first stage
+/// The image of the program that a text is the text of, verified. `checks` tells whether contracts are checked. The fault is of the first stage
 /// that refuses the text: 10 or 22 of its bytes, 11 or 12 of its tokens, 20 to 22 of what they read as, 22 and 30 to 47 of the static
 /// rules; or 50, where memory runs out.
-pub fn compile(alloc: Global, text: &[u8], checks: bool) -> Result<Image, Fault>
-    ensures compiled { IfOk result (λ i. IsCompiled text.now checks (image_of i)) }
+pub fn compile(alloc: Global, text: &[u8], checks: bool) -> Result<Verified, Fault>
+    ensures compiled { IfOk result (λ v. IsCompiled text.now checks (image_of v.image)) }
     ensures refused { IfErr result (λ f. (f.kind ≡ OutOfMemory) ⊎ IsRefusedText false text.now f) }
     // A text of a well-typed program is compiled to code that does what it means, unless memory runs out.
-    ensures every { (p : y.Program) → IsTypedAs false text.now p → MatchResult result (λ i. Behaves p checks (image_of i)) (λ f. f.kind ≡ OutOfMemory) }
+    ensures every { (p : y.Program) → IsTypedAs false text.now p → MatchResult result (λ v. Behaves p checks (image_of v.image)) (λ f. f.kind ≡ OutOfMemory) }
 {
     elaborated();
     generated_keeps_the_meaning();
-    generated_is_covered();
+    images_are_consistent();
+    images_are_accepted();
     let typed = check_text(alloc, text, Level::C0)?;
     let middle = lower(alloc, &typed, checks)?;
-    Ok(generate(alloc, &middle)?)
+    let image = generate(alloc, &middle)?;
+    match verify(alloc, image) {
+        Ok(verified) => Ok(verified),
+        Err(VerifyFault::OutOfMemory) => Err(Fault::out_of_memory()),
+        Err(_) => unreachable!(),
+    }
 }

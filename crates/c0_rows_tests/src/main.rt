@@ -71,8 +71,8 @@ fn runs_so<R: Wait>(
     output: &[u8],
     stop: &Stop,
 ) -> Result<bool, Fault> {
-    let image = compile(alloc, text, checks)?;
-    let ended = execute(alloc, rt, &image)?;
+    let verified = compile(alloc, text, checks)?;
+    let ended = execute(alloc, rt, &verified)?;
     let same_end = match &ended.run {
         Run::Stopped(other) => other == stop,
         Run::Running | Run::Wanted(_) => false,

@@ -1,6 +1,6 @@
 -- The kinds of registers and of cells name layouts that are there.
 use Rattle.std.proofs.Common.{◌≡◌, ℕ, zero, suc, ◌+◌, ◌<◌, ◌≤◌, Bool, true, false, cond, List, [], ◌∷◌, ◌++◌, length, map, get_or, refl, arith}
-use Rattle.std.specs.Prelude.{nat_lt, All}
+use Rattle.std.specs.Prelude.{◌&&◌, nat_lt, All}
 use Rattle.std.proofs.lemmas.Bool.{lt-ltb, ltb-true}
 use Rattle.std.proofs.lemmas.List.{length-append}
 use Rattle.c0_typed.specs.Trees.{Ty, VoidTy, IntTy, BoolTy, CharTy, TextTy, StructTy, PointerTy, ArrayTy}
@@ -8,8 +8,13 @@ use Rattle.code_form.specs.declared.form.Kind.{Kind}
 use Rattle.code_form.specs.declared.form.Kind.TheVariants as kind
 use Rattle.lower_tables.specs.Gathered.{all_learned, learned, with_kind}
 use Rattle.lower_tables.specs.Kinds.{cell_kinds, field_kinds, kind_of, layout_number, position, single_layout, struct_layouts}
-use Rattle.scope_verifier_laws.specs.Numbers.{names_layout}
-use Rattle.c0_well_formed.specs.Laws.{IsCellKind}
+use Rattle.lower.proofs.Registers.{and_true}
+use Rattle.scope_verifier_laws.specs.Numbers.{is_cell_kind, is_value, names_layout}
+use Rattle.c0_well_formed.proofs.Tests.{both_true}
+
+-- a kind of values that names one of so many layouts
+abbrev pub IsCellKind : ℕ → Kind → Type 0
+IsCellKind count k = is_cell_kind count k ≡ true
 
 -- ---- lists
 
@@ -48,7 +53,9 @@ named_more a b le (kind.Off l) h = more_there a b l le h
 named_more a b le _ h = refl
 
 cell_more : (a b : ℕ) → a ≤ b → (k : Kind) → IsCellKind a k → IsCellKind b k
-cell_more a b le k h = (named_more a b le k h.0, h.1)
+cell_more a b le k h =
+    let both = both_true (names_layout a k) (is_value k) h in
+    and_true (names_layout b k) (is_value k) (named_more a b le k both.0) both.1
 
 -- ---- numbers of layouts
 
@@ -77,16 +84,24 @@ number_low n singles (ArrayTy ty) = single_low n singles (kind.Arr (layout_numbe
 pub number_named : (n : ℕ) (singles : List Kind) (ty : Ty) → nat_lt (layout_number n singles ty) (suc (n + length singles)) ≡ true
 number_named n singles ty = lt-ltb (layout_number n singles ty) (suc (n + length singles)) (number_low n singles ty)
 
+-- so is a pointer to a value of a type, and an array of such
+reference_good : (n : ℕ) (singles : List Kind) (ty : Ty) → (nat_lt (layout_number n singles ty) (suc (n + length singles)) && true) ≡ true
+reference_good n singles ty = and_true _ true (number_named n singles ty) refl
+
 -- the kind of a value of a type
 pub kind_good : (n : ℕ) (singles : List Kind) (ty : Ty) → IsCellKind (suc (n + length singles)) (kind_of n singles ty)
-kind_good n singles VoidTy = (refl, refl)
-kind_good n singles IntTy = (refl, refl)
-kind_good n singles BoolTy = (refl, refl)
-kind_good n singles CharTy = (refl, refl)
-kind_good n singles TextTy = (refl, refl)
-kind_good n singles (StructTy j) = (refl, refl)
-kind_good n singles (PointerTy ty) = (number_named n singles ty, refl)
-kind_good n singles (ArrayTy ty) = (number_named n singles ty, refl)
+kind_good n singles VoidTy = refl
+kind_good n singles IntTy = refl
+kind_good n singles BoolTy = refl
+kind_good n singles CharTy = refl
+kind_good n singles TextTy = refl
+kind_good n singles (StructTy j) = refl
+kind_good n singles (PointerTy ty) = reference_good n singles ty
+kind_good n singles (ArrayTy ty) = reference_good n singles ty
+
+-- ... names a layout that is there
+pub kind_named : (n : ℕ) (singles : List Kind) (ty : Ty) → names_layout (suc (n + length singles)) (kind_of n singles ty) ≡ true
+kind_named n singles ty = (both_true (names_layout (suc (n + length singles)) (kind_of n singles ty)) (is_value (kind_of n singles ty)) (kind_good n singles ty)).0
 
 -- ---- cells of types
 
@@ -97,12 +112,12 @@ module _ (n : ℕ) (singles : List Kind) where
   cells_good : (before : List (List Kind)) (ty : Ty) → Each (Each Good) before → Each Good (cell_kinds n singles before ty)
   cells_good before VoidTy h = tt
   cells_good before (StructTy j) h = each_at (Each Good) before j [] h tt
-  cells_good before IntTy h = ((refl, refl), tt)
-  cells_good before BoolTy h = ((refl, refl), tt)
-  cells_good before CharTy h = ((refl, refl), tt)
-  cells_good before TextTy h = ((refl, refl), tt)
-  cells_good before (PointerTy ty) h = ((number_named n singles ty, refl), tt)
-  cells_good before (ArrayTy ty) h = ((number_named n singles ty, refl), tt)
+  cells_good before IntTy h = (refl, tt)
+  cells_good before BoolTy h = (refl, tt)
+  cells_good before CharTy h = (refl, tt)
+  cells_good before TextTy h = (refl, tt)
+  cells_good before (PointerTy ty) h = (reference_good n singles ty, tt)
+  cells_good before (ArrayTy ty) h = (reference_good n singles ty, tt)
 
   fields_good : (before : List (List Kind)) (ts : List Ty) → Each (Each Good) before → Each Good (field_kinds n singles before ts)
   fields_good before [] h = tt
@@ -138,12 +153,12 @@ with_sound n ks k h g = by (nat_lt (position k ks) (length ks))
 learned_sound : (n : ℕ) (ks : List Kind) (ty : Ty) → Sound n ks → Sound n (learned n ks ty)
 learned_sound n ks VoidTy h = h
 learned_sound n ks (StructTy j) h = h
-learned_sound n ks IntTy h = with_sound n ks kind.Int h (refl, refl)
-learned_sound n ks BoolTy h = with_sound n ks kind.Bool h (refl, refl)
-learned_sound n ks CharTy h = with_sound n ks kind.Char h (refl, refl)
-learned_sound n ks TextTy h = with_sound n ks kind.Text h (refl, refl)
-learned_sound n ks (PointerTy ty) h = with_sound n (learned n ks ty) (kind.Ptr (layout_number n (learned n ks ty) ty)) (learned_sound n ks ty h) (number_named n (learned n ks ty) ty, refl)
-learned_sound n ks (ArrayTy ty) h = with_sound n (learned n ks ty) (kind.Arr (layout_number n (learned n ks ty) ty)) (learned_sound n ks ty h) (number_named n (learned n ks ty) ty, refl)
+learned_sound n ks IntTy h = with_sound n ks kind.Int h refl
+learned_sound n ks BoolTy h = with_sound n ks kind.Bool h refl
+learned_sound n ks CharTy h = with_sound n ks kind.Char h refl
+learned_sound n ks TextTy h = with_sound n ks kind.Text h refl
+learned_sound n ks (PointerTy ty) h = with_sound n (learned n ks ty) (kind.Ptr (layout_number n (learned n ks ty) ty)) (learned_sound n ks ty h) (reference_good n (learned n ks ty) ty)
+learned_sound n ks (ArrayTy ty) h = with_sound n (learned n ks ty) (kind.Arr (layout_number n (learned n ks ty) ty)) (learned_sound n ks ty h) (reference_good n (learned n ks ty) ty)
 
 pub all_sound : (n : ℕ) (ks : List Kind) (ts : List Ty) → Sound n ks → Sound n (all_learned n ks ts)
 all_sound n ks [] h = h

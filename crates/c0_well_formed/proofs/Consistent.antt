@@ -1,4 +1,4 @@
--- An image of a text is consistent.
+-- The image of a well-typed program is consistent.
 use Rattle.std.proofs.Common.{◌≡◌, ℕ, zero, suc, ◌+◌, ◌<◌, ◌≤◌, Bool, true, false, cond, List, [], ◌∷◌, ◌++◌, length, map, take, Some, refl, sym, subst, arith}
 use Rattle.std.specs.Prelude.{nat_lt, All, slice_get}
 use Rattle.std.proofs.lemmas.List.{length-append, length-map}
@@ -15,12 +15,8 @@ use Rattle.c0_typed.specs.declared.tree.Place.{Place, Deref', Index', Field'}
 use Rattle.c0_typed.specs.declared.tree.Statement.{Statement, Row_of-Statement, end_of-Statement, more_of-Statement, Block', Set, Update, Store, StoreUpdate, Do, If', Loop', Return, ReturnValue, Assert, Error, Check}
 use Rattle.c0_typed.specs.declared.tree.Function.{Function}
 use Rattle.c0_typed.specs.declared.tree.Typed.{Typed}
-use Rattle.c0_rules.specs.Programs.{typed_program}
-use Rattle.c0_rules.proofs.Programs.{elaborated_fits}
-use Rattle.c0_rules.proofs.Rules.{some_has}
 use Rattle.code_form.specs.declared.form.Fact.{Fact}
 use Rattle.code_form.specs.declared.form.Kind.{Kind}
-use Rattle.code_form.specs.Counts.{has_few_items}
 use Rattle.code_form.specs.Form as image
 use Rattle.middle_form.specs.Form as f
 use Rattle.lower_tables.specs.Gathered.{singles_of, types_of_functions}
@@ -32,13 +28,12 @@ use Rattle.lower.specs.Lowered.{lowered, result_kind, with_main_first}
 use Rattle.lower_expressions.specs.Expressions.{checked, constant_kind, unary_kind}
 use Rattle.lower.proofs.Layouts.{layouts_length}
 use Rattle.codegen.specs.Generated.{asked_of, blocks, blocks_with, function_of, generated, scopes_of, uses_cells}
-use Rattle.code_verification.specs.Verified.{NamesFacts}
-use Rattle.scope_verifier_laws.specs.Numbers.{names_layout}
-use Rattle.c0_well_formed.specs.Laws.{ImagesAreConsistent, IsCellKind, IsConsistent, IsConsistentFunction, IsResultKind, NamesNumbers}
+use Rattle.scope_verifier_laws.specs.Numbers.{is_result_kind, names_layout}
+use Rattle.c0_well_formed.specs.Laws.{ImagesAreConsistent, IsConsistent, IsConsistentFunction, NamesNumbers}
 use Rattle.c0_well_formed.proofs.Images.{images_ok}
 use Rattle.c0_well_formed.proofs.Ordered.{in_order}
 use Rattle.c0_well_formed.proofs.Numbers.{CodeNames, blocks_names, function_names}
-use Rattle.c0_well_formed.proofs.CellKinds.{Each, all_sound, each_all, each_append, each_as, kind_good, number_named, singles_good, structs_good}
+use Rattle.c0_well_formed.proofs.CellKinds.{Each, IsCellKind, all_sound, each_all, each_append, each_as, kind_good, kind_named, number_named, singles_good, structs_good}
 
 module _ (structs : List (List Ty)) (singles : List Kind) (texts : List (List ℕ)) (functions : List Function) (main : ℕ) (checks : Bool) where
   abbrev n : ℕ
@@ -51,7 +46,7 @@ module _ (structs : List (List Ty)) (singles : List Kind) (texts : List (List �
   Named x = names_layout count x ≡ true
 
   here : (ty : ValueType) → Named (k.kind_of n singles (type_of ty))
-  here ty = (kind_good n singles (type_of ty)).0
+  here ty = kind_named n singles (type_of ty)
 
   number : (ty : ValueType) → nat_lt (k.layout_number n singles (type_of ty)) count ≡ true
   number ty = number_named n singles (type_of ty)
@@ -100,7 +95,7 @@ module _ (structs : List (List Ty)) (singles : List Kind) (texts : List (List �
     exp_named (Or' w a s b) = (refl, each_append Named (exp_kinds a) (exp_kinds b) (exp_named a) (exp_named b))
     exp_named (Choose' ty w a q b s e) =
         (here ty, each_append Named (exp_kinds a) (exp_kinds b ++ exp_kinds e) (exp_named a) (each_append Named (exp_kinds b) (exp_kinds e) (exp_named b) (exp_named e)))
-    exp_named (Call' i shape es) = ((kind_good n singles (parts.type_given structs singles texts functions main functions i)).0, row_named es)
+    exp_named (Call' i shape es) = (kind_named n singles (parts.type_given structs singles texts functions main functions i), row_named es)
     exp_named (Print' out shape es) = (refl, row_named es)
     exp_named (Load' ty w q) = (here ty, place_named q)
     exp_named (Alloc ty) = (number ty, tt)
@@ -164,8 +159,8 @@ module _ (structs : List (List Ty)) (singles : List Kind) (texts : List (List �
   first_good [] rest = tt
   first_good (ty ∷ ts) rest = (kind_good n singles (type_of ty), first_good ts rest)
 
-  result_good : (ty : Ty) → IsResultKind count (result_kind n singles ty)
-  result_good VoidTy = tt
+  result_good : (ty : Ty) → is_result_kind count (result_kind n singles ty) ≡ true
+  result_good VoidTy = refl
   result_good IntTy = kind_good n singles IntTy
   result_good BoolTy = kind_good n singles BoolTy
   result_good CharTy = kind_good n singles CharTy
@@ -229,8 +224,8 @@ each_function : (Q : Function → Type 0) (texts : List (List ℕ)) (fs : List F
 each_function Q texts [] go = tt
 each_function Q texts (x ∷ rest) go = (go 0 x refl, each_function Q texts rest (λ i h e. go (suc i) h e))
 
-image_consistent : (checks : Bool) (typed : Typed) → FitsProgram (program_of typed) → All NamesFacts (generated (lowered (singles_of typed) checks typed)).functions → has_few_items (generated (lowered (singles_of typed) checks typed)) ≡ true → IsConsistent (generated (lowered (singles_of typed) checks typed))
-image_consistent checks typed fp named few =
+pub images_consistent : ImagesAreConsistent
+images_consistent checks typed fp few =
     let structs = (program_of typed).structs in
     let singles = singles_of typed in
     let count = layouts_count structs singles in
@@ -249,11 +244,5 @@ image_consistent checks typed fp named few =
           (in_order (λ h. CodeNames (l.function_code structs singles (texts_of typed) typed.functions.items typed.main checks h).body) typed.main typed.functions.items
           (each_function (λ h. CodeNames (l.function_code structs singles (texts_of typed) typed.functions.items typed.main checks h).body) (texts_of typed) typed.functions.items
           (λ i h e. function_names typed singles checks h (fp.functions i (typed_function (texts_of typed) h) e))))));
-      facts = named;
+      facts = (images_ok checks typed fp).facts;
     }
-
-pub images_consistent : ImagesAreConsistent
-images_consistent text checks C is =
-    let fits : FitsProgram is.program = some_has FitsProgram (typed_program is.typed.program) is.program (elaborated_fits is.typed.program) is.typed.rules in
-    let tree : FitsProgram (program_of is.tree) = subst FitsProgram (sym is.read_as) fits in
-    subst IsConsistent (sym is.made) (image_consistent checks is.tree tree (subst (λ D. All NamesFacts D.functions) is.made (images_ok text checks C is).facts) (subst (λ D. has_few_items D ≡ true) is.made is.few))

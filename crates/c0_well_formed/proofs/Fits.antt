@@ -1,12 +1,12 @@
 -- Code in order fits, and uses pointers where its places have no offset, where each part does.
 use Rattle.std.proofs.Common.{◌≡◌, ℕ, true, List, [], ◌∷◌, ◌++◌, refl}
-use Rattle.c0_rules.proofs.Rules.{both_true}
 use Rattle.code_form.specs.declared.form.Kind.{Kind}
 use Rattle.middle_form.specs.Form.{Code, Program}
 use Rattle.middle_form.specs.WellFormed.{code_fits}
 use Rattle.lower_expressions.specs.Expressions.{sequence}
 use Rattle.lower.proofs.Registers.{and_true}
 use Rattle.codegen.specs.Guarded.{uses_pointers}
+use Rattle.c0_well_formed.proofs.Tests.{both_true}
 
 module _ (P : Program) (ks : List Kind) (around : ℕ) where
   -- code in order, with so many loops and blocks round it

@@ -1,13 +1,13 @@
 -- What code in order asks for, and that it is guarded, where each part is.
 use Rattle.std.proofs.Common.{◌≡◌, ℕ, ◌<◌, ◌⊎◌, inl, inr, Bool, true, false, cond, List, [], ◌∷◌, ◌++◌, Option, Some, None, refl, sym, ap, ◌∙◌, subst, arith}
 use Rattle.std.specs.Prelude.{not}
-use Rattle.c0_rules.proofs.Rules.{both_true}
 use Rattle.code_form.specs.declared.form.Fact.{Fact}
 use Rattle.middle_form.specs.Form.{Code, Store, Choose, Loop, Block}
 use Rattle.lower_expressions.specs.Expressions.{sequence}
 use Rattle.lower.proofs.Registers.{and_true, number_same}
 use Rattle.codegen.specs.Guarded.{asks, is_guarded, is_kept, is_nothing_asked, is_same_check, joined, names, place_check, without_check}
 use Rattle.c0_well_formed.proofs.CellKinds.{Each}
+use Rattle.c0_well_formed.proofs.Tests.{both_true}
 
 -- a fact names only registers below d
 abbrev pub IsBelow : ℕ → Fact → Type 0

@@ -2,6 +2,7 @@ mod Fits
 mod Operators
 mod Expressions
 mod Statements
+mod Tests
 mod Functions
 mod GuardedCode
 mod GuardedExpressions

@@ -1,5 +1,5 @@
--- What holds of the code and of the image of every program.
-use Rattle.std.specs.Prelude.{◌≡◌, ℕ, ◌<◌, ◌≤◌, Bool, true, List, All, Option, Some, None, FitsSigned, length, take}
+-- What holds of the code and of the image of every well-typed program.
+use Rattle.std.specs.Prelude.{◌≡◌, ℕ, ◌<◌, ◌≤◌, Bool, true, All, None, FitsSigned, length, take}
 use Rattle.std.specs.Int.{w32}
 use Rattle.c0_typed.specs.Typing.{FitsProgram}
 use Rattle.c0_typed.specs.Views.{program_of}
@@ -12,12 +12,11 @@ use Rattle.code_form.specs.Form.{Simple, Instruction, Block, Function, Image}
 use Rattle.middle_form.specs.WellFormed.{is_well_formed}
 use Rattle.lower_tables.specs.Gathered.{singles_of}
 use Rattle.lower.specs.Lowered.{lowered}
-use Rattle.code_verification.specs.Entries.{EntryFactsHold}
 use Rattle.code_verification.specs.Verified.{IsVerified, NamesFacts}
 use Rattle.codegen.specs.Guarded.{is_guarded_program}
-use Rattle.scope_verifier_laws.specs.Numbers.{is_value, names_layout}
+use Rattle.scope_verifier_laws.specs.Numbers.{is_cell_kind, is_result_kind, names_layout}
 use Rattle.scope_verifier_laws.specs.Faults.{fault_of}
-use Rattle.c0_image.specs.Compiled.{IsCompiled}
+use Rattle.c0_well_formed.specs.Images.{image_of_tree}
 
 -- the structured code of a well-typed program is well formed
 abbrev pub LoweredIsWellFormed : Type 0
@@ -27,22 +26,9 @@ LoweredIsWellFormed = (checks : Bool) (typed : Typed) → FitsProgram (program_o
 abbrev pub LoweredIsGuarded : Type 0
 LoweredIsGuarded = (checks : Bool) (typed : Typed) → FitsProgram (program_of typed) → is_guarded_program (lowered (singles_of typed) checks typed) ≡ true
 
--- an image of a text is verified
+-- the image of a well-typed program is verified
 abbrev pub ImagesAreVerified : Type 0
-ImagesAreVerified = (text : List ℕ) (checks : Bool) (C : Image) → IsCompiled text checks C → IsVerified C
-
--- and whenever a run of it enters a block, the block's entry facts hold
-abbrev pub FactsOfImagesHold : Type 0
-FactsOfImagesHold = (text : List ℕ) (checks : Bool) (C : Image) → IsCompiled text checks C → EntryFactsHold C
-
--- a kind of values that names one of so many layouts
-abbrev pub IsCellKind : ℕ → Kind → Type 0
-IsCellKind count k = (names_layout count k ≡ true) × (is_value k ≡ true)
-
--- the kind of a result, where there is one
-abbrev pub IsResultKind : ℕ → Option Kind → Type 0
-IsResultKind count None = Unit {0}
-IsResultKind count (Some k) = IsCellKind count k
+ImagesAreVerified = (checks : Bool) (typed : Typed) → FitsProgram (program_of typed) → IsVerified (image_of_tree checks typed)
 
 -- a number that a simple instruction names is one of 32 bits, and a character is below 128
 abbrev pub NamesNumber : Operation → Type 0
@@ -59,8 +45,8 @@ NamesNumbers _ = Unit {0}
 -- and its instructions name numbers of 32 bits and characters below 128
 pub record IsConsistentFunction (count : ℕ) (f : Function) : Type 0 where
   pub kinds : All (λ k. names_layout count k ≡ true) f.kinds
-  pub parameters : All (IsCellKind count) (take f.parameters f.kinds)
-  pub result : IsResultKind count f.result
+  pub parameters : All (λ k. is_cell_kind count k ≡ true) (take f.parameters f.kinds)
+  pub result : is_result_kind count f.result ≡ true
   pub scopes : f.scopes ≤ 4
   pub numbers : All (λ (b : Block). All NamesNumbers b.code) f.blocks
 
@@ -69,14 +55,16 @@ pub record IsConsistentFunction (count : ℕ) (f : Function) : Type 0 where
 pub record IsConsistent (C : Image) : Type 0 where
   pub few : has_few_items C ≡ true
   pub texts : All (All (λ b. b < 128)) C.head.texts
-  pub layouts : All (All (IsCellKind (length C.head.layouts))) C.head.layouts
+  pub layouts : All (All (λ k. is_cell_kind (length C.head.layouts) k ≡ true)) C.head.layouts
   pub functions : All (IsConsistentFunction (length C.head.layouts)) C.functions
   pub facts : All NamesFacts C.functions
 
--- so is an image of a text
+-- so is the image of a well-typed program, where no list of it has 2^32 items
 abbrev pub ImagesAreConsistent : Type 0
-ImagesAreConsistent = (text : List ℕ) (checks : Bool) (C : Image) → IsCompiled text checks C → IsConsistent C
+ImagesAreConsistent =
+    (checks : Bool) (typed : Typed) → FitsProgram (program_of typed) → has_few_items (image_of_tree checks typed) ≡ true → IsConsistent (image_of_tree checks typed)
 
 -- and has no fault
 abbrev pub ImagesHaveNoFault : Type 0
-ImagesHaveNoFault = (text : List ℕ) (checks : Bool) (C : Image) → IsCompiled text checks C → fault_of C ≡ None
+ImagesHaveNoFault =
+    (checks : Bool) (typed : Typed) → FitsProgram (program_of typed) → has_few_items (image_of_tree checks typed) ≡ true → fault_of (image_of_tree checks typed) ≡ None

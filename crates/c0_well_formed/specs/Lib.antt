@@ -1,2 +1,3 @@
+pub mod Images
 pub mod Laws
 pub mod Worked

@@ -1,10 +1,9 @@
 //! Functions that compute nothing, and whose contracts are the laws.
 
-ghost use Rattle.c0_well_formed.specs.Laws.{FactsOfImagesHold, ImagesAreConsistent, ImagesAreVerified, ImagesHaveNoFault, IsConsistent, LoweredIsGuarded, LoweredIsWellFormed};
+ghost use Rattle.c0_well_formed.specs.Laws.{ImagesAreConsistent, ImagesAreVerified, ImagesHaveNoFault, IsConsistent, LoweredIsGuarded, LoweredIsWellFormed};
 ghost use Rattle.c0_well_formed.specs.Worked.{consistent_image, five_scopes, large_byte, large_character, large_number, missing_scope, offset_as_parameter, offset_in_layout, with_texts, without_layout};
 ghost use Rattle.std.specs.Prelude.{◌^◌, ◌≤◌, ℕ};
 
-use code_verification::verified_is_covered;
 use scope_verifier_laws::verified_is_accepted;
 
 /// The structured code of a well-typed program is well formed.
@@ -18,24 +17,20 @@ pub fn lowered_is_guarded()
     ensures { LoweredIsGuarded }
 {}
 
-/// The image of every text is verified: each jump leads to a block of its function and brings what is known at its entry, each block ends in one
-/// instruction that leads out of it, all that an instruction names is there and of the right kind, each load and store is by a scope that is freshly aimed
-/// at a place whose check was made, and no scope is open at an allocation, a call or a return. Whenever a run of it enters a block, the block's entry facts
-/// hold.
+/// The image of every well-typed program is verified: each jump leads to a block of its function and brings what is known at its entry, each block ends in
+/// one instruction that leads out of it, all that an instruction names is there and of the right kind, each load and store is by a scope that is freshly
+/// aimed at a place whose check was made, and no scope is open at an allocation, a call or a return.
 pub fn images_are_verified()
-    ensures verified { ImagesAreVerified }
-    ensures facts { FactsOfImagesHold }
-{
-    verified_is_covered();
-}
+    ensures { ImagesAreVerified }
+{}
 
-/// In the image of a text no list has 2^32 items, each kind names a layout that is there, offsets stand in registers alone, no function has more than four
-/// scopes, numbers are of 32 bits, characters and texts are ASCII, and entry facts name what is there.
+/// In the image of a well-typed program, where no list of it has 2^32 items, each kind names a layout that is there, offsets stand in registers alone, no
+/// function has more than four scopes, numbers are of 32 bits, characters and texts are ASCII, and entry facts name what is there.
 pub fn images_are_consistent()
     ensures { ImagesAreConsistent }
 {}
 
-/// The verifier finds no fault in the image of a text.
+/// The verifier finds no fault in the image of a well-typed program, where no list of it has 2^32 items.
 pub fn images_are_accepted()
     ensures { ImagesHaveNoFault }
 {

@@ -1,9 +1,8 @@
-//! The code of a file: the image of a text, or an image as it stands.
+//! The code of a file: the image of a text, or an image as it stands, each of them verified.
 ghost use Rattle.std.specs.Prelude.{◌≡◌, ◌⊎◌, ◌++◌, ℕ, List, IfErr, IfOk, codes};
 ghost use Rattle.c0_image.specs.Compiled.{IsCompiled};
 ghost use Rattle.code_verification.specs.Verified.{IsVerified};
 ghost use Rattle.image_bytes.specs.Encodable.{IsImage};
-ghost use Rattle.code_form.specs.Code.{Covered};
 ghost use Rattle.code_form.specs.Form.{image_of};
 ghost use Rattle.c0far.specs.Driven.{HasFailed, HasNoCode, IsUnfit, LacksMemory, newline};
 ghost use Rattle.c0far.specs.FileCode.{HoldsCode, names_image};
@@ -17,10 +16,9 @@ use crate::say::{REFUSED, after, say_memory, say_refused, say_unread};
 use crate::stream::Stream;
 use c0_image::compile;
 use c0_source::fault::FaultKind;
-use code_form::Image;
 use image_reader::decode;
 use instruction_table::ImageFault;
-use scope_verifier::verify;
+use scope_verifier::{Verified, verify};
 use scope_verifier_laws::VerifyFault;
 use std::alloc::Global;
 
@@ -45,9 +43,9 @@ fn say_verify_fault<E: Stream>(err: &mut E, file: &str, fault: VerifyFault) -> u
     after(writeln!(err, "{file}: {fault}"), REFUSED)
 }
 
-/// The image that these bytes of a file are, or the status behind what was said of them.
-fn of_bytes<E: Stream>(alloc: Global, file: &str, bytes: &[u8], err: &mut E) -> Result<Image, u8>
-    ensures code { IfOk result (λ v. IsImage bytes.now (image_of v) × IsVerified (image_of v) × Covered (image_of v) × IsQuiet (writes E.contents E.failures err.old err.new)) }
+/// The verified image that these bytes of a file are, or the status behind what was said of them.
+fn of_bytes<E: Stream>(alloc: Global, file: &str, bytes: &[u8], err: &mut E) -> Result<Verified, u8>
+    ensures code { IfOk result (λ v. IsImage bytes.now (image_of v.image) × IsVerified (image_of v.image) × IsQuiet (writes E.contents E.failures err.old err.new)) }
     ensures refused { IfErr result (λ status. (held : Known) (out : Writes) → HasText held bytes.now → IsQuiet out → IsUnfit file.now held out (writes E.contents E.failures err.old err.new) status ⊎ LacksMemory out (writes E.contents E.failures err.old err.new) status) }
 {
     let image = match decode(alloc, bytes) {
@@ -56,25 +54,25 @@ fn of_bytes<E: Stream>(alloc: Global, file: &str, bytes: &[u8], err: &mut E) -> 
         Err(fault) => return Err(say_image_fault(err, file, fault)),
     };
     match verify(alloc, image) {
-        Ok(verified) => Ok(verified.into_image()),
+        Ok(verified) => Ok(verified),
         Err(VerifyFault::OutOfMemory) => Err(say_memory(err)),
         Err(fault) => Err(say_verify_fault(err, file, fault)),
     }
 }
 
-/// The image of this text of a file, or the status behind what was said of it.
+/// The verified image of this text of a file, or the status behind what was said of it.
 fn of_text<E: Stream>(
     alloc: Global,
     checks: bool,
     file: &str,
     text: &[u8],
     err: &mut E,
-) -> Result<Image, u8>
-    ensures code { IfOk result (λ v. IsCompiled text.now checks (image_of v) × Covered (image_of v) × IsQuiet (writes E.contents E.failures err.old err.new)) }
+) -> Result<Verified, u8>
+    ensures code { IfOk result (λ v. IsCompiled text.now checks (image_of v.image) × IsQuiet (writes E.contents E.failures err.old err.new)) }
     ensures refused { IfErr result (λ status. (held : Known) (out : Writes) → HasText held text.now → IsQuiet out → HasFailed file.now held out (writes E.contents E.failures err.old err.new) status ⊎ LacksMemory out (writes E.contents E.failures err.old err.new) status) }
 {
     match compile(alloc, text, checks) {
-        Ok(image) => Ok(image),
+        Ok(verified) => Ok(verified),
         Err(fault) if fault.kind == FaultKind::OutOfMemory => Err(say_memory(err)),
         Err(fault) => Err(say_refused(err, file, text, fault)),
     }
@@ -87,9 +85,9 @@ fn of_named<E: Stream>(
     file: &str,
     bytes: &[u8],
     err: &mut E,
-) -> Result<Image, u8>
-    ensures code { IfOk result (λ v. (held : Known) → HasText held bytes.now → HoldsCode file.now checks held (image_of v)) }
-    ensures covered { IfOk result (λ v. Covered (image_of v) × IsQuiet (writes E.contents E.failures err.old err.new)) }
+) -> Result<Verified, u8>
+    ensures code { IfOk result (λ v. (held : Known) → HasText held bytes.now → HoldsCode file.now checks held (image_of v.image)) }
+    ensures quiet { IfOk result (λ v. IsQuiet (writes E.contents E.failures err.old err.new)) }
     ensures refused { IfErr result (λ status. (held : Known) (out : Writes) → HasText held bytes.now → IsQuiet out → HasNoCode file.now held out (writes E.contents E.failures err.old err.new) status) }
 {
     if is_image_name(file) {
@@ -107,10 +105,10 @@ pub fn code_of<F: Files, E: Stream>(
     file: &str,
     files: &mut F,
     err: &mut E,
-) -> Result<Image, u8>
+) -> Result<Verified, u8>
     ensures files { (name : List ℕ) → F.holds files.new name ≡ F.holds files.old name }
-    ensures code { IfOk result (λ v. HoldsCode file.now checks (F.holds files.old file.now) (image_of v)) }
-    ensures covered { IfOk result (λ v. Covered (image_of v) × IsQuiet (writes E.contents E.failures err.old err.new)) }
+    ensures code { IfOk result (λ v. HoldsCode file.now checks (F.holds files.old file.now) (image_of v.image)) }
+    ensures quiet { IfOk result (λ v. IsQuiet (writes E.contents E.failures err.old err.new)) }
     ensures refused { IfErr result (λ status. (out : Writes) → IsQuiet out → HasNoCode file.now (F.holds files.old file.now) out (writes E.contents E.failures err.old err.new) status) }
 {
     match files.read(alloc, file) {

@@ -78,11 +78,11 @@ fn run<W: Wait, F: Files, O: Stream, E: Stream>(
     ensures files { (name : List ℕ) → F.holds files.new name ≡ F.holds files.old name }
     ensures done { Runs file.now checks (F.holds files.old file.now) (writes O.contents O.failures out.old out.new) (writes E.contents E.failures err.old err.new) result }
 {
-    let image = match code_of(alloc, checks, file, files, err) {
-        Ok(image) => image,
+    let verified = match code_of(alloc, checks, file, files, err) {
+        Ok(verified) => verified,
         Err(status) => return status,
     };
-    match execute(alloc, rt, &image) {
+    match execute(alloc, rt, &verified) {
         Ok(ended) => say_end(out, &ended),
         Err(_refused) => say_memory(err),
     }
@@ -135,7 +135,7 @@ fn check_image<F: Files, O: Stream, E: Stream>(
     ensures done { ChecksImage file.now (F.holds files.old file.now) (writes O.contents O.failures out.old out.new) (writes E.contents E.failures err.old err.new) result }
 {
     match code_of(alloc, false, file, files, err) {
-        Ok(_image) => say_ok(out),
+        Ok(_verified) => say_ok(out),
         Err(status) => status,
     }
 }

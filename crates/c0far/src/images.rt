@@ -36,11 +36,11 @@ pub fn list<F: Files, O: Stream, E: Stream>(
     ensures files { (name : List ℕ) → F.holds files.new name ≡ F.holds files.old name }
     ensures done { Lists file.now (F.holds files.old file.now) (writes O.contents O.failures out.old out.new) (writes E.contents E.failures err.old err.new) result }
 {
-    let image = match code_of(alloc, false, file, files, err) {
-        Ok(image) => image,
+    let verified = match code_of(alloc, false, file, files, err) {
+        Ok(verified) => verified,
         Err(status) => return status,
     };
-    match list_image(alloc, &image) {
+    match list_image(alloc, verified.image()) {
         Ok(code) => say_code(out, &code),
         Err(_refused) => say_memory(err),
     }
@@ -59,11 +59,11 @@ pub fn build<F: Files, O: Stream, E: Stream>(
     ensures files { KeepsOthers target.now (F.holds files.old) (F.holds files.new) }
     ensures done { Builds file.now checks target.now (F.holds files.old file.now) (F.holds files.old target.now) (F.holds files.new target.now) (writes O.contents O.failures out.old out.new) (writes E.contents E.failures err.old err.new) result }
 {
-    let image = match code_of(alloc, checks, file, files, err) {
-        Ok(image) => image,
+    let verified = match code_of(alloc, checks, file, files, err) {
+        Ok(verified) => verified,
         Err(status) => return status,
     };
-    let Ok(bytes) = encode(alloc, &image) else {
+    let Ok(bytes) = encode(alloc, verified.image()) else {
         return say_memory(err);
     };
     match files.write(alloc, target, &bytes) {

@@ -8,10 +8,12 @@ ghost use Rattle.executor.specs.State.{IsAt, IsGoing, SameProgram};
 ghost use Rattle.image_run.specs.Executed.{HasRunOn, IsExecuted, IsOver};
 
 use cells::{Ended, Run};
-use code_form::Image;
+use code_verification::verified_is_covered;
 use executor::Session;
 use object_lock::ObjectTable;
 use remote_store::{Config, FarHeap, RawStore};
+use scope_verifier::Verified;
+use scope_verifier_laws::accepted_is_verified;
 use std::alloc::{AllocError, Global};
 use std::sync::Wait;
 
@@ -58,12 +60,13 @@ fn run_to_end<S: RawStore, W: Wait>(rt: &W, session: &mut Session<'_, S>) -> Run
     unreachable!()
 }
 
-/// Runs the image until it has stopped or wants something, over a store in memory. `Err` where a growth for the table, the session or
+/// Runs the verified image until it has stopped or wants something, over a store in memory. `Err` where a growth for the table, the session or
 /// the output was refused.
-pub fn execute<W: Wait>(alloc: Global, rt: &W, image: &Image) -> Result<Ended, AllocError>
-    requires { Covered (image_of image.now) }
-    ensures { IfOk result (λ e. IsExecuted (image_of image.now) e) }
+pub fn execute<W: Wait>(alloc: Global, rt: &W, verified: &Verified) -> Result<Ended, AllocError>
+    ensures { IfOk result (λ e. IsExecuted (image_of verified.now.image) e) }
 {
+    accepted_is_verified();
+    verified_is_covered();
     let config = Config {
         frames: FRAMES,
         objects: OBJECTS,
@@ -77,7 +80,7 @@ pub fn execute<W: Wait>(alloc: Global, rt: &W, image: &Image) -> Result<Ended, A
     let Some(seat) = owners.pop() else {
         unreachable!()
     };
-    let Ok(mut session) = Session::new(alloc, &table, image, seat) else {
+    let Ok(mut session) = Session::new(alloc, &table, verified.image(), seat) else {
         return Err(AllocError);
     };
     let run = run_to_end(rt, &mut session);

@@ -85,7 +85,7 @@ fn tell<R: Wait, O: Write>(
     out: &mut O,
 ) -> io::Result<bool> {
     let image = match compile(alloc, text, false) {
-        Ok(image) => image,
+        Ok(verified) => verified.into_image(),
         Err(fault) => {
             writeln!(out, "{name}: {fault}")?;
             return Ok(false);

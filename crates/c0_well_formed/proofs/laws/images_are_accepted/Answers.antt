@@ -1,7 +1,10 @@
+use Rattle.c0_well_formed.specs.Images.{image_of_tree}
 use Rattle.c0_well_formed.proofs.Accepted.{layouts_named}
 use Rattle.c0_well_formed.proofs.Consistent.{images_consistent}
 use Rattle.c0_well_formed.proofs.Images.{images_ok}
 use Rattle.c0_well_formed.proofs.laws.images_are_accepted.Goals as goal
 
 pub returns : goal.returns
-returns c text checks C is = c.verified_is_accepted.ensures C (images_ok text checks C is) (layouts_named C (images_consistent text checks C is))
+returns c checks typed fits few =
+    let C = image_of_tree checks typed in
+    c.verified_is_accepted.ensures C (images_ok checks typed fits) (layouts_named C (images_consistent checks typed fits few))

@@ -29,10 +29,10 @@ pub returns-clause-layout : goal.returns-clause-layout
 returns-clause-layout c h = absurd (cc ((h.functions 0 some (omega arith)).kinds 1 kind.Int (omega arith)))
 
 pub returns-clause-cell : goal.returns-clause-cell
-returns-clause-cell c h = absurd (cc (h.layouts 0 [] (omega arith) 0 kind.Int (omega arith)).1)
+returns-clause-cell c h = absurd (cc (h.layouts 0 [] (omega arith) 0 kind.Int (omega arith)))
 
 pub returns-clause-parameter : goal.returns-clause-parameter
-returns-clause-parameter c h = absurd (cc ((h.functions 0 some (omega arith)).parameters 0 kind.Int (omega arith)).1)
+returns-clause-parameter c h = absurd (cc ((h.functions 0 some (omega arith)).parameters 0 kind.Int (omega arith)))
 
 pub returns-clause-scopes : goal.returns-clause-scopes
 returns-clause-scopes c h = let z : 5 ≤ 4 = (h.functions 0 some (omega arith)).scopes in omega arith

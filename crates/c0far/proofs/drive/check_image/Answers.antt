@@ -7,8 +7,8 @@ returns-in-Err-clause-done g c = inr (c.in-Err.ensures.refused _ refl)
 
 pub returns-in-Ok-clause-done : goal.returns-in-Ok-clause-done
 returns-in-Ok-clause-done g c = inl (record {
-  image = image_of c.in-Ok._image;
+  image = image_of c.in-Ok._verified.image;
   code = c.in-Ok.ensures.code;
   shown = c.say_ok.ensures;
-  quiet = c.in-Ok.ensures.covered.1;
+  quiet = c.in-Ok.ensures.quiet;
 })

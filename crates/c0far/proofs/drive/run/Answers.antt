@@ -7,10 +7,10 @@ returns-in-Err-clause-done g c = inr (c.in-Err.ensures.refused _ refl)
 
 pub returns-in-Ok-execute-clause-done : goal.returns-in-Ok-execute-clause-done
 returns-in-Ok-execute-clause-done g c = inl (record {
-  image = image_of c.in-Ok.image;
+  image = image_of c.in-Ok.verified.image;
   ended = c.in-Ok-execute.ended;
   code = c.in-Ok.ensures.code;
   executed = c.in-Ok-execute.ensures;
   shown = c.say_end.ensures;
-  quiet = c.in-Ok.ensures.covered.1;
+  quiet = c.in-Ok.ensures.quiet;
 })

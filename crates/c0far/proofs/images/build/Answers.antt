@@ -8,10 +8,10 @@ returns-in-Err-clause-done g c = inr (c.in-Err.ensures.files c.args.target.now, 
 
 pub returns-in-Ok-write-clause-done : goal.returns-in-Ok-write-clause-done
 returns-in-Ok-write-clause-done g c = inl (record {
-  image = image_of c.in-Ok.image;
+  image = image_of c.in-Ok.verified.image;
   code = c.in-Ok.ensures.code;
   written = subst (λ (bytes : List ℕ). HasText (g.F.Files.holds c.write.new.self c.args.target.now) bytes) (c.deref.ensures.value ∙ c.in-Ok-encode.ensures) c.in-Ok-write.ensures.text;
   status = refl;
   silent = refl;
-  quiet = c.in-Ok.ensures.covered.1;
+  quiet = c.in-Ok.ensures.quiet;
 })

@@ -8,8 +8,8 @@ returns-in-Err-clause-done g c = inr (c.in-Err.ensures.refused _ refl)
 
 pub returns-in-Ok-list_image-clause-done : goal.returns-in-Ok-list_image-clause-done
 returns-in-Ok-list_image-clause-done g c = inl (record {
-  image = image_of c.in-Ok.image;
+  image = image_of c.in-Ok.verified.image;
   code = c.in-Ok.ensures.code;
   shown = subst (λ (lines : List ℕ). Says (writes g.O.Stream.contents g.O.Stream.failures c.args.out.now c.say_code.new.out) lines 0 c.say_code.result) c.in-Ok-list_image.ensures c.say_code.ensures;
-  quiet = c.in-Ok.ensures.covered.1;
+  quiet = c.in-Ok.ensures.quiet;
 })
