@@ -23,7 +23,7 @@ use Rattle.code_form.specs.Form.{Head}
 use Rattle.middle_form.specs.Form.{Code}
 use Rattle.middle_form.specs.Form as f
 use Rattle.middle_form.specs.WellFormed.{access_fits, callee_fits}
-use Rattle.codegen.specs.Guarded.{is_by_pointer}
+use Rattle.middle_form.specs.Guarded.{is_by_pointer}
 use Rattle.lower.specs.Coded.{type_offset}
 use Rattle.lower_tables.specs.Kinds as k
 use Rattle.lower_tables.specs.Known.{IsKnown, Knows, KnowsPlace, KnowsRow}

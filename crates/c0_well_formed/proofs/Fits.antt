@@ -5,7 +5,7 @@ use Rattle.middle_form.specs.Form.{Code, Program}
 use Rattle.middle_form.specs.WellFormed.{code_fits}
 use Rattle.lower_expressions.specs.Expressions.{sequence}
 use Rattle.lower.proofs.Registers.{and_true}
-use Rattle.codegen.specs.Guarded.{uses_pointers}
+use Rattle.middle_form.specs.Guarded.{uses_pointers}
 use Rattle.c0_well_formed.proofs.Tests.{both_true}
 
 module _ (P : Program) (ks : List Kind) (around : ℕ) where

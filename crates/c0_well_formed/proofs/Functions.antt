@@ -33,7 +33,7 @@ use Rattle.c0_well_formed.proofs.CellKinds.{Each}
 use Rattle.c0_well_formed.proofs.Ordered.{in_order}
 use Rattle.c0_well_formed.proofs.Fits.{AllFit, fit_append, fit_then}
 use Rattle.c0_well_formed.proofs.Statements as s
-use Rattle.codegen.specs.Guarded.{uses_pointers}
+use Rattle.middle_form.specs.Guarded.{uses_pointers}
 use Rattle.c0_well_formed.specs.Laws.{LoweredIsWellFormed}
 
 module _ (typed : Typed) (singles : List Kind) (checks : Bool) (fp : FitsProgram (program_of typed)) where

@@ -5,7 +5,7 @@ use Rattle.code_form.specs.declared.form.Fact.{Fact}
 use Rattle.middle_form.specs.Form.{Code, Store, Choose, Loop, Block}
 use Rattle.lower_expressions.specs.Expressions.{sequence}
 use Rattle.lower.proofs.Registers.{and_true, number_same}
-use Rattle.codegen.specs.Guarded.{asks, is_guarded, is_kept, is_nothing_asked, is_same_check, joined, names, place_check, without_check}
+use Rattle.middle_form.specs.Guarded.{asks, is_guarded, is_kept, is_nothing_asked, is_same_check, joined, names, place_check, without_check}
 use Rattle.c0_well_formed.proofs.CellKinds.{Each}
 use Rattle.c0_well_formed.proofs.Tests.{both_true}
 

@@ -16,7 +16,7 @@ use Rattle.middle_form.specs.Form.{Code}
 use Rattle.middle_form.specs.Form as f
 use Rattle.lower_expressions.specs.Expressions as parts
 use Rattle.lower_expressions.specs.Expressions.{checked, constant_code, moved, print_code, result_register, sequence, value_at}
-use Rattle.codegen.specs.Guarded.{is_kept, place_check, without_check}
+use Rattle.middle_form.specs.Guarded.{is_kept, place_check, without_check}
 use Rattle.c0_well_formed.proofs.CellKinds.{Each}
 use Rattle.c0_well_formed.proofs.GuardedCode.{Guards, IsBelow, One, each_taken, each_without, guard_append, guard_none, guard_one, guard_then, kept_below, one_choose, same_place}
 

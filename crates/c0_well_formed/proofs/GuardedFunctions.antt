@@ -20,7 +20,7 @@ use Rattle.lower.specs.Lowered as l
 use Rattle.lower.specs.Lowered.{with_main_first}
 use Rattle.lower.proofs.Calling.{its_code}
 use Rattle.lower.proofs.Registers.{and_true}
-use Rattle.codegen.specs.Guarded.{asks, is_guarded, is_guarded_function, is_nothing_asked, uses_pointers}
+use Rattle.middle_form.specs.Guarded.{asks, is_guarded, is_guarded_function, is_nothing_asked, uses_pointers}
 use Rattle.c0_well_formed.specs.Laws.{LoweredIsGuarded}
 use Rattle.c0_well_formed.proofs.CellKinds.{Each}
 use Rattle.c0_well_formed.proofs.Ordered.{in_order}

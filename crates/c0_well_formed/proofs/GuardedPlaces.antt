@@ -12,7 +12,7 @@ use Rattle.code_form.specs.declared.form.Kind.{Kind}
 use Rattle.code_form.specs.declared.form.Fact.{Fact}
 use Rattle.lower_expressions.specs.Expressions as parts
 use Rattle.lower_expressions.specs.Expressions.{local_register, value_at}
-use Rattle.codegen.specs.Guarded.{names}
+use Rattle.middle_form.specs.Guarded.{names}
 use Rattle.c0_well_formed.proofs.GuardedCode.{IsBelow, NoFact}
 use Rattle.c0_well_formed.proofs.GuardedExpressions as e
 

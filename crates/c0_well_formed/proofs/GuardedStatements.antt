@@ -14,7 +14,7 @@ use Rattle.middle_form.specs.Form as f
 use Rattle.lower_expressions.specs.Expressions as parts
 use Rattle.lower_expressions.specs.Expressions.{checked, sequence, value_at}
 use Rattle.lower.specs.Lowered as l
-use Rattle.codegen.specs.Guarded.{is_kept}
+use Rattle.middle_form.specs.Guarded.{is_kept}
 use Rattle.c0_well_formed.proofs.CellKinds.{Each}
 use Rattle.c0_well_formed.proofs.GuardedCode.{Guards, IsBelow, NoFact, One, each_without, guard_append, guard_none, guard_one, guard_then, kept_away, one_choose, one_loop, one_store}
 use Rattle.c0_well_formed.proofs.GuardedExpressions as e

@@ -13,7 +13,7 @@ use Rattle.middle_form.specs.WellFormed.{is_well_formed}
 use Rattle.lower_tables.specs.Gathered.{singles_of}
 use Rattle.lower.specs.Lowered.{lowered}
 use Rattle.code_verification.specs.Verified.{IsVerified, NamesFacts}
-use Rattle.codegen.specs.Guarded.{is_guarded_program}
+use Rattle.middle_form.specs.Guarded.{is_guarded_program}
 use Rattle.scope_verifier_laws.specs.Numbers.{is_cell_kind, is_result_kind, names_layout}
 use Rattle.scope_verifier_laws.specs.Faults.{fault_of}
 use Rattle.c0_well_formed.specs.Images.{image_of_tree}

@@ -13,7 +13,7 @@ use Rattle.code_form.specs.Code.{is_array_of, is_pointer, is_register, on_kind, 
 use Rattle.code_form.specs.Known.{Known, Knows, Unknown, KnownAimed, KnownShut, AreKnown, IsKnown, after_operation, facts_known, forget, with_inside, with_nonnull, with_scope, wrote, wrote_some}
 use Rattle.code_form.specs.Asked.{IsChecked}
 use Rattle.codegen.specs.Generated.{all_shut}
-use Rattle.codegen.specs.Guarded.{asked_before, is_by_pointer, is_kept, is_same_check, joined, names, place_check, with_check, without_check, written_by}
+use Rattle.middle_form.specs.Guarded.{asked_before, is_by_pointer, is_kept, is_same_check, joined, names, place_check, with_check, without_check, written_by}
 
 pub and_left : (a b : Bool) → (a && b) ≡ true → a ≡ true
 and_left true b h = refl

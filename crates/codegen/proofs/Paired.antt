@@ -11,7 +11,7 @@ use Rattle.code_form.specs.Form as image
 use Rattle.middle_form.specs.Form.{Code, Then}
 use Rattle.codegen.specs.Building.{lists}
 use Rattle.codegen.specs.Generated.{block_with, blocks_with}
-use Rattle.codegen.specs.Guarded.{asked_inside, asks}
+use Rattle.middle_form.specs.Guarded.{asked_inside, asks}
 
 pub lists_push : (ws : List (Vec Fact Global)) (w : Vec Fact Global) → lists (ws ++ w ∷ []) ≡ lists ws ++ w.items ∷ []
 lists_push ws w = map-append (λ (x : Vec Fact Global). x.items) ws (w ∷ [])

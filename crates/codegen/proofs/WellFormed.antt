@@ -21,7 +21,7 @@ use Rattle.middle_form.specs.Form as middle
 use Rattle.middle_form.specs.WellFormed.{all_fit, code_fits, function_fits, is_well_formed, main_fits, result_fits}
 use Rattle.middle_form.specs.WellFormed as form
 use Rattle.codegen.specs.Generated.{all_shut, asked_of, block_with, blocks, blocks_with, count, extra, first, function_of, generated, last, scopes_of, uses_cells}
-use Rattle.codegen.specs.Guarded.{asked_before, asked_inside, asks, is_by_pointer, is_guarded, is_guarded_function, is_guarded_program, is_kept, is_nothing_asked, joined, place_check, uses_pointers, with_check, written_by}
+use Rattle.middle_form.specs.Guarded.{asked_before, asked_inside, asks, is_by_pointer, is_guarded, is_guarded_function, is_guarded_program, is_kept, is_nothing_asked, joined, place_check, uses_pointers, with_check, written_by}
 use Rattle.code_verification.specs.Verified.{AreGuarded, IsGuardedBlock, IsGuardedFunction, IsVerified, NamesFact, NamesFacts}
 use Rattle.code_verification.specs.WellFormed.{IsRest, IsWellFormed, IsWellFormedBlock, IsWellFormedFunction}
 use Rattle.code_verification.specs.WellFormed as here

@@ -7,7 +7,7 @@ use Rattle.code_form.specs.Form.{Instruction, Simple, Aim, Load, Store, Leave, C
 use Rattle.code_form.specs.Form as image
 use Rattle.middle_form.specs.Form.{Code, Nothing, Do, Fail, Then, Choose, Loop, Block, Exit, Function, Program}
 use Rattle.middle_form.specs.Form as middle
-use Rattle.codegen.specs.Guarded.{asked_inside, asks}
+use Rattle.middle_form.specs.Guarded.{asked_inside, asks}
 
 -- how many blocks code needs beside its first instructions
 abbrev pub count : Code → ℕ

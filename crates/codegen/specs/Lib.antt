@@ -1,4 +1,3 @@
 pub mod Building
 pub mod Correct
 pub mod Generated
-pub mod Guarded

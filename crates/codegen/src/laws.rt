@@ -4,7 +4,7 @@ ghost use Rattle.code_form.specs.Code.{Covered};
 ghost use Rattle.codegen.specs.Correct.{IsSafe, Keeps, ran};
 ghost use Rattle.codegen.specs.Generated.{generated};
 ghost use Rattle.code_verification.specs.Verified.{IsVerified};
-ghost use Rattle.codegen.specs.Guarded.{is_guarded_program};
+ghost use Rattle.middle_form.specs.Guarded.{is_guarded_program};
 ghost use Rattle.middle_form.specs.Form.{Program};
 ghost use Rattle.middle_form.specs.WellFormed.{is_well_formed};
 ghost use Rattle.middle_form.specs.Samples.{counting, failing, fibonacci, indexing, null_checked, pointing, stepping};

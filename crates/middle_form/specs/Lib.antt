@@ -1,5 +1,10 @@
+pub mod Discipline
 pub mod Form
+pub mod Guarded
 pub mod Meaning
 pub mod Samples
+pub mod Scoped
+pub mod ScopedMeaning
+pub mod ScopedViews
 pub mod Views
 pub mod WellFormed

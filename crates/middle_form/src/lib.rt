@@ -3,6 +3,8 @@
 
 mod form;
 mod laws;
+mod scoped;
 
 pub use form::{Code, Function, Middle};
 pub use laws::{computed, formed};
+pub use scoped::{Scoped, ScopedCode, ScopedFunction};

@@ -2,7 +2,7 @@ use Rattle.std.proofs.Common.{◌≡◌, ◌<◌, ◌+◌, ◌-◌, ◌++◌, �
 use Rattle.middle_form.specs.Form as m
 use Rattle.middle_form.specs.Views.{code_of, sequence_of}
 use Rattle.codegen.specs.Building.{lists}
-use Rattle.codegen.specs.Guarded.{asked_inside, asks as asks_of}
+use Rattle.middle_form.specs.Guarded.{asked_inside, asks as asks_of}
 use Rattle.codegen.proofs.Paired.{asks_then, inside_then}
 use Rattle.codegen.proofs.Rows.{sequence_at, sequence_is}
 use Rattle.codegen.proofs.asked.+asks.Goals as goal

@@ -1,6 +1,6 @@
 use Rattle.std.proofs.Common.{◌≡◌, ◌++◌, drop}
 use Rattle.codegen.specs.Building.{lists}
-use Rattle.codegen.specs.Guarded.{asked_inside, asks}
+use Rattle.middle_form.specs.Guarded.{asked_inside, asks}
 use Rattle.middle_form.specs.Views.{sequence_of}
 use Rattle.codegen.proofs.asked.+asks.Given as goal
 

@@ -1,5 +1,5 @@
 use Rattle.std.proofs.Common.{◌≡◌, drop}
-use Rattle.codegen.specs.Guarded.{joined}
+use Rattle.middle_form.specs.Guarded.{joined}
 use Rattle.codegen.proofs.asked.joined.Given as goal
 
 abbrev pub invariant-loop-i : goal.invariant-loop-i
