@@ -116,7 +116,8 @@ abbrev pub AreShut : ℕ → Table → Type 0
 AreShut n k = (s : ℕ) → s < n → k s ≡ KnownShut
 
 -- Code of a function with registers of these kinds and n scopes keeps the discipline where so much is known before it. `exits` is what has to be known at
--- the ways out of the loops and blocks round it, the innermost first
+-- the ways out of the loops and blocks round it, the innermost first; of an exit that leads nowhere nothing is asked, since it is stuck, and no well-formed
+-- code has one
 module _ (ks : List Kind) (n : ℕ) where
   abbrev pub IsDisciplined : List Table → Code → Table → Type 0
   IsDisciplined exits Nothing k = Unit {0}
@@ -139,7 +140,7 @@ module _ (ks : List Kind) (n : ℕ) where
       × IsDisciplined (join (Loop test c body) k ∷ exits) body (after test (join (Loop test c body) k))
       × Brings (after body (after test (join (Loop test c body) k))) (join (Loop test c body) k)
   IsDisciplined exits (Block a) k = IsDisciplined (join (Block a) k ∷ exits) a k × Brings (after a k) (join (Block a) k)
-  IsDisciplined exits (Exit j) k = (e : Table) × (slice_get exits j ≡ Some e) × Brings k e
+  IsDisciplined exits (Exit j) k = (e : Table) → slice_get exits j ≡ Some e → Brings k e
 
 -- a function: it has at most four scopes, keeps the discipline from its entry on, and has all its scopes shut behind its code
 pub record IsScopedFunction (g : Function) : Type 0 where

@@ -5,6 +5,7 @@ pub mod Meaning
 pub mod Samples
 pub mod Scoped
 pub mod ScopedMeaning
+pub mod ScopedSamples
 pub mod ScopedViews
 pub mod Views
 pub mod WellFormed

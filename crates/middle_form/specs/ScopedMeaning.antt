@@ -2,12 +2,13 @@
 -- a store by a scope that is not freshly aimed is stuck.
 use Rattle.std.specs.Prelude.{ℕ, zero, suc, ◌+◌, ◌-◌, ◌&&◌, nat_lt, Bool, cond, List, [], ◌∷◌, ◌++◌, length, map, replicate, slice_get, slice_index, slice_set, Option, Some, None}
 use Rattle.cells.specs.Outcomes.{Meant}
+use Rattle.cells.specs.Stops.{ErrorCalled}
 use Rattle.code_form.specs.declared.form.Kind.{Kind}
 use Rattle.code_form.specs.declared.form.Kind.TheVariants as kind
 use Rattle.code_form.specs.Code.{Did, Goes, Tells, Sets, Makes, Prints, Stops, Fails, Scope, Shut, Aimed, Stale, call_fits, can_use, has, if_zero, offset, op_did, place_fits, text_at, written}
 use Rattle.code_form.specs.Effects.{saved}
 use Rattle.code_form.specs.Form.{Head}
-use Rattle.middle_form.specs.Meaning.{Outcome, Done, Stopped, Cut, Stuck, Registers, State, failed, opening, then_do, told, turn, where_so}
+use Rattle.middle_form.specs.Meaning.{Outcome, Done, Stopped, Cut, Stuck, Registers, State, opening, then_do, told, turn, where_so}
 use Rattle.middle_form.specs.Scoped.{Code, Nothing, Do, Load, Store, LoadBy, StoreBy, Aim, Leave, Loose, Call, Fail, Then, Choose, Loop, Block, Exit, Function, Program}
 
 -- what a call has of its own: its registers, and what each of its scopes is aimed at
@@ -77,6 +78,11 @@ abbrev pub stores : Head → List Kind → Option Scope → (from : ℕ) → Loc
 stores H ks (Some (Aimed r off disp q x)) from l s =
     where_so (can_use H ks s.allocations from r disp q x) (on l (record s { heap = saved s.heap q x (slice_index l.registers from) }))
 stores H ks _ from l s = Stuck
+
+-- the program stops by `error`
+abbrev pub failed : Option (List ℕ) → State → Outcome Left
+failed None s = Stuck
+failed (Some text) s = Stopped (ErrorCalled text) s.output
 
 -- ---- loops
 

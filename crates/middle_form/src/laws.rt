@@ -1,8 +1,12 @@
 //! What the definitions come to for some programs: functions that do nothing, and whose contracts hold.
 ghost use Rattle.cells.specs.Stops.{BoundsFault, Ended, ErrorCalled, NullFault};
+ghost use Rattle.middle_form.specs.Discipline.{IsScoped};
 ghost use Rattle.middle_form.specs.Form.{Exit, Load, Call};
 ghost use Rattle.middle_form.specs.Meaning.{means};
 ghost use Rattle.middle_form.specs.Samples.{counting, failing, fibonacci, indexing, null_checked, null_loaded, pointing, program_of, stepping};
+ghost use Rattle.middle_form.specs.Scoped.{plain_program};
+ghost use Rattle.middle_form.specs.ScopedMeaning.{scoped_means};
+ghost use Rattle.middle_form.specs.ScopedSamples.{left, left_open, left_shut, shared, stale};
 ghost use Rattle.middle_form.specs.WellFormed.{is_well_formed};
 ghost use Rattle.std.specs.Prelude.{◌≡◌, [], None, Some, codes, false, pos, true};
 
@@ -36,4 +40,17 @@ pub fn formed()
     ensures stuck_function { means (program_of (Call None 1 [])) 1 ≡ None }
     ensures stuck_kind { means (program_of (Load 1 3 None 0)) 1 ≡ None }
     ensures stuck_null { means null_loaded 1 ≡ None }
+{}
+
+/// What scoped programs mean: a load is by a scope that is aimed, and stuck by one whose register was written since or that was left, where the same
+/// code without scopes is not. Which of them keep the discipline: not one that leaves a block with a scope open.
+pub fn scoped_computed()
+    ensures shared { scoped_means shared 1 ≡ Some (record { stop = Some (Ended (pos 7)); output = [] }) }
+    ensures stale { scoped_means stale 1 ≡ None }
+    ensures stale_plain { means (plain_program stale) 1 ≡ Some (record { stop = Some (Ended (pos 7)); output = [] }) }
+    ensures left { scoped_means left 1 ≡ None }
+    ensures left_plain { means (plain_program left) 1 ≡ Some (record { stop = Some (Ended (pos 7)); output = [] }) }
+    ensures shared_kept { IsScoped shared }
+    ensures shut_kept { IsScoped left_shut }
+    ensures refused { IsScoped left_open → ⊥ }
 {}

@@ -6,5 +6,5 @@ mod laws;
 mod scoped;
 
 pub use form::{Code, Function, Middle};
-pub use laws::{computed, formed};
+pub use laws::{computed, formed, scoped_computed};
 pub use scoped::{Scoped, ScopedCode, ScopedFunction};
