@@ -1,0 +1,4 @@
+pub mod Building
+pub mod Laws
+pub mod Placed
+pub mod Worked
