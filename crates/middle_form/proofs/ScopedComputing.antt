@@ -1,5 +1,5 @@
 -- Which of the scoped samples keep the discipline.
-use Rattle.std.proofs.Common.{◌≡◌, ℕ, zero, suc, ◌<◌, Bool, true, false, cond, Some, None, [], ◌∷◌, refl, ap, subst, arith}
+use Rattle.std.proofs.Common.{◌≡◌, zero, suc, Bool, true, false, cond, Some, None, [], ◌∷◌, refl, subst, arith}
 use Rattle.std.specs.Prelude.{◌==◌, slice_get}
 use Rattle.std.proofs.lemmas.List.Elements.{All-cons, All-head, All-nil}
 use Rattle.code_form.specs.Effects.{upd}

@@ -1,11 +1,11 @@
 -- The bounded meaning of the scoped form: that of the middle form, in which each access goes by its scope, as the instructions of an image do. A load or
 -- a store by a scope that is not freshly aimed is stuck.
-use Rattle.std.specs.Prelude.{ℕ, zero, suc, ◌+◌, ◌-◌, ◌&&◌, nat_lt, Bool, cond, List, [], ◌∷◌, ◌++◌, length, map, replicate, slice_get, slice_index, slice_set, Option, Some, None}
+use Rattle.std.specs.Prelude.{ℕ, zero, suc, ◌+◌, ◌-◌, ◌&&◌, nat_lt, List, [], ◌∷◌, ◌++◌, length, map, replicate, slice_get, slice_index, slice_set, Option, Some, None}
 use Rattle.cells.specs.Outcomes.{Meant}
 use Rattle.cells.specs.Stops.{ErrorCalled}
 use Rattle.code_form.specs.declared.form.Kind.{Kind}
 use Rattle.code_form.specs.declared.form.Kind.TheVariants as kind
-use Rattle.code_form.specs.Code.{Did, Goes, Tells, Sets, Makes, Prints, Stops, Fails, Scope, Shut, Aimed, Stale, call_fits, can_use, has, if_zero, offset, op_did, place_fits, text_at, written}
+use Rattle.code_form.specs.Code.{Did, Goes, Tells, Sets, Makes, Prints, Stops, Fails, Scope, Shut, Aimed, call_fits, can_use, has, if_zero, offset, op_did, place_fits, text_at, written}
 use Rattle.code_form.specs.Effects.{saved}
 use Rattle.code_form.specs.Form.{Head}
 use Rattle.middle_form.specs.Meaning.{Outcome, Done, Stopped, Cut, Stuck, Registers, State, opening, then_do, told, turn, where_so}

@@ -1,6 +1,6 @@
 -- Scoped code that keeps the discipline means what it means without its scopes.
 use Rattle.std.proofs.Common.{◌≡◌, ◌≢◌, ◌⊎◌, inl, inr, ℕ, zero, suc, ◌+◌, ◌*◌, ◌<◌, Bool, true, false, cond, Option, Some, None, List, [], ◌∷◌, length, refl, sym, ap, ◌∙◌, subst, arith, length-set}
-use Rattle.std.specs.Prelude.{◌==◌, ◌&&◌, ◌||◌, All, ℤ, map, nat_lt, replicate, slice_get, slice_index, slice_set, slice_index_or}
+use Rattle.std.specs.Prelude.{◌==◌, ◌&&◌, ◌||◌, ℤ, map, nat_lt, replicate, slice_get, slice_index, slice_set, slice_index_or}
 use Rattle.std.specs.Option.{option_map}
 use Rattle.std.proofs.lemmas.Bool.{eqb-false, lt-ltb}
 use Rattle.std.proofs.lemmas.Bool.Decides.{eqb_tells}
@@ -17,7 +17,6 @@ use Rattle.code_form.specs.Effects.{saved, upd}
 use Rattle.code_form.specs.Code.{Did, Goes, Tells, Sets, Makes, Prints, Stops, Fails, Scope, Shut, Aimed, Stale, call_fits, can_use, has, if_zero, indexes, int_of, is_register, length_of, makes, natural, offset, op_did, op_does, op_fits, place_fits, prints_text, sets_some, text_at, written}
 use Rattle.code_form.specs.Known.{Knows, Unknown, KnownShut, KnownAimed, forget}
 use Rattle.middle_form.specs.Guarded.{written_by}
-use Rattle.middle_form.specs.Form as middle
 use Rattle.middle_form.specs.Meaning.{Outcome, Done, Stopped, Cut, Stuck, Registers, State, means, opening, then_do, told, turn, where_so}
 use Rattle.middle_form.specs.Meaning as m
 use Rattle.middle_form.specs.Scoped.{Code, Nothing, Do, Load, Store, LoadBy, StoreBy, Aim, Leave, Loose, Call, Fail, Then, Choose, Loop, Block, Exit, Function, Program, plain, plain_function, plain_program}
