@@ -6,7 +6,7 @@ use Rattle.cells.specs.Stops.{ErrorCalled}
 use Rattle.code_form.specs.declared.form.Kind.{Kind}
 use Rattle.code_form.specs.declared.form.Kind.TheVariants as kind
 use Rattle.code_form.specs.Code.{Did, Goes, Tells, Sets, Makes, Prints, Stops, Fails, Scope, Shut, Aimed, call_fits, can_use, has, if_zero, offset, op_did, place_fits, text_at, written}
-use Rattle.code_form.specs.Effects.{saved}
+use Rattle.code_form.specs.Effects.{with_cell}
 use Rattle.code_form.specs.Form.{Head}
 use Rattle.middle_form.specs.Meaning.{Outcome, Done, Stopped, Cut, Stuck, Registers, State, opening, then_do, told, turn, where_so}
 use Rattle.middle_form.specs.Scoped.{Code, Nothing, Do, Load, Store, LoadBy, StoreBy, Aim, Leave, Loose, Call, Fail, Then, Choose, Loop, Block, Exit, Function, Program}
@@ -76,7 +76,7 @@ loads H ks to _ l s = Stuck
 -- a store by a scope
 abbrev pub stores : Head → List Kind → Option Scope → (from : ℕ) → Local → State → Outcome Left
 stores H ks (Some (Aimed r off disp q x)) from l s =
-    where_so (can_use H ks s.allocations from r disp q x) (on l (record s { heap = saved s.heap q x (slice_index l.registers from) }))
+    where_so (can_use H ks s.allocations from r disp q x) (on l (record s { heap = with_cell s.heap q x (slice_index l.registers from) }))
 stores H ks _ from l s = Stuck
 
 -- the program stops by `error`

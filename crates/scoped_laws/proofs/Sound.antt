@@ -13,7 +13,7 @@ use Rattle.code_form.specs.declared.form.UnaryOperator.TheVariants as operator
 use Rattle.code_form.specs.declared.form.Operation.{Operation}
 use Rattle.code_form.specs.declared.form.Operation.TheVariants.{Const, TextOf, BoolOf, CharOf, Null, Move, Binary, Unary, Compare, CheckNull, CheckIndex, Len, Prefetch, Alloc, AllocArray, Print, Println, Printint, Printbool, Printchar, Flush, Assert}
 use Rattle.code_form.specs.Form.{Head}
-use Rattle.code_form.specs.Effects.{saved, upd}
+use Rattle.code_form.specs.Effects.{with_cell, upd}
 use Rattle.code_form.specs.Code.{Did, Goes, Tells, Sets, Makes, Prints, Stops, Fails, Scope, Shut, Aimed, Stale, call_fits, can_use, has, if_zero, indexes, int_of, is_register, length_of, makes, natural, offset, op_did, op_does, op_fits, place_fits, prints_text, sets_some, text_at, written}
 use Rattle.code_form.specs.Known.{Knows, Unknown, KnownShut, KnownAimed, forget}
 use Rattle.middle_form.specs.Guarded.{written_by}
@@ -344,11 +344,11 @@ module _ (P : Program) (call : ℕ → List ℕ → State → Outcome ℕ) (ks :
   -- a store by one
   stores_agree : (W : ℕ → Registers → List Scope → Type 0) (r : ℕ) (off : Option ℕ) (disp from : ℕ) (rs : Registers) (zs : List Scope) (t : State) (z : Option Scope) → z ≡ Some (s.aimed r off disp rs)
       → W 0 rs zs
-      → Agrees W (s.stores P.head ks z from (both rs zs) t) (where_so (can_use P.head ks t.allocations from r disp (slice_index rs r) (m.cell_at rs off disp)) (m.on rs (record t { heap = saved t.heap (slice_index rs r) (m.cell_at rs off disp) (slice_index rs from) })))
+      → Agrees W (s.stores P.head ks z from (both rs zs) t) (where_so (can_use P.head ks t.allocations from r disp (slice_index rs r) (m.cell_at rs off disp)) (m.on rs (record t { heap = with_cell t.heap (slice_index rs r) (m.cell_at rs off disp) (slice_index rs from) })))
   stores_agree W r off disp from rs zs t z e h =
       let q = slice_index rs r in
       let x = m.cell_at rs off disp in
-      let u : State = record t { heap = saved t.heap q x (slice_index rs from) } in
+      let u : State = record t { heap = with_cell t.heap q x (slice_index rs from) } in
       subst (λ o. Agrees W (s.stores P.head ks o from (both rs zs) t) (where_so (can_use P.head ks t.allocations from r disp q x) (m.on rs u))) (sym e)
       (where_agrees W (can_use P.head ks t.allocations from r disp q x) (s.on (both rs zs) u) (m.on rs u) (zs, refl, h))
 
@@ -369,7 +369,7 @@ module _ (P : Program) (call : ℕ → List ℕ → State → Outcome ℕ) (ks :
       let W = Ways n es (after (Store z r off disp from) k) in
       let x = m.cell_at rs off disp in
       let ys = slice_set zs z (s.aimed r off disp rs) in
-      let u : State = record t { heap = saved t.heap (slice_index rs r) x (slice_index rs from) } in
+      let u : State = record t { heap = with_cell t.heap (slice_index rs r) x (slice_index rs from) } in
       let inside : z < length zs = subst (λ x. z < x) (sym h.0) lt in
       subst (Agrees W (R (Store z r off disp from) (both rs zs) t)) (sym (where_both (place_fits ks r off) (can_use P.head ks t.allocations from r disp (slice_index rs r) x) (m.on rs u)))
       (aims_agree W z r off disp rs zs t (λ l u. s.stores P.head ks (slice_get l.scopes z) from l u) _ inside
@@ -390,7 +390,7 @@ module _ (P : Program) (call : ℕ → List ℕ → State → Outcome ℕ) (ks :
       let W = Ways n es k in
       let x = m.cell_at rs off disp in
       let usable = can_use P.head ks t.allocations from r disp (slice_index rs r) x in
-      let u : State = record t { heap = saved t.heap (slice_index rs r) x (slice_index rs from) } in
+      let u : State = record t { heap = with_cell t.heap (slice_index rs r) x (slice_index rs from) } in
       subst (λ b. Agrees W (R (StoreBy z r off disp from) (both rs zs) t) (where_so (b && usable) (m.on rs u))) (sym fits)
       (stores_agree W r off disp from rs zs t (slice_get zs z) (aim_is n k rs zs z r off disp lt e h) h)
 
