@@ -7,8 +7,8 @@ use Rattle.code_form.specs.Form.{Image}
 use Rattle.code_form.specs.Effects.{Heap, steps}
 use Rattle.code_form.specs.Code.{Core, IsStuck, Running, Stopped, Stuck, code, output_of, stop_of}
 use Rattle.code_form.specs.Laws.{OutputGrows, StoppedStays, StuckStays}
-use Rattle.middle_form.specs.Form.{Program}
-use Rattle.middle_form.specs.Meaning.{means}
+use Rattle.middle_form.specs.Scoped.{Program}
+use Rattle.middle_form.specs.ScopedMeaning.{scoped_means}
 use Rattle.codegen.specs.Correct.{IsSafe, Keeps, ran}
 use Rattle.codegen.specs.Generated.{generated}
 use Rattle.codegen.proofs.Lands.{IsRunning, Machine, steps-add}
@@ -104,10 +104,10 @@ module _ (stopped_stays : StoppedStays) (stuck_stays : StuckStays) (grows : Outp
   reaches p (Some t) o h = (h.many, (ap stop_of h.eq, ap output_of h.eq))
 
 -- what the machine does within k steps is meant with k + 1 turns
-ends_at : (P : Program) → IsSafe P → (k : ℕ) → (m : Meant) × (means P (suc k) ≡ Some m) × EndsAs (generated P) (begun P) k m.stop m.output
-ends_at P safe k = by_meaning (means P (suc k)) refl
+ends_at : (P : Program) → IsSafe P → (k : ℕ) → (m : Meant) × (scoped_means P (suc k) ≡ Some m) × EndsAs (generated P) (begun P) k m.stop m.output
+ends_at P safe k = by_meaning (scoped_means P (suc k)) refl
   where
-    by_meaning : (o : Option Meant) → means P (suc k) ≡ o → (m : Meant) × (means P (suc k) ≡ Some m) × EndsAs (generated P) (begun P) k m.stop m.output
+    by_meaning : (o : Option Meant) → scoped_means P (suc k) ≡ o → (m : Meant) × (scoped_means P (suc k) ≡ Some m) × EndsAs (generated P) (begun P) k m.stop m.output
     by_meaning None e = absurd (safe (suc k) e)
     by_meaning (Some m) e = (m, e, subst (Ends (generated P) (begun P) k) e (follows P k))
 
@@ -118,6 +118,6 @@ keeps stopped stuck grows P safe = record {
   never_stuck = λ k. let z = ends_at P safe k in not_stuck stopped stuck grows (generated P) (begun P) k k z.0 (omega arith) z.2 _ refl;
 }
   where
-    by_turns : (n : ℕ) (m : Meant) → means P n ≡ Some m → (k : ℕ) × KeepsEnd m (ran (generated P) k)
+    by_turns : (n : ℕ) (m : Meant) → scoped_means P n ≡ Some m → (k : ℕ) × KeepsEnd m (ran (generated P) k)
     by_turns zero m e = (0, subst (λ (a : Meant). KeepsEnd a (ran (generated P) 0)) (some_same e) (output_of (begun P).0, refl))
     by_turns (suc d) m e = reaches stopped stuck grows (generated P) (begun P) d m.stop m.output (subst (Ends (generated P) (begun P) d) e (follows P d))

@@ -3,9 +3,9 @@ use Rattle.std.proofs.Common.{◌≡◌, [], Some, None, pos, codes, refl}
 use Rattle.std.specs.Fmt.{digits}
 use Rattle.std.specs.Int.{int_wrap}
 use Rattle.cells.specs.Stops.{Ended, ErrorCalled}
-use Rattle.middle_form.specs.Samples.{counting, failing, fibonacci, stepping}
 use Rattle.codegen.specs.Correct.{ran}
 use Rattle.codegen.specs.Generated.{generated}
+use Rattle.codegen.specs.Samples.{counting, failing, fibonacci, held, program_of, stepping}
 
 pub calls : ran (generated fibonacci) 200 ≡ record { stop = Some (Ended (pos 5)); output = [] }
 unfolding int_wrap digits
@@ -26,3 +26,7 @@ behind = refl
 pub error : ran (generated failing) 10 ≡ record { stop = Some (ErrorCalled (codes "no")); output = codes "0" }
 unfolding int_wrap digits
 error = refl
+
+pub printed : ran (generated (program_of held)) 60 ≡ record { stop = Some (Ended (pos 3)); output = codes "555" }
+unfolding int_wrap digits
+printed = refl

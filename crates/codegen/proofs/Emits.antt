@@ -7,13 +7,19 @@ use Rattle.std.specs.declared.alloc.Global.{Global}
 use Rattle.std.proofs.lemmas.List.{reverse-append, map-append}
 use Rattle.code_form.specs.declared.form.Instruction.{Instruction as RustInstruction}
 use Rattle.code_form.specs.Form.{Instruction, Jump, Branch, instruction_of}
-use Rattle.middle_form.specs.Form.{Code, Then, Choose, Loop}
+use Rattle.middle_form.specs.Scoped.{Code, Then, Choose, Loop}
 use Rattle.codegen.specs.Building.{back, backs}
 use Rattle.codegen.specs.Generated.{count, extra, first}
 use Rattle.codegen.proofs.Generates.{length-extra}
 
 pub back_push : (is : List RustInstruction) (i : RustInstruction) → back (is ++ i ∷ []) ≡ instruction_of i ∷ back is
 back_push is i = ap reverse (map-append instruction_of is (i ∷ [])) ∙ reverse-append (map instruction_of is) (instruction_of i ∷ [])
+
+pub map_reverse : {A B : Type 0} (f : A → B) (xs : List A) → map f (reverse xs) ≡ reverse (map f xs)
+map_reverse f [] = refl
+map_reverse {A} {B} f (x ∷ xs) =
+    ap (map f) (reverse-append (x ∷ []) xs) ∙ map-append f (reverse xs) (x ∷ [])
+    ∙ ap (λ (l : List B). l ++ f x ∷ []) (map_reverse f xs) ∙ sym (reverse-append (f x ∷ []) (map f xs))
 
 pub backs_push : (bs : List (Vec RustInstruction Global)) (b : Vec RustInstruction Global) → backs (bs ++ b ∷ []) ≡ backs bs ++ back b.items ∷ []
 backs_push bs b = map-append (λ (x : Vec RustInstruction Global). back x.items) bs (b ∷ [])

@@ -1,25 +1,31 @@
--- The blocks of structured code do what the code does.
+-- The blocks of scoped code do what the code does, scope by scope.
 use Rattle.std.proofs.Common.{◌≡◌, ℕ, zero, suc, ◌+◌, ◌<◌, ◌≤◌, List, [], ◌∷◌, ◌++◌, length, Option, Some, None, Bool, true, false, cond, refl, sym, ap, ◌∙◌, subst, arith, length-append}
-use Rattle.std.specs.Prelude.{◌&&◌, ◌||◌, map, replicate, slice_get, slice_index, slice_set}
+use Rattle.std.specs.Prelude.{◌&&◌, map, nat_lt, slice_get, slice_index}
 use Rattle.code_form.specs.declared.form.Kind.TheVariants as kind
 use Rattle.code_form.specs.declared.form.Operation.{Operation}
 use Rattle.code_form.specs.Form.{Instruction, Simple, Aim, Load, Store, Leave, Call, Jump, Branch, Error, Image}
 use Rattle.code_form.specs.Form as image
-use Rattle.code_form.specs.Effects.{Loads, Stores, Wrong, run_effect, with_cell, step, steps}
-use Rattle.code_form.specs.Code.{Did, Goes, Tells, Sets, Makes, Prints, Stops, Fails, Aimed, Core, Frame, Running, Scope, Shut, after, aims_at, call_fits, can_use, code, errs, has, if_zero, jumps, offset, op_did, place_fits, set_to, scoped, text_at, written}
+use Rattle.code_form.specs.Effects.{Leaves, Loads, Stores, Wrong, run_effect, with_cell, steps}
+use Rattle.code_form.specs.Code.{Did, Goes, Tells, Sets, Makes, Prints, Stops, Fails, Aimed, Core, Frame, Running, Scope, Shut, Stale, after, aims_at, call_fits, can_use, code, errs, has, if_zero, jumps, load_by, offset, op_did, place_fits, store_by, text_at}
 use Rattle.code_form.specs.Code as machine
-use Rattle.middle_form.specs.Form.{Code, Nothing, Do, Fail, Then, Choose, Loop, Block, Exit, Function, Program}
-use Rattle.middle_form.specs.Form as middle
-use Rattle.middle_form.specs.Meaning.{Outcome, Done, Stopped, Cut, Stuck, Left, Registers, State, behind, failed, falls, gives, called, loop, on, operated, run, then_do, turn, where_so}
-use Rattle.codegen.specs.Generated.{count, extra, first, uses_cells}
-use Rattle.codegen.proofs.Lands.{HasBlocks, HasCode, IsRunning, Lands, Machine, at, blocks_back, blocks_front, comes_on, lands_after, moves, plain_frame, then_lands, turns_on}
+use Rattle.middle_form.specs.Scoped.{Code, Nothing, Do, LoadBy, StoreBy, Loose, Fail, Then, Choose, Loop, Block, Exit, Function, Program}
+use Rattle.middle_form.specs.Scoped as scoped
+use Rattle.middle_form.specs.Meaning.{Outcome, Done, Stopped, Cut, Stuck, State, then_do, turn, where_so}
+use Rattle.middle_form.specs.ScopedMeaning.{Left, Local, aimed, behind, called, failed, falls, gives, loads, loop, on, operated, run, set_to, stores, with_scope}
+use Rattle.codegen.specs.Generated.{count, extra, first}
+use Rattle.codegen.proofs.Lands.{HasBlocks, HasCode, IsRunning, Lands, Machine, at, blocks_back, blocks_front, comes_on, frame_of, lands_after, moves, then_lands, turns_on}
 
 pub length-extra : (s : Code) (b : ℕ) (next : List Instruction) (exits : List ℕ) → length (extra s b next exits) ≡ count s
 length-extra Nothing b next exits = refl
 length-extra (Do o) b next exits = refl
-length-extra (middle.Load to r off disp) b next exits = refl
-length-extra (middle.Store r off disp from) b next exits = refl
-length-extra (middle.Call to f args) b next exits = refl
+length-extra (scoped.Load to z r off disp) b next exits = refl
+length-extra (scoped.Store z r off disp from) b next exits = refl
+length-extra (LoadBy to z r off disp) b next exits = refl
+length-extra (StoreBy z r off disp from) b next exits = refl
+length-extra (scoped.Aim z r off disp) b next exits = refl
+length-extra (scoped.Leave z) b next exits = refl
+length-extra (Loose z) b next exits = refl
+length-extra (scoped.Call to f args) b next exits = refl
 length-extra (Fail a) b next exits = refl
 length-extra (Then a c) b next exits =
     length-append (extra c b next exits) (extra a (b + count c) (first c b next exits) exits)
@@ -43,136 +49,133 @@ length-extra (Loop test r body) b next exits =
 length-extra (Block a) b next exits = ap suc (length-extra a (suc b) (Jump b ∷ []) (b ∷ exits))
 length-extra (Exit k) b next exits = refl
 
--- a write makes no shut scope stale
-pub written_shut : (d n : ℕ) → map (written d) (replicate n Shut) ≡ replicate n Shut
-written_shut d zero = refl
-written_shut d (suc n) = ap (λ (ss : List Scope). Shut ∷ ss) (written_shut d n)
-
 -- what is left to do at a way out
 abbrev pub exit_rest : List Instruction → List ℕ → ℕ → List Instruction
 exit_rest next exits zero = next
 exit_rest next exits (suc k) = Jump (slice_index exits k) ∷ []
-
-pub or_left : (a b : Bool) → a ≡ true → (a || b) ≡ true
-or_left true b h = refl
-or_left false b h = absurd (cc h)
-
-pub or_right : (a b : Bool) → b ≡ true → (a || b) ≡ true
-or_right true b h = refl
-or_right false b h = h
 
 module _ (C : Image) (fn : image.Function) (dest : Option ℕ) (st : List Frame) where
   -- where the machine is behind code
   abbrev pub there : List Instruction → List ℕ → Left → State → Machine
   there next exits x s = at fn dest st (exit_rest next exits x.0) x.1 s
 
-  -- a frame whose scopes are these
-  abbrev frame_with : List Scope → List Instruction → Registers → Frame
-  frame_with ss is rs = record { function = fn; rest = is; registers = rs; scopes = ss; destination = dest }
+  pub jump_step : (b : ℕ) (is : List Instruction) (l : Local) (s : State) → HasCode fn b is → steps (code C) 1 (at fn dest st (Jump b ∷ []) l s) ≡ at fn dest st is l s
+  jump_step b is l s e =
+      let c : Core = (at fn dest st (Jump b ∷ []) l s).0 in
+      ap (λ o. run_effect (jumps o (frame_of fn dest (Jump b ∷ []) l) st s.allocations s.output) c s.heap) e.1
 
-  pub jump_step : (b : ℕ) (is : List Instruction) (rs : Registers) (s : State) → HasCode fn b is → steps (code C) 1 (at fn dest st (Jump b ∷ []) rs s) ≡ at fn dest st is rs s
-  jump_step b is rs s e =
-      let c : Core = (at fn dest st (Jump b ∷ []) rs s).0 in
-      ap (λ o. run_effect (jumps o (plain_frame fn dest (Jump b ∷ []) rs) st s.allocations s.output) c s.heap) e.1
-
-  -- a register is written
-  pub set_step : (d v : ℕ) (next is : List Instruction) (rs : Registers) (s : State) → (Running (set_to (plain_frame fn dest is rs) next d v) st s.allocations s.output, s.heap) ≡ at fn dest st next (slice_set rs d v) s
-  set_step d v next is rs s = ap (λ (ss : List Scope). (Running (frame_with ss next (slice_set rs d v)) st s.allocations s.output, s.heap)) (written_shut d fn.scopes)
-
-  do_lands : (o : Operation) (next : List Instruction) (exits : List ℕ) (rs : Registers) (s : State) (e : Did) → op_did C.head fn.kinds s.allocations rs o ≡ e → Lands C (there next exits) (at fn dest st (Simple o ∷ next) rs s) s.turns (operated e rs s)
-  do_lands o next exits rs s e h =
-      let c : Core = (at fn dest st (Simple o ∷ next) rs s).0 in
-      by_did e (ap (λ z. run_effect (after z next (plain_frame fn dest (Simple o ∷ next) rs) st s.allocations s.output) c s.heap) h)
+  do_lands : (o : Operation) (next : List Instruction) (exits : List ℕ) (l : Local) (s : State) (e : Did) → op_did C.head fn.kinds s.allocations l.registers o ≡ e → Lands C (there next exits) (at fn dest st (Simple o ∷ next) l s) s.turns (operated e l s)
+  do_lands o next exits l s e h =
+      let c : Core = (at fn dest st (Simple o ∷ next) l s).0 in
+      by_did e (ap (λ z. run_effect (after z next (frame_of fn dest (Simple o ∷ next) l) st s.allocations s.output) c s.heap) h)
     where
-      by_did : (e : Did) → steps (code C) 1 (at fn dest st (Simple o ∷ next) rs s) ≡ run_effect (after e next (plain_frame fn dest (Simple o ∷ next) rs) st s.allocations s.output) (at fn dest st (Simple o ∷ next) rs s).0 s.heap → Lands C (there next exits) (at fn dest st (Simple o ∷ next) rs s) s.turns (operated e rs s)
+      by_did : (e : Did) → steps (code C) 1 (at fn dest st (Simple o ∷ next) l s) ≡ run_effect (after e next (frame_of fn dest (Simple o ∷ next) l) st s.allocations s.output) (at fn dest st (Simple o ∷ next) l s).0 s.heap → Lands C (there next exits) (at fn dest st (Simple o ∷ next) l s) s.turns (operated e l s)
       by_did Goes z = moves C _ _ s.turns 1 z
       by_did (Tells w) z = moves C _ _ s.turns 1 z
-      by_did (Sets d v) z = moves C _ _ s.turns 1 (z ∙ set_step d v next (Simple o ∷ next) rs s)
-      by_did (Makes d a) z = moves C _ _ s.turns 1 (z ∙ set_step d (suc (length s.allocations)) next (Simple o ∷ next) rs (record s { allocations = a ∷ s.allocations }))
+      by_did (Sets d v) z = moves C _ _ s.turns 1 z
+      by_did (Makes d a) z = moves C _ _ s.turns 1 z
       by_did (Prints b) z = moves C _ _ s.turns 1 z
       by_did (Stops f) z = record { many = 1; al = s.allocations; eq = ap (λ (z : Machine). z.0) z }
       by_did Fails z = tt
 
-  -- a scope round one load or store, in a function of one scope
-  module _ (one : fn.scopes ≡ 1) where
-    -- the machine with its scope like this
-    abbrev aiming : Scope → List Instruction → Registers → State → Machine
-    aiming z is rs s = (Running (frame_with (z ∷ []) is rs) st s.allocations s.output, s.heap)
+  -- ---- scopes
 
-    shut_is : (is : List Instruction) (rs : Registers) (s : State) → aiming Shut is rs s ≡ at fn dest st is rs s
-    shut_is is rs s = ap (λ n. (Running (frame_with (replicate n Shut) is rs) st s.allocations s.output, s.heap)) (sym one)
+  aim_step : (z r : ℕ) (off : Option ℕ) (disp : ℕ) (rest : List Instruction) (l : Local) (s : State) → (place_fits fn.kinds r off && nat_lt z (length l.scopes)) ≡ true
+      → steps (code C) 1 (at fn dest st (Aim z r off disp ∷ rest) l s) ≡ at fn dest st rest (with_scope z (aimed r off disp l.registers) l) s
+  aim_step z r off disp rest l s e =
+      let f : Frame = frame_of fn dest (Aim z r off disp ∷ rest) l in
+      ap (λ b. run_effect (cond b (aims_at z r off disp (slice_index l.registers r) (offset l.registers off + disp) rest f st s.allocations s.output) (Wrong (machine.Stuck s.allocations s.output))) (Running f st s.allocations s.output) s.heap) e
 
-    aimed_step : (r : ℕ) (off : Option ℕ) (disp : ℕ) (rest : List Instruction) (rs : Registers) (s : State) → place_fits fn.kinds r off ≡ true
-        → step (code C) (aiming Shut (Aim 0 r off disp ∷ rest) rs s) ≡ aiming (Aimed r off disp (slice_index rs r) (offset rs off + disp)) rest rs s
-    aimed_step r off disp rest rs s e =
-        let f : Frame = frame_with (Shut ∷ []) (Aim 0 r off disp ∷ rest) rs in
-        ap (λ b. run_effect (cond (b && true) (aims_at 0 r off disp (slice_index rs r) (offset rs off + disp) rest f st s.allocations s.output) (Wrong (machine.Stuck s.allocations s.output))) (Running f st s.allocations s.output) s.heap) e
+  aim_lands : (z r : ℕ) (off : Option ℕ) (disp : ℕ) (next : List Instruction) (exits : List ℕ) (l : Local) (s : State) (b : Bool) → (place_fits fn.kinds r off && nat_lt z (length l.scopes)) ≡ b
+      → Lands C (there next exits) (at fn dest st (Aim z r off disp ∷ next) l s) s.turns (where_so b (on (with_scope z (aimed r off disp l.registers) l) s))
+  aim_lands z r off disp next exits l s false e = tt
+  aim_lands z r off disp next exits l s true e = moves C _ _ s.turns 1 (aim_step z r off disp next l s e)
 
-    -- with the scope shut before and behind
-    shut_lands : (is next : List Instruction) (exits : List ℕ) (rs : Registers) (s : State) (m : Outcome Left) → Lands C (there next exits) (aiming Shut is rs s) s.turns m → Lands C (there next exits) (at fn dest st is rs s) s.turns m
-    shut_lands is next exits rs s m h = subst (λ (c : Machine). Lands C (there next exits) c s.turns m) (shut_is is rs s) h
+  -- an aim in front of what uses it
+  aimed_lands : (z r : ℕ) (off : Option ℕ) (disp : ℕ) (rest next : List Instruction) (exits : List ℕ) (l : Local) (s : State) (go : Local → State → Outcome Left) (b : Bool) → (place_fits fn.kinds r off && nat_lt z (length l.scopes)) ≡ b
+      → Lands C (there next exits) (at fn dest st rest (with_scope z (aimed r off disp l.registers) l) s) s.turns (go (with_scope z (aimed r off disp l.registers) l) s)
+      → Lands C (there next exits) (at fn dest st (Aim z r off disp ∷ rest) l s) s.turns (then_do (where_so b (on (with_scope z (aimed r off disp l.registers) l) s)) (falls go))
+  aimed_lands z r off disp rest next exits l s go false e h = tt
+  aimed_lands z r off disp rest next exits l s go true e h =
+      let m : Local = with_scope z (aimed r off disp l.registers) l in
+      lands_after C (there next exits) _ (at fn dest st rest m s) s.turns s.turns (go m s) (moves C _ _ s.turns 1 (aim_step z r off disp rest l s e)) h
 
-    load_lands : (to r : ℕ) (off : Option ℕ) (disp : ℕ) (next : List Instruction) (exits : List ℕ) (rs : Registers) (s : State) (placed fits : Bool) → place_fits fn.kinds r off ≡ placed → can_use C.head fn.kinds s.allocations to r disp (slice_index rs r) (offset rs off + disp) ≡ fits
-        → Lands C (there next exits) (aiming Shut (Aim 0 r off disp ∷ Load to 0 ∷ Leave 0 ∷ next) rs s) s.turns (where_so (placed && fits) (on (slice_set rs to (s.heap (slice_index rs r) (offset rs off + disp))) s))
-    load_lands to r off disp next exits rs s false fits h k = tt
-    load_lands to r off disp next exits rs s true false h k = tt
-    load_lands to r off disp next exits rs s true true h k =
-        let q : ℕ = slice_index rs r in
-        let x : ℕ = offset rs off + disp in
-        let f : Frame = frame_with (Aimed r off disp q x ∷ []) (Load to 0 ∷ Leave 0 ∷ next) rs in
-        let c : Core = Running f st s.allocations s.output in
-        moves C _ _ s.turns 3 (ap (steps (code C) 2) (aimed_step r off disp (Load to 0 ∷ Leave 0 ∷ next) rs s h)
-        ∙ ap (λ b. steps (code C) 1 (run_effect (cond b (Loads 0 q x (λ v. Running (set_to f (Leave 0 ∷ next) to v) st s.allocations s.output)) (Wrong (machine.Stuck s.allocations s.output))) c s.heap)) k
-        ∙ shut_is next (slice_set rs to (s.heap q x)) s)
+  leave_lands : (z : ℕ) (next : List Instruction) (exits : List ℕ) (l : Local) (s : State) (b : Bool) → nat_lt z (length l.scopes) ≡ b
+      → Lands C (there next exits) (at fn dest st (Leave z ∷ next) l s) s.turns (where_so b (on (with_scope z Shut l) s))
+  leave_lands z next exits l s false e = tt
+  leave_lands z next exits l s true e =
+      let f : Frame = frame_of fn dest (Leave z ∷ next) l in
+      moves C _ _ s.turns 1
+      (ap (λ b. run_effect (cond b (Leaves z (Running (machine.scoped f next z Shut) st s.allocations s.output)) (Wrong (machine.Stuck s.allocations s.output))) (Running f st s.allocations s.output) s.heap) e)
 
-    store_lands : (r : ℕ) (off : Option ℕ) (disp from : ℕ) (next : List Instruction) (exits : List ℕ) (rs : Registers) (s : State) (placed fits : Bool) → place_fits fn.kinds r off ≡ placed → can_use C.head fn.kinds s.allocations from r disp (slice_index rs r) (offset rs off + disp) ≡ fits
-        → Lands C (there next exits) (aiming Shut (Aim 0 r off disp ∷ Store 0 from ∷ Leave 0 ∷ next) rs s) s.turns (where_so (placed && fits) (on rs (record s { heap = with_cell s.heap (slice_index rs r) (offset rs off + disp) (slice_index rs from) })))
-    store_lands r off disp from next exits rs s false fits h k = tt
-    store_lands r off disp from next exits rs s true false h k = tt
-    store_lands r off disp from next exits rs s true true h k =
-        let q : ℕ = slice_index rs r in
-        let x : ℕ = offset rs off + disp in
-        let f : Frame = frame_with (Aimed r off disp q x ∷ []) (Store 0 from ∷ Leave 0 ∷ next) rs in
-        let c : Core = Running f st s.allocations s.output in
-        moves C _ _ s.turns 3 (ap (steps (code C) 2) (aimed_step r off disp (Store 0 from ∷ Leave 0 ∷ next) rs s h)
-        ∙ ap (λ b. steps (code C) 1 (run_effect (cond b (Stores 0 q x (slice_index rs from) (Running (machine.on f (Leave 0 ∷ next)) st s.allocations s.output)) (Wrong (machine.Stuck s.allocations s.output))) c s.heap)) k
-        ∙ shut_is next rs (record s { heap = with_cell s.heap q x (slice_index rs from) }))
+  load_lands : (to z : ℕ) (next : List Instruction) (exits : List ℕ) (l : Local) (s : State) (o : Option Scope) → slice_get l.scopes z ≡ o
+      → Lands C (there next exits) (at fn dest st (Load to z ∷ next) l s) s.turns (loads C.head fn.kinds to o l s)
+  load_lands to z next exits l s None e = tt
+  load_lands to z next exits l s (Some Shut) e = tt
+  load_lands to z next exits l s (Some (Stale q x)) e = tt
+  load_lands to z next exits l s (Some (Aimed r off disp q x)) e = by_use (can_use C.head fn.kinds s.allocations to r disp q x) refl
+    where
+      by_use : (b : Bool) → can_use C.head fn.kinds s.allocations to r disp q x ≡ b → Lands C (there next exits) (at fn dest st (Load to z ∷ next) l s) s.turns (where_so b (on (set_to to (s.heap q x) l) s))
+      by_use false h = tt
+      by_use true h =
+          let f : Frame = frame_of fn dest (Load to z ∷ next) l in
+          let c : Core = Running f st s.allocations s.output in
+          moves C _ _ s.turns 1
+          (ap (λ a. run_effect (load_by C.head a to z next f st s.allocations s.output) c s.heap) e
+          ∙ ap (λ b. run_effect (cond b (Loads z q x (λ v. Running (machine.set_to f next to v) st s.allocations s.output)) (Wrong (machine.Stuck s.allocations s.output))) c s.heap) h)
 
-  fail_lands : (a : ℕ) (next : List Instruction) (exits : List ℕ) (rs : Registers) (s : State) (fits : Bool) (t : Option (List ℕ)) → has fn.kinds a kind.Text ≡ fits → text_at C.head (slice_index rs a) ≡ t
-      → Lands C (there next exits) (at fn dest st (Error a ∷ []) rs s) s.turns (where_so fits (failed t s))
-  fail_lands a next exits rs s false t h k = tt
-  fail_lands a next exits rs s true None h k = tt
-  fail_lands a next exits rs s true (Some t) h k =
-      let c : Core = (at fn dest st (Error a ∷ []) rs s).0 in
+  store_lands : (z from : ℕ) (next : List Instruction) (exits : List ℕ) (l : Local) (s : State) (o : Option Scope) → slice_get l.scopes z ≡ o
+      → Lands C (there next exits) (at fn dest st (Store z from ∷ next) l s) s.turns (stores C.head fn.kinds o from l s)
+  store_lands z from next exits l s None e = tt
+  store_lands z from next exits l s (Some Shut) e = tt
+  store_lands z from next exits l s (Some (Stale q x)) e = tt
+  store_lands z from next exits l s (Some (Aimed r off disp q x)) e = by_use (can_use C.head fn.kinds s.allocations from r disp q x) refl
+    where
+      by_use : (b : Bool) → can_use C.head fn.kinds s.allocations from r disp q x ≡ b
+          → Lands C (there next exits) (at fn dest st (Store z from ∷ next) l s) s.turns (where_so b (on l (record s { heap = with_cell s.heap q x (slice_index l.registers from) })))
+      by_use false h = tt
+      by_use true h =
+          let f : Frame = frame_of fn dest (Store z from ∷ next) l in
+          let c : Core = Running f st s.allocations s.output in
+          moves C _ _ s.turns 1
+          (ap (λ a. run_effect (store_by C.head a z from next f st s.allocations s.output) c s.heap) e
+          ∙ ap (λ b. run_effect (cond b (Stores z q x (slice_index l.registers from) (Running (machine.on f next) st s.allocations s.output)) (Wrong (machine.Stuck s.allocations s.output))) c s.heap) h)
+
+  fail_lands : (a : ℕ) (next : List Instruction) (exits : List ℕ) (l : Local) (s : State) (fits : Bool) (t : Option (List ℕ)) → has fn.kinds a kind.Text ≡ fits → text_at C.head (slice_index l.registers a) ≡ t
+      → Lands C (there next exits) (at fn dest st (Error a ∷ []) l s) s.turns (where_so fits (failed t s))
+  fail_lands a next exits l s false t h k = tt
+  fail_lands a next exits l s true None h k = tt
+  fail_lands a next exits l s true (Some t) h k =
+      let c : Core = (at fn dest st (Error a ∷ []) l s).0 in
       record {
         many = 1;
         al = s.allocations;
         eq =
-            ap (λ b. (run_effect (cond b (errs (text_at C.head (slice_index rs a)) s.allocations s.output) (Wrong (machine.Stuck s.allocations s.output))) c s.heap).0) h
+            ap (λ b. (run_effect (cond b (errs (text_at C.head (slice_index l.registers a)) s.allocations s.output) (Wrong (machine.Stuck s.allocations s.output))) c s.heap).0) h
             ∙ ap (λ o. (run_effect (errs o s.allocations s.output) c s.heap).0) k;
       }
 
   -- the branch of a register of the right kind
-  branch_step : (r b c x : ℕ) (rs : Registers) (s : State) → has fn.kinds r kind.Bool ≡ true → slice_index rs r ≡ x
-      → steps (code C) 1 (at fn dest st (Branch r b c ∷ []) rs s) ≡ run_effect (if_zero x (jumps (slice_get fn.blocks c) (plain_frame fn dest (Branch r b c ∷ []) rs) st s.allocations s.output) (jumps (slice_get fn.blocks b) (plain_frame fn dest (Branch r b c ∷ []) rs) st s.allocations s.output)) (at fn dest st (Branch r b c ∷ []) rs s).0 s.heap
-  branch_step r b c x rs s k z =
-      let f : Frame = plain_frame fn dest (Branch r b c ∷ []) rs in
+  branch_step : (r b c x : ℕ) (l : Local) (s : State) → has fn.kinds r kind.Bool ≡ true → slice_index l.registers r ≡ x
+      → steps (code C) 1 (at fn dest st (Branch r b c ∷ []) l s) ≡ run_effect (if_zero x (jumps (slice_get fn.blocks c) (frame_of fn dest (Branch r b c ∷ []) l) st s.allocations s.output) (jumps (slice_get fn.blocks b) (frame_of fn dest (Branch r b c ∷ []) l) st s.allocations s.output)) (at fn dest st (Branch r b c ∷ []) l s).0 s.heap
+  branch_step r b c x l s k z =
+      let f : Frame = frame_of fn dest (Branch r b c ∷ []) l in
       let m : Core = Running f st s.allocations s.output in
-      ap (λ t. run_effect (cond t (if_zero (slice_index rs r) (jumps (slice_get fn.blocks c) f st s.allocations s.output) (jumps (slice_get fn.blocks b) f st s.allocations s.output)) (Wrong (machine.Stuck s.allocations s.output))) m s.heap) k
+      ap (λ t. run_effect (cond t (if_zero (slice_index l.registers r) (jumps (slice_get fn.blocks c) f st s.allocations s.output) (jumps (slice_get fn.blocks b) f st s.allocations s.output)) (Wrong (machine.Stuck s.allocations s.output))) m s.heap) k
       ∙ ap (λ y. run_effect (if_zero y (jumps (slice_get fn.blocks c) f st s.allocations s.output) (jumps (slice_get fn.blocks b) f st s.allocations s.output)) m s.heap) z
 
-  branch_zero : (r b c : ℕ) (js : List Instruction) (rs : Registers) (s : State) → has fn.kinds r kind.Bool ≡ true → slice_index rs r ≡ 0 → HasCode fn c js → steps (code C) 1 (at fn dest st (Branch r b c ∷ []) rs s) ≡ at fn dest st js rs s
-  branch_zero r b c js rs s k z h =
-      branch_step r b c 0 rs s k z ∙ ap (λ o. run_effect (jumps o (plain_frame fn dest (Branch r b c ∷ []) rs) st s.allocations s.output) (at fn dest st (Branch r b c ∷ []) rs s).0 s.heap) h.1
+  branch_zero : (r b c : ℕ) (js : List Instruction) (l : Local) (s : State) → has fn.kinds r kind.Bool ≡ true → slice_index l.registers r ≡ 0 → HasCode fn c js → steps (code C) 1 (at fn dest st (Branch r b c ∷ []) l s) ≡ at fn dest st js l s
+  branch_zero r b c js l s k z h =
+      branch_step r b c 0 l s k z ∙ ap (λ o. run_effect (jumps o (frame_of fn dest (Branch r b c ∷ []) l) st s.allocations s.output) (at fn dest st (Branch r b c ∷ []) l s).0 s.heap) h.1
 
-  branch_one : (r b c x : ℕ) (is : List Instruction) (rs : Registers) (s : State) → has fn.kinds r kind.Bool ≡ true → slice_index rs r ≡ suc x → HasCode fn b is → steps (code C) 1 (at fn dest st (Branch r b c ∷ []) rs s) ≡ at fn dest st is rs s
-  branch_one r b c x is rs s k z h =
-      branch_step r b c (suc x) rs s k z ∙ ap (λ o. run_effect (jumps o (plain_frame fn dest (Branch r b c ∷ []) rs) st s.allocations s.output) (at fn dest st (Branch r b c ∷ []) rs s).0 s.heap) h.1
+  branch_one : (r b c x : ℕ) (is : List Instruction) (l : Local) (s : State) → has fn.kinds r kind.Bool ≡ true → slice_index l.registers r ≡ suc x → HasCode fn b is → steps (code C) 1 (at fn dest st (Branch r b c ∷ []) l s) ≡ at fn dest st is l s
+  branch_one r b c x is l s k z h =
+      branch_step r b c (suc x) l s k z ∙ ap (λ o. run_effect (jumps o (frame_of fn dest (Branch r b c ∷ []) l) st s.allocations s.output) (at fn dest st (Branch r b c ∷ []) l s).0 s.heap) h.1
 
-  choose_lands : {A : Type 0} (T : A → State → Machine) (r b c x : ℕ) (fits : Bool) (is js : List Instruction) (rs : Registers) (s : State) (m n : Outcome A) → has fn.kinds r kind.Bool ≡ fits → slice_index rs r ≡ x → HasCode fn b is → HasCode fn c js → Lands C T (at fn dest st is rs s) s.turns m → Lands C T (at fn dest st js rs s) s.turns n → Lands C T (at fn dest st (Branch r b c ∷ []) rs s) s.turns (where_so fits (if_zero x n m))
-  choose_lands T r b c x false is js rs s m n k z hb hc lm ln = tt
-  choose_lands T r b c zero true is js rs s m n k z hb hc lm ln = lands_after C T _ (at fn dest st js rs s) s.turns s.turns n (moves C _ _ s.turns 1 (branch_zero r b c js rs s k z hc)) ln
-  choose_lands T r b c (suc x) true is js rs s m n k z hb hc lm ln = lands_after C T _ (at fn dest st is rs s) s.turns s.turns m (moves C _ _ s.turns 1 (branch_one r b c x is rs s k z hb)) lm
+  choose_lands : {A : Type 0} (T : A → State → Machine) (r b c x : ℕ) (fits : Bool) (is js : List Instruction) (l : Local) (s : State) (m n : Outcome A) → has fn.kinds r kind.Bool ≡ fits → slice_index l.registers r ≡ x → HasCode fn b is → HasCode fn c js → Lands C T (at fn dest st is l s) s.turns m → Lands C T (at fn dest st js l s) s.turns n → Lands C T (at fn dest st (Branch r b c ∷ []) l s) s.turns (where_so fits (if_zero x n m))
+  choose_lands T r b c x false is js l s m n k z hb hc lm ln = tt
+  choose_lands T r b c zero true is js l s m n k z hb hc lm ln = lands_after C T _ (at fn dest st js l s) s.turns s.turns n (moves C _ _ s.turns 1 (branch_zero r b c js l s k z hc)) ln
+  choose_lands T r b c (suc x) true is js l s m n k z hb hc lm ln = lands_after C T _ (at fn dest st is l s) s.turns s.turns m (moves C _ _ s.turns 1 (branch_one r b c x is l s k z hb)) lm
 
   -- a turn is taken with a step
   pub turn_lands : {A : Type 0} (T : A → State → Machine) (q : ℕ) (s : State) (c d : Machine) (g : State → Outcome A) → steps (code C) 1 c ≡ d → IsRunning c.0 s.output → ((p : ℕ) → p < q → Lands C T d p (g (record s { turns = p }))) → Lands C T c q (turn (record s { turns = q }) g)
@@ -180,128 +183,140 @@ module _ (C : Image) (fn : image.Function) (dest : Option ℕ) (st : List Frame)
   turn_lands T (suc p) s c d g e h k = lands_after C T c d (suc p) p (g (record s { turns = p })) (turns_on C c d p 0 e) (k p (omega arith))
 
   -- what code falls through to
-  falls_lands : (mid next : List Instruction) (exits : List ℕ) (g : Registers → State → Outcome Left) (p : ℕ) → ((rs : Registers) (s : State) → s.turns ≤ p → Lands C (there next exits) (at fn dest st mid rs s) s.turns (g rs s)) → (x : Left) (s : State) → s.turns ≤ p → Lands C (there next exits) (there mid exits x s) s.turns (falls g x s)
-  falls_lands mid next exits g p h (zero, rs) s le = h rs s le
-  falls_lands mid next exits g p h (suc k, rs) s le = moves C _ _ s.turns 0 refl
+  falls_lands : (mid next : List Instruction) (exits : List ℕ) (g : Local → State → Outcome Left) (p : ℕ) → ((l : Local) (s : State) → s.turns ≤ p → Lands C (there next exits) (at fn dest st mid l s) s.turns (g l s)) → (x : Left) (s : State) → s.turns ≤ p → Lands C (there next exits) (there mid exits x s) s.turns (falls g x s)
+  falls_lands mid next exits g p h (zero, l) s le = h l s le
+  falls_lands mid next exits g p h (suc k, l) s le = moves C _ _ s.turns 0 refl
 
   -- a jump to what follows
   joined_lands : (b : ℕ) (next : List Instruction) (exits : List ℕ) → HasCode fn b next → (c : Machine) (p : ℕ) (m : Outcome Left) → Lands C (there (Jump b ∷ []) exits) c p m → Lands C (there next exits) c p m
-  joined_lands b next exits e c p (Done (zero, rs) s) h = comes_on C c _ _ p s.turns s.turns h (moves C _ _ s.turns 1 (jump_step b next rs s e))
-  joined_lands b next exits e c p (Done (suc k, rs) s) h = h
+  joined_lands b next exits e c p (Done (zero, l) s) h = comes_on C c _ _ p s.turns s.turns h (moves C _ _ s.turns 1 (jump_step b next l s e))
+  joined_lands b next exits e c p (Done (suc k, l) s) h = h
   joined_lands b next exits e c p (Stopped x out) h = h
   joined_lands b next exits e c p (Cut out) h = h
   joined_lands b next exits e c p Stuck h = tt
 
   block_lands : (b : ℕ) (next : List Instruction) (exits : List ℕ) → HasCode fn b next → (x : Left) (s : State) → Lands C (there next exits) (there (Jump b ∷ []) (b ∷ exits) x s) s.turns (behind x s)
-  block_lands b next exits e (zero, rs) s = moves C _ _ s.turns 1 (jump_step b next rs s e)
-  block_lands b next exits e (suc zero, rs) s = moves C _ _ s.turns 1 (jump_step b next rs s e)
-  block_lands b next exits e (suc (suc k), rs) s = moves C _ _ s.turns 0 refl
+  block_lands b next exits e (zero, l) s = moves C _ _ s.turns 1 (jump_step b next l s e)
+  block_lands b next exits e (suc zero, l) s = moves C _ _ s.turns 1 (jump_step b next l s e)
+  block_lands b next exits e (suc (suc k), l) s = moves C _ _ s.turns 0 refl
 
   -- out of a loop
   out_lands : (o : ℕ) (next : List Instruction) (exits : List ℕ) → HasCode fn o next → (x : Left) (s : State) → Lands C (there next exits) (there next (o ∷ exits) x s) s.turns (behind x s)
-  out_lands o next exits e (zero, rs) s = moves C _ _ s.turns 0 refl
-  out_lands o next exits e (suc zero, rs) s = moves C _ _ s.turns 1 (jump_step o next rs s e)
-  out_lands o next exits e (suc (suc k), rs) s = moves C _ _ s.turns 0 refl
+  out_lands o next exits e (zero, l) s = moves C _ _ s.turns 0 refl
+  out_lands o next exits e (suc zero, l) s = moves C _ _ s.turns 1 (jump_step o next l s e)
+  out_lands o next exits e (suc (suc k), l) s = moves C _ _ s.turns 0 refl
 
-  module _ (depth b n o r : ℕ) (is_bool : has fn.kinds r kind.Bool ≡ true) (head body next : List Instruction) (exits : List ℕ) (test go_on : Registers → State → Outcome Left)
+  module _ (depth b n o r : ℕ) (is_bool : has fn.kinds r kind.Bool ≡ true) (head body next : List Instruction) (exits : List ℕ) (test go_on : Local → State → Outcome Left)
       (head_is : HasCode fn b head) (body_is : HasCode fn n body) (next_is : HasCode fn o next)
-      (test_runs : (rs : Registers) (s : State) → s.turns ≤ depth → Lands C (there (Branch r n o ∷ []) (o ∷ exits)) (at fn dest st head rs s) s.turns (test rs s))
-      (body_runs : (rs : Registers) (s : State) → s.turns ≤ depth → Lands C (there (Jump b ∷ []) (o ∷ exits)) (at fn dest st body rs s) s.turns (go_on rs s)) where
+      (test_runs : (l : Local) (s : State) → s.turns ≤ depth → Lands C (there (Branch r n o ∷ []) (o ∷ exits)) (at fn dest st head l s) s.turns (test l s))
+      (body_runs : (l : Local) (s : State) → s.turns ≤ depth → Lands C (there (Jump b ∷ []) (o ∷ exits)) (at fn dest st body l s) s.turns (go_on l s)) where
     -- where the machine is behind a loop
     abbrev over : Left → State → Machine
     over = there next (o ∷ exits)
 
     -- behind the body the test comes again
-    again_lands : (k : ℕ) (again : Registers → State → Outcome Left) → ((rs : Registers) (s : State) → s.turns < k → Lands C over (at fn dest st head rs s) s.turns (again rs s)) → (x : Left) (s : State) → s.turns < k → Lands C over (there (Jump b ∷ []) (o ∷ exits) x s) s.turns (falls again x s)
-    again_lands k again h (zero, rs) s le = lands_after C over _ (at fn dest st head rs s) s.turns s.turns (again rs s) (moves C _ _ s.turns 1 (jump_step b head rs s head_is)) (h rs s le)
-    again_lands k again h (suc z, rs) s le = moves C _ _ s.turns 0 refl
+    again_lands : (k : ℕ) (again : Local → State → Outcome Left) → ((l : Local) (s : State) → s.turns < k → Lands C over (at fn dest st head l s) s.turns (again l s)) → (x : Left) (s : State) → s.turns < k → Lands C over (there (Jump b ∷ []) (o ∷ exits) x s) s.turns (falls again x s)
+    again_lands k again h (zero, l) s le = lands_after C over _ (at fn dest st head l s) s.turns s.turns (again l s) (moves C _ _ s.turns 1 (jump_step b head l s head_is)) (h l s le)
+    again_lands k again h (suc z, l) s le = moves C _ _ s.turns 0 refl
 
     -- behind the test, where a turn is left for the body or none is
-    tested_lands : (x : ℕ) (m : Outcome Left) (rs : Registers) (s : State) → slice_index rs r ≡ x → ((y : ℕ) → x ≡ suc y → Lands C over (at fn dest st (Branch r n o ∷ []) rs s) s.turns m) → Lands C over (at fn dest st (Branch r n o ∷ []) rs s) s.turns (if_zero x (on rs s) m)
-    tested_lands zero m rs s z h = moves C _ _ s.turns 1 (branch_zero r n o next rs s is_bool z next_is)
-    tested_lands (suc y) m rs s z h = h y refl
+    tested_lands : (x : ℕ) (m : Outcome Left) (l : Local) (s : State) → slice_index l.registers r ≡ x → ((y : ℕ) → x ≡ suc y → Lands C over (at fn dest st (Branch r n o ∷ []) l s) s.turns m) → Lands C over (at fn dest st (Branch r n o ∷ []) l s) s.turns (if_zero x (on l s) m)
+    tested_lands zero m l s z h = moves C _ _ s.turns 1 (branch_zero r n o next l s is_bool z next_is)
+    tested_lands (suc y) m l s z h = h y refl
 
-    body_lands : (k y : ℕ) (again : Registers → State → Outcome Left) → ((rs : Registers) (s : State) → s.turns < k → Lands C over (at fn dest st head rs s) s.turns (again rs s)) → (rs : Registers) (s : State) → slice_index rs r ≡ suc y → s.turns ≤ k → s.turns ≤ depth → Lands C over (at fn dest st (Branch r n o ∷ []) rs s) s.turns (turn s (λ u. then_do (go_on rs u) (falls again)))
-    body_lands k y again h rs s z le le' =
-        turn_lands over s.turns s _ (at fn dest st body rs s) (λ u. then_do (go_on rs u) (falls again)) (branch_one r n o y body rs s is_bool z body_is) refl (λ p lt.
-        then_lands C (there (Jump b ∷ []) (o ∷ exits)) over (at fn dest st body rs s) p (go_on rs (record s { turns = p })) (falls again) (body_runs rs (record s { turns = p }) (omega arith)) (λ x t less. again_lands k again h x t (omega arith)))
+    body_lands : (k y : ℕ) (again : Local → State → Outcome Left) → ((l : Local) (s : State) → s.turns < k → Lands C over (at fn dest st head l s) s.turns (again l s)) → (l : Local) (s : State) → slice_index l.registers r ≡ suc y → s.turns ≤ k → s.turns ≤ depth → Lands C over (at fn dest st (Branch r n o ∷ []) l s) s.turns (turn s (λ u. then_do (go_on l u) (falls again)))
+    body_lands k y again h l s z le le' =
+        turn_lands over s.turns s _ (at fn dest st body l s) (λ u. then_do (go_on l u) (falls again)) (branch_one r n o y body l s is_bool z body_is) refl (λ p lt.
+        then_lands C (there (Jump b ∷ []) (o ∷ exits)) over (at fn dest st body l s) p (go_on l (record s { turns = p })) (falls again) (body_runs l (record s { turns = p }) (omega arith)) (λ x t less. again_lands k again h x t (omega arith)))
 
-    loop_lands : (k : ℕ) → k ≤ depth → (rs : Registers) (s : State) → s.turns ≤ k → Lands C over (at fn dest st head rs s) s.turns (loop test r go_on k rs s)
-    loop_lands zero le rs s less =
-        then_lands C (there (Branch r n o ∷ []) (o ∷ exits)) over (at fn dest st head rs s) s.turns (test rs s) (falls (λ qs t. if_zero (slice_index qs r) (on qs t) (Cut t.output))) (test_runs rs s (omega arith)) by_way
+    loop_lands : (k : ℕ) → k ≤ depth → (l : Local) (s : State) → s.turns ≤ k → Lands C over (at fn dest st head l s) s.turns (loop test r go_on k l s)
+    loop_lands zero le l s less =
+        then_lands C (there (Branch r n o ∷ []) (o ∷ exits)) over (at fn dest st head l s) s.turns (test l s) (falls (λ own t. if_zero (slice_index own.registers r) (on own t) (Cut t.output))) (test_runs l s (omega arith)) by_way
       where
-        by_way : (x : Left) (t : State) → t.turns ≤ s.turns → Lands C over (there (Branch r n o ∷ []) (o ∷ exits) x t) t.turns (falls (λ qs t. if_zero (slice_index qs r) (on qs t) (Cut t.output)) x t)
-        by_way (zero, qs) t fewer = tested_lands (slice_index qs r) (Cut t.output) qs t refl (λ y z. record { many = 0; least = omega arith; runs = refl })
-        by_way (suc z, qs) t fewer = moves C _ _ t.turns 0 refl
-    loop_lands (suc k) le rs s less =
-        then_lands C (there (Branch r n o ∷ []) (o ∷ exits)) over (at fn dest st head rs s) s.turns (test rs s) (falls (λ qs t. if_zero (slice_index qs r) (on qs t) (turn t (λ u. then_do (go_on qs u) (falls (loop test r go_on k)))))) (test_runs rs s (omega arith))
-        (by_way (loop test r go_on k) (λ qs t lt. loop_lands k (omega arith) qs t (omega arith)))
+        by_way : (x : Left) (t : State) → t.turns ≤ s.turns → Lands C over (there (Branch r n o ∷ []) (o ∷ exits) x t) t.turns (falls (λ own t. if_zero (slice_index own.registers r) (on own t) (Cut t.output)) x t)
+        by_way (zero, own) t fewer = tested_lands (slice_index own.registers r) (Cut t.output) own t refl (λ y z. record { many = 0; least = omega arith; runs = refl })
+        by_way (suc z, own) t fewer = moves C _ _ t.turns 0 refl
+    loop_lands (suc k) le l s less =
+        then_lands C (there (Branch r n o ∷ []) (o ∷ exits)) over (at fn dest st head l s) s.turns (test l s) (falls (λ own t. if_zero (slice_index own.registers r) (on own t) (turn t (λ u. then_do (go_on own u) (falls (loop test r go_on k)))))) (test_runs l s (omega arith))
+        (by_way (loop test r go_on k) (λ own t lt. loop_lands k (omega arith) own t (omega arith)))
       where
-        by_way : (again : Registers → State → Outcome Left) → ((qs : Registers) (t : State) → t.turns < suc k → Lands C over (at fn dest st head qs t) t.turns (again qs t))
-            → (x : Left) (t : State) → t.turns ≤ s.turns → Lands C over (there (Branch r n o ∷ []) (o ∷ exits) x t) t.turns (falls (λ qs t. if_zero (slice_index qs r) (on qs t) (turn t (λ u. then_do (go_on qs u) (falls again)))) x t)
-        by_way again h (zero, qs) t fewer =
-            tested_lands (slice_index qs r) (turn t (λ u. then_do (go_on qs u) (falls again))) qs t refl
-            (λ y z. body_lands (suc k) y again h qs t z (omega arith) (omega arith))
-        by_way again h (suc z, qs) t fewer = moves C _ _ t.turns 0 refl
+        by_way : (again : Local → State → Outcome Left) → ((own : Local) (t : State) → t.turns < suc k → Lands C over (at fn dest st head own t) t.turns (again own t))
+            → (x : Left) (t : State) → t.turns ≤ s.turns → Lands C over (there (Branch r n o ∷ []) (o ∷ exits) x t) t.turns (falls (λ own t. if_zero (slice_index own.registers r) (on own t) (turn t (λ u. then_do (go_on own u) (falls again)))) x t)
+        by_way again h (zero, own) t fewer =
+            tested_lands (slice_index own.registers r) (turn t (λ u. then_do (go_on own u) (falls again))) own t refl
+            (λ y z. body_lands (suc k) y again h own t z (omega arith) (omega arith))
+        by_way again h (suc z, own) t fewer = moves C _ _ t.turns 0 refl
 
   -- a loop, from its jump to its test on
-  whole_loop_lands : (depth b n o r : ℕ) (fits : Bool) → has fn.kinds r kind.Bool ≡ fits → (head body next : List Instruction) (exits : List ℕ) (test go_on : Registers → State → Outcome Left)
+  whole_loop_lands : (depth b n o r : ℕ) (fits : Bool) → has fn.kinds r kind.Bool ≡ fits → (head body next : List Instruction) (exits : List ℕ) (test go_on : Local → State → Outcome Left)
       → HasCode fn b head → HasCode fn n body → HasCode fn o next
-      → ((rs : Registers) (s : State) → s.turns ≤ depth → Lands C (there (Branch r n o ∷ []) (o ∷ exits)) (at fn dest st head rs s) s.turns (test rs s))
-      → ((rs : Registers) (s : State) → s.turns ≤ depth → Lands C (there (Jump b ∷ []) (o ∷ exits)) (at fn dest st body rs s) s.turns (go_on rs s))
-      → (rs : Registers) (s : State) → s.turns ≤ depth → Lands C (there next exits) (at fn dest st (Jump b ∷ []) rs s) s.turns (where_so fits (then_do (loop test r go_on s.turns rs s) behind))
-  whole_loop_lands depth b n o r false is_bool head body next exits test go_on head_is body_is next_is test_runs body_runs rs s le = tt
-  whole_loop_lands depth b n o r true is_bool head body next exits test go_on head_is body_is next_is test_runs body_runs rs s le =
-      then_lands C (there next (o ∷ exits)) (there next exits) _ s.turns (loop test r go_on s.turns rs s) behind
-      (lands_after C (there next (o ∷ exits)) _ (at fn dest st head rs s) s.turns s.turns (loop test r go_on s.turns rs s) (moves C _ _ s.turns 1 (jump_step b head rs s head_is))
-      (loop_lands depth b n o r is_bool head body next exits test go_on head_is body_is next_is test_runs body_runs s.turns le rs s (omega arith)))
+      → ((l : Local) (s : State) → s.turns ≤ depth → Lands C (there (Branch r n o ∷ []) (o ∷ exits)) (at fn dest st head l s) s.turns (test l s))
+      → ((l : Local) (s : State) → s.turns ≤ depth → Lands C (there (Jump b ∷ []) (o ∷ exits)) (at fn dest st body l s) s.turns (go_on l s))
+      → (l : Local) (s : State) → s.turns ≤ depth → Lands C (there next exits) (at fn dest st (Jump b ∷ []) l s) s.turns (where_so fits (then_do (loop test r go_on s.turns l s) behind))
+  whole_loop_lands depth b n o r false is_bool head body next exits test go_on head_is body_is next_is test_runs body_runs l s le = tt
+  whole_loop_lands depth b n o r true is_bool head body next exits test go_on head_is body_is next_is test_runs body_runs l s le =
+      then_lands C (there next (o ∷ exits)) (there next exits) _ s.turns (loop test r go_on s.turns l s) behind
+      (lands_after C (there next (o ∷ exits)) _ (at fn dest st head l s) s.turns s.turns (loop test r go_on s.turns l s) (moves C _ _ s.turns 1 (jump_step b head l s head_is))
+      (loop_lands depth b n o r is_bool head body next exits test go_on head_is body_is next_is test_runs body_runs s.turns le l s (omega arith)))
       (λ x t less. out_lands o next exits next_is x t)
 
   -- In what follows calls are made by `call`, and each lands where its callee returns.
   module _ (P : Program) (head_is : P.head ≡ C.head) (call : ℕ → List ℕ → State → Outcome ℕ) (depth : ℕ)
       (calls_run : (to : Option ℕ) (f : ℕ) (args : List ℕ) (g : Function) → slice_get P.functions f ≡ Some g → call_fits fn.kinds g.result g.parameters g.kinds to args ≡ true
-      → (next : List Instruction) (rs : Registers) (s : State) → s.turns ≤ depth → Lands C (λ v t. at fn dest st next (gives to v rs) t) (at fn dest st (Call to f args ∷ next) rs s) s.turns (call f (map (slice_index rs) args) s)) where
-    call_lands : (to : Option ℕ) (f : ℕ) (args : List ℕ) (o : Option Function) → slice_get P.functions f ≡ o → (next : List Instruction) (exits : List ℕ) (rs : Registers) (s : State) → s.turns ≤ depth
-        → Lands C (there next exits) (at fn dest st (Call to f args ∷ next) rs s) s.turns (called P call fn.kinds o to f args rs s)
-    call_lands to f args None h next exits rs s le = tt
-    call_lands to f args (Some g) h next exits rs s le = by_fit (call_fits fn.kinds g.result g.parameters g.kinds to args) refl
+      → (next : List Instruction) (l : Local) (s : State) → s.turns ≤ depth → Lands C (λ v t. at fn dest st next (gives to v l) t) (at fn dest st (Call to f args ∷ next) l s) s.turns (call f (map (slice_index l.registers) args) s)) where
+    call_lands : (to : Option ℕ) (f : ℕ) (args : List ℕ) (o : Option Function) → slice_get P.functions f ≡ o → (next : List Instruction) (exits : List ℕ) (l : Local) (s : State) → s.turns ≤ depth
+        → Lands C (there next exits) (at fn dest st (Call to f args ∷ next) l s) s.turns (called P call fn.kinds o to f args l s)
+    call_lands to f args None h next exits l s le = tt
+    call_lands to f args (Some g) h next exits l s le = by_fit (call_fits fn.kinds g.result g.parameters g.kinds to args) refl
       where
-        by_fit : (b : Bool) → call_fits fn.kinds g.result g.parameters g.kinds to args ≡ b → Lands C (there next exits) (at fn dest st (Call to f args ∷ next) rs s) s.turns (where_so b (then_do (call f (map (slice_index rs) args) s) (λ v t. on (gives to v rs) t)))
+        by_fit : (b : Bool) → call_fits fn.kinds g.result g.parameters g.kinds to args ≡ b → Lands C (there next exits) (at fn dest st (Call to f args ∷ next) l s) s.turns (where_so b (then_do (call f (map (slice_index l.registers) args) s) (λ v t. on (gives to v l) t)))
         by_fit false k = tt
         by_fit true k =
-            then_lands C (λ v t. at fn dest st next (gives to v rs) t) (there next exits) _ s.turns (call f (map (slice_index rs) args) s) (λ v t. on (gives to v rs) t) (calls_run to f args g h k next rs s le) (λ v t less. moves C _ _ t.turns 0 refl)
+            then_lands C (λ v t. at fn dest st next (gives to v l) t) (there next exits) _ s.turns (call f (map (slice_index l.registers) args) s) (λ v t. on (gives to v l) t) (calls_run to f args g h k next l s le) (λ v t less. moves C _ _ t.turns 0 refl)
 
-    -- the scope that code uses is there
-    abbrev HasScope : Code → Type 0
-    HasScope a = uses_cells a ≡ true → fn.scopes ≡ 1
+    -- an access by a scope is that of the image's own head
+    head_loads : (T : Left → State → Machine) (c : Machine) (p to : ℕ) (o : Option Scope) (l : Local) (s : State) → Lands C T c p (loads C.head fn.kinds to o l s) → Lands C T c p (loads P.head fn.kinds to o l s)
+    head_loads T c p to o l s h = subst (λ H. Lands C T c p (loads H fn.kinds to o l s)) (sym head_is) h
 
-    pub code_lands : (a : Code) (b : ℕ) (next : List Instruction) (exits : List ℕ) → HasScope a → HasBlocks fn b (extra a b next exits) → (rs : Registers) (s : State) → s.turns ≤ depth → Lands C (there next exits) (at fn dest st (first a b next exits) rs s) s.turns (run P call fn.kinds a rs s)
-    code_lands Nothing b next exits one has' rs s le = moves C _ _ s.turns 0 refl
-    code_lands (Do o) b next exits one has' rs s le = do_lands o next exits rs s (op_did P.head fn.kinds s.allocations rs o) (ap (λ H. op_did H fn.kinds s.allocations rs o) (sym head_is))
-    code_lands (middle.Load to r off disp) b next exits one has' rs s le =
-        shut_lands (one refl) (first (middle.Load to r off disp) b next exits) next exits rs s (run P call fn.kinds (middle.Load to r off disp) rs s)
-        (load_lands (one refl) to r off disp next exits rs s _ _ refl (ap (λ H. can_use H fn.kinds s.allocations to r disp (slice_index rs r) (offset rs off + disp)) (sym head_is)))
-    code_lands (middle.Store r off disp from) b next exits one has' rs s le =
-        shut_lands (one refl) (first (middle.Store r off disp from) b next exits) next exits rs s (run P call fn.kinds (middle.Store r off disp from) rs s)
-        (store_lands (one refl) r off disp from next exits rs s _ _ refl (ap (λ H. can_use H fn.kinds s.allocations from r disp (slice_index rs r) (offset rs off + disp)) (sym head_is)))
-    code_lands (middle.Call to f args) b next exits one has' rs s le = call_lands to f args (slice_get P.functions f) refl next exits rs s le
-    code_lands (Fail a) b next exits one has' rs s le = fail_lands a next exits rs s _ _ refl (ap (λ H. text_at H (slice_index rs a)) (sym head_is))
-    code_lands (Then a c) b next exits one has' rs s le =
+    head_stores : (T : Left → State → Machine) (c : Machine) (p from : ℕ) (o : Option Scope) (l : Local) (s : State) → Lands C T c p (stores C.head fn.kinds o from l s) → Lands C T c p (stores P.head fn.kinds o from l s)
+    head_stores T c p from o l s h = subst (λ H. Lands C T c p (stores H fn.kinds o from l s)) (sym head_is) h
+
+    pub code_lands : (a : Code) (b : ℕ) (next : List Instruction) (exits : List ℕ) → HasBlocks fn b (extra a b next exits) → (l : Local) (s : State) → s.turns ≤ depth → Lands C (there next exits) (at fn dest st (first a b next exits) l s) s.turns (run P call fn.kinds a l s)
+    code_lands Nothing b next exits has' l s le = moves C _ _ s.turns 0 refl
+    code_lands (Do o) b next exits has' l s le = do_lands o next exits l s (op_did P.head fn.kinds s.allocations l.registers o) (ap (λ H. op_did H fn.kinds s.allocations l.registers o) (sym head_is))
+    code_lands (scoped.Load to z r off disp) b next exits has' l s le =
+        let m : Local = with_scope z (aimed r off disp l.registers) l in
+        aimed_lands z r off disp (Load to z ∷ next) next exits l s (λ k t. loads P.head fn.kinds to (slice_get k.scopes z) k t) _ refl
+        (head_loads (there next exits) (at fn dest st (Load to z ∷ next) m s) s.turns to (slice_get m.scopes z) m s (load_lands to z next exits m s (slice_get m.scopes z) refl))
+    code_lands (scoped.Store z r off disp from) b next exits has' l s le =
+        let m : Local = with_scope z (aimed r off disp l.registers) l in
+        aimed_lands z r off disp (Store z from ∷ next) next exits l s (λ k t. stores P.head fn.kinds (slice_get k.scopes z) from k t) _ refl
+        (head_stores (there next exits) (at fn dest st (Store z from ∷ next) m s) s.turns from (slice_get m.scopes z) m s (store_lands z from next exits m s (slice_get m.scopes z) refl))
+    code_lands (LoadBy to z r off disp) b next exits has' l s le =
+        head_loads (there next exits) (at fn dest st (Load to z ∷ next) l s) s.turns to (slice_get l.scopes z) l s (load_lands to z next exits l s (slice_get l.scopes z) refl)
+    code_lands (StoreBy z r off disp from) b next exits has' l s le =
+        head_stores (there next exits) (at fn dest st (Store z from ∷ next) l s) s.turns from (slice_get l.scopes z) l s (store_lands z from next exits l s (slice_get l.scopes z) refl)
+    code_lands (scoped.Aim z r off disp) b next exits has' l s le = aim_lands z r off disp next exits l s _ refl
+    code_lands (scoped.Leave z) b next exits has' l s le = leave_lands z next exits l s _ refl
+    code_lands (Loose z) b next exits has' l s le = moves C _ _ s.turns 0 refl
+    code_lands (scoped.Call to f args) b next exits has' l s le = call_lands to f args (slice_get P.functions f) refl next exits l s le
+    code_lands (Fail a) b next exits has' l s le = fail_lands a next exits l s _ _ refl (ap (λ H. text_at H (slice_index l.registers a)) (sym head_is))
+    code_lands (Then a c) b next exits has' l s le =
         let n = first c b next exits in
-        then_lands C (there n exits) (there next exits) _ s.turns (run P call fn.kinds a rs s) (falls (run P call fn.kinds c))
-        (code_lands a (b + count c) n exits (λ u. one (or_left (uses_cells a) (uses_cells c) u)) (blocks_back fn b (extra c b next exits) _ (b + count c) (ap (λ k. b + k) (sym (length-extra c b next exits))) has') rs s le)
-        (falls_lands n next exits (run P call fn.kinds c) s.turns (λ qs t less. code_lands c b next exits (λ u. one (or_right (uses_cells a) (uses_cells c) u)) (blocks_front fn b (extra c b next exits) _ has') qs t (omega arith)))
-    code_lands (Choose r a c) b next exits one has' rs s le =
+        then_lands C (there n exits) (there next exits) _ s.turns (run P call fn.kinds a l s) (falls (run P call fn.kinds c))
+        (code_lands a (b + count c) n exits (blocks_back fn b (extra c b next exits) _ (b + count c) (ap (λ k. b + k) (sym (length-extra c b next exits))) has') l s le)
+        (falls_lands n next exits (run P call fn.kinds c) s.turns (λ own t less. code_lands c b next exits (blocks_front fn b (extra c b next exits) _ has') own t (omega arith)))
+    code_lands (Choose r a c) b next exits has' l s le =
         let j = Jump b ∷ [] in
         let m = suc (suc b + count a) in
         let fa = first a (suc b) j exits in
         let fc = first c m j exits in
         let behind_a = blocks_back fn (suc b) (extra a (suc b) j exits) (fa ∷ (extra c m j exits ++ fc ∷ [])) (suc b + count a) (ap (λ k. suc b + k) (sym (length-extra a (suc b) j exits))) has'.1 in
         let behind_c = blocks_back fn m (extra c m j exits) (fc ∷ []) (m + count c) (ap (λ k. m + k) (sym (length-extra c m j exits))) behind_a.1 in
-        choose_lands (there next exits) r (suc b + count a) (m + count c) (slice_index rs r) (has fn.kinds r kind.Bool) fa fc rs s _ _ refl refl behind_a.0 behind_c.0
-        (joined_lands b next exits has'.0 _ _ (run P call fn.kinds a rs s) (code_lands a (suc b) j exits (λ u. one (or_left (uses_cells a) (uses_cells c) u)) (blocks_front fn (suc b) (extra a (suc b) j exits) _ has'.1) rs s le))
-        (joined_lands b next exits has'.0 _ _ (run P call fn.kinds c rs s) (code_lands c m j exits (λ u. one (or_right (uses_cells a) (uses_cells c) u)) (blocks_front fn m (extra c m j exits) _ behind_a.1) rs s le))
-    code_lands (Loop test r body) b next exits one has' rs s le =
+        choose_lands (there next exits) r (suc b + count a) (m + count c) (slice_index l.registers r) (has fn.kinds r kind.Bool) fa fc l s _ _ refl refl behind_a.0 behind_c.0
+        (joined_lands b next exits has'.0 _ _ (run P call fn.kinds a l s) (code_lands a (suc b) j exits (blocks_front fn (suc b) (extra a (suc b) j exits) _ has'.1) l s le))
+        (joined_lands b next exits has'.0 _ _ (run P call fn.kinds c l s) (code_lands c m j exits (blocks_front fn m (extra c m j exits) _ behind_a.1) l s le))
+    code_lands (Loop test r body) b next exits has' l s le =
         let n = suc (suc b) in
         let i = Jump b ∷ [] in
         let xs = suc b ∷ exits in
@@ -311,9 +326,9 @@ module _ (C : Image) (fn : image.Function) (dest : Option ℕ) (st : List Frame)
         let fc = first test m j xs in
         let behind_a = blocks_back fn n (extra body n i xs) (fa ∷ extra test m j xs) (n + count body) (ap (λ k. n + k) (sym (length-extra body n i xs))) has'.1.1 in
         whole_loop_lands depth b (n + count body) (suc b) r (has fn.kinds r kind.Bool) refl fc fa next exits (run P call fn.kinds test) (run P call fn.kinds body) has'.0 behind_a.0 has'.1.0
-        (λ qs t less. code_lands test m j xs (λ u. one (or_left (uses_cells test) (uses_cells body) u)) behind_a.1 qs t less)
-        (λ qs t less. code_lands body n i xs (λ u. one (or_right (uses_cells test) (uses_cells body) u)) (blocks_front fn n (extra body n i xs) _ has'.1.1) qs t less)
-        rs s le
-    code_lands (Block a) b next exits one has' rs s le =
-        then_lands C (there (Jump b ∷ []) (b ∷ exits)) (there next exits) _ s.turns (run P call fn.kinds a rs s) behind (code_lands a (suc b) (Jump b ∷ []) (b ∷ exits) one has'.1 rs s le) (λ x t less. block_lands b next exits has'.0 x t)
-    code_lands (Exit k) b next exits one has' rs s le = moves C _ _ s.turns 0 refl
+        (λ own t less. code_lands test m j xs behind_a.1 own t less)
+        (λ own t less. code_lands body n i xs (blocks_front fn n (extra body n i xs) _ has'.1.1) own t less)
+        l s le
+    code_lands (Block a) b next exits has' l s le =
+        then_lands C (there (Jump b ∷ []) (b ∷ exits)) (there next exits) _ s.turns (run P call fn.kinds a l s) behind (code_lands a (suc b) (Jump b ∷ []) (b ∷ exits) has'.1 l s le) (λ x t less. block_lands b next exits has'.0 x t)
+    code_lands (Exit k) b next exits has' l s le = moves C _ _ s.turns 0 refl

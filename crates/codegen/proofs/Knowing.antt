@@ -1,18 +1,22 @@
 -- What stays known, and what the checks that are asked for come to.
-use Rattle.std.proofs.Common.{◌≡◌, ℕ, zero, suc, Bool, true, false, cond, Option, Some, None, List, [], ◌∷◌, ◌++◌, length, refl, sym, ap, ◌∙◌, subst, arith}
-use Rattle.std.specs.Prelude.{◌&&◌, ◌||◌, ◌<◌, ◌==◌, All, not, slice_get, slice_index_or}
+use Rattle.std.proofs.Common.{◌≡◌, ℕ, zero, suc, Bool, true, false, cond, Option, Some, None, List, [], ◌∷◌, ◌++◌, refl, sym, ap, ◌∙◌, subst, arith}
+use Rattle.std.specs.Prelude.{◌&&◌, ◌||◌, ◌<◌, ◌==◌, All, not, slice_get}
 use Rattle.std.specs.List.{Contains, filter, list_all}
 use Rattle.std.proofs.lemmas.Bool.{eqb-false, eqb-true}
-use Rattle.std.proofs.lemmas.List.Elements.{All-append, All-cons, All-filter, All-head, All-nil, All-tail}
+use Rattle.std.proofs.lemmas.List.Elements.{All-cons, All-filter, All-head, All-tail}
 use Rattle.code_form.specs.declared.form.Fact.{Fact}
 use Rattle.code_form.specs.declared.form.Fact.TheVariants as fact
 use Rattle.code_form.specs.declared.form.Kind.{Kind}
 use Rattle.code_form.specs.declared.form.Operation.{Operation}
 use Rattle.code_form.specs.declared.form.Operation.TheVariants as op
 use Rattle.code_form.specs.Code.{is_array_of, is_pointer, is_register, on_kind, place_fits}
+use Rattle.code_form.specs.Effects.{upd}
 use Rattle.code_form.specs.Known.{Known, Knows, Unknown, KnownAimed, KnownShut, AreKnown, IsKnown, after_operation, facts_known, forget, with_inside, with_nonnull, with_scope, wrote, wrote_some}
 use Rattle.code_form.specs.Asked.{IsChecked}
-use Rattle.codegen.specs.Generated.{all_shut}
+use Rattle.codegen.specs.Generated.{listed, scope_fact}
+use Rattle.middle_form.specs.Discipline.{IsKnownAs, Brings, Table, is_lost, join, stays, touches, writes}
+use Rattle.middle_form.specs.Discipline as table
+use Rattle.middle_form.specs.Scoped.{Code}
 use Rattle.middle_form.specs.Guarded.{asked_before, is_by_pointer, is_kept, is_same_check, joined, names, place_check, with_check, without_check, written_by}
 
 pub and_left : (a b : Bool) → (a && b) ≡ true → a ≡ true
@@ -23,62 +27,142 @@ pub and_right : (a b : Bool) → (a && b) ≡ true → b ≡ true
 and_right true b h = h
 and_right false b h = absurd (cc h)
 
--- ---- scopes that are shut
+-- ---- what is known of scopes
 
--- the first n scopes are known to be shut
-abbrev pub Shut : ℕ → Known → Type 0
-Shut n k = (s : ℕ) → s < n → k.scope s ≡ KnownShut
+pub same_scope : (s : ℕ) (z y : Knows) → cond (s == s) z y ≡ z
+same_scope s z y = by (s == s) refl
+  where
+    by : (b : Bool) → (s == s) ≡ b → cond b z y ≡ z
+    by true e = refl
+    by false e = absurd (eqb-false s s e refl)
 
-shut_wrote : (n d : ℕ) (k : Known) → Shut n k → Shut n (wrote d k)
-shut_wrote n d k h s l = ap (forget d) (h s l)
+pub as_same : (z : Knows) → IsKnownAs z z
+as_same Unknown = tt
+as_same KnownShut = refl
+as_same (KnownAimed r off disp) = refl
 
-pub shut_wrote_some : (n : ℕ) (d : Option ℕ) (k : Known) → Shut n k → Shut n (wrote_some d k)
-shut_wrote_some n None k h = h
-shut_wrote_some n (Some d) k h = shut_wrote n d k h
+pub as_on : (x y z : Knows) → IsKnownAs x y → IsKnownAs y z → IsKnownAs x z
+as_on Unknown y z h k = tt
+as_on KnownShut y z h k = subst (λ w. IsKnownAs w z) h k
+as_on (KnownAimed r off disp) y z h k = subst (λ w. IsKnownAs w z) h k
 
--- behind a simple instruction they still are
-pub shut_after : (n : ℕ) (o : Operation) (k : Known) → Shut n k → Shut n (after_operation o k)
-shut_after n (op.Const d z) k h = shut_wrote n d k h
-shut_after n (op.TextOf d x) k h = shut_wrote n d k h
-shut_after n (op.BoolOf d b) k h = shut_wrote n d k h
-shut_after n (op.CharOf d c) k h = shut_wrote n d k h
-shut_after n (op.Null d) k h = shut_wrote n d k h
-shut_after n (op.Move d a) k h = shut_wrote n d k h
-shut_after n (op.Binary o d a b) k h = shut_wrote n d k h
-shut_after n (op.Unary u d a) k h = shut_wrote n d k h
-shut_after n (op.Compare r d a b) k h = shut_wrote n d k h
-shut_after n (op.CheckNull r) k h = h
-shut_after n (op.CheckIndex d r i size) k h = shut_wrote n d k h
-shut_after n (op.Len d r) k h = shut_wrote n d k h
-shut_after n (op.Prefetch r off disp) k h = h
-shut_after n (op.Alloc d l) k h = shut_wrote n d k h
-shut_after n (op.AllocArray d l x) k h = shut_wrote n d k h
-shut_after n (op.Print a) k h = h
-shut_after n (op.Println a) k h = h
-shut_after n (op.Printint a) k h = h
-shut_after n (op.Printbool a) k h = h
-shut_after n (op.Printchar a) k h = h
-shut_after n op.Flush k h = h
-shut_after n (op.Assert a) k h = h
+as_forget : (d : ℕ) (x y : Knows) → IsKnownAs x y → IsKnownAs (forget d x) (forget d y)
+as_forget d Unknown y h = tt
+as_forget d KnownShut y h = ap (forget d) h
+as_forget d (KnownAimed r off disp) y h = subst (λ w. IsKnownAs (forget d (KnownAimed r off disp)) (forget d w)) (sym h) (as_same (forget d (KnownAimed r off disp)))
 
--- one scope that is left is shut, whatever was known of others
-pub shut_one : (z : ℕ → Knows) (s : ℕ) → s < 1 → cond (s == 0) KnownShut (z s) ≡ KnownShut
-shut_one z zero l = refl
-shut_one z (suc s) l = absurd (let z : ⊥ = omega arith in z)
+-- of so many scopes is known what a table tells
+abbrev pub Holds : ℕ → Table → Known → Type 0
+Holds n t k = (s : ℕ) → s < n → IsKnownAs (t s) (k.scope s)
 
--- where so many scopes are known to be shut, and these checks made, so are the entry facts that say it
-pub append_known : (n : ℕ) (w : List Fact) (k : Known) → Shut n k → AreKnown k w → AreKnown k (all_shut n ++ w)
-append_known zero w k h c = c
-append_known (suc n) w k h c = (h n (omega arith), append_known n w k (λ s l. h s (omega arith)) c)
+pub holds_brings : (n : ℕ) (t u : Table) (k : Known) → Brings t u → Holds n t k → Holds n u k
+holds_brings n t u k b h s l = as_on (u s) (t s) (k.scope s) (b s) (h s l)
+
+pub brings_same : (t : Table) → Brings t t
+brings_same t s = as_same (t s)
+
+-- what is known where ways join was known before
+pub brings_join : (a : Code) (t : Table) → Brings t (join a t)
+brings_join a t s = by (touches a s) (t s)
+  where
+    by : (touched : Bool) (z : Knows) → IsKnownAs (stays touched (writes a) z) z
+    by touched Unknown = tt
+    by touched KnownShut = refl
+    by touched (KnownAimed r off disp) = by_loss (touched || is_lost (writes a) r off)
+      where
+        by_loss : (b : Bool) → IsKnownAs (cond b Unknown (KnownAimed r off disp)) (KnownAimed r off disp)
+        by_loss true = tt
+        by_loss false = refl
+
+holds_wrote : (n d : ℕ) (t : Table) (k : Known) → Holds n t k → Holds n (table.wrote (Some d) t) (wrote d k)
+holds_wrote n d t k h s l = as_forget d (t s) (k.scope s) (h s l)
+
+pub holds_wrote_some : (n : ℕ) (d : Option ℕ) (t : Table) (k : Known) → Holds n t k → Holds n (table.wrote d t) (wrote_some d k)
+holds_wrote_some n None t k h = h
+holds_wrote_some n (Some d) t k h = holds_wrote n d t k h
+
+-- behind a simple instruction
+pub holds_after : (n : ℕ) (o : Operation) (t : Table) (k : Known) → Holds n t k → Holds n (table.wrote (written_by o) t) (after_operation o k)
+holds_after n (op.Const d z) t k h = holds_wrote n d t k h
+holds_after n (op.TextOf d x) t k h = holds_wrote n d t k h
+holds_after n (op.BoolOf d b) t k h = holds_wrote n d t k h
+holds_after n (op.CharOf d c) t k h = holds_wrote n d t k h
+holds_after n (op.Null d) t k h = holds_wrote n d t k h
+holds_after n (op.Move d a) t k h = holds_wrote n d t k h
+holds_after n (op.Binary o d a b) t k h = holds_wrote n d t k h
+holds_after n (op.Unary u d a) t k h = holds_wrote n d t k h
+holds_after n (op.Compare r d a b) t k h = holds_wrote n d t k h
+holds_after n (op.CheckNull r) t k h = h
+holds_after n (op.CheckIndex d r i size) t k h = holds_wrote n d t k h
+holds_after n (op.Len d r) t k h = holds_wrote n d t k h
+holds_after n (op.Prefetch r off disp) t k h = h
+holds_after n (op.Alloc d l) t k h = holds_wrote n d t k h
+holds_after n (op.AllocArray d l x) t k h = holds_wrote n d t k h
+holds_after n (op.Print a) t k h = h
+holds_after n (op.Println a) t k h = h
+holds_after n (op.Printint a) t k h = h
+holds_after n (op.Printbool a) t k h = h
+holds_after n (op.Printchar a) t k h = h
+holds_after n op.Flush t k h = h
+holds_after n (op.Assert a) t k h = h
+
+-- this of one scope
+pub holds_scope : (n s : ℕ) (z : Knows) (t : Table) (k : Known) → Holds n t k → Holds n (upd t s z) (with_scope s z k)
+holds_scope n s z t k h u l = by (u == s)
+  where
+    by : (b : Bool) → IsKnownAs (cond b z (t u)) (cond b z (k.scope u))
+    by true = as_same z
+    by false = h u l
+
+-- nothing any more of one scope
+pub holds_less : (n s : ℕ) (t : Table) (k : Known) → Holds n t k → Holds n (upd t s Unknown) k
+holds_less n s t k h u l = by (u == s)
+  where
+    by : (b : Bool) → IsKnownAs (cond b Unknown (t u)) (k.scope u)
+    by true = tt
+    by false = h u l
+
+-- behind a store that aims its scope
+pub holds_store : (n s : ℕ) (z : Knows) (t : Table) (k : Known) → Holds n t k → Holds n (upd t s Unknown) (with_scope s z k)
+holds_store n s z t k h u l = by (u == s)
+  where
+    by : (b : Bool) → IsKnownAs (cond b Unknown (t u)) (cond b z (k.scope u))
+    by true = tt
+    by false = h u l
+
+-- behind such a load
+pub holds_load : (n d s : ℕ) (z : Knows) (t : Table) (k : Known) → Holds n t k → Holds n (upd (table.wrote (Some d) t) s Unknown) (wrote d (with_scope s z k))
+holds_load n d s z t k h u l = by (u == s)
+  where
+    by : (b : Bool) → IsKnownAs (cond b Unknown (forget d (t u))) (forget d (cond b z (k.scope u)))
+    by true = tt
+    by false = as_forget d (t u) (k.scope u) (h u l)
+
+-- where so much is known of so many scopes, and these checks made, so are the entry facts that say it
+pub append_known : (n : ℕ) (t : Table) (w : List Fact) (k : Known) → Holds n t k → AreKnown k w → AreKnown k (listed n t ++ w)
+append_known zero t w k h c = c
+append_known (suc n) t w k h c = by (t n) (h n (omega arith)) (append_known n t w k (λ s l. h s (omega arith)) c)
+  where
+    by : (z : Knows) → IsKnownAs z (k.scope n) → AreKnown k (listed n t ++ w) → AreKnown k ((scope_fact n z ++ listed n t) ++ w)
+    by Unknown e rest = rest
+    by KnownShut e rest = (e, rest)
+    by (KnownAimed r off disp) e rest = (e, rest)
 
 -- and the other way
-pub entry_shut : (n : ℕ) (w : List Fact) → Shut n (facts_known (all_shut n ++ w))
-entry_shut zero w s l = absurd (let z : ⊥ = omega arith in z)
-entry_shut (suc n) w s l = by (s == n) refl (entry_shut n w s)
+pub entry_holds : (n : ℕ) (t : Table) (w : List Fact) → Holds n t (facts_known (listed n t ++ w))
+entry_holds zero t w s l = absurd (let z : ⊥ = omega arith in z)
+entry_holds (suc n) t w s l = by (t n) refl (s == n) refl (entry_holds n t w s)
   where
-    by : (b : Bool) → (s == n) ≡ b → (s < n → (facts_known (all_shut n ++ w)).scope s ≡ KnownShut) → cond b KnownShut ((facts_known (all_shut n ++ w)).scope s) ≡ KnownShut
-    by true e rest = refl
-    by false e rest = rest (let other : s ≡ n → ⊥ = eqb-false s n e in omega (arith, other))
+    by : (z : Knows) → t n ≡ z → (b : Bool) → (s == n) ≡ b → (s < n → IsKnownAs (t s) ((facts_known (listed n t ++ w)).scope s)) → IsKnownAs (t s) ((facts_known ((scope_fact n z ++ listed n t) ++ w)).scope s)
+    by Unknown e true f rest = subst (λ x. IsKnownAs x ((facts_known (listed n t ++ w)).scope s)) (sym (ap t (eqb-true s n f) ∙ e)) tt
+    by Unknown e false f rest = rest (let other : s ≡ n → ⊥ = eqb-false s n f in omega (arith, other))
+    by KnownShut e true f rest = subst (λ x. IsKnownAs x (cond (s == n) KnownShut ((facts_known (listed n t ++ w)).scope s))) (sym (ap t (eqb-true s n f) ∙ e)) (ap (λ b. cond b KnownShut ((facts_known (listed n t ++ w)).scope s)) f)
+    by KnownShut e false f rest =
+        subst (λ (b : Bool). IsKnownAs (t s) (cond b KnownShut ((facts_known (listed n t ++ w)).scope s))) (sym f) (rest (let other : s ≡ n → ⊥ = eqb-false s n f in omega (arith, other)))
+    by (KnownAimed r off disp) e true f rest =
+        subst (λ x. IsKnownAs x (cond (s == n) (KnownAimed r off disp) ((facts_known (listed n t ++ w)).scope s))) (sym (ap t (eqb-true s n f) ∙ e)) (ap (λ b. cond b (KnownAimed r off disp) ((facts_known (listed n t ++ w)).scope s)) f)
+    by (KnownAimed r off disp) e false f rest =
+        subst (λ (b : Bool). IsKnownAs (t s) (cond b (KnownAimed r off disp) ((facts_known (listed n t ++ w)).scope s))) (sym f) (rest (let other : s ≡ n → ⊥ = eqb-false s n f in omega (arith, other)))
 
 -- ---- checks of registers that are there
 
@@ -264,8 +348,8 @@ fit_place ks r None e h = e
 fit_place ks r (Some d) e h = h
 
 -- the checks that the entry facts of a block tell are known there
-pub entry_checks : (ks : List Kind) (n : ℕ) (w : List Fact) → AllFit ks w → AreKnown (facts_known (all_shut n ++ w)) w
-entry_checks ks zero w f = own w f
+pub entry_checks : (ks : List Kind) (n : ℕ) (t : Table) (w : List Fact) → AllFit ks w → AreKnown (facts_known (listed n t ++ w)) w
+entry_checks ks zero t w f = own w f
   where
     own : (w : List Fact) → AllFit ks w → AreKnown (facts_known w) w
     own [] f = tt
@@ -273,4 +357,9 @@ entry_checks ks zero w f = own w f
     own (fact.Inside d r ∷ w) f = (contains_first (facts_known w).inside (d, r), inside_more d r (facts_known w) w (own w (All-tail (FitsCheck ks) (fact.Inside d r) w f)))
     own (fact.Aimed s r off disp ∷ w) f = absurd (All-head (FitsCheck ks) (fact.Aimed s r off disp) w f)
     own (fact.Shut s ∷ w) f = absurd (All-head (FitsCheck ks) (fact.Shut s) w f)
-entry_checks ks (suc n) w f = checks_at_scope ks n KnownShut (facts_known (all_shut n ++ w)) w f (entry_checks ks n w f)
+entry_checks ks (suc n) t w f = by (t n) (entry_checks ks n t w f)
+  where
+    by : (z : Knows) → AreKnown (facts_known (listed n t ++ w)) w → AreKnown (facts_known ((scope_fact n z ++ listed n t) ++ w)) w
+    by Unknown h = h
+    by KnownShut h = checks_at_scope ks n KnownShut (facts_known (listed n t ++ w)) w f h
+    by (KnownAimed r off disp) h = checks_at_scope ks n (KnownAimed r off disp) (facts_known (listed n t ++ w)) w f h

@@ -1,19 +1,20 @@
--- The machine follows structured code: what a run of the code says of the machine, and how this composes.
+-- The machine follows scoped code: what a run of the code says of the machine, and how this composes.
 use Rattle.std.proofs.Common.{◌≡◌, ℕ, zero, suc, ◌+◌, ◌≤◌, List, [], ◌∷◌, ◌++◌, length, Option, Some, sym, ap, ◌∙◌, subst, arith}
-use Rattle.std.specs.Prelude.{replicate, slice_get}
+use Rattle.std.specs.Prelude.{slice_get}
 use Rattle.cells.specs.Stops.{Stop}
 use Rattle.code_form.specs.declared.form.Fact.{Fact}
 use Rattle.code_form.specs.Form.{Function, Image, Instruction}
 use Rattle.code_form.specs.Effects.{Heap, step, steps}
 use Rattle.code_form.specs.declared.allocation.Allocation.{Allocation}
-use Rattle.code_form.specs.Code.{Core, Frame, Running, Shut, code}
+use Rattle.code_form.specs.Code.{Core, Frame, Running, code}
 use Rattle.code_form.specs.Code as machine
-use Rattle.middle_form.specs.Meaning.{Outcome, Done, Stopped, Cut, Stuck, Registers, State, then_do}
+use Rattle.middle_form.specs.Meaning.{Outcome, Done, Stopped, Cut, Stuck, State, then_do}
+use Rattle.middle_form.specs.ScopedMeaning.{Local}
 use Rattle.codegen.specs.Generated.{block_with}
 
--- block b of a function has these instructions, whatever its entry facts tell beside that all scopes are shut
+-- block b of a function has these instructions, whatever its entry facts
 abbrev pub HasCode : Function → ℕ → List Instruction → Type 0
-HasCode f b is = (w : List Fact) × (slice_get f.blocks b ≡ Some (block_with f.scopes w is))
+HasCode f b is = (w : List Fact) × (slice_get f.blocks b ≡ Some (block_with w is))
 
 -- these blocks of a function stand from number b on
 abbrev pub HasBlocks : Function → ℕ → List (List Instruction) → Type 0
@@ -32,13 +33,13 @@ blocks_back f b (x ∷ xs) ys c e h = blocks_back f (suc b) xs ys c (omega arith
 abbrev pub Machine : Type 0
 Machine = Core × Heap
 
--- a frame with all its scopes shut
-abbrev pub plain_frame : Function → Option ℕ → List Instruction → Registers → Frame
-plain_frame f d is rs = record { function = f; rest = is; registers = rs; scopes = replicate f.scopes Shut; destination = d }
+-- a frame with these registers and scopes
+abbrev pub frame_of : Function → Option ℕ → List Instruction → Local → Frame
+frame_of f d is l = record { function = f; rest = is; registers = l.registers; scopes = l.scopes; destination = d }
 
--- the machine where structured code is in this state
-abbrev pub at : Function → Option ℕ → List Frame → List Instruction → Registers → State → Machine
-at f d st is rs s = (Running (plain_frame f d is rs) st s.allocations s.output, s.heap)
+-- the machine where scoped code is in this state
+abbrev pub at : Function → Option ℕ → List Frame → List Instruction → Local → State → Machine
+at f d st is l s = (Running (frame_of f d is l) st s.allocations s.output, s.heap)
 
 -- it runs, and has printed this
 abbrev pub IsRunning : Core → List ℕ → Type 0

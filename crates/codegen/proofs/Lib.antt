@@ -1,13 +1,13 @@
 pub mod Both
-pub mod Bracketed
 pub mod Computing
-pub mod Covers
 pub mod Emits
+pub mod Entries
 pub mod Generates
 pub mod Images
 pub mod Knowing
 pub mod Lands
 pub mod Paired
 pub mod Rows
+pub mod ScopeFacts
 pub mod WellFormed
 pub mod Whole

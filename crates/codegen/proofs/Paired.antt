@@ -1,16 +1,17 @@
 -- What is asked at the entry of each block, and the blocks, side by side.
-use Rattle.std.proofs.Common.{◌≡◌, ℕ, zero, suc, List, [], ◌∷◌, ◌++◌, length, refl, sym, ap, ◌∙◌, append_assoc, length-append}
+use Rattle.std.proofs.Common.{◌≡◌, ℕ, zero, suc, List, [], ◌∷◌, ◌++◌, refl, sym, ap, ◌∙◌, append_assoc}
 use Rattle.std.specs.Prelude.{All, map, slice_set}
 use Rattle.std.proofs.lemmas.List.{map-append}
-use Rattle.std.proofs.lemmas.List.Elements.{All-cons, All-head, All-nil, All-tail}
+use Rattle.std.proofs.lemmas.List.Elements.{All-cons, All-nil}
 use Rattle.std.specs.declared.vec.Vec.{Vec}
 use Rattle.std.specs.declared.alloc.Global.{Global}
 use Rattle.code_form.specs.declared.form.Fact.{Fact}
 use Rattle.code_form.specs.Form.{Instruction}
 use Rattle.code_form.specs.Form as image
-use Rattle.middle_form.specs.Form.{Code, Then}
+use Rattle.middle_form.specs.Scoped.{Code, Then, plain}
 use Rattle.codegen.specs.Building.{lists}
 use Rattle.codegen.specs.Generated.{block_with, blocks_with}
+use Rattle.codegen.proofs.Entries.{Entry, facts_at}
 use Rattle.middle_form.specs.Guarded.{asked_inside, asks}
 
 pub lists_push : (ws : List (Vec Fact Global)) (w : Vec Fact Global) → lists (ws ++ w ∷ []) ≡ lists ws ++ w.items ∷ []
@@ -21,13 +22,13 @@ lists_set [] i w = refl
 lists_set (x ∷ ws) zero w = refl
 lists_set (x ∷ ws) (suc i) w = ap (λ (l : List (List Fact)). x.items ∷ l) (lists_set ws i w)
 
-pub asks_then : (k a d : Code) (w rest is : List Fact) → k ≡ Then a d → rest ≡ asks d w → is ≡ asks a rest → is ≡ asks k w
-asks_then k a d w rest is ek er ei = ei ∙ ap (asks a) er ∙ ap (λ c. asks c w) (sym ek)
+pub asks_then : (k a d : Code) (w rest is : List Fact) → k ≡ Then a d → rest ≡ asks (plain d) w → is ≡ asks (plain a) rest → is ≡ asks (plain k) w
+asks_then k a d w rest is ek er ei = ei ∙ ap (asks (plain a)) er ∙ ap (λ c. asks (plain c) w) (sym ek)
 
-pub inside_then : (k a d : Code) (old m new : List (List Fact)) (w rest : List Fact) → k ≡ Then a d → rest ≡ asks d w → m ≡ old ++ asked_inside d w → new ≡ m ++ asked_inside a rest → new ≡ old ++ asked_inside k w
+pub inside_then : (k a d : Code) (old m new : List (List Fact)) (w rest : List Fact) → k ≡ Then a d → rest ≡ asks (plain d) w → m ≡ old ++ asked_inside (plain d) w → new ≡ m ++ asked_inside (plain a) rest → new ≡ old ++ asked_inside (plain k) w
 inside_then k a d old m new w rest ek er em en =
-    en ∙ ap (λ r. m ++ asked_inside a r) er ∙ ap (λ l. l ++ asked_inside a (asks d w)) em
-    ∙ append_assoc old (asked_inside d w) (asked_inside a (asks d w)) ∙ ap (λ c. old ++ asked_inside c w) (sym ek)
+    en ∙ ap (λ r. m ++ asked_inside (plain a) r) er ∙ ap (λ l. l ++ asked_inside (plain a) (asks (plain d) w)) em
+    ∙ append_assoc old (asked_inside (plain d) w) (asked_inside (plain a) (asks (plain d) w)) ∙ ap (λ c. old ++ asked_inside (plain c) w) (sym ek)
 
 -- each of some lists with the one beside it, of as many others
 abbrev pub AllPaired : {A B : Type 0} → (A → B → Type 0) → List A → List B → Type 0
@@ -41,15 +42,10 @@ paired_append R [] cs (b ∷ bs) ds h k = absurd h
 paired_append R (x ∷ xs) cs [] ds h k = absurd h
 paired_append R (x ∷ xs) cs (b ∷ bs) ds h k = (h.0, paired_append R xs cs bs ds h.1 k)
 
--- what holds of the instructions of each block holds of them with facts
-pub with_all : (P : List Instruction → Type 0) (n : ℕ) (ws : List (List Fact)) (bs : List (List Instruction)) → All P bs → All (λ (b : image.Block). P b.code) (blocks_with n ws bs)
-with_all P n ws [] h = All-nil (λ (b : image.Block). P b.code)
-with_all P n [] (is ∷ bs) h = All-cons (λ (b : image.Block). P b.code) (block_with n [] is) (blocks_with n [] bs) (All-head P is bs h) (with_all P n [] bs (All-tail P is bs h))
-with_all P n (w ∷ ws) (is ∷ bs) h = All-cons (λ (b : image.Block). P b.code) (block_with n w is) (blocks_with n ws bs) (All-head P is bs h) (with_all P n ws bs (All-tail P is bs h))
-
--- what holds of blocks with what is asked at their entries
-pub paired_all : (R : List Fact → List Instruction → Type 0) (Q : image.Block → Type 0) (n : ℕ) → ((w : List Fact) (is : List Instruction) → R w is → Q (block_with n w is))
-    → (ws : List (List Fact)) (bs : List (List Instruction)) → AllPaired R ws bs → All Q (blocks_with n ws bs)
-paired_all R Q n f ws [] h = All-nil Q
+-- what holds of blocks with what is told at their entries
+pub paired_all : (R : Entry → List Instruction → Type 0) (Q : image.Block → Type 0) (n : ℕ) → ((e : Entry) (is : List Instruction) → R e is → Q (block_with (facts_at n e) is))
+    → (es : List Entry) (bs : List (List Instruction)) → AllPaired R es bs → All Q (blocks_with (map (facts_at n) es) bs)
+paired_all R Q n f [] [] h = All-nil Q
 paired_all R Q n f [] (is ∷ bs) h = absurd h
-paired_all R Q n f (w ∷ ws) (is ∷ bs) h = All-cons Q (block_with n w is) (blocks_with n ws bs) (f w is h.0) (paired_all R Q n f ws bs h.1)
+paired_all R Q n f (e ∷ es) [] h = absurd h
+paired_all R Q n f (e ∷ es) (is ∷ bs) h = All-cons Q (block_with (facts_at n e) is) (blocks_with (map (facts_at n) es) bs) (f e is h.0) (paired_all R Q n f es bs h.1)

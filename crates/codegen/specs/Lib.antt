@@ -1,3 +1,4 @@
 pub mod Building
 pub mod Correct
 pub mod Generated
+pub mod Samples

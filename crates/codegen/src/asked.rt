@@ -1,13 +1,14 @@
-//! Which checks structured code asks for before it, and at the entry of each of its blocks.
+//! Which checks scoped code asks for before it, and at the entry of each of its blocks.
 ghost use Rattle.codegen.specs.Building.{lists};
 ghost use Rattle.middle_form.specs.Guarded.{asked_before as before, asked_inside, asks as asks_of, is_same_check as is_same, joined as joined_of, place_check as check_of, with_check as with_one, without_check as without_one};
 ghost use Rattle.codegen.specs.Building.{is_straight};
 ghost use Rattle.codegen.specs.Generated.{asked_of};
-ghost use Rattle.middle_form.specs.Views.{code_of, function_of};
+ghost use Rattle.middle_form.specs.Scoped.{plain};
+ghost use Rattle.middle_form.specs.ScopedViews.{scoped_code_of, scoped_function_of};
 ghost use Rattle.std.specs.Prelude.{◌≡◌, ◌++◌, ◌∷◌, [], IfOk, OnOk, true};
 
 use code_form::{Fact, Operation};
-use middle_form::{Code, Function};
+use middle_form::{ScopedCode, ScopedFunction};
 use std::alloc::{AllocError, Global};
 
 /// Whether two facts tell of the same check.
@@ -74,23 +75,40 @@ fn asked_before(operation: &Operation, behind: Vec<Fact>) -> Vec<Fact>
 }
 
 /// What is asked before code that needs no more blocks.
-fn asks_straight(alloc: Global, code: &Code, behind: Vec<Fact>) -> Result<Vec<Fact>, AllocError>
-    ensures { IfOk result (λ v. is_straight (code_of code.now) ≡ true → v.items ≡ asks_of (code_of code.now) behind.items) }
+fn asks_straight(
+    alloc: Global,
+    code: &ScopedCode,
+    behind: Vec<Fact>,
+) -> Result<Vec<Fact>, AllocError>
+    ensures { IfOk result (λ v. is_straight (scoped_code_of code.now) ≡ true → v.items ≡ asks_of (plain (scoped_code_of code.now)) behind.items) }
 {
     match code {
-        Code::Do(operation) => Ok(asked_before(operation, behind)),
-        Code::Load {
+        ScopedCode::Do(operation) => Ok(asked_before(operation, behind)),
+        ScopedCode::Load {
             register,
             offset,
             ..
         }
-        | Code::Store {
+        | ScopedCode::Store {
+            register,
+            offset,
+            ..
+        }
+        | ScopedCode::LoadBy {
+            register,
+            offset,
+            ..
+        }
+        | ScopedCode::StoreBy {
             register,
             offset,
             ..
         } => with_check(place_check(*register, *offset), behind),
-        Code::Call { .. } => Ok(behind),
-        Code::Fail { .. } | Code::Exit(_) => Ok(Vec::new(alloc)),
+        ScopedCode::Aim { .. }
+        | ScopedCode::Leave(_)
+        | ScopedCode::Loose(_)
+        | ScopedCode::Call { .. } => Ok(behind),
+        ScopedCode::Fail { .. } | ScopedCode::Exit(_) => Ok(Vec::new(alloc)),
         _ => Ok(behind),
     }
 }
@@ -108,20 +126,20 @@ fn note(alloc: Global, asked: &mut Vec<Vec<Fact>>, checks: &[Fact]) -> Result<()
 fn asks(
     alloc: Global,
     asked: &mut Vec<Vec<Fact>>,
-    code: &Code,
+    code: &ScopedCode,
     mut behind: Vec<Fact>,
 ) -> Result<Vec<Fact>, AllocError>
-    ensures checks { IfOk result (λ v. v.items ≡ asks_of (code_of code.now) behind.items) }
-    ensures added { OnOk result (lists asked.new.items ≡ lists asked.old.items ++ asked_inside (code_of code.now) behind.items) }
+    ensures checks { IfOk result (λ v. v.items ≡ asks_of (plain (scoped_code_of code.now)) behind.items) }
+    ensures added { OnOk result (lists asked.new.items ≡ lists asked.old.items ++ asked_inside (plain (scoped_code_of code.now)) behind.items) }
 {
     match code {
-        Code::Sequence(parts) => {
+        ScopedCode::Sequence(parts) => {
             for i in (0..parts.len()).rev() {
                 behind = asks(alloc, asked, &parts[i], behind)?;
             }
             Ok(behind)
         }
-        Code::Choose {
+        ScopedCode::Choose {
             then_code,
             else_code,
             ..
@@ -134,7 +152,7 @@ fn asks(
             note(alloc, asked, &else_checks)?;
             joined(&then_checks, else_checks)
         }
-        Code::Loop { test, body, .. } => {
+        ScopedCode::Loop { test, body, .. } => {
             note(alloc, asked, &[])?;
             note(alloc, asked, &behind)?;
             let turn = asks(alloc, asked, body, Vec::new(alloc))?;
@@ -142,7 +160,7 @@ fn asks(
             asks(alloc, asked, test, Vec::new(alloc))?;
             Ok(Vec::new(alloc))
         }
-        Code::Block(inner) => {
+        ScopedCode::Block(inner) => {
             note(alloc, asked, &behind)?;
             asks(alloc, asked, inner, Vec::new(alloc))
         }
@@ -153,9 +171,9 @@ fn asks(
 /// What is asked at the entry of each block of a function: of the first one this is written last.
 pub(crate) fn function_asks(
     alloc: Global,
-    function: &Function,
+    function: &ScopedFunction,
 ) -> Result<Vec<Vec<Fact>>, AllocError>
-    ensures { IfOk result (λ v. lists v.items ≡ asked_of (function_of function.now)) }
+    ensures { IfOk result (λ v. lists v.items ≡ asked_of (scoped_function_of function.now)) }
 {
     let mut asked = Vec::new(alloc);
     note(alloc, &mut asked, &[])?;

@@ -1,16 +1,13 @@
-//! The blocks of structured code. A block under construction holds its instructions last first.
+//! The blocks of scoped code. A block under construction holds its instructions last first.
 ghost use Rattle.code_form.specs.Form.{Aim, Branch, Call, Jump, Leave, Load, Store, instruction_of};
-ghost use Rattle.codegen.specs.Building.{back, backs, exits_of, is_straight};
+ghost use Rattle.codegen.specs.Building.{back, backs, exits_of, is_access, is_straight};
 ghost use Rattle.codegen.specs.Generated.{extra, first};
-ghost use Rattle.middle_form.specs.Views.{code_of};
-ghost use Rattle.std.specs.Prelude.{◌≡◌, ◌++◌, ◌∷◌, ℕ, [], IfOk, OnOk, length, slice_index, true};
+ghost use Rattle.middle_form.specs.ScopedViews.{scoped_code_of};
+ghost use Rattle.std.specs.Prelude.{◌≡◌, ◌++◌, ◌∷◌, ℕ, [], IfOk, List, OnOk, length, slice_index, true};
 
 use code_form::Instruction;
-use middle_form::Code;
+use middle_form::ScopedCode;
 use std::alloc::{AllocError, Global};
-
-/// The scope of all loads and stores.
-const SCOPE: u8 = 0;
 
 /// The blocks behind the loops and blocks round some code, the innermost first.
 #[derive(Drop)]
@@ -78,22 +75,20 @@ fn branch(
     )
 }
 
-/// A load or a store in front, with its aim before it and a leave behind.
-fn put_access(
+/// An aim of a scope in front.
+fn put_aim(
     block: Vec<Instruction>,
+    scope: u8,
     register: u32,
     offset: Option<u32>,
     displacement: u32,
-    access: Instruction,
 ) -> Result<Vec<Instruction>, AllocError>
-    ensures { IfOk result (λ v. back v.items ≡ Aim 0 register offset displacement ∷ instruction_of access ∷ Leave 0 ∷ back block.items) }
+    ensures { IfOk result (λ v. back v.items ≡ Aim scope register offset displacement ∷ back block.items) }
 {
-    let left = put(block, Instruction::Leave { scope: SCOPE })?;
-    let used = put(left, access)?;
     put(
-        used,
+        block,
         Instruction::Aim {
-            scope: SCOPE,
+            scope,
             register,
             offset,
             displacement,
@@ -101,18 +96,25 @@ fn put_access(
     )
 }
 
-/// A load from a cell.
-fn load(to: u32) -> Instruction
-    ensures { instruction_of result ≡ Load to 0 }
+/// A load by a scope in front.
+fn put_load(block: Vec<Instruction>, to: u32, scope: u8) -> Result<Vec<Instruction>, AllocError>
+    ensures { IfOk result (λ v. back v.items ≡ Load to scope ∷ back block.items) }
 {
-    Instruction::Load { to, scope: SCOPE }
+    put(block, Instruction::Load { to, scope })
 }
 
-/// A store into a cell.
-fn store(from: u32) -> Instruction
-    ensures { instruction_of result ≡ Store 0 from }
+/// A store by a scope in front.
+fn put_store(block: Vec<Instruction>, scope: u8, from: u32) -> Result<Vec<Instruction>, AllocError>
+    ensures { IfOk result (λ v. back v.items ≡ Store scope from ∷ back block.items) }
 {
-    Instruction::Store { scope: SCOPE, from }
+    put(block, Instruction::Store { scope, from })
+}
+
+/// A leave of a scope in front.
+fn put_leave(block: Vec<Instruction>, scope: u8) -> Result<Vec<Instruction>, AllocError>
+    ensures { IfOk result (λ v. back v.items ≡ Leave scope ∷ back block.items) }
+{
+    put(block, Instruction::Leave { scope })
 }
 
 /// A call.
@@ -147,37 +149,70 @@ pub(crate) fn finish(
     Ok(number)
 }
 
-/// The instructions that come in place of code that needs no more blocks, and of what follows it.
-fn emit_straight(
-    alloc: Global,
-    code: &Code,
-    next: Vec<Instruction>,
-    exits: &Exits,
-) -> Result<Vec<Instruction>, AllocError>
-    ensures { IfOk result (λ v. is_straight (code_of code.now) ≡ true → (b : ℕ) → back v.items ≡ first (code_of code.now) b (back next.items) (exits_of exits.now)) }
+/// The instructions that come in place of an access or an aim, and of what follows it.
+fn emit_access(code: &ScopedCode, next: Vec<Instruction>) -> Result<Vec<Instruction>, AllocError>
+    ensures { IfOk result (λ v. is_access (scoped_code_of code.now) ≡ true → (b : ℕ) (exits : List ℕ) → back v.items ≡ first (scoped_code_of code.now) b (back next.items) exits) }
 {
     match code {
-        Code::Do(operation) => put(next, Instruction::Simple(*operation)),
-        Code::Load {
+        ScopedCode::Load {
             to,
+            scope,
             register,
             offset,
             displacement,
-        } => put_access(next, *register, *offset, *displacement, load(*to)),
-        Code::Store {
+        } => put_aim(
+            put_load(next, *to, *scope)?,
+            *scope,
+            *register,
+            *offset,
+            *displacement,
+        ),
+        ScopedCode::Store {
+            scope,
             register,
             offset,
             displacement,
             from,
-        } => put_access(next, *register, *offset, *displacement, store(*from)),
-        Code::Call {
+        } => put_aim(
+            put_store(next, *scope, *from)?,
+            *scope,
+            *register,
+            *offset,
+            *displacement,
+        ),
+        ScopedCode::LoadBy { to, scope, .. } => put_load(next, *to, *scope),
+        ScopedCode::StoreBy { scope, from, .. } => put_store(next, *scope, *from),
+        ScopedCode::Aim {
+            scope,
+            register,
+            offset,
+            displacement,
+        } => put_aim(next, *scope, *register, *offset, *displacement),
+        _ => Ok(next),
+    }
+}
+
+/// The instructions that come in place of code that needs no more blocks, and of what follows it.
+fn emit_straight(
+    alloc: Global,
+    code: &ScopedCode,
+    next: Vec<Instruction>,
+    exits: &Exits,
+) -> Result<Vec<Instruction>, AllocError>
+    ensures { IfOk result (λ v. is_straight (scoped_code_of code.now) ≡ true → (b : ℕ) → back v.items ≡ first (scoped_code_of code.now) b (back next.items) (exits_of exits.now)) }
+{
+    match code {
+        ScopedCode::Do(operation) => put(next, Instruction::Simple(*operation)),
+        ScopedCode::Leave(scope) => put_leave(next, *scope),
+        ScopedCode::Loose(_) => Ok(next),
+        ScopedCode::Call {
             to,
             function,
             arguments,
         } => put(next, call(alloc, *to, *function, arguments)?),
-        Code::Fail { text } => one(alloc, Instruction::Error { text: *text }),
-        Code::Exit(out) => jump(alloc, exit_at(exits, *out)),
-        _ => Ok(next),
+        ScopedCode::Fail { text } => one(alloc, Instruction::Error { text: *text }),
+        ScopedCode::Exit(out) => jump(alloc, exit_at(exits, *out)),
+        _ => emit_access(code, next),
     }
 }
 
@@ -185,21 +220,21 @@ fn emit_straight(
 pub(crate) fn emit(
     alloc: Global,
     blocks: &mut Vec<Vec<Instruction>>,
-    code: &Code,
+    code: &ScopedCode,
     mut next: Vec<Instruction>,
     exits: &Exits,
 ) -> Result<Vec<Instruction>, AllocError>
-    ensures instructions { IfOk result (λ v. back v.items ≡ first (code_of code.now) (length (backs blocks.old.items)) (back next.items) (exits_of exits.now)) }
-    ensures added { OnOk result (backs blocks.new.items ≡ backs blocks.old.items ++ extra (code_of code.now) (length (backs blocks.old.items)) (back next.items) (exits_of exits.now)) }
+    ensures instructions { IfOk result (λ v. back v.items ≡ first (scoped_code_of code.now) (length (backs blocks.old.items)) (back next.items) (exits_of exits.now)) }
+    ensures added { OnOk result (backs blocks.new.items ≡ backs blocks.old.items ++ extra (scoped_code_of code.now) (length (backs blocks.old.items)) (back next.items) (exits_of exits.now)) }
 {
     match code {
-        Code::Sequence(parts) => {
+        ScopedCode::Sequence(parts) => {
             for i in (0..parts.len()).rev() {
                 next = emit(alloc, blocks, &parts[i], next, exits)?;
             }
             Ok(next)
         }
-        Code::Choose {
+        ScopedCode::Choose {
             condition,
             then_code,
             else_code,
@@ -211,7 +246,7 @@ pub(crate) fn emit(
             let else_block = finish(blocks, else_part)?;
             branch(alloc, *condition, then_block, else_block)
         }
-        Code::Loop {
+        ScopedCode::Loop {
             test,
             condition,
             body,
@@ -225,7 +260,7 @@ pub(crate) fn emit(
             blocks[head as usize] = emit(alloc, blocks, test, end, &inside)?;
             jump(alloc, head)
         }
-        Code::Block(inner) => {
+        ScopedCode::Block(inner) => {
             let out = finish(blocks, next)?;
             let inside = Exits::Around(out, &*exits);
             emit(alloc, blocks, inner, jump(alloc, out)?, &inside)

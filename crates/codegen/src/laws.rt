@@ -1,40 +1,45 @@
 //! What is promised of every image that is generated: functions that do nothing, and whose contracts hold.
 ghost use Rattle.cells.specs.Stops.{BoundsFault, Ended, ErrorCalled, NullFault};
 ghost use Rattle.code_form.specs.Code.{Covered};
+ghost use Rattle.code_form.specs.declared.form.Fact.TheVariants as fact;
 ghost use Rattle.codegen.specs.Correct.{IsSafe, Keeps, ran};
-ghost use Rattle.codegen.specs.Generated.{generated};
+ghost use Rattle.codegen.specs.Generated.{facts_of, generated};
+ghost use Rattle.codegen.specs.Samples.{counting, failing, fibonacci, held, indexing, null_checked, pointing, program_of, stepping};
 ghost use Rattle.code_verification.specs.Verified.{IsVerified};
+ghost use Rattle.middle_form.specs.Discipline.{IsScoped};
 ghost use Rattle.middle_form.specs.Guarded.{is_guarded_program};
-ghost use Rattle.middle_form.specs.Form.{Program};
+ghost use Rattle.middle_form.specs.Scoped.{Program, plain_program};
 ghost use Rattle.middle_form.specs.WellFormed.{is_well_formed};
-ghost use Rattle.middle_form.specs.Samples.{counting, failing, fibonacci, indexing, null_checked, pointing, stepping};
-ghost use Rattle.std.specs.Prelude.{◌≡◌, [], None, Some, codes, pos, true};
+ghost use Rattle.std.specs.Prelude.{◌∷◌, ◌≡◌, [], None, Some, codes, pos, true};
 
 use code_form::run_laws;
+use code_verification::verified_is_covered;
 
-/// What is generated does what the structured code means, both ways, and is never stuck.
+/// What is generated does what the scoped code means, both ways, and is never stuck.
 pub fn generated_keeps_the_meaning()
     ensures { (P : Program) → IsSafe P → Keeps P (generated P) }
 {
     run_laws();
 }
 
-/// What is generated of well-formed code that checks each place before it uses it is verified: each jump leads to a block of its function and brings what
-/// is known at its entry, each block ends in one instruction that leads out of it, all that an instruction names is there and of the right kind, each load
-/// and store is by a scope that is freshly aimed at a place whose check was made, and no scope is open at an allocation, a call or a return.
+/// What is generated of scoped code that keeps the discipline is verified, where the code is well formed and checks each place before it uses it: each jump
+/// leads to a block of its function and brings what is known at its entry, each block ends in one instruction that leads out of it, all that an instruction
+/// names is there and of the right kind, each load and store is by a scope that is freshly aimed at a place whose check was made, and no scope is open at an
+/// allocation, a call or a return.
 pub fn generated_is_verified()
-    ensures { (P : Program) → is_well_formed P ≡ true → is_guarded_program P ≡ true → IsVerified (generated P) }
+    ensures { (P : Program) → is_well_formed (plain_program P) ≡ true → is_guarded_program (plain_program P) ≡ true → IsScoped P → IsVerified (generated P) }
 {}
 
-/// What is generated is covered: no function has more than four scopes, and no state of a run is stuck, has more scopes open than the function
-/// with the most has, or has one open at an allocation, a call or a return.
+/// So what is generated of it is covered: no function has more than four scopes, and no state of a run is stuck, has more scopes open than the function with
+/// the most has, or has one open at an allocation, a call or a return.
 pub fn generated_is_covered()
-    ensures { (P : Program) → IsSafe P → Covered (generated P) }
+    ensures { (P : Program) → is_well_formed (plain_program P) ≡ true → is_guarded_program (plain_program P) ≡ true → IsScoped P → Covered (generated P) }
 {
-    run_laws();
+    verified_is_covered();
 }
 
-/// What the images of some programs come to: calls return, exits leave what they name, a cell holds what was stored, and each stop tells itself.
+/// What the images of some programs come to: calls return, exits leave what they name, a cell holds what was stored, each stop tells itself, and an aim
+/// lasts through a loop, at the entry of whose blocks it is told.
 pub fn computed()
     ensures calls { ran (generated fibonacci) 200 ≡ record { stop = Some (Ended (pos 5)); output = [] } }
     ensures left { ran (generated counting) 60 ≡ record { stop = Some (Ended (pos 3)); output = codes "012" } }
@@ -45,4 +50,6 @@ pub fn computed()
     ensures bounds { ran (generated (indexing 3)) 30 ≡ record { stop = Some BoundsFault; output = [] } }
     ensures error { ran (generated failing) 10 ≡ record { stop = Some (ErrorCalled (codes "no")); output = codes "0" } }
     ensures null { ran (generated null_checked) 5 ≡ record { stop = Some NullFault; output = [] } }
+    ensures printed { ran (generated (program_of held)) 60 ≡ record { stop = Some (Ended (pos 3)); output = codes "555" } }
+    ensures told { facts_of held ≡ (fact.Shut 0 ∷ []) ∷ (fact.Aimed 0 3 None 0 ∷ []) ∷ (fact.Aimed 0 3 None 0 ∷ []) ∷ (fact.Aimed 0 3 None 0 ∷ []) ∷ [] }
 {}

@@ -1,10 +1,11 @@
-//! Images from structured code.
+//! Images from scoped code.
 #![tactic(auto)]
 
 mod asked;
 mod counts;
 mod emit;
 mod image;
+mod known;
 mod laws;
 
 pub use image::generate;

@@ -1,4 +1,4 @@
-use Rattle.codegen.proofs.Computing.{behind, calls, cut, error, left}
+use Rattle.codegen.proofs.Computing.{behind, calls, cut, error, left, printed}
 use Rattle.codegen.proofs.laws.computed.Goals as goal
 
 pub returns-clause-calls : goal.returns-clause-calls
@@ -15,3 +15,6 @@ returns-clause-behind c = behind
 
 pub returns-clause-error : goal.returns-clause-error
 returns-clause-error c = error
+
+pub returns-clause-printed : goal.returns-clause-printed
+returns-clause-printed c = printed
