@@ -1,4 +1,4 @@
--- What lowering and code generation keep, put together.
+-- What lowering, placing scopes and code generation keep, put together.
 use Rattle.std.proofs.Common.{◌≡◌, ◌≢◌, ℕ, List, [], ◌++◌, Bool, true, false, Option, Some, None, refl, sym, ap, ◌∙◌, subst, append-nil}
 use Rattle.cells.specs.Stops.{Stop}
 use Rattle.cells.specs.Outcomes.{IsPrefix, KeepsEnd, Meant, stops_with}
@@ -8,13 +8,13 @@ use Rattle.code_form.specs.declared.allocation.Allocation.{Allocation}
 use Rattle.code_form.specs.Form.{Image}
 use Rattle.code_form.specs.Effects.{code_run}
 use Rattle.code_form.specs.Code.{Core, IsStuck, Running, Stopped, Stuck, code, output_of, stop_of}
-use Rattle.middle_form.specs.Form as f
-use Rattle.middle_form.specs.Meaning.{means}
+use Rattle.middle_form.specs.Scoped as f
+use Rattle.middle_form.specs.ScopedMeaning.{scoped_means}
 use Rattle.codegen.specs.Correct.{IsSafe, Keeps, ran}
 use Rattle.c0_image.specs.Correct.{Behaves}
 
--- structured code that means the same is never stuck
-pub safe : (P : Program) (checks : Bool) (M : f.Program) → ((n : ℕ) → means M n ≡ Some (mean P checks n)) → IsSafe M
+-- scoped code that means the same is never stuck
+pub safe : (P : Program) (checks : Bool) (M : f.Program) → ((n : ℕ) → scoped_means M n ≡ Some (mean P checks n)) → IsSafe M
 safe P checks M same n e = let z : Some (mean P checks n) ≡ None = sym (same n) ∙ e in absurd (cc z)
 
 -- an end that is kept begins so
@@ -42,7 +42,7 @@ stopped (Stuck al o) x e = absurd (cc e)
 not_stuck : (c : Core) → IsStuck c ≡ false → (al : List Allocation) (o : List ℕ) → c ≢ Stuck al o
 not_stuck c h al o e = let z : true ≡ false = sym (ap IsStuck e) ∙ h in absurd (cc z)
 
-pub behaves : (P : Program) (checks : Bool) (M : f.Program) (C : Image) → ((n : ℕ) → means M n ≡ Some (mean P checks n)) → Keeps M C → Behaves P checks C
+pub behaves : (P : Program) (checks : Bool) (M : f.Program) (C : Image) → ((n : ℕ) → scoped_means M n ≡ Some (mean P checks n)) → Keeps M C → Behaves P checks C
 behaves P checks M C same keeps = record { runs = runs; means = follows; never_stuck = λ k. not_stuck (code_run (code C) k).0 (keeps.never_stuck k) }
   where
     runs : (k : ℕ) → (n : ℕ) × IsPrefix (output_of (code_run (code C) k).0) (mean P checks n).output

@@ -14,6 +14,7 @@ use c0_syntax::level::Level;
 use c0_well_formed::{images_are_accepted, images_are_consistent};
 use codegen::{generate, generated_keeps_the_meaning};
 use lower::lower;
+use scope_placement::{place, placed_means_the_same};
 use scope_verifier::{Verified, verify};
 use scope_verifier_laws::VerifyFault;
 use std::alloc::Global;
@@ -28,12 +29,14 @@ pub fn compile(alloc: Global, text: &[u8], checks: bool) -> Result<Verified, Fau
     ensures every { (p : y.Program) → IsTypedAs false text.now p → MatchResult result (λ v. Behaves p checks (image_of v.image)) (λ f. f.kind ≡ OutOfMemory) }
 {
     elaborated();
+    placed_means_the_same();
     generated_keeps_the_meaning();
     images_are_consistent();
     images_are_accepted();
     let typed = check_text(alloc, text, Level::C0)?;
     let middle = lower(alloc, &typed, checks)?;
-    let image = generate(alloc, &middle)?;
+    let scoped = place(alloc, middle)?;
+    let image = generate(alloc, &scoped)?;
     match verify(alloc, image) {
         Ok(verified) => Ok(verified),
         Err(VerifyFault::OutOfMemory) => Err(Fault::out_of_memory()),

@@ -27,12 +27,17 @@ use Rattle.lower.specs.Lowered as l
 use Rattle.lower.specs.Lowered.{lowered, result_kind, with_main_first}
 use Rattle.lower_expressions.specs.Expressions.{checked, constant_kind, unary_kind}
 use Rattle.lower.proofs.Layouts.{layouts_length}
-use Rattle.codegen.specs.Generated.{asked_of, blocks, blocks_with, function_of, generated, scopes_of, uses_cells}
+use Rattle.middle_form.specs.Scoped as scoped
+use Rattle.scope_placement.specs.Placed.{placed_function}
+use Rattle.scope_placement.proofs.Disciplined.{few}
+use Rattle.codegen.specs.Generated.{blocks, blocks_with, facts_of, function_of}
+use Rattle.c0_well_formed.specs.Images.{image_of_tree}
 use Rattle.scope_verifier_laws.specs.Numbers.{is_result_kind, names_layout}
 use Rattle.c0_well_formed.specs.Laws.{ImagesAreConsistent, IsConsistent, IsConsistentFunction, NamesNumbers}
 use Rattle.c0_well_formed.proofs.Images.{images_ok}
 use Rattle.c0_well_formed.proofs.Ordered.{in_order}
-use Rattle.c0_well_formed.proofs.Numbers.{CodeNames, blocks_names, function_names}
+use Rattle.c0_well_formed.proofs.Numbers.{CodeNames, function_names}
+use Rattle.c0_well_formed.proofs.ScopedNumbers.{blocks_names, whole_names}
 use Rattle.c0_well_formed.proofs.CellKinds.{Each, IsCellKind, all_sound, each_all, each_append, each_as, kind_good, kind_named, number_named, singles_good, structs_good}
 
 module _ (structs : List (List Ty)) (singles : List Kind) (texts : List (List ℕ)) (functions : List Function) (main : ℕ) (checks : Bool) where
@@ -143,10 +148,10 @@ module _ (structs : List (List Ty)) (singles : List Kind) (texts : List (List �
 
   -- ---- functions
 
-  blocks_named : (n : ℕ) (ws : List (List Fact)) (bs : List (List image.Instruction)) → Each (Each NamesNumbers) bs → Each (λ (b : image.Block). All NamesNumbers b.code) (blocks_with n ws bs)
-  blocks_named n ws [] h = tt
-  blocks_named n [] (b ∷ bs) h = (each_all NamesNumbers b h.0, blocks_named n [] bs h.1)
-  blocks_named n (w ∷ ws) (b ∷ bs) h = (each_all NamesNumbers b h.0, blocks_named n ws bs h.1)
+  blocks_named : (ws : List (List Fact)) (bs : List (List image.Instruction)) → Each (Each NamesNumbers) bs → Each (λ (b : image.Block). All NamesNumbers b.code) (blocks_with ws bs)
+  blocks_named ws [] h = tt
+  blocks_named [] (b ∷ bs) h = (each_all NamesNumbers b h.0, blocks_named [] bs h.1)
+  blocks_named (w ∷ ws) (b ∷ bs) h = (each_all NamesNumbers b h.0, blocks_named ws bs h.1)
 
   abbrev kind_at : ValueType → Kind
   kind_at ty = parts.kind_at structs singles texts functions main ty
@@ -169,15 +174,12 @@ module _ (structs : List (List Ty)) (singles : List Kind) (texts : List (List �
   result_good (PointerTy ty) = kind_good n singles (PointerTy ty)
   result_good (ArrayTy ty) = kind_good n singles (ArrayTy ty)
 
-  one_scope : (b : Bool) → cond b 1 0 ≤ 4
-  one_scope true = omega arith
-  one_scope false = omega arith
-
   abbrev code : Function → f.Function
   code h = l.function_code structs singles texts functions main checks h
 
-  function_consistent : (h : Function) → CodeNames (code h).body → IsConsistentFunction count (function_of (code h))
+  function_consistent : (h : Function) → CodeNames (code h).body → IsConsistentFunction count (function_of (placed_function (code h)))
   function_consistent h names =
+      let with_scopes : scoped.Function = placed_function (code h) in
       let before = conditions_kinds (checked checks h.preconditions.items) in
       let inside = body_kinds h.body.items in
       let behind = conditions_kinds (checked checks h.postconditions.items) in
@@ -190,12 +192,12 @@ module _ (structs : List (List Ty)) (singles : List Kind) (texts : List (List �
             (each_append Named (map kind_at h.locals.items) (kind_at h.result ∷ rest) (locals_named h.locals.items) (here h.result, named)));
         parameters = each_all (IsCellKind count) _ (first_good h.parameters.items (map kind_at h.locals.items ++ (kind_at h.result ∷ rest)));
         result = result_good (type_of h.result);
-        scopes = one_scope (uses_cells (code h).body);
-        numbers = each_all (λ (b : image.Block). All NamesNumbers b.code) (blocks_with (scopes_of (code h).body) (asked_of (code h)) (blocks (code h)))
-            (blocks_named (scopes_of (code h).body) (asked_of (code h)) (blocks (code h)) (blocks_names (code h) names));
+        scopes = few (code h).body [] (omega arith);
+        numbers = each_all (λ (b : image.Block). All NamesNumbers b.code) (blocks_with (facts_of with_scopes) (blocks with_scopes))
+            (blocks_named (facts_of with_scopes) (blocks with_scopes) (blocks_names with_scopes (whole_names (code h).body names)));
       }
 
-  functions_consistent : (fs : List Function) → Each (λ h. CodeNames (code h).body) fs → Each (IsConsistentFunction count) (map function_of (map code fs))
+  functions_consistent : (fs : List Function) → Each (λ h. CodeNames (code h).body) fs → Each (IsConsistentFunction count) (map function_of (map placed_function (map code fs)))
   functions_consistent [] names = tt
   functions_consistent (h ∷ rest) names = (function_consistent h names.0, functions_consistent rest names.1)
 
@@ -238,8 +240,8 @@ images_consistent checks typed fp few =
       layouts = subst (λ i. All (All (IsCellKind i)) (layouts_of structs singles)) (sym count)
           (each_all (All (IsCellKind (suc (length structs + length singles)))) (layouts_of structs singles)
           (each_as (Each (IsCellKind (suc (length structs + length singles)))) (All (IsCellKind (suc (length structs + length singles)))) (each_all (IsCellKind (suc (length structs + length singles)))) (layouts_of structs singles) (layouts_good structs singles sound)));
-      functions = subst (λ i. All (IsConsistentFunction i) (generated (lowered singles checks typed)).functions) (sym count)
-          (each_all (IsConsistentFunction (suc (length structs + length singles))) (generated (lowered singles checks typed)).functions
+      functions = subst (λ i. All (IsConsistentFunction i) (image_of_tree checks typed).functions) (sym count)
+          (each_all (IsConsistentFunction (suc (length structs + length singles))) (image_of_tree checks typed).functions
           (functions_consistent structs singles (texts_of typed) typed.functions.items typed.main checks (with_main_first typed.main typed.functions.items)
           (in_order (λ h. CodeNames (l.function_code structs singles (texts_of typed) typed.functions.items typed.main checks h).body) typed.main typed.functions.items
           (each_function (λ h. CodeNames (l.function_code structs singles (texts_of typed) typed.functions.items typed.main checks h).body) (texts_of typed) typed.functions.items

@@ -1,10 +1,17 @@
 -- The image of a well-typed program is verified.
+use Rattle.std.proofs.Common.{◌∙◌}
 use Rattle.lower_tables.specs.Gathered.{singles_of}
 use Rattle.lower.specs.Lowered.{lowered}
+use Rattle.middle_form.specs.Form.{Program}
+use Rattle.scope_placement.specs.Placed.{placed_program}
+use Rattle.scope_placement.proofs.Disciplined.{always_scoped}
+use Rattle.scope_placement.proofs.Formed.{stays_guarded, stays_well_formed}
 use Rattle.codegen.proofs.WellFormed.{verified}
 use Rattle.c0_well_formed.specs.Laws.{ImagesAreVerified}
 use Rattle.c0_well_formed.proofs.Functions.{lowered_ok}
 use Rattle.c0_well_formed.proofs.GuardedFunctions.{lowered_guarded}
 
 pub images_ok : ImagesAreVerified
-images_ok checks typed fits = verified (lowered (singles_of typed) checks typed) (lowered_ok checks typed fits) (lowered_guarded checks typed fits)
+images_ok checks typed fits =
+    let code : Program = lowered (singles_of typed) checks typed in
+    verified (placed_program code) (stays_well_formed code ∙ lowered_ok checks typed fits) (stays_guarded code ∙ lowered_guarded checks typed fits) (always_scoped code)

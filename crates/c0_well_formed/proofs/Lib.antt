@@ -12,6 +12,7 @@ mod GuardedFunctions
 mod Images
 mod CellKinds
 mod Numbers
+mod ScopedNumbers
 mod Consistent
 mod Accepted
 mod Ordered

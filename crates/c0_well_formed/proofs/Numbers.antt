@@ -12,8 +12,6 @@ use Rattle.c0_typed.specs.declared.tree.Place.{Place, Deref', Index', Field'}
 use Rattle.c0_typed.specs.declared.tree.Statement.{Statement, Row_of-Statement, end_of-Statement, more_of-Statement, Block', Set, Update, Store, StoreUpdate, Do, If', Loop', Return, ReturnValue, Assert, Error, Check}
 use Rattle.c0_typed.specs.declared.tree.Function.{Function}
 use Rattle.c0_typed.specs.declared.tree.Typed.{Typed}
-use Rattle.code_form.specs.Form as image
-use Rattle.code_form.specs.Form.{Instruction}
 use Rattle.code_form.specs.declared.form.Kind.{Kind}
 use Rattle.middle_form.specs.Form.{Code}
 use Rattle.middle_form.specs.Form as f
@@ -21,9 +19,7 @@ use Rattle.lower_expressions.specs.Expressions as parts
 use Rattle.lower.specs.Lowered as l
 use Rattle.lower.specs.Lowered.{lowered}
 use Rattle.lower_expressions.specs.Expressions.{checked, moved, print_code, sequence, value_at}
-use Rattle.codegen.specs.Generated as g
-use Rattle.codegen.specs.Generated.{blocks, extra, first, function_of as image_of, last}
-use Rattle.c0_well_formed.specs.Laws.{NamesNumber, NamesNumbers}
+use Rattle.c0_well_formed.specs.Laws.{NamesNumber}
 use Rattle.c0_well_formed.proofs.CellKinds.{Each, each_append}
 
 -- ---- structured code
@@ -45,61 +41,6 @@ CodeNames (f.Exit i) = Unit {0}
 pub in_sequence : (cs : List Code) → Each CodeNames cs → CodeNames (sequence cs)
 in_sequence [] h = tt
 in_sequence (x ∷ rest) h = (h.0, in_sequence rest h.1)
-
--- ---- the image
-
-mutual
-  first_names : (a : Code) (b : ℕ) (next : List Instruction) (exits : List ℕ) → CodeNames a → Each NamesNumbers next → Each NamesNumbers (first a b next exits)
-  first_names f.Nothing b next exits h k = k
-  first_names (f.Do x) b next exits h k = (h, k)
-  first_names (f.Load to r off disp) b next exits h k = (tt, (tt, (tt, k)))
-  first_names (f.Store r off disp from) b next exits h k = (tt, (tt, (tt, k)))
-  first_names (f.Call to i args) b next exits h k = (tt, k)
-  first_names (f.Fail a) b next exits h k = (tt, tt)
-  first_names (f.Then a d) b next exits h k = first_names a (b + g.count d) (first d b next exits) exits h.0 (first_names d b next exits h.1 k)
-  first_names (f.Choose r a d) b next exits h k = (tt, tt)
-  first_names (f.Loop test r body) b next exits h k = (tt, tt)
-  first_names (f.Block a) b next exits h k = first_names a (suc b) (image.Jump b ∷ []) (b ∷ exits) h (tt, tt)
-  first_names (f.Exit i) b next exits h k = (tt, tt)
-
-extra_names : (a : Code) (b : ℕ) (next : List Instruction) (exits : List ℕ) → CodeNames a → Each NamesNumbers next → Each (Each NamesNumbers) (extra a b next exits)
-extra_names f.Nothing b next exits h k = tt
-extra_names (f.Do x) b next exits h k = tt
-extra_names (f.Load to r off disp) b next exits h k = tt
-extra_names (f.Store r off disp from) b next exits h k = tt
-extra_names (f.Call to i args) b next exits h k = tt
-extra_names (f.Fail a) b next exits h k = tt
-extra_names (f.Then a d) b next exits h k =
-    each_append (Each NamesNumbers) (extra d b next exits) (extra a (b + g.count d) (first d b next exits) exits) (extra_names d b next exits h.1 k) (extra_names a (b + g.count d) (first d b next exits) exits h.0 (first_names d b next exits h.1 k))
-extra_names (f.Choose r a d) b next exits h k = (
-  k,
-  each_append (Each NamesNumbers) (extra a (suc b) (image.Jump b ∷ []) exits) _ (extra_names a (suc b) (image.Jump b ∷ []) exits h.0 (tt, tt)) (
-    first_names a (suc b) (image.Jump b ∷ []) exits h.0 (tt, tt),
-    each_append (Each NamesNumbers) (extra d (suc (suc b + g.count a)) (image.Jump b ∷ []) exits) _ (extra_names d (suc (suc b + g.count a)) (image.Jump b ∷ []) exits h.1 (tt, tt)) (first_names d (suc (suc b + g.count a)) (image.Jump b ∷ []) exits h.1 (tt, tt), tt),
-  ),
-)
-extra_names (f.Loop test r body) b next exits h k = (
-  first_names test (suc (suc (suc b) + g.count body)) (image.Branch r (suc (suc b) + g.count body) (suc b) ∷ []) (suc b ∷ exits) h.0 (tt, tt),
-  (
-    k,
-    each_append (Each NamesNumbers) (extra body (suc (suc b)) (image.Jump b ∷ []) (suc b ∷ exits)) _ (extra_names body (suc (suc b)) (image.Jump b ∷ []) (suc b ∷ exits) h.1 (tt, tt)) (
-      first_names body (suc (suc b)) (image.Jump b ∷ []) (suc b ∷ exits) h.1 (tt, tt),
-      extra_names test (suc (suc (suc b) + g.count body)) (image.Branch r (suc (suc b) + g.count body) (suc b) ∷ []) (suc b ∷ exits) h.0 (tt, tt),
-    ),
-  ),
-)
-extra_names (f.Block a) b next exits h k = (k, extra_names a (suc b) (image.Jump b ∷ []) (b ∷ exits) h (tt, tt))
-extra_names (f.Exit i) b next exits h k = tt
-
-last_names : (x : f.Function) → Each NamesNumbers (last x)
-last_names x = by x.result
-  where
-    by : (o : Option Kind) → Each NamesNumbers (elim o [ None ↦ image.ReturnVoid ∷ [] | Some k ↦ image.Return x.value ∷ [] ])
-    by None = (tt, tt)
-    by (Some k) = (tt, tt)
-
-pub blocks_names : (x : f.Function) → CodeNames x.body → Each (Each NamesNumbers) (blocks x)
-blocks_names x h = (first_names x.body 1 (last x) [] h (last_names x), extra_names x.body 1 (last x) [] h (last_names x))
 
 -- ---- expressions and statements
 

@@ -1,0 +1,135 @@
+-- The numbers that the instructions of an image name are those that its code names.
+use Rattle.std.proofs.Common.{ℕ, suc, ◌+◌, Bool, true, false, cond, List, [], ◌∷◌, ◌++◌, Option, Some, None}
+use Rattle.code_form.specs.declared.form.Kind.{Kind}
+use Rattle.code_form.specs.Form as image
+use Rattle.code_form.specs.Form.{Instruction, Simple}
+use Rattle.code_form.specs.Code.{needs_shut}
+use Rattle.middle_form.specs.Form as f
+use Rattle.middle_form.specs.Scoped as s
+use Rattle.scope_placement.specs.Placed.{Open, in_order, leaves, leaves_from, open_behind, placed, whole}
+use Rattle.codegen.specs.Generated as g
+use Rattle.codegen.specs.Generated.{blocks, extra, first, last}
+use Rattle.c0_well_formed.specs.Laws.{NamesNumber, NamesNumbers}
+use Rattle.c0_well_formed.proofs.CellKinds.{Each, each_append}
+use Rattle.c0_well_formed.proofs.Numbers.{CodeNames}
+
+-- ---- code with scopes
+
+-- each simple instruction of the code names such numbers
+abbrev pub ScopedNames : s.Code → Type 0
+ScopedNames (s.Do x) = NamesNumber x
+ScopedNames (s.Then a b) = ScopedNames a × ScopedNames b
+ScopedNames (s.Choose r a b) = ScopedNames a × ScopedNames b
+ScopedNames (s.Loop test r body) = ScopedNames test × ScopedNames body
+ScopedNames (s.Block a) = ScopedNames a
+ScopedNames s.Nothing = Unit {0}
+ScopedNames (s.Load to z r off disp) = Unit {0}
+ScopedNames (s.Store z r off disp from) = Unit {0}
+ScopedNames (s.LoadBy to z r off disp) = Unit {0}
+ScopedNames (s.StoreBy z r off disp from) = Unit {0}
+ScopedNames (s.Aim z r off disp) = Unit {0}
+ScopedNames (s.Leave z) = Unit {0}
+ScopedNames (s.Loose z) = Unit {0}
+ScopedNames (s.Call to i args) = Unit {0}
+ScopedNames (s.Fail a) = Unit {0}
+ScopedNames (s.Exit i) = Unit {0}
+
+ordered_names : (cs : List s.Code) → Each ScopedNames cs → ScopedNames (in_order cs)
+ordered_names [] h = tt
+ordered_names (x ∷ rest) h = (h.0, ordered_names rest h.1)
+
+leaves_names : (z : ℕ) (rs : Open) → Each ScopedNames (leaves_from z rs)
+leaves_names z [] = tt
+leaves_names z (r ∷ rs) = (tt, leaves_names (suc z) rs)
+
+-- some leaves in front
+left_names : (rs : Open) (x : s.Code) → ScopedNames x → Each ScopedNames (leaves rs ++ x ∷ [])
+left_names rs x h = each_append ScopedNames (leaves rs) (x ∷ []) (leaves_names 0 rs) (h, tt)
+
+left_where_asked : (b : Bool) (rs : Open) (x : s.Code) → ScopedNames x → Each ScopedNames (cond b (leaves rs) [] ++ x ∷ [])
+left_where_asked true rs x h = left_names rs x h
+left_where_asked false rs x h = (h, tt)
+
+closed_names : (a : f.Code) → Each ScopedNames (placed a []) → ScopedNames (whole a)
+closed_names a h = ordered_names _ (each_append ScopedNames (placed a []) (leaves (open_behind a [])) h (leaves_names 0 (open_behind a [])))
+
+placed_names : (a : f.Code) (rs : Open) → CodeNames a → Each ScopedNames (placed a rs)
+placed_names f.Nothing rs h = tt
+placed_names (f.Do x) rs h = left_where_asked (needs_shut (Simple x)) rs (s.Do x) h
+placed_names (f.Load to r off disp) rs h = (tt, tt)
+placed_names (f.Store r off disp from) rs h = (tt, tt)
+placed_names (f.Call to i args) rs h = left_names rs (s.Call to i args) tt
+placed_names (f.Fail a) rs h = (tt, tt)
+placed_names (f.Then a b) rs h = each_append ScopedNames (placed a rs) (placed b (open_behind a rs)) (placed_names a rs h.0) (placed_names b (open_behind a rs) h.1)
+placed_names (f.Choose r a b) rs h = left_names rs (s.Choose r (whole a) (whole b)) (closed_names a (placed_names a [] h.0), closed_names b (placed_names b [] h.1))
+placed_names (f.Loop test r body) rs h =
+    left_names rs (s.Loop (whole test) r (whole body)) (closed_names test (placed_names test [] h.0), closed_names body (placed_names body [] h.1))
+placed_names (f.Block a) rs h = left_names rs (s.Block (whole a)) (closed_names a (placed_names a [] h))
+placed_names (f.Exit i) rs h = left_names rs (s.Exit i) tt
+
+pub whole_names : (a : f.Code) → CodeNames a → ScopedNames (whole a)
+whole_names a h = closed_names a (placed_names a [] h)
+
+-- ---- the image
+
+first_names : (a : s.Code) (b : ℕ) (next : List Instruction) (exits : List ℕ) → ScopedNames a → Each NamesNumbers next → Each NamesNumbers (first a b next exits)
+first_names s.Nothing b next exits h k = k
+first_names (s.Do x) b next exits h k = (h, k)
+first_names (s.Load to z r off disp) b next exits h k = (tt, (tt, k))
+first_names (s.Store z r off disp from) b next exits h k = (tt, (tt, k))
+first_names (s.LoadBy to z r off disp) b next exits h k = (tt, k)
+first_names (s.StoreBy z r off disp from) b next exits h k = (tt, k)
+first_names (s.Aim z r off disp) b next exits h k = (tt, k)
+first_names (s.Leave z) b next exits h k = (tt, k)
+first_names (s.Loose z) b next exits h k = k
+first_names (s.Call to i args) b next exits h k = (tt, k)
+first_names (s.Fail a) b next exits h k = (tt, tt)
+first_names (s.Then a d) b next exits h k = first_names a (b + g.count d) (first d b next exits) exits h.0 (first_names d b next exits h.1 k)
+first_names (s.Choose r a d) b next exits h k = (tt, tt)
+first_names (s.Loop test r body) b next exits h k = (tt, tt)
+first_names (s.Block a) b next exits h k = first_names a (suc b) (image.Jump b ∷ []) (b ∷ exits) h (tt, tt)
+first_names (s.Exit i) b next exits h k = (tt, tt)
+
+extra_names : (a : s.Code) (b : ℕ) (next : List Instruction) (exits : List ℕ) → ScopedNames a → Each NamesNumbers next → Each (Each NamesNumbers) (extra a b next exits)
+extra_names s.Nothing b next exits h k = tt
+extra_names (s.Do x) b next exits h k = tt
+extra_names (s.Load to z r off disp) b next exits h k = tt
+extra_names (s.Store z r off disp from) b next exits h k = tt
+extra_names (s.LoadBy to z r off disp) b next exits h k = tt
+extra_names (s.StoreBy z r off disp from) b next exits h k = tt
+extra_names (s.Aim z r off disp) b next exits h k = tt
+extra_names (s.Leave z) b next exits h k = tt
+extra_names (s.Loose z) b next exits h k = tt
+extra_names (s.Call to i args) b next exits h k = tt
+extra_names (s.Fail a) b next exits h k = tt
+extra_names (s.Then a d) b next exits h k =
+    each_append (Each NamesNumbers) (extra d b next exits) (extra a (b + g.count d) (first d b next exits) exits) (extra_names d b next exits h.1 k) (extra_names a (b + g.count d) (first d b next exits) exits h.0 (first_names d b next exits h.1 k))
+extra_names (s.Choose r a d) b next exits h k = (
+  k,
+  each_append (Each NamesNumbers) (extra a (suc b) (image.Jump b ∷ []) exits) _ (extra_names a (suc b) (image.Jump b ∷ []) exits h.0 (tt, tt)) (
+    first_names a (suc b) (image.Jump b ∷ []) exits h.0 (tt, tt),
+    each_append (Each NamesNumbers) (extra d (suc (suc b + g.count a)) (image.Jump b ∷ []) exits) _ (extra_names d (suc (suc b + g.count a)) (image.Jump b ∷ []) exits h.1 (tt, tt)) (first_names d (suc (suc b + g.count a)) (image.Jump b ∷ []) exits h.1 (tt, tt), tt),
+  ),
+)
+extra_names (s.Loop test r body) b next exits h k = (
+  first_names test (suc (suc (suc b) + g.count body)) (image.Branch r (suc (suc b) + g.count body) (suc b) ∷ []) (suc b ∷ exits) h.0 (tt, tt),
+  (
+    k,
+    each_append (Each NamesNumbers) (extra body (suc (suc b)) (image.Jump b ∷ []) (suc b ∷ exits)) _ (extra_names body (suc (suc b)) (image.Jump b ∷ []) (suc b ∷ exits) h.1 (tt, tt)) (
+      first_names body (suc (suc b)) (image.Jump b ∷ []) (suc b ∷ exits) h.1 (tt, tt),
+      extra_names test (suc (suc (suc b) + g.count body)) (image.Branch r (suc (suc b) + g.count body) (suc b) ∷ []) (suc b ∷ exits) h.0 (tt, tt),
+    ),
+  ),
+)
+extra_names (s.Block a) b next exits h k = (k, extra_names a (suc b) (image.Jump b ∷ []) (b ∷ exits) h (tt, tt))
+extra_names (s.Exit i) b next exits h k = tt
+
+last_names : (x : s.Function) → Each NamesNumbers (last x)
+last_names x = by x.result
+  where
+    by : (o : Option Kind) → Each NamesNumbers (elim o [ None ↦ image.ReturnVoid ∷ [] | Some k ↦ image.Return x.value ∷ [] ])
+    by None = (tt, tt)
+    by (Some k) = (tt, tt)
+
+pub blocks_names : (x : s.Function) → ScopedNames x.body → Each (Each NamesNumbers) (blocks x)
+blocks_names x h = (first_names x.body 1 (last x) [] h (last_names x), extra_names x.body 1 (last x) [] h (last_names x))
