@@ -1,8 +1,7 @@
 -- Reading tokens that are alike up to a place: what is read before that place, and where a fault is met there, are the same.
-use Rattle.std.proofs.Common.{◌≡◌, ℕ, zero, suc, ◌+◌, ◌<◌, ◌≤◌, ◌⊎◌, Bool, true, false, List, [], ◌∷◌, ◌++◌, length, Ok, Err, refl, sym, ap, subst, ◌∙◌, inl, inr, arith}
+use Rattle.std.proofs.Common.{◌≡◌, ℕ, zero, suc, ◌+◌, ◌≤◌, ◌⊎◌, Bool, true, false, List, [], ◌∷◌, ◌++◌, length, Ok, Err, refl, sym, ap, subst, ◌∙◌, inl, inr, arith}
 use Rattle.c0_source.specs.declared.kind.Kind.{Kind}
 use Rattle.c0_source.specs.Terminals.{Terminal, Word, Text, Use, Sign}
-use Rattle.c0_grammar_laws.specs.declared.read_error.ReadError.{ReadError}
 use Rattle.c0_grammar_laws.specs.declared.read_error.ReadError.TheVariants.{OutOfMemory, Syntax, TooDeep, TooLarge}
 use Rattle.c0_grammar_laws.specs.Outcome.{Outcome, ◌>>=◌, refuse, too_deep, plain_at, kind_at, bytes_at, next}
 

@@ -1,5 +1,5 @@
 -- Expressions read from tokens that are alike up to a place.
-use Rattle.std.proofs.Common.{◌≡◌, ℕ, zero, suc, ◌<◌, ◌≤◌, max, Bool, true, false, List, [], ◌∷◌, ◌++◌, length, Option, Some, None, Ok, Err, refl, sym, subst, inl, inr, arith}
+use Rattle.std.proofs.Common.{◌≡◌, ℕ, zero, suc, max, Bool, List, Option, Some, None, Ok, refl, sym, subst}
 use Rattle.std.specs.Prelude.{nat_lt, if◌then◌else◌}
 use Rattle.c0_source.specs.declared.kind.Kind.{Kind}
 use Rattle.c0_source.specs.declared.kind.Kind.TheVariants as k
@@ -8,9 +8,9 @@ use Rattle.c0_syntax.specs.declared.operator.PrefixOperator.{PrefixOperator}
 use Rattle.c0_source.specs.Terminals.{Terminal}
 use Rattle.c0_syntax.specs.Trees.{Expression, Number, Character, Truth, Null, Text, Variable, Parenthesized, Call, Alloc, AllocArray, Result, Length, Index, Field, PointerField, Unary, Binary, Conditional, none, more}
 use Rattle.c0_syntax.specs.Expressions.{operator_precedence, precedence}
-use Rattle.c0_grammar_laws.specs.Outcome.{Outcome, ◌>>=◌, Read, refuse, too_deep, plain_at, kind_at, bytes_at, next, lparen, rparen, rbracket, comma, colon, any_name}
+use Rattle.c0_grammar_laws.specs.Outcome.{Outcome, ◌>>=◌, Read, refuse, too_deep, plain_at, bytes_at, next, lparen, rparen, rbracket, comma, colon, any_name}
 use Rattle.c0_grammar_laws.specs.ReadExpressions.{ReadType, ReadExpression, ReadArguments, leaf, prefix_of, operator_of, add_first, after_argument, arguments, arguments_by, named_by, parenthesized, alloc, alloc_array, length_of, primary_by, primary, index, field, pointer_field, postfix_by, postfix, unary_by, unary, join_by, join, climb, whole, read_type, read_expression}
-use Rattle.c0_grammar_laws.proofs.Alike.{Form, tokens, Left, Alike, bind, done, refused, deep, passed, on_next, same_bytes, by_plain, by_kind, wider, loop, Loops, looped}
+use Rattle.c0_grammar_laws.proofs.Alike.{Form, tokens, Left, Alike, bind, done, refused, deep, on_next, same_bytes, by_plain, by_kind, wider, loop, Loops, looped}
 use Rattle.c0_grammar_laws.proofs.AlikeTypes.{simple, read_form, type_form, Reads, Goes, pick, lparen_alike, rparen_alike, rbracket_alike, comma_alike, colon_alike, any_name_alike, type_alike}
 
 abbrev pub expression_form : Form ReadExpression

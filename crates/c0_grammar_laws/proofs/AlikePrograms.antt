@@ -1,9 +1,9 @@
 -- Declarations and programs read from tokens that are alike up to a place.
-use Rattle.std.proofs.Common.{◌≡◌, ℕ, zero, suc, ◌+◌, ◌-◌, ◌<◌, ◌≤◌, ◌⊎◌, Bool, true, false, List, [], ◌∷◌, ◌++◌, length, Option, Some, None, is_some, Ok, Err, refl, sym, ap, subst, ◌∙◌, inl, inr, arith}
+use Rattle.std.proofs.Common.{◌≡◌, ℕ, zero, suc, ◌+◌, ◌-◌, ◌≤◌, Bool, true, false, List, [], ◌∷◌, ◌++◌, length, Option, Some, None, is_some, Ok, Err, refl, sym, ap, subst, ◌∙◌, inl, inr, arith}
 use Rattle.c0_source.specs.declared.kind.Kind.{Kind}
 use Rattle.c0_source.specs.declared.kind.Kind.TheVariants as k
 use Rattle.c0_source.specs.Terminals.{Terminal, Word, Text, Use, Sign}
-use Rattle.c0_syntax.specs.Trees.{StructType, Spec, TypedName, Header, Declaration, UseLibrary, DeclareStruct, DefineStruct, Typedef, DeclareFunction, DefineFunction, Program, Statements}
+use Rattle.c0_syntax.specs.Trees.{StructType, Spec, TypedName, Header, Declaration, DeclareStruct, DefineStruct, Typedef, DeclareFunction, DefineFunction, Program, Statements}
 use Rattle.c0_syntax.specs.Programs.{Reads as IsRead, type_names_after}
 use Rattle.c0_grammar_laws.specs.declared.read_error.ReadError.{ReadError}
 use Rattle.c0_grammar_laws.specs.declared.read_error.ReadError.TheVariants.{OutOfMemory, Syntax, TooDeep, TooLarge}
@@ -12,7 +12,7 @@ use Rattle.c0_grammar_laws.specs.Outcome.{Outcome, ◌>>=◌, Read, refuse, plai
 use Rattle.c0_grammar_laws.specs.ReadExpressions.{ReadType, base_by, leaf_type, suffixes, read_type}
 use Rattle.c0_grammar_laws.specs.ReadStatements.{Counted, read_annotations, read_body}
 use Rattle.c0_grammar_laws.specs.ReadPrograms.{fields_by, read_fields, ReadParameters, over_by, add_parameter, less, after_parameter, read_parameters, parameters_by, ReadDeclaration, small, end_by, ReadHeader, read_header, function, struct_by, struct_of, use_of, declaration_by, read_declaration, read_declarations, read_program}
-use Rattle.c0_grammar_laws.proofs.Alike.{Form, tokens, Twin, Left, Short, Alike, bind, bind_at, done, refused, large, on_next, same_bytes, by_plain, by_plain_is, wider, weaker, nothing_left, nothing_left_there, each, one_less, Enough, loop, Loops, looped}
+use Rattle.c0_grammar_laws.proofs.Alike.{Form, tokens, Twin, Left, Short, Alike, bind, done, refused, large, on_next, same_bytes, by_plain, by_plain_is, wider, weaker, nothing_left, nothing_left_there, each, one_less, Enough, loop, Loops, looped}
 use Rattle.c0_grammar_laws.proofs.AlikeTypes.{simple, read_form, type_form, Reads, lparen_alike, semi_alike, any_name_alike, new_name_alike, type_alike, suffixes_alike}
 use Rattle.c0_grammar_laws.proofs.AlikeStatements.{counted_form, all_notes, function_body_alike}
 use Rattle.c0_grammar_laws.proofs.Basics.{sign_at}
@@ -351,7 +351,7 @@ module _ (b c : List Terminal) where
       bind b c program_form program_form v l m (read_declarations (type_names_after types d.declaration) loops n d.room d.rest) (read_declarations (type_names_after types d.declaration) loops k d.room p) (λ ds. Ok (d.declaration ∷ ds)) (λ ds. Ok (d.declaration ∷ ds))
       (goes (type_names_after types d.declaration) d.room v d.rest p q) (λ u ds e _ z. done b c program_form u l m (d.declaration ∷ ds) tt tt z))
 
-  program_alike : (loops : Bool) (n k : ℕ) (w : Bool) (l m : ℕ) (types : List (List ℕ)) (room : ℕ) (ts us : List Terminal) → Enough b c w l n → Enough b c w m k → Left b c w l m ts us
+  pub program_alike : (loops : Bool) (n k : ℕ) (w : Bool) (l m : ℕ) (types : List (List ℕ)) (room : ℕ) (ts us : List Terminal) → Enough b c w l n → Enough b c w m k → Left b c w l m ts us
       → Alike b c program_form w l m (read_declarations types loops n room ts) (read_declarations types loops k room us)
   unfolding read_declarations
   program_alike loops n k true l m types room [] us e f h = omega arith
@@ -372,7 +372,7 @@ module _ (b c : List Terminal) where
 
 -- ---- the causes
 
-twin_at : (before : List Terminal) (t : Terminal) (behind others : List Terminal) → Twin behind others (before ++ t ∷ behind) (before ++ t ∷ others)
+pub twin_at : (before : List Terminal) (t : Terminal) (behind others : List Terminal) → Twin behind others (before ++ t ∷ behind) (before ++ t ∷ others)
 twin_at [] t behind others = (t, [], refl, refl)
 twin_at (x ∷ xs) t behind others = let h = twin_at xs t behind others in (x, h.0 ∷ h.1, ap (λ (z : List Terminal). x ∷ z) h.2, ap (λ (z : List Terminal). x ∷ z) h.3)
 

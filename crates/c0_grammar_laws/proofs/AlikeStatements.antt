@@ -1,16 +1,16 @@
 -- Annotations and statements read from tokens that are alike up to a place.
-use Rattle.std.proofs.Common.{◌≡◌, ℕ, zero, suc, ◌<◌, ◌≤◌, Bool, true, false, List, [], ◌∷◌, ◌++◌, length, Option, Some, None, Ok, Err, refl, sym, subst, inl, inr, arith}
+use Rattle.std.proofs.Common.{◌≡◌, ℕ, zero, suc, ◌≤◌, Bool, true, false, List, [], ◌∷◌, length, Option, None, Ok, refl, arith}
 use Rattle.c0_source.specs.declared.kind.Kind.{Kind}
 use Rattle.c0_source.specs.declared.kind.Kind.TheVariants as k
 use Rattle.c0_syntax.specs.declared.operator.Change.TheVariants as n
 use Rattle.c0_source.specs.Terminals.{Terminal}
 use Rattle.c0_syntax.specs.Trees.{ValueType, Expression, Spec, Contract, Asserts, SimpleStatement, Declare, Initialize, Assign, Update, Step, Evaluate, Statement, Simple, Block, Annotation, Return, ReturnValue, If, IfElse, While, For, Assert, Error, Break, Continue, Statements, nothing, also}
 use Rattle.c0_syntax.specs.Expressions.{begins_star}
-use Rattle.c0_grammar_laws.specs.Outcome.{Outcome, ◌>>=◌, Read, refuse, too_deep, too_large, plain_at, kind_at, next, lparen, rparen, semi, new_name}
+use Rattle.c0_grammar_laws.specs.Outcome.{Outcome, ◌>>=◌, Read, refuse, plain_at, next, lparen, rparen, semi, new_name}
 use Rattle.c0_grammar_laws.specs.ReadExpressions.{ReadType, ReadExpression, read_type, read_expression}
 use Rattle.c0_grammar_laws.specs.ReadStatements.{Counted, spec_by, read_spec, specs_by, read_specs, annotations_by, read_annotations, value_by, room_by, local_declaration, step_by, behind_by, simple_by, read_simple, given, first_by, third_by, read_condition, call_of, with_semi, return_by, leave_by, Body, ForEnd, ForTest, else_by, statements_by, read_statements, if_of, loop_body, while_of, for_end, for_test, for_of, statement_by, read_statement, read_body}
-use Rattle.c0_grammar_laws.proofs.Alike.{Form, tokens, Twin, Left, Alike, bind, done, refused, deep, large, passed, on_next, by_plain, by_kind, wider, weaker, nothing_left, nothing_left_there, bind_at, each, one_less, Enough, loop, Loops, looped_more, looped_next}
-use Rattle.c0_grammar_laws.proofs.AlikeTypes.{simple, read_form, type_form, Reads, Goes, pick, lparen_alike, rparen_alike, semi_alike, new_name_alike, type_alike}
+use Rattle.c0_grammar_laws.proofs.Alike.{Form, tokens, Left, Alike, bind, done, refused, deep, large, on_next, by_plain, by_kind, wider, weaker, nothing_left, nothing_left_there, bind_at, each, one_less, Enough, loop, Loops, looped_more, looped_next}
+use Rattle.c0_grammar_laws.proofs.AlikeTypes.{simple, read_form, type_form, Reads, lparen_alike, rparen_alike, semi_alike, new_name_alike, type_alike}
 use Rattle.c0_grammar_laws.proofs.AlikeExpressions.{expression_form, expression_alike}
 
 abbrev pub counted_form : (A : Type 0) → Form (Counted A)

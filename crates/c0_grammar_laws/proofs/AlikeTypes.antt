@@ -1,13 +1,13 @@
 -- Tokens that must stand at a place, and types, read from tokens that are alike up to a place.
-use Rattle.std.proofs.Common.{◌≡◌, ℕ, zero, suc, ◌<◌, ◌≤◌, Bool, true, false, List, [], ◌∷◌, length, Ok, Err, refl, sym, subst, inl, inr, arith}
+use Rattle.std.proofs.Common.{ℕ, zero, suc, Bool, true, false, List, Ok, refl, subst}
 use Rattle.std.specs.Prelude.{nat_lt, if◌then◌else◌}
 use Rattle.c0_source.specs.declared.kind.Kind.{Kind}
 use Rattle.c0_source.specs.declared.kind.Kind.TheVariants as k
 use Rattle.c0_source.specs.declared.kind.Operator.TheVariants as o
 use Rattle.c0_source.specs.Terminals.{Terminal}
 use Rattle.c0_syntax.specs.Trees.{Basic, StructType, NamedType, Pointer}
-use Rattle.c0_grammar_laws.specs.Outcome.{Outcome, ◌>>=◌, Read, refuse, too_deep, plain_at, kind_at, bytes_at, next, lparen_by, rparen_by, rbracket_by, semi_by, comma_by, colon_by, name_by, lparen, rparen, rbracket, semi, comma, colon, any_name, new_name}
-use Rattle.c0_grammar_laws.specs.ReadExpressions.{ReadType, leaf_type, base_by, pointer_to, array_of, suffix_by, suffixes, read_type}
+use Rattle.c0_grammar_laws.specs.Outcome.{Outcome, ◌>>=◌, Read, too_deep, kind_at, bytes_at, next, lparen_by, rparen_by, rbracket_by, semi_by, comma_by, colon_by, name_by, lparen, rparen, rbracket, semi, comma, colon, any_name, new_name}
+use Rattle.c0_grammar_laws.specs.ReadExpressions.{ReadType, leaf_type, base_by, array_of, suffix_by, suffixes, read_type}
 use Rattle.c0_grammar_laws.proofs.Alike.{Form, tokens, Left, Alike, bind, done, refused, deep, passed, on_next, same_bytes, by_plain, by_kind, wider}
 
 -- a reading whose tokens alone may differ

@@ -90,16 +90,16 @@ longer_parameters (x ∷ xs) rest = omega (arith, longer_type x.value_type (Word
 
 -- ---- headers
 
-abbrev header_of : Header → Option ℕ → ℕ → List Terminal → ReadHeader
+abbrev pub header_of : Header → Option ℕ → ℕ → List Terminal → ReadHeader
 header_of h over at rest = record { header = h; at = at; over = over; rest = rest }
 
-record GoodHeader (types : Names) (d : ℕ) (h : Header) (rest : List Terminal) : Type 0 where
-  over : Option ℕ
-  at : ℕ
-  is : read_header types d (emit_header h rest) ≡ Ok (header_of h over at rest)
-  few : length h.parameters ≤ 1024 → over ≡ None
+pub record GoodHeader (types : Names) (d : ℕ) (h : Header) (rest : List Terminal) : Type 0 where
+  pub over : Option ℕ
+  pub at : ℕ
+  pub is : read_header types d (emit_header h rest) ≡ Ok (header_of h over at rest)
+  pub few : length h.parameters ≤ 1024 → over ≡ None
 
-header_is : (types : Names) (h : Header) (d : ℕ) (rest : List Terminal) → FormedHeader types h → height_header h ≤ d → BeginsBody (plain_at rest) → GoodHeader types d h rest
+pub header_is : (types : Names) (h : Header) (d : ℕ) (rest : List Terminal) → FormedHeader types h → height_header h ≤ d → BeginsBody (plain_at rest) → GoodHeader types d h rest
 unfolding read_header
 header_is types h d rest w low b =
     let us = emit_annotations h.annotations rest in
@@ -126,17 +126,17 @@ struct_go types loops d room k.Semi ts b = absurd b
 struct_go types loops d room k.LBrace ts b = absurd b
 struct_go types loops d room _ ts b = refl
 
-declaration_go : (types : Names) (loops : Bool) (d room : ℕ) (t : ValueType) (us : List Terminal) → AfterType (plain_at us) → declaration_by types loops d room (plain_at (emit_type t us)) (emit_type t us) ≡ function types loops d room (emit_type t us)
+pub declaration_go : (types : Names) (loops : Bool) (d room : ℕ) (t : ValueType) (us : List Terminal) → AfterType (plain_at us) → declaration_by types loops d room (plain_at (emit_type t us)) (emit_type t us) ≡ function types loops d room (emit_type t us)
 declaration_go types loops d room (Basic b) us a = refl
 declaration_go types loops d room (StructType x) us a = struct_go types loops d room (plain_at us) (Sign k.Struct ∷ Word x ∷ us) a
 declaration_go types loops d room (NamedType x) us a = refl
 declaration_go types loops d room (Pointer t) us a = declaration_go types loops d room t (Sign (k.Infix o.Multiply) ∷ us) tt
 declaration_go types loops d room (Array t) us a = declaration_go types loops d room t (Sign k.LBracket ∷ Sign k.RBracket ∷ us) tt
 
-abbrev declaration_of : Declaration → ℕ → List Terminal → ReadDeclaration
+abbrev pub declaration_of : Declaration → ℕ → List Terminal → ReadDeclaration
 declaration_of x room rest = record { declaration = x; room = room; rest = rest }
 
-abbrev IsRead : Names → Bool → ℕ → ℕ → Declaration → List Terminal → Type 0
+abbrev pub IsRead : Names → Bool → ℕ → ℕ → Declaration → List Terminal → Type 0
 IsRead types loops all room x rest = read_declaration types loops all (emit_declaration x rest) ≡ Ok (declaration_of x room rest)
 
 bare : (all room : ℕ) → all ≡ 0 + room → all ≡ room
@@ -179,7 +179,7 @@ complete_declaration types loops (Typedef t x) all room rest w low few e = typed
 complete_declaration types loops (DeclareFunction h) all room rest w low few e = declared_is types loops h all room rest w low e
 complete_declaration types loops (DefineFunction h body) all room rest w low few e = defined_is types loops h body all room rest w.0 w.1 low few e
 
-longer_declaration : (x : Declaration) (rest : List Terminal) → length rest < length (emit_declaration x rest)
+pub longer_declaration : (x : Declaration) (rest : List Terminal) → length rest < length (emit_declaration x rest)
 longer_declaration (UseLibrary angle x) rest = omega arith
 longer_declaration (DeclareStruct x) rest = omega arith
 longer_declaration (DefineStruct x fs) rest = omega (arith, longer_fields fs (Sign k.Semi ∷ rest))
@@ -187,13 +187,13 @@ longer_declaration (Typedef t x) rest = omega (arith, longer_type t (Word x ∷ 
 longer_declaration (DeclareFunction h) rest = omega (arith, longer_header h (Sign k.Semi ∷ rest))
 longer_declaration (DefineFunction h body) rest = omega (arith, longer_header h (Sign k.LBrace ∷ emit_statements body rest), longer_statements body rest)
 
-longer_program : (ds : Program) → length ds ≤ length (emit_program ds)
+pub longer_program : (ds : Program) → length ds ≤ length (emit_program ds)
 longer_program [] = omega arith
 longer_program (x ∷ ds) = omega (arith, longer_declaration x (emit_program ds), longer_program ds)
 
 -- ---- programs
 
-step_declarations : (types : Names) (loops : Bool) (n room : ℕ) (ts : List Terminal) → 0 < length ts
+pub step_declarations : (types : Names) (loops : Bool) (n room : ℕ) (ts : List Terminal) → 0 < length ts
     → read_declarations types loops (suc n) room ts ≡ (read_declaration types loops room ts >>= λ d. read_declarations (type_names_after types d.declaration) loops n d.room d.rest >>= λ ds. Ok (d.declaration ∷ ds))
 unfolding read_declarations
 step_declarations types loops n room [] lt = absurd (omega arith)

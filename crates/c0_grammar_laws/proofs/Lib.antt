@@ -16,3 +16,12 @@ pub mod Turns
 pub mod Types
 pub mod Placed
 pub mod PlacedLists
+pub mod Whole
+pub mod WholeTypes
+pub mod WholeExpressions
+pub mod WholeStatements
+pub mod WholeBodies
+pub mod WholePrograms
+pub mod LessRoom
+pub mod Shallow
+pub mod FirstFaults

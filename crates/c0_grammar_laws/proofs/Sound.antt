@@ -19,29 +19,29 @@ use Rattle.c0_grammar_laws.proofs.Turns.{Names, Inner, InnerType, precedence_lt,
 
 -- ---- what a kind means
 
-prefix_is : (kind : Kind) (u : PrefixOperator) → prefix_of kind ≡ Some u → (kind ≡ prefix_sign u) × IsSign kind
+pub prefix_is : (kind : Kind) (u : PrefixOperator) → prefix_of kind ≡ Some u → (kind ≡ prefix_sign u) × IsSign kind
 prefix_is k.Bang u e = let f : p.Not ≡ u = cc in (ap prefix_sign f, tt)
 prefix_is k.Tilde u e = let f : p.Complement ≡ u = cc in (ap prefix_sign f, tt)
 prefix_is (k.Infix o.Subtract) u e = let f : p.Negate ≡ u = cc in (ap prefix_sign f, tt)
 prefix_is (k.Infix o.Multiply) u e = let f : p.Dereference ≡ u = cc in (ap prefix_sign f, tt)
 prefix_is _ u e = absurd cc
 
-operator_is : (kind : Kind) (op : Operator) → operator_of kind ≡ Some op → kind ≡ k.Infix op
+pub operator_is : (kind : Kind) (op : Operator) → operator_of kind ≡ Some op → kind ≡ k.Infix op
 operator_is (k.Infix f) op e = let same : f ≡ op = cc in ap k.Infix same
 operator_is _ op e = absurd cc
 
 -- a sign that binds and is no operator
-question_is : (kind : Kind) → operator_of kind ≡ None → 0 < precedence kind → kind ≡ k.Question
+pub question_is : (kind : Kind) → operator_of kind ≡ None → 0 < precedence kind → kind ≡ k.Question
 question_is k.Question e lt = refl
 question_is (k.Infix f) e lt = absurd cc
 question_is _ e lt = absurd (omega arith)
 
 -- how strong the expression before a token has to be
-abbrev left_of : Kind → ℕ
+abbrev pub left_of : Kind → ℕ
 left_of k.Question = 2
 left_of kind = precedence kind
 
-left_of-le : (kind : Kind) (m : ℕ) → 2 ≤ m → precedence kind ≤ m → left_of kind ≤ m
+pub left_of-le : (kind : Kind) (m : ℕ) → 2 ≤ m → precedence kind ≤ m → left_of kind ≤ m
 left_of-le k.Question m ge le = ge
 left_of-le kind m ge le = le
 
@@ -50,18 +50,18 @@ left_of-lt k.Question = omega arith
 left_of-lt (k.Infix f) = omega (arith, precedence_lt f)
 left_of-lt _ = omega arith
 
-left_of-zero : (kind : Kind) → precedence kind < 1 → left_of kind ≤ 1
+pub left_of-zero : (kind : Kind) → precedence kind < 1 → left_of kind ≤ 1
 left_of-zero k.Question lt = absurd (omega arith)
 left_of-zero kind lt = omega arith
 
 -- ---- what was read
 
 -- the tokens of a tree, and then others
-record Spans (types : Names) (d least : ℕ) (ts : List Terminal) (r : ReadExpression) : Type 0 where
-  spelled : ts ≡ emit_expression r.tree r.rest
-  layered : FormedExpression types least r.tree
-  tall : r.height ≡ height_expression r.tree
-  shallow : height_expression r.tree ≤ d
+pub record Spans (types : Names) (d least : ℕ) (ts : List Terminal) (r : ReadExpression) : Type 0 where
+  pub spelled : ts ≡ emit_expression r.tree r.rest
+  pub layered : FormedExpression types least r.tree
+  pub tall : r.height ≡ height_expression r.tree
+  pub shallow : height_expression r.tree ≤ d
 
 -- ... that don't go on with it
 pub record Sound (types : Names) (d least : ℕ) (ts : List Terminal) (r : ReadExpression) : Type 0 where
@@ -71,10 +71,10 @@ pub record Sound (types : Names) (d least : ℕ) (ts : List Terminal) (r : ReadE
   pub shallow : height_expression r.tree ≤ d
   pub stops : precedence (plain_at r.rest) < least
 
-abbrev IsSound : Names → ℕ → Inner → Type 0
+abbrev pub IsSound : Names → ℕ → Inner → Type 0
 IsSound types d inner = (least : ℕ) (ts : List Terminal) (r : ReadExpression) → 0 < least → least < 13 → inner least ts ≡ Ok r → Sound types d least ts r
 
-abbrev IsSoundType : Names → ℕ → InnerType → Type 0
+abbrev pub IsSoundType : Names → ℕ → InnerType → Type 0
 IsSoundType types d inner_type = (ts : List Terminal) (r : ReadType) → inner_type ts ≡ Ok r → SoundType types d ts r
 
 abbrev after : Kind → List Terminal → List Terminal
@@ -133,7 +133,7 @@ alloc_array_spans types d inner inner_type sound sound_type ts r is e =
     let spelled : ts ≡ emit_expression (AllocArray b.0.value_type f.0.tree) g.0 = kind_sign types ts k.AllocArray is tt ∙ ap (after k.AllocArray) (opened ∙ ap (after k.LParen) (s.spelled ∙ ap (emit_type b.0.value_type) behind)) in
     subst (Spans types (suc d) 13 ts) (ok_is _ r g.2) (record { spelled = spelled; layered = (s.formed, q.layered); tall = omega (arith, s.tall, q.tall); shallow = omega (arith, s.shallow, q.shallow) })
 
-index_spans : (types : Names) (d : ℕ) (inner : Inner) (inner_type : InnerType) → IsSound types d inner → (start : List Terminal) (a r : ReadExpression) → Spans types (suc d) 13 start a → a.height < suc d → plain_at a.rest ≡ k.LBracket
+pub index_spans : (types : Names) (d : ℕ) (inner : Inner) (inner_type : InnerType) → IsSound types d inner → (start : List Terminal) (a r : ReadExpression) → Spans types (suc d) 13 start a → a.height < suc d → plain_at a.rest ≡ k.LBracket
     → index types inner inner_type a ≡ Ok r → Spans types (suc d) 13 start r
 index_spans types d inner inner_type sound start a r left lt is e =
     let b = bind_ok (inner 1 (next a.rest)) (λ i. rbracket i.rest >>= λ rest. Ok (record { tree = Index a.tree i.tree; height = suc (max a.height i.height); rest = rest })) r e in
@@ -146,14 +146,14 @@ index_spans types d inner inner_type sound start a r left lt is e =
     let low : height_expression a.tree < suc d = omega (arith, left.tall) in
     subst (Spans types (suc d) 13 start) (ok_is _ r c.2) (record { spelled = left.spelled ∙ ap (emit_expression a.tree) behind; layered = (left.layered, s.layered); tall = tall; shallow = omega (arith, s.shallow) })
 
-field_spans : (types : Names) (d : ℕ) (inner : Inner) (inner_type : InnerType) (start : List Terminal) (a r : ReadExpression) → Spans types (suc d) 13 start a → a.height < suc d → plain_at a.rest ≡ k.Dot → field types inner inner_type a ≡ Ok r → Spans types (suc d) 13 start r
+pub field_spans : (types : Names) (d : ℕ) (inner : Inner) (inner_type : InnerType) (start : List Terminal) (a r : ReadExpression) → Spans types (suc d) 13 start a → a.height < suc d → plain_at a.rest ≡ k.Dot → field types inner inner_type a ≡ Ok r → Spans types (suc d) 13 start r
 field_spans types d inner inner_type start a r left lt is e =
     let b = bind_ok (any_name (next a.rest)) (λ x. Ok (record { tree = Field a.tree x.value; height = suc a.height; rest = x.rest })) r e in
     let behind : a.rest ≡ Sign k.Dot ∷ Word b.0.value ∷ b.0.rest = sign_at a.rest k.Dot is tt ∙ ap (after k.Dot) (any_name_ok (next a.rest) b.0 b.1) in
     let low : height_expression a.tree < suc d = omega (arith, left.tall) in
     subst (Spans types (suc d) 13 start) (ok_is _ r b.2) (record { spelled = left.spelled ∙ ap (emit_expression a.tree) behind; layered = left.layered; tall = ap suc left.tall; shallow = omega arith })
 
-through_spans : (types : Names) (d : ℕ) (inner : Inner) (inner_type : InnerType) (start : List Terminal) (a r : ReadExpression) → Spans types (suc d) 13 start a → a.height < suc d → plain_at a.rest ≡ k.Arrow → pointer_field types inner inner_type a ≡ Ok r → Spans types (suc d) 13 start r
+pub through_spans : (types : Names) (d : ℕ) (inner : Inner) (inner_type : InnerType) (start : List Terminal) (a r : ReadExpression) → Spans types (suc d) 13 start a → a.height < suc d → plain_at a.rest ≡ k.Arrow → pointer_field types inner inner_type a ≡ Ok r → Spans types (suc d) 13 start r
 through_spans types d inner inner_type start a r left lt is e =
     let b = bind_ok (any_name (next a.rest)) (λ x. Ok (record { tree = PointerField a.tree x.value; height = suc a.height; rest = x.rest })) r e in
     let behind : a.rest ≡ Sign k.Arrow ∷ Word b.0.value ∷ b.0.rest = sign_at a.rest k.Arrow is tt ∙ ap (after k.Arrow) (any_name_ok (next a.rest) b.0 b.1) in
@@ -185,7 +185,7 @@ postfix_ok types inner inner_type limit go_on k.Arrow a r e =
     ]
 postfix_ok types inner inner_type limit go_on _ a r e = inr (inr (inr (ok_is _ _ e)))
 
-postfix_spans : (types : Names) (d : ℕ) (inner : Inner) (inner_type : InnerType) → IsSound types d inner → (f : ℕ) (start : List Terminal) (a r : ReadExpression) → Spans types (suc d) 13 start a → postfix types inner inner_type (suc d) f a ≡ Ok r → Spans types (suc d) 13 start r
+pub postfix_spans : (types : Names) (d : ℕ) (inner : Inner) (inner_type : InnerType) → IsSound types d inner → (f : ℕ) (start : List Terminal) (a r : ReadExpression) → Spans types (suc d) 13 start a → postfix types inner inner_type (suc d) f a ≡ Ok r → Spans types (suc d) 13 start r
 unfolding postfix
 postfix_spans types d inner inner_type sound zero start a r left e = absurd cc
 postfix_spans types d inner inner_type sound (suc f) start a r left e =
@@ -286,7 +286,7 @@ named_spans types d inner inner_type sound ts r is e =
 abbrev leaf_of : Expression → List Terminal → ReadExpression
 leaf_of t rest = record { tree = t; height = 1; rest = rest }
 
-primary_spans_by : (types : Names) (d : ℕ) (inner : Inner) (inner_type : InnerType) → IsSound types d inner → IsSoundType types d inner_type → (kind : Kind) (ts : List Terminal) (r : ReadExpression) → kind_at types ts ≡ kind → primary_by types inner inner_type kind ts ≡ Ok r → Spans types (suc d) 13 ts r
+pub primary_spans_by : (types : Names) (d : ℕ) (inner : Inner) (inner_type : InnerType) → IsSound types d inner → IsSoundType types d inner_type → (kind : Kind) (ts : List Terminal) (r : ReadExpression) → kind_at types ts ≡ kind → primary_by types inner inner_type kind ts ≡ Ok r → Spans types (suc d) 13 ts r
 primary_spans_by types d inner inner_type sound sound_type (k.Number n) ts r is e =
     subst (Spans types (suc d) 13 ts) (ok_is (leaf_of (Number n) (next ts)) r e) (record { spelled = kind_sign types ts (k.Number n) is tt; layered = tt; tall = refl; shallow = omega arith })
 primary_spans_by types d inner inner_type sound sound_type (k.Character c) ts r is e =
@@ -309,14 +309,14 @@ primary_spans_by types d inner inner_type sound sound_type _ ts r is e = absurd 
 -- ---- operands
 
 -- an operand that the next operator may have on its left
-record Left (types : Names) (d least : ℕ) (ts : List Terminal) (r : ReadExpression) : Type 0 where
-  spelled : ts ≡ emit_expression r.tree r.rest
-  layered : FormedExpression types least r.tree
-  before : FormedExpression types (left_of (plain_at r.rest)) r.tree
-  tall : r.height ≡ height_expression r.tree
-  shallow : height_expression r.tree ≤ d
+pub record Left (types : Names) (d least : ℕ) (ts : List Terminal) (r : ReadExpression) : Type 0 where
+  pub spelled : ts ≡ emit_expression r.tree r.rest
+  pub layered : FormedExpression types least r.tree
+  pub before : FormedExpression types (left_of (plain_at r.rest)) r.tree
+  pub tall : r.height ≡ height_expression r.tree
+  pub shallow : height_expression r.tree ≤ d
 
-unary_left_by : (types : Names) (d least : ℕ) (inner : Inner) (inner_type : InnerType) → IsSound types d inner → IsSoundType types d inner_type → least < 13 → (o : Option PrefixOperator) (ts : List Terminal) (r : ReadExpression) → prefix_of (plain_at ts) ≡ o → unary_by types inner inner_type (suc d) o ts ≡ Ok r → Left types (suc d) least ts r
+pub unary_left_by : (types : Names) (d least : ℕ) (inner : Inner) (inner_type : InnerType) → IsSound types d inner → IsSoundType types d inner_type → least < 13 → (o : Option PrefixOperator) (ts : List Terminal) (r : ReadExpression) → prefix_of (plain_at ts) ≡ o → unary_by types inner inner_type (suc d) o ts ≡ Ok r → Left types (suc d) least ts r
 unfolding primary
 unary_left_by types d least inner inner_type sound sound_type lt (Some u) ts r is e =
     let q = prefix_is (plain_at ts) u is in
@@ -333,7 +333,7 @@ unary_left_by types d least inner inner_type sound sound_type lt None ts r is e 
 
 -- ---- operators
 
-join_left : (types : Names) (d least : ℕ) (inner : Inner) (inner_type : InnerType) → IsSound types d inner → (o : Option Operator) (start : List Terminal) (a r : ReadExpression) → Left types (suc d) least start a → a.height < suc d → 0 < least → least ≤ precedence (plain_at a.rest)
+pub join_left : (types : Names) (d least : ℕ) (inner : Inner) (inner_type : InnerType) → IsSound types d inner → (o : Option Operator) (start : List Terminal) (a r : ReadExpression) → Left types (suc d) least start a → a.height < suc d → 0 < least → least ≤ precedence (plain_at a.rest)
     → operator_of (plain_at a.rest) ≡ o → join_by types inner inner_type o a ≡ Ok r → Left types (suc d) least start r
 join_left types d least inner inner_type sound (Some op) start a r left lt pos le is e =
     let q = operator_is (plain_at a.rest) op is in

@@ -21,15 +21,15 @@ use Rattle.c0_grammar_laws.proofs.CompletePrograms.{complete_program}
 abbrev after : Kind → List Terminal → List Terminal
 after kind us = Sign kind ∷ us
 
-abbrev typed : ReadType → Read (List ℕ) → TypedName
+abbrev pub typed : ReadType → Read (List ℕ) → TypedName
 typed t x = record { value_type = t.value_type; name = x.value }
 
 -- ---- fields
 
-record SoundFields (types : Names) (d : ℕ) (ts : List Terminal) (r : Read (List TypedName)) : Type 0 where
-  spelled : ts ≡ emit_fields r.value r.rest
-  formed : FormedFields types r.value
-  shallow : height_typed_names r.value ≤ d
+pub record SoundFields (types : Names) (d : ℕ) (ts : List Terminal) (r : Read (List TypedName)) : Type 0 where
+  pub spelled : ts ≡ emit_fields r.value r.rest
+  pub formed : FormedFields types r.value
+  pub shallow : height_typed_names r.value ≤ d
 
 fields_ok : (types : Names) (d : ℕ) (go_on : List Terminal → Outcome (Read (List TypedName))) (kind : Kind) (ts : List Terminal) (r : Read (List TypedName)) → fields_by types d go_on kind ts ≡ Ok r
     → ((kind ≡ k.RBrace) × (record { value = []; rest = next ts } ≡ r))
@@ -37,7 +37,7 @@ fields_ok : (types : Names) (d : ℕ) (go_on : List Terminal → Outcome (Read (
 fields_ok types d go_on k.RBrace ts r e = inl (refl, ok_is _ _ e)
 fields_ok types d go_on _ ts r e = inr e
 
-fields_sound : (types : Names) (d n : ℕ) (ts : List Terminal) (r : Read (List TypedName)) → read_fields types d n ts ≡ Ok r → SoundFields types d ts r
+pub fields_sound : (types : Names) (d n : ℕ) (ts : List Terminal) (r : Read (List TypedName)) → read_fields types d n ts ≡ Ok r → SoundFields types d ts r
 unfolding read_fields
 fields_sound types d zero ts r e = absurd cc
 fields_sound types d (suc n) ts r e =
@@ -57,21 +57,21 @@ fields_sound types d (suc n) ts r e =
 -- ---- parameters
 
 -- behind a parameter
-record SoundMore (types : Names) (d room : ℕ) (ts : List Terminal) (r : ReadParameters) : Type 0 where
-  spelled : ts ≡ emit_more_parameters r.parameters r.rest
-  formed : FormedParameters types r.parameters
-  shallow : height_typed_names r.parameters ≤ d
-  few : r.over ≡ None → length r.parameters ≤ room
+pub record SoundMore (types : Names) (d room : ℕ) (ts : List Terminal) (r : ReadParameters) : Type 0 where
+  pub spelled : ts ≡ emit_more_parameters r.parameters r.rest
+  pub formed : FormedParameters types r.parameters
+  pub shallow : height_typed_names r.parameters ≤ d
+  pub few : r.over ≡ None → length r.parameters ≤ room
 
 -- at least one
-record SoundParameters (types : Names) (d room : ℕ) (ts : List Terminal) (r : ReadParameters) : Type 0 where
-  spelled : ts ≡ emit_parameters r.parameters r.rest
-  formed : FormedParameters types r.parameters
-  shallow : height_typed_names r.parameters ≤ d
-  few : r.over ≡ None → length r.parameters ≤ room
-  head : TypedName
-  tail : List TypedName
-  is : r.parameters ≡ head ∷ tail
+pub record SoundParameters (types : Names) (d room : ℕ) (ts : List Terminal) (r : ReadParameters) : Type 0 where
+  pub spelled : ts ≡ emit_parameters r.parameters r.rest
+  pub formed : FormedParameters types r.parameters
+  pub shallow : height_typed_names r.parameters ≤ d
+  pub few : r.over ≡ None → length r.parameters ≤ room
+  pub head : TypedName
+  pub tail : List TypedName
+  pub is : r.parameters ≡ head ∷ tail
 
 few_by : (room : ℕ) (at : ℕ) (later : Option ℕ) (count : ℕ) → (later ≡ None → count ≤ less room) → over_by room at later ≡ None → suc count ≤ room
 few_by zero at later count h e = absurd cc
@@ -109,28 +109,28 @@ parameters_sound types d (suc n) room ts r e =
       is = refl;
     })
 
-record SoundAll (types : Names) (d : ℕ) (ts : List Terminal) (r : ReadParameters) : Type 0 where
-  spelled : ts ≡ emit_parameters r.parameters r.rest
-  formed : FormedParameters types r.parameters
-  shallow : height_typed_names r.parameters ≤ d
-  few : r.over ≡ None → length r.parameters ≤ 1024
+pub record SoundAll (types : Names) (d : ℕ) (ts : List Terminal) (r : ReadParameters) : Type 0 where
+  pub spelled : ts ≡ emit_parameters r.parameters r.rest
+  pub formed : FormedParameters types r.parameters
+  pub shallow : height_typed_names r.parameters ≤ d
+  pub few : r.over ≡ None → length r.parameters ≤ 1024
 
-all_sound : (types : Names) (d : ℕ) (kind : Kind) (ts : List Terminal) (r : ReadParameters) → plain_at ts ≡ kind → parameters_by types d kind ts ≡ Ok r → SoundAll types d ts r
+pub all_sound : (types : Names) (d : ℕ) (kind : Kind) (ts : List Terminal) (r : ReadParameters) → plain_at ts ≡ kind → parameters_by types d kind ts ≡ Ok r → SoundAll types d ts r
 all_sound types d k.RParen ts r is e = subst (SoundAll types d ts) (ok_is _ r e) (record { spelled = sign_at ts k.RParen is tt; formed = tt; shallow = omega arith; few = λ _. omega arith })
 all_sound types d _ ts r is e = let s = parameters_sound types d (length ts) 1024 ts r e in record { spelled = s.spelled; formed = s.formed; shallow = s.shallow; few = s.few }
 
 -- ---- headers
 
-record SoundHeader (types : Names) (d : ℕ) (ts : List Terminal) (r : ReadHeader) : Type 0 where
-  spelled : ts ≡ emit_header r.header r.rest
-  formed : FormedHeader types r.header
-  shallow : height_header r.header ≤ d
-  few : r.over ≡ None → length r.header.parameters ≤ 1024
+pub record SoundHeader (types : Names) (d : ℕ) (ts : List Terminal) (r : ReadHeader) : Type 0 where
+  pub spelled : ts ≡ emit_header r.header r.rest
+  pub formed : FormedHeader types r.header
+  pub shallow : height_header r.header ≤ d
+  pub few : r.over ≡ None → length r.header.parameters ≤ 1024
 
 abbrev header_by : ReadType → Read (List ℕ) → ReadParameters → Read (List (List Spec)) → ReadHeader
 header_by t x ps ns = record { header = record { result = t.value_type; name = x.value; parameters = ps.parameters; annotations = ns.value }; at = length t.rest; over = ps.over; rest = ns.rest }
 
-header_sound : (types : Names) (d : ℕ) (ts : List Terminal) (r : ReadHeader) → read_header types d ts ≡ Ok r → SoundHeader types d ts r
+pub header_sound : (types : Names) (d : ℕ) (ts : List Terminal) (r : ReadHeader) → read_header types d ts ≡ Ok r → SoundHeader types d ts r
 unfolding read_header
 header_sound types d ts r e =
     let b = bind_ok (read_type types d ts) (λ t. new_name types t.rest >>= λ x. lparen x.rest >>= λ us. parameters_by types d (plain_at us) us >>= λ ps. read_annotations types d (suc (length ps.rest)) ps.rest >>= λ ns. Ok (header_by t x ps ns)) r e in
@@ -154,14 +154,14 @@ header_sound types d ts r e =
 
 -- ---- declarations
 
-record SoundDeclaration (types : Names) (loops : Bool) (all : ℕ) (ts : List Terminal) (r : ReadDeclaration) : Type 0 where
-  spelled : ts ≡ emit_declaration r.declaration r.rest
-  formed : FormedDeclaration types loops r.declaration
-  shallow : height_declaration r.declaration ≤ 200
-  few : locals_declaration r.declaration ≤ 1024
-  rooms : all ≡ defined_by r.declaration + r.room
+pub record SoundDeclaration (types : Names) (loops : Bool) (all : ℕ) (ts : List Terminal) (r : ReadDeclaration) : Type 0 where
+  pub spelled : ts ≡ emit_declaration r.declaration r.rest
+  pub formed : FormedDeclaration types loops r.declaration
+  pub shallow : height_declaration r.declaration ≤ 200
+  pub few : locals_declaration r.declaration ≤ 1024
+  pub rooms : all ≡ defined_by r.declaration + r.room
 
-small_ok : (over : Option ℕ) (n : ℕ) → small over ≡ Ok n → over ≡ None
+pub small_ok : (over : Option ℕ) (n : ℕ) → small over ≡ Ok n → over ≡ None
 small_ok None n e = refl
 small_ok (Some at) n e = absurd cc
 
@@ -225,7 +225,7 @@ use_sound types loops all (Text x ∷ ts) e = absurd cc
 use_sound types loops all (Use angle x ∷ ts) e = record { spelled = refl; formed = tt; shallow = omega arith; few = omega arith; rooms = omega arith }
 use_sound types loops all (Sign kind ∷ ts) e = absurd (not_use kind e)
 
-declaration_sound : (types : Names) (loops : Bool) (all : ℕ) (kind : Kind) (ts : List Terminal) (r : ReadDeclaration) → plain_at ts ≡ kind → declaration_by types loops 199 all kind ts ≡ Ok r → SoundDeclaration types loops all ts r
+pub declaration_sound : (types : Names) (loops : Bool) (all : ℕ) (kind : Kind) (ts : List Terminal) (r : ReadDeclaration) → plain_at ts ≡ kind → declaration_by types loops 199 all kind ts ≡ Ok r → SoundDeclaration types loops all ts r
 declaration_sound types loops all k.Use ts r is e = subst (SoundDeclaration types loops all ts) (ok_is _ r e) (use_sound types loops all ts is)
 declaration_sound types loops all k.Struct ts r is e = struct_of_sound types loops all (plain_at (next ts)) ts r is refl e
 declaration_sound types loops all k.Typedef ts r is e =

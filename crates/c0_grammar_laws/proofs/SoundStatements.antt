@@ -42,7 +42,7 @@ spec_sound types d k.Assert ts r is e =
     subst (SoundSpec types (suc d) ts) (ok_is _ r q.2) (record { spelled = spelled; formed = s.layered; shallow = omega (arith, s.shallow) })
 spec_sound types d _ ts r is e = absurd cc
 
-read_spec_sound : (types : Names) (d : ℕ) (ts : List Terminal) (r : Read Spec) → read_spec types d ts ≡ Ok r → SoundSpec types d ts r
+pub read_spec_sound : (types : Names) (d : ℕ) (ts : List Terminal) (r : Read Spec) → read_spec types d ts ≡ Ok r → SoundSpec types d ts r
 unfolding read_spec
 read_spec_sound types zero ts r e = absurd cc
 read_spec_sound types (suc d) ts r e = spec_sound types d (plain_at ts) ts r refl e
@@ -177,11 +177,11 @@ read_simple_sound types (suc d) all ts r e =
 
 -- ---- the parts of `for`
 
-record SoundOption (types : Names) (d all : ℕ) (ts : List Terminal) (r : Counted (Option SimpleStatement)) : Type 0 where
-  spelled : ts ≡ emit_option r.value r.rest
-  formed : FormedOption types r.value
-  shallow : height_option r.value ≤ d
-  rooms : all ≡ locals_option r.value + r.room
+pub record SoundOption (types : Names) (d all : ℕ) (ts : List Terminal) (r : Counted (Option SimpleStatement)) : Type 0 where
+  pub spelled : ts ≡ emit_option r.value r.rest
+  pub formed : FormedOption types r.value
+  pub shallow : height_option r.value ≤ d
+  pub rooms : all ≡ locals_option r.value + r.room
 
 given_sound : (types : Names) (d all : ℕ) (ts : List Terminal) (r : Counted (Option SimpleStatement)) → (read_simple types d all ts >>= λ s. Ok (given s)) ≡ Ok r → SoundOption types d all ts r
 given_sound types d all ts r e =
@@ -189,17 +189,17 @@ given_sound types d all ts r e =
     let s = read_simple_sound types d all ts b.0 b.1 in
     subst (SoundOption types d all ts) (ok_is _ r b.2) (record { spelled = s.spelled; formed = s.formed; shallow = s.shallow; rooms = s.rooms })
 
-first_sound : (types : Names) (d all : ℕ) (kind : Kind) (ts : List Terminal) (r : Counted (Option SimpleStatement)) → first_by types d all kind ts ≡ Ok r → SoundOption types d all ts r
+pub first_sound : (types : Names) (d all : ℕ) (kind : Kind) (ts : List Terminal) (r : Counted (Option SimpleStatement)) → first_by types d all kind ts ≡ Ok r → SoundOption types d all ts r
 first_sound types d all k.Semi ts r e = subst (SoundOption types d all ts) (ok_is _ r e) (record { spelled = refl; formed = tt; shallow = omega arith; rooms = omega arith })
 first_sound types d all _ ts r e = given_sound types d all ts r e
 
-third_sound : (types : Names) (d all : ℕ) (kind : Kind) (ts : List Terminal) (r : Counted (Option SimpleStatement)) → third_by types d all kind ts ≡ Ok r → SoundOption types d all ts r
+pub third_sound : (types : Names) (d all : ℕ) (kind : Kind) (ts : List Terminal) (r : Counted (Option SimpleStatement)) → third_by types d all kind ts ≡ Ok r → SoundOption types d all ts r
 third_sound types d all k.RParen ts r e = subst (SoundOption types d all ts) (ok_is _ r e) (record { spelled = refl; formed = tt; shallow = omega arith; rooms = omega arith })
 third_sound types d all _ ts r e = given_sound types d all ts r e
 
 -- ---- statements
 
-abbrev Inner : Type 0
+abbrev pub Inner : Type 0
 Inner = ℕ → List Terminal → Outcome (Counted Statement)
 
 pub record SoundStatement (types : Names) (loops : Bool) (d all : ℕ) (ts : List Terminal) (r : Counted Statement) : Type 0 where
@@ -215,16 +215,16 @@ pub record SoundStatements (types : Names) (loops : Bool) (d all : ℕ) (ts : Li
   pub shallow : height_statements r.value ≤ d
   pub rooms : all ≡ locals_statements r.value + r.room
 
-abbrev IsSound : Names → Bool → ℕ → Inner → Type 0
+abbrev pub IsSound : Names → Bool → ℕ → Inner → Type 0
 IsSound types loops d inner = (all : ℕ) (ts : List Terminal) (r : Counted Statement) → inner all ts ≡ Ok r → SoundStatement types loops d all ts r
 
 -- `(` exp `)`
-record SoundTest (types : Names) (d : ℕ) (ts : List Terminal) (r : Read Expression) : Type 0 where
-  spelled : ts ≡ Sign k.LParen ∷ emit_expression r.value (Sign k.RParen ∷ r.rest)
-  layered : FormedExpression types 1 r.value
-  shallow : height_expression r.value ≤ d
+pub record SoundTest (types : Names) (d : ℕ) (ts : List Terminal) (r : Read Expression) : Type 0 where
+  pub spelled : ts ≡ Sign k.LParen ∷ emit_expression r.value (Sign k.RParen ∷ r.rest)
+  pub layered : FormedExpression types 1 r.value
+  pub shallow : height_expression r.value ≤ d
 
-test_sound : (types : Names) (d : ℕ) (ts : List Terminal) (r : Read Expression) → read_condition types d ts ≡ Ok r → SoundTest types d ts r
+pub test_sound : (types : Names) (d : ℕ) (ts : List Terminal) (r : Read Expression) → read_condition types d ts ≡ Ok r → SoundTest types d ts r
 unfolding read_condition
 test_sound types d ts r e =
     let a = bind_ok (lparen ts) (λ us. read_expression types d 1 us >>= λ e. rparen e.rest >>= λ rest. Ok (record { value = e.tree; rest = rest })) r e in
@@ -234,12 +234,12 @@ test_sound types d ts r e =
     let whole : ts ≡ Sign k.LParen ∷ emit_expression b.0.tree (Sign k.RParen ∷ q.0) = lparen_ok ts a.0 a.1 ∙ ap (after k.LParen) (s.spelled ∙ ap (emit_expression b.0.tree) (rparen_ok b.0.rest q.0 q.1)) in
     subst (SoundTest types d ts) (ok_is _ r q.2) (record { spelled = whole; layered = s.layered; shallow = s.shallow })
 
-record SoundCall (types : Names) (d : ℕ) (ts : List Terminal) (r : Read Expression) : Type 0 where
-  spelled : ts ≡ Sign k.LParen ∷ emit_expression r.value (Sign k.RParen ∷ Sign k.Semi ∷ r.rest)
-  layered : FormedExpression types 1 r.value
-  shallow : height_expression r.value ≤ d
+pub record SoundCall (types : Names) (d : ℕ) (ts : List Terminal) (r : Read Expression) : Type 0 where
+  pub spelled : ts ≡ Sign k.LParen ∷ emit_expression r.value (Sign k.RParen ∷ Sign k.Semi ∷ r.rest)
+  pub layered : FormedExpression types 1 r.value
+  pub shallow : height_expression r.value ≤ d
 
-call_sound : (types : Names) (d : ℕ) (ts : List Terminal) (r : Read Expression) → call_of types d ts ≡ Ok r → SoundCall types d ts r
+pub call_sound : (types : Names) (d : ℕ) (ts : List Terminal) (r : Read Expression) → call_of types d ts ≡ Ok r → SoundCall types d ts r
 unfolding call_of
 call_sound types d ts r e =
     let a = bind_ok (read_condition types d ts) (λ e. semi e.rest >>= λ rest. Ok (record { value = e.value; rest = rest })) r e in

@@ -103,7 +103,7 @@ pub record SpansType (types : List (List ℕ)) (d : ℕ) (ts : List Terminal) (r
   pub tall : r.height ≡ height_type r.value_type
   pub shallow : height_type r.value_type ≤ d
 
-base_spans : (types : List (List ℕ)) (d : ℕ) (kind : Kind) (ts : List Terminal) (r : ReadType) → kind_at types ts ≡ kind → base_by kind ts ≡ Ok r → SpansType types (suc d) ts r
+pub base_spans : (types : List (List ℕ)) (d : ℕ) (kind : Kind) (ts : List Terminal) (r : ReadType) → kind_at types ts ≡ kind → base_by kind ts ≡ Ok r → SpansType types (suc d) ts r
 base_spans types d (k.Base b) ts r is e =
     subst (SpansType types (suc d) ts) (ok_is _ r e) (record { spelled = kind_sign types ts (k.Base b) is tt; formed = tt; tall = refl; shallow = omega arith })
 base_spans types d k.Struct ts r is e =

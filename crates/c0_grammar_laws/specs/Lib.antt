@@ -2,9 +2,11 @@ pub mod PlacedPrograms
 pub mod PlacedStatements
 pub mod Places
 pub mod Laws
+pub mod Limits
 pub mod Outcome
 pub mod Parsing
 pub mod ReadExpressions
 pub mod ReadPrograms
 pub mod ReadStatements
 pub mod Tokens
+pub mod WorkedTokens

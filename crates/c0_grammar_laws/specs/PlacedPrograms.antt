@@ -1,5 +1,5 @@
 -- Which tokens of a text are those of a declaration, and that each of its parts stands where they do.
-use Rattle.std.specs.Prelude.{◌≡◌, List, [], ◌∷◌, map}
+use Rattle.std.specs.Prelude.{◌≡◌, List, [], ◌∷◌}
 use Rattle.c0_source.specs.Spelling.{Lexeme}
 use Rattle.c0_syntax.specs.Trees as t
 use Rattle.c0_syntax.specs.Views.{declaration_of, header_of, type_of, typed_name_of}

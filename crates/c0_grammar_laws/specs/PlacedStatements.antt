@@ -1,6 +1,5 @@
 -- Which tokens of a text are those of an annotation or a statement, and that each of its parts stands where they do.
-use Rattle.std.specs.Prelude.{◌≡◌, List, [], ◌∷◌, map, Option, Some, None, option_map, box_value, Box}
-use Rattle.std.specs.declared.alloc.Global.{Global}
+use Rattle.std.specs.Prelude.{◌≡◌, List, [], ◌∷◌, map, Option, Some, None, option_map}
 use Rattle.c0_source.specs.declared.fault.Span.{Span}
 use Rattle.c0_syntax.specs.Trees as t
 use Rattle.c0_syntax.specs.Views.{annotation_of, expression_of, simple_of, spec_of, statement_of, statement_of_kind, statements_of, type_of}
@@ -11,7 +10,7 @@ use Rattle.c0_syntax.specs.declared.statement.SimpleStatement.{SimpleStatement}
 use Rattle.c0_syntax.specs.declared.statement.SimpleKind.{SimpleKind}
 use Rattle.c0_syntax.specs.declared.statement.SimpleKind.TheVariants as s
 use Rattle.c0_syntax.specs.declared.statement.Statement.{Statement}
-use Rattle.c0_syntax.specs.declared.statement.StatementKind.{StatementKind, Row_of-Statement, end_of-Statement, more_of-Statement, Simple, Block', Annotated, Return, ReturnValue, If', IfElse', While', For', Assert, Error, Break, Continue}
+use Rattle.c0_syntax.specs.declared.statement.StatementKind.{StatementKind, Row_of-Statement, end_of-Statement, more_of-Statement, Simple, Block', Annotated, ReturnValue, If', IfElse', While', For', Assert, Error}
 use Rattle.c0_grammar_laws.specs.Places.{IsPlaced, PlacedExpression, PlacedName, PlacedType, Position, after_expression, after_type, skip}
 
 -- ---- annotations

@@ -1,14 +1,14 @@
 -- Which tokens of a text are those of a tree, and that each of its parts stands where they do.
-use Rattle.std.specs.Prelude.{◌≡◌, ℕ, ◌+◌, List, [], ◌∷◌, length, Option, Some, None}
+use Rattle.std.specs.Prelude.{◌≡◌, ℕ, ◌+◌, List, [], ◌∷◌, length}
 use Rattle.c0_source.specs.Spelling.{Lexeme}
 use Rattle.c0_source.specs.declared.fault.Span.{Span}
 use Rattle.c0_syntax.specs.Trees as t
-use Rattle.c0_syntax.specs.Views.{type_of_kind, type_of, expression_of_kind, expression_of, expressions_of, row_of}
+use Rattle.c0_syntax.specs.Views.{type_of_kind, type_of, expression_of_kind, expression_of, expressions_of}
 use Rattle.c0_syntax.specs.declared.name.Name.{Name}
 use Rattle.c0_syntax.specs.declared.value_type.ValueType.{ValueType}
 use Rattle.c0_syntax.specs.declared.value_type.TypeKind.{TypeKind, Basic, Struct, Named, Pointer', Array'}
 use Rattle.c0_syntax.specs.declared.expression.Expression.{Expression}
-use Rattle.c0_syntax.specs.declared.expression.ExpressionKind.{ExpressionKind, Row_of-Expression, end_of-Expression, more_of-Expression, Number, Character, Truth, Null, Text, Variable, Parenthesized', Call', Alloc, AllocArray', Result, Length', Index', Field', PointerField', Unary', Binary', Conditional'}
+use Rattle.c0_syntax.specs.declared.expression.ExpressionKind.{ExpressionKind, Row_of-Expression, end_of-Expression, more_of-Expression, Variable, Parenthesized', Call', Alloc, AllocArray', Length', Index', Field', PointerField', Unary', Binary', Conditional'}
 
 -- a position between two tokens of a text: the tokens behind it, and where the one before it ends
 pub record Position : Type 0 where
