@@ -359,7 +359,7 @@ not_readable =
     pair 20 (only_main (While (Truth true) [] Break ∷ [])) (only_main (While (Truth true) [] (block []) ∷ []))
     ∷ pair 20 (only_main (initialize int x (num 1) ∷ Simple (Update (var x) o.Less (num 1)) ∷ [])) (only_main (initialize int x (num 1) ∷ Simple (Update (var x) o.ShiftLeft (num 1)) ∷ []))
     ∷ pair 11 (only_main (evaluate (Character 128) ∷ [])) (only_main (evaluate (Character 127) ∷ []))
-    ∷ pair 11 (only_main (evaluate (Text (128 ∷ [])) ∷ [])) (only_main (evaluate (Text (127 ∷ [])) ∷ []))
+    ∷ pair 11 (only_main (evaluate (Text (195 ∷ 169 ∷ [])) ∷ [])) (only_main (evaluate (Text (127 ∷ [])) ∷ []))
     ∷ []
 
 -- all of them

@@ -15,3 +15,10 @@ mod NameCauses
 mod PathCauses
 mod HeaderCauses
 mod ProgramCauses
+mod Find
+mod FindExpressions
+mod FindStatements
+mod FindPaths
+mod FindReads
+mod FindHeaders
+mod FindPrograms

@@ -1,6 +1,6 @@
 -- A function whose paths break a rule has a cause in it.
 use Rattle.std.proofs.Common.{◌≡◌, ◌⊎◌, inl, inr, List, [], ◌∷◌, ◌++◌, refl, sym, ap, subst, ◌∙◌, Bool, true, false, Option, Some, None}
-use Rattle.std.specs.Prelude.{◌&&◌, ◌||◌, not, map, option_map}
+use Rattle.std.specs.Prelude.{◌&&◌, ◌||◌, map, option_map}
 use Rattle.std.specs.List.{list_any}
 use Rattle.c0_source.specs.declared.fault.FaultKind.TheVariants as k
 use Rattle.c0_syntax.specs.declared.expression.Expression as e
@@ -21,7 +21,6 @@ use Rattle.c0_rules.specs.Assignment.{Flow, Ended, Reached, reads_assigned, spec
 use Rattle.c0_rules.specs.Statements.{Postcondition, role_of, same_role}
 use Rattle.c0_rules.specs.Programs.{names_of, names_in_ensures, is_assigned_parameter, keeps_parameters, paths_agree}
 use Rattle.c0_rules.specs.FaultPaths.{is_unassigned, ReadIn, ReadInSpecs, ReadInAnnotations, ReadInSimple, ReadInPart, ReadInStatement, ReadInBlock, ReadInBody}
-use Rattle.c0_rules.specs.FaultExpressions.{Told}
 use Rattle.c0_rules.specs.FaultPrograms.{is_assigned_in, AssignedParameter, AssignedParameters, InPaths}
 use Rattle.c0_rules.proofs.Assigned.{after_is, statements_after}
 use Rattle.c0_rules.proofs.Rules.{AllSome}

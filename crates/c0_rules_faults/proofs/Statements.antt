@@ -1,5 +1,5 @@
 -- A statement in which a fault has its cause is refused.
-use Rattle.std.proofs.Common.{◌≡◌, ◌⊎◌, inl, inr, List, [], ◌∷◌, ◌++◌, refl, sym, ap, ◌∙◌, subst, Bool, true, false, Option, Some, None}
+use Rattle.std.proofs.Common.{◌≡◌, inl, inr, List, [], ◌∷◌, ◌++◌, refl, sym, ap, ◌∙◌, subst, Bool, true, false, Option, Some, None}
 use Rattle.std.specs.Prelude.{not, cond, map, option_map, bytes_eq}
 use Rattle.cells.specs.declared.int32.Int32Op.{Int32Op}
 use Rattle.c0_source.specs.declared.fault.Fault.{Fault}

@@ -3,4 +3,4 @@
 
 mod laws;
 
-pub use laws::{causes_refuse, refusals_are_caused};
+pub use laws::{causes_refuse, refusals_are_caused, worked_are_caused};
