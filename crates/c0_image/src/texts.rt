@@ -1,8 +1,11 @@
 //! From the bytes of a text to the verified image of its program.
-ghost use Rattle.std.specs.Prelude.{◌≡◌, ◌⊎◌, false, IfErr, IfOk, MatchResult};
+ghost use Rattle.std.specs.Prelude.{◌≡◌, ◌⊎◌, false, IfErr, IfOk, MatchResult, None, OnOk};
 ghost use Rattle.c0_source.specs.declared.fault.FaultKind.TheVariants.{OutOfMemory};
 ghost use Rattle.c0_typed.specs.Trees as y;
+ghost use Rattle.code_form.specs.Code.{Covered};
 ghost use Rattle.code_form.specs.Form.{image_of};
+ghost use Rattle.code_verification.specs.Verified.{IsVerified};
+ghost use Rattle.scope_verifier_laws.specs.Faults.{fault_of};
 ghost use Rattle.c0_front.specs.Texts.{IsRefusedText, IsTypedAs};
 ghost use Rattle.c0_image.specs.Compiled.{IsCompiled};
 ghost use Rattle.c0_image.specs.Correct.{Behaves};
@@ -12,12 +15,27 @@ use c0_rules::elaborated;
 use c0_source::fault::Fault;
 use c0_syntax::level::Level;
 use c0_well_formed::{images_are_accepted, images_are_consistent};
+use code_form::Image;
 use codegen::{generate, generated_keeps_the_meaning};
 use lower::lower;
 use scope_placement::{place, placed_means_the_same};
 use scope_verifier::{Verified, verify};
 use scope_verifier_laws::VerifyFault;
-use std::alloc::Global;
+use std::alloc::{AllocError, Global};
+
+/// An image without a fault, verified.
+fn verified(alloc: Global, image: Image) -> Result<Verified, AllocError>
+    requires { fault_of (image_of image) ≡ None }
+    ensures same { IfOk result (λ v. v.image ≡ image) }
+    ensures verified { OnOk result (IsVerified (image_of image)) }
+    ensures covered { OnOk result (Covered (image_of image)) }
+{
+    match verify(alloc, image) {
+        Ok(verified) => Ok(verified),
+        Err(VerifyFault::OutOfMemory) => Err(AllocError),
+        Err(_) => unreachable!(),
+    }
+}
 
 /// The image of the program that a text is the text of, verified. `checks` tells whether contracts are checked. The fault is of the first stage
 /// that refuses the text: 10 or 22 of its bytes, 11 or 12 of its tokens, 20 to 22 of what they read as, 22 and 30 to 47 of the static
@@ -37,9 +55,5 @@ pub fn compile(alloc: Global, text: &[u8], checks: bool) -> Result<Verified, Fau
     let middle = lower(alloc, &typed, checks)?;
     let scoped = place(alloc, middle)?;
     let image = generate(alloc, &scoped)?;
-    match verify(alloc, image) {
-        Ok(verified) => Ok(verified),
-        Err(VerifyFault::OutOfMemory) => Err(Fault::out_of_memory()),
-        Err(_) => unreachable!(),
-    }
+    Ok(verified(alloc, image)?)
 }

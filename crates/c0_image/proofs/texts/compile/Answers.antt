@@ -1,18 +1,22 @@
-use Rattle.std.proofs.Common.{◌≡◌, ℕ, Some, refl, ap, sym, ◌∙◌, subst}
+use Rattle.std.proofs.Common.{◌≡◌, ℕ, true, Some, None, refl, ap, sym, ◌∙◌, subst}
 use Rattle.std.proofs.lemmas.Result.{err_from_is_err_and}
 use Rattle.c0_typed.specs.Meaning.{mean}
+use Rattle.c0_typed.specs.Typing.{FitsProgram}
 use Rattle.c0_typed.specs.Views.{program_of}
 use Rattle.code_form.specs.Counts.{has_few_items}
 use Rattle.code_form.specs.Form.{Image, image_of}
+use Rattle.code_form.specs.declared.form.Image.{Image as RustImage}
 use Rattle.middle_form.specs.Form as m
 use Rattle.middle_form.specs.Scoped as s
 use Rattle.middle_form.specs.ScopedMeaning.{scoped_means}
 use Rattle.middle_form.specs.Views.{program_of as code_of}
+use Rattle.scope_placement.specs.Placed.{placed_program}
 use Rattle.codegen.specs.Correct.{IsSafe, Keeps}
 use Rattle.codegen.specs.Generated.{generated}
-use Rattle.scope_placement.specs.Placed.{placed_program}
+use Rattle.scope_verifier_laws.specs.Faults.{fault_of}
 use Rattle.c0_well_formed.specs.Images.{image_of_tree}
 use Rattle.c0_well_formed.specs.Laws.{IsConsistent}
+use Rattle.c0_image.specs.Compiled.{IsCompiled}
 use Rattle.c0_image.specs.Correct.{Behaves}
 use Rattle.c0_image.proofs.Composed.{behaves, safe}
 use Rattle.c0_image.proofs.texts.compile.Goals as goal
@@ -27,5 +31,51 @@ lower-requires c =
     let t = c.in_ok-typed.ensures.typed in
     c.elaborated.ensures t.program (program_of c.in_ok-typed.typed) t.rules
 
-pub returns-in-Ok-clause-compiled : goal.returns-in-Ok-clause-compiled
-returns-in-Ok-clause-compiled c = tt
+pub verified-requires : goal.verified-requires
+verified-requires c =
+    let t = c.in_ok-typed.ensures.typed in
+    let fits : FitsProgram (program_of c.in_ok-typed.typed) = c.elaborated.ensures t.program (program_of c.in_ok-typed.typed) t.rules in
+    let made : image_of c.in_ok-image.image ≡ image_of_tree c.args.checks c.in_ok-typed.typed =
+    c.in_ok-image.ensures.image ∙ ap generated (c.in_ok-scoped.ensures ∙ ap placed_program c.in_ok-middle.ensures.exact) in
+    subst (λ (C : Image). fault_of C ≡ None) (sym made)
+    (c.images_are_accepted.ensures c.args.checks c.in_ok-typed.typed fits (subst (λ (C : Image). has_few_items C ≡ true) made c.in_ok-image.ensures.few))
+
+pub returns-clause-compiled : goal.returns-clause-compiled
+returns-clause-compiled c =
+    let t = c.in_ok-typed.ensures.typed in
+    let fits : FitsProgram (program_of c.in_ok-typed.typed) = c.elaborated.ensures t.program (program_of c.in_ok-typed.typed) t.rules in
+    let program = program_of c.in_ok-typed.typed in
+    let code : m.Program = code_of c.in_ok-middle.middle in
+    let with_scopes : s.Program = placed_program code in
+    let image : Image = image_of c.in_ok-image.image in
+    let generates : image ≡ generated with_scopes = c.in_ok-image.ensures.image ∙ ap generated c.in_ok-scoped.ensures in
+    let made : image ≡ image_of_tree c.args.checks c.in_ok-typed.typed = generates ∙ ap (λ (p : m.Program). generated (placed_program p)) c.in_ok-middle.ensures.exact in
+    let same : (n : ℕ) → scoped_means with_scopes n ≡ Some (mean program c.args.checks n) = λ n. c.placed_means_the_same.ensures code n ∙ c.in_ok-middle.ensures.same n in
+    let is_safe : IsSafe with_scopes = safe program c.args.checks with_scopes same in
+    let few : has_few_items (image_of_tree c.args.checks c.in_ok-typed.typed) ≡ true = subst (λ (C : Image). has_few_items C ≡ true) made c.in_ok-image.ensures.few in
+    subst (λ (i : RustImage). IsCompiled c.args.text.now c.args.checks (image_of i)) (sym c.in_ok-verified.ensures.same) (record {
+      program = program;
+      typed = c.in_ok-typed.ensures.typed;
+      only = λ other w. sym (c.in_ok-typed.ensures.every other w);
+      tree = c.in_ok-typed.typed;
+      read_as = refl;
+      made = made;
+      behaves = behaves program c.args.checks with_scopes image same (subst (Keeps with_scopes) (sym generates) (c.generated_keeps_the_meaning.ensures with_scopes is_safe));
+      covered = c.in_ok-verified.ensures.covered;
+      verified = c.in_ok-verified.ensures.verified;
+      consistent = subst IsConsistent (sym made) (c.images_are_consistent.ensures c.args.checks c.in_ok-typed.typed fits few);
+    })
+
+pub returns-clause-every : goal.returns-clause-every
+returns-clause-every c = λ p w.
+    let program = program_of c.in_ok-typed.typed in
+    let code : m.Program = code_of c.in_ok-middle.middle in
+    let with_scopes : s.Program = placed_program code in
+    let image : Image = image_of c.in_ok-image.image in
+    let generates : image ≡ generated with_scopes = c.in_ok-image.ensures.image ∙ ap generated c.in_ok-scoped.ensures in
+    let same : (n : ℕ) → scoped_means with_scopes n ≡ Some (mean program c.args.checks n) = λ n. c.placed_means_the_same.ensures code n ∙ c.in_ok-middle.ensures.same n in
+    let is_safe : IsSafe with_scopes = safe program c.args.checks with_scopes same in
+    let kept : Behaves program c.args.checks image =
+    behaves program c.args.checks with_scopes image same (subst (Keeps with_scopes) (sym generates) (c.generated_keeps_the_meaning.ensures with_scopes is_safe)) in
+    subst (λ (i : RustImage). Behaves p c.args.checks (image_of i)) (sym c.in_ok-verified.ensures.same)
+    (subst (λ q. Behaves q c.args.checks image) (c.in_ok-typed.ensures.every p w) kept)
