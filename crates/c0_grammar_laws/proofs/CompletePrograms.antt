@@ -21,7 +21,7 @@ fields_go : (types : Names) (d : ℕ) (go_on : List Terminal → Outcome (Read (
 fields_go types d go_on k.RBrace ts b = absurd b
 fields_go types d go_on _ ts b = refl
 
-complete_fields : (types : Names) (xs : List TypedName) (d n : ℕ) (rest : List Terminal) → FormedFields types xs → height_typed_names xs ≤ d → length xs < n → read_fields types d n (emit_fields xs rest) ≡ Ok (got xs rest)
+pub complete_fields : (types : Names) (xs : List TypedName) (d n : ℕ) (rest : List Terminal) → FormedFields types xs → height_typed_names xs ≤ d → length xs < n → read_fields types d n (emit_fields xs rest) ≡ Ok (got xs rest)
 unfolding read_fields
 complete_fields types [] d zero rest w h lt = absurd (omega arith)
 complete_fields types [] d (suc n) rest w h lt = refl
@@ -32,7 +32,7 @@ complete_fields types (x ∷ xs) d (suc n) rest w h lt =
     let q = complete_fields types xs d n rest w.1 (omega arith) (omega arith) in
     fields_go types d (read_fields types d n) (plain_at (emit_type x.value_type us)) (emit_type x.value_type us) (plain_type x.value_type us) ∙ rw (r, q) refl
 
-longer_fields : (xs : List TypedName) (rest : List Terminal) → length rest + length xs < length (emit_fields xs rest)
+pub longer_fields : (xs : List TypedName) (rest : List Terminal) → length rest + length xs < length (emit_fields xs rest)
 longer_fields [] rest = omega arith
 longer_fields (x ∷ xs) rest = omega (arith, longer_type x.value_type (Word x.name ∷ Sign k.Semi ∷ emit_fields xs rest), longer_fields xs rest)
 

@@ -25,3 +25,7 @@ pub mod WholePrograms
 pub mod LessRoom
 pub mod Shallow
 pub mod FirstFaults
+pub mod Deeper
+pub mod DeeperStatements
+pub mod DeeperPrograms
+pub mod Unlimited

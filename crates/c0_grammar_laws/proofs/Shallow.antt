@@ -22,18 +22,18 @@ use Rattle.c0_grammar_laws.proofs.CompletePrograms.{header_is, declaration_go, d
 use Rattle.c0_grammar_laws.proofs.LessRoom.{Less, raise_statements, statements_less, statement_less}
 
 -- this is given, or a name too many is met
-abbrev IsOrLarge : {A : Type 0} → Outcome A → (A → Type 0) → Type 0
+abbrev pub IsOrLarge : {A : Type 0} → Outcome A → (A → Type 0) → Type 0
 IsOrLarge o P = ((x : _) × (o ≡ Ok x) × P x) ⊎ ((n : ℕ) × (o ≡ Err (TooLarge n)))
 
 -- a declaration is given, with some number of functions left
-abbrev Gives : Declaration → List Terminal → ReadDeclaration → Type 0
+abbrev pub Gives : Declaration → List Terminal → ReadDeclaration → Type 0
 Gives x rest r = (r.declaration ≡ x) × (r.rest ≡ rest)
 
 -- a definition behind its body
-abbrev defined : Header → ℕ → Counted Statements → Outcome ReadDeclaration
+abbrev pub defined : Header → ℕ → Counted Statements → Outcome ReadDeclaration
 defined h room body = Ok (record { declaration = DefineFunction h body.value; room = room; rest = body.rest })
 
-defined_by_less : (types : Names) (extra : ℕ) (h : Header) (room : ℕ) (body : Statements) (left : ℕ) (rest : List Terminal) (o : Outcome (Counted Statements)) → Less (raise_statements types extra) o (Ok (had body left rest))
+pub defined_by_less : (types : Names) (extra : ℕ) (h : Header) (room : ℕ) (body : Statements) (left : ℕ) (rest : List Terminal) (o : Outcome (Counted Statements)) → Less (raise_statements types extra) o (Ok (had body left rest))
     → IsOrLarge (o >>= defined h room) (Gives (DefineFunction h body) rest)
 defined_by_less types extra h room body left rest (Ok r) l =
     let e = ok_is (had body left rest) (raise_statements types extra r) l in
@@ -79,7 +79,7 @@ shallow_declaration types loops (DeclareFunction h) all rest w low = read_is typ
 shallow_declaration types loops (DefineFunction h body) all rest w low = defined_shallow types loops h body all rest w.0 w.1 low
 
 -- all of the program is read, or a name too many is met
-abbrev AllOrLarge : Outcome Program → Program → Type 0
+abbrev pub AllOrLarge : Outcome Program → Program → Type 0
 AllOrLarge o ds = (o ≡ Ok ds) ⊎ ((n : ℕ) × (o ≡ Err (TooLarge n)))
 
 shallow_declarations : (loops : Bool) (locals : ℕ) (ds : Program) (types : Names) (n all : ℕ) → FormedProgram types loops ds → Within 200 locals ds → length ds ≤ n → AllOrLarge (read_declarations types loops n all (emit_program ds)) ds
@@ -108,7 +108,7 @@ unfolding read_program
 shallow_program locals functions loops ts program r =
     subst (λ (z : List Terminal). AllOrLarge (read_program loops z) program) (sym r.spelled) (shallow_declarations loops locals program [] (length (emit_program program)) 4096 r.formed r.within (longer_program program))
 
-no_fault : (o : Outcome Program) (program : Program) (e : ReadError) → AllOrLarge o program → o ≡ Err e → ((n : ℕ) → e ≡ TooLarge n → ⊥) → ⊥
+pub no_fault : (o : Outcome Program) (program : Program) (e : ReadError) → AllOrLarge o program → o ≡ Err e → ((n : ℕ) → e ≡ TooLarge n → ⊥) → ⊥
 no_fault o program e (inl h) is never = cc
 no_fault o program e (inr h) is never = let same : e ≡ TooLarge h.0 = cc in never h.0 same
 

@@ -62,3 +62,9 @@ NamesAreTooMany =
     (loops : Bool) (ts : List Terminal) (n : ℕ) → read_program loops ts ≡ Err (TooLarge n)
     → (before : List Terminal) × (x : List ℕ) × (behind : List Terminal) × (signs : List Terminal) × (program : Program)
     × (ts ≡ before ++ Word x ∷ behind) × (length (Word x ∷ behind) ≡ n) × AreSigns signs × ReadsWithin 201 1025 4097 loops (before ++ Word x ∷ signs) program × OneTooMany 4096 program
+
+-- where reading meets a syntax fault at a token, no program begins with the tokens up to and with that one, however deep it is and however many names it declares
+abbrev pub SyntaxExcludes : Type 0
+SyntaxExcludes =
+    (loops : Bool) (before : List Terminal) (t : Terminal) (behind : List Terminal) → read_program loops (before ++ t ∷ behind) ≡ Err (Syntax (suc (length behind)))
+    → (nodes locals functions : ℕ) (others : List Terminal) (program : Program) → ReadsWithin nodes locals functions loops (before ++ t ∷ others) program → ⊥

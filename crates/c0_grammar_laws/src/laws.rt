@@ -1,6 +1,6 @@
 // What holds of all tokens: each function computes nothing, and its contract is the law.
 
-ghost use Rattle.c0_grammar_laws.specs.Laws.{FaultsAreCaused, FaultsAreFirst, LexedAreTokens, LimitsAreThese, NamesAreTooMany, NoneIsShallow, OneProgram, ReadsExactly};
+ghost use Rattle.c0_grammar_laws.specs.Laws.{FaultsAreCaused, FaultsAreFirst, LexedAreTokens, LimitsAreThese, NamesAreTooMany, NoneIsShallow, OneProgram, ReadsExactly, SyntaxExcludes};
 ghost use Rattle.c0_grammar_laws.specs.WorkedTokens.{ConditionOnLastLevel, IfOnLastLevel, StatementBelow};
 
 /// No tokens read as two programs.
@@ -39,6 +39,11 @@ pub fn faults_are_first()
 /// however many names it declares.
 pub fn none_is_shallow()
     ensures { NoneIsShallow }
+{}
+
+/// Where reading meets fault 20 at a token, no program begins with the tokens up to and with that one, whatever limits it has.
+pub fn syntax_excludes()
+    ensures { SyntaxExcludes }
 {}
 
 /// Where reading meets fault 22, it is told of a name, the first too many in its function or the first function too many.
