@@ -2,6 +2,7 @@
 ghost use Rattle.code_form.specs.Code.{needs_shut};
 ghost use Rattle.code_form.specs.Form.{Simple};
 ghost use Rattle.middle_form.specs.Form.{Do, Load, Store};
+ghost use Rattle.middle_form.specs.Scoped.{Choose as ScopedChoose, Loop as ScopedLoop};
 ghost use Rattle.middle_form.specs.ScopedViews.{scoped_code_of, scoped_function_of, scoped_program_of};
 ghost use Rattle.middle_form.specs.Views.{code_of, function_of, program_of};
 ghost use Rattle.scope_placement.specs.Building.{codes, is_straight};
@@ -153,6 +154,28 @@ fn place_straight(code: Code, parts: &mut Vec<ScopedCode>, run: &mut Run) -> Res
     }
 }
 
+/// A choice.
+fn choice(condition: u32, then_code: Box<ScopedCode>, else_code: Box<ScopedCode>) -> ScopedCode
+    ensures { scoped_code_of result ≡ ScopedChoose condition (scoped_code_of then_code.value) (scoped_code_of else_code.value) }
+{
+    ScopedCode::Choose {
+        condition,
+        then_code,
+        else_code,
+    }
+}
+
+/// A loop.
+fn repetition(test: Box<ScopedCode>, condition: u32, body: Box<ScopedCode>) -> ScopedCode
+    ensures { scoped_code_of result ≡ ScopedLoop (scoped_code_of test.value) condition (scoped_code_of body.value) }
+{
+    ScopedCode::Loop {
+        test,
+        condition,
+        body,
+    }
+}
+
 /// The parts that come in place of code are added.
 #[cycle(placing)]
 fn place_code(
@@ -181,14 +204,7 @@ fn place_code(
             end(run, parts)?;
             let then_code = place_whole(alloc, then_code, run)?;
             let else_code = place_whole(alloc, else_code, run)?;
-            put(
-                parts,
-                ScopedCode::Choose {
-                    condition,
-                    then_code,
-                    else_code,
-                },
-            )
+            put(parts, choice(condition, then_code, else_code))
         }
         Code::Loop {
             test,
@@ -198,14 +214,7 @@ fn place_code(
             end(run, parts)?;
             let test = place_whole(alloc, test, run)?;
             let body = place_whole(alloc, body, run)?;
-            put(
-                parts,
-                ScopedCode::Loop {
-                    test,
-                    condition,
-                    body,
-                },
-            )
+            put(parts, repetition(test, condition, body))
         }
         Code::Block(inner) => {
             end(run, parts)?;
