@@ -21,7 +21,10 @@ fn loop_with(alloc: Global, test: Vec<ScopedCode>) -> Result<ScopedCode, AllocEr
     Ok(ScopedCode::Loop {
         test: Box::new(alloc, ScopedCode::Sequence(test))?,
         condition: 1,
-        body: Box::new(alloc, ScopedCode::Sequence(vec![in alloc; print, ScopedCode::Exit(0)]?))?,
+        body: Box::new(
+            alloc,
+            ScopedCode::Sequence(vec![in alloc; print, ScopedCode::Exit(0)]?),
+        )?,
     })
 }
 
@@ -34,7 +37,10 @@ fn counts(alloc: Global) -> Result<ScopedCode, AllocError> {
         offset: None,
         displacement: 0,
     };
-    loop_with(alloc, vec![in alloc; load, ScopedCode::Leave(0), compare()]?)
+    loop_with(
+        alloc,
+        vec![in alloc; load, ScopedCode::Leave(0), compare()]?,
+    )
 }
 
 /// So it does, with the scope aimed before the loop and left behind it.
@@ -52,7 +58,8 @@ fn counts_held(alloc: Global) -> Result<ScopedCode, AllocError> {
         offset: None,
         displacement: 0,
     };
-    let whole = loop_with(alloc, vec![in alloc; load, compare()]?)?;
+    let check = ScopedCode::Do(Operation::CheckNull { register: 3 });
+    let whole = loop_with(alloc, vec![in alloc; check, load, compare()]?)?;
     Ok(ScopedCode::Sequence(vec![in alloc; aim, whole, ScopedCode::Leave(0)]?))
 }
 
@@ -110,8 +117,8 @@ fn a_held_aim_is_told(rt: HostRuntime) -> Result<(), Fail> {
         text.as_str(),
         "[\
         Block { facts: [Shut(0)], code: [Aim { scope: 0, register: 3, offset: None, displacement: 0 }, Jump { block: 1 }] }, \
-        Block { facts: [Aimed { scope: 0, register: 3, offset: None, displacement: 0 }, Nonnull(3)], code: [Load { to: 2, scope: 0 }, \
-            Simple(Compare { relation: Less, to: 1, left: 0, right: 2 }), Branch { condition: 1, then_block: 3, else_block: 2 }] }, \
+        Block { facts: [Aimed { scope: 0, register: 3, offset: None, displacement: 0 }], code: [\
+            Simple(CheckNull { register: 3 }), Load { to: 2, scope: 0 }, Simple(Compare { relation: Less, to: 1, left: 0, right: 2 }), Branch { condition: 1, then_block: 3, else_block: 2 }] }, \
         Block { facts: [Aimed { scope: 0, register: 3, offset: None, displacement: 0 }], code: [Leave { scope: 0 }, Return { from: 0 }] }, \
         Block { facts: [Aimed { scope: 0, register: 3, offset: None, displacement: 0 }], code: [Simple(Printint { from: 0 }), Jump { block: 2 }] }]"
     );
