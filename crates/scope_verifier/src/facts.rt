@@ -16,8 +16,8 @@ use crate::kinds::{callee_fits, is_main, operation_fits};
 use crate::knowledge::{Knowledge, ScopeState};
 use crate::numbers::{scope_number, unless};
 use code_form::{
-    Block, Fact, Function, Image, Instruction, Kind, has_array_of, has_kind, has_pointer,
-    is_place, kind_of_cell, needs_shut,
+    Block, Fact, Function, Image, Instruction, Kind, has_array_of, has_kind, has_pointer, is_place,
+    kind_of_cell, needs_shut,
 };
 use scope_verifier_laws::VerifyFault;
 use std::alloc::Global;
