@@ -8,7 +8,7 @@ ghost use Rattle.executor.specs.State.{IsAt, IsGoing, SameProgram};
 ghost use Rattle.image_run.specs.Executed.{HasRunOn, IsExecuted, IsOver};
 
 use cells::{Ended, Run};
-use code_verification::verified_is_covered;
+use code_form::Image;
 use executor::Session;
 use object_lock::ObjectTable;
 use remote_store::{Config, FarHeap, RawStore};
@@ -60,13 +60,11 @@ fn run_to_end<S: RawStore, W: Wait>(rt: &W, session: &mut Session<'_, S>) -> Run
     unreachable!()
 }
 
-/// Runs the verified image until it has stopped or wants something, over a store in memory. `Err` where a growth for the table, the session or
-/// the output was refused.
-pub fn execute<W: Wait>(alloc: Global, rt: &W, verified: &Verified) -> Result<Ended, AllocError>
-    ensures { IfOk result (λ e. IsExecuted (image_of verified.now.image) e) }
+/// Runs the covered image until it has stopped or wants something.
+fn run_covered<W: Wait>(alloc: Global, rt: &W, image: &Image) -> Result<Ended, AllocError>
+    requires { Covered (image_of image.now) }
+    ensures { IfOk result (λ e. IsExecuted (image_of image.now) e) }
 {
-    accepted_is_verified();
-    verified_is_covered();
     let config = Config {
         frames: FRAMES,
         objects: OBJECTS,
@@ -80,7 +78,7 @@ pub fn execute<W: Wait>(alloc: Global, rt: &W, verified: &Verified) -> Result<En
     let Some(seat) = owners.pop() else {
         unreachable!()
     };
-    let Ok(mut session) = Session::new(alloc, &table, verified.image(), seat) else {
+    let Ok(mut session) = Session::new(alloc, &table, image, seat) else {
         return Err(AllocError);
     };
     let run = run_to_end(rt, &mut session);
@@ -90,4 +88,13 @@ pub fn execute<W: Wait>(alloc: Global, rt: &W, verified: &Verified) -> Result<En
         run,
         completed: session.completed(),
     })
+}
+
+/// Runs the verified image until it has stopped or wants something, over a store in memory. `Err` where a growth for the table, the session or
+/// the output was refused.
+pub fn execute<W: Wait>(alloc: Global, rt: &W, verified: &Verified) -> Result<Ended, AllocError>
+    ensures { IfOk result (λ e. IsExecuted (image_of verified.now.image) e) }
+{
+    accepted_is_verified();
+    run_covered(alloc, rt, verified.image())
 }

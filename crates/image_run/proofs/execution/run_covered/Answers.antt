@@ -6,7 +6,7 @@ use Rattle.executor.specs.State.{State}
 use Rattle.object_lock.specs.Fresh.{IsFreshOwner}
 use Rattle.object_lock.specs.Seats.{Sizes, View}
 use Rattle.image_run.proofs.Ending.{executed, last_of_all}
-use Rattle.image_run.proofs.execution.execute.Goals as goal
+use Rattle.image_run.proofs.execution.run_covered.Goals as goal
 
 pub new-requires-2-clause-own : goal.new-requires-2-clause-own
 new-requires-2-clause-own g c κs =
