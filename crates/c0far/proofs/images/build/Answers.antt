@@ -1,5 +1,7 @@
-use Rattle.std.proofs.Common.{List, ℕ, inl, inr, refl, subst, ◌∙◌}
+use Rattle.std.proofs.Common.{List, ℕ, ap, inl, inr, refl, subst, ◌∙◌}
 use Rattle.code_form.specs.Form.{image_of}
+use Rattle.code_form.specs.declared.form.Image.{Image}
+use Rattle.image_bytes.specs.Bytes.{image_bytes}
 use Rattle.c0far.specs.FileTexts.{HasText}
 use Rattle.c0far.proofs.images.build.Goals as goal
 
@@ -10,7 +12,7 @@ pub returns-in-Ok-write-clause-done : goal.returns-in-Ok-write-clause-done
 returns-in-Ok-write-clause-done g c = inl (record {
   image = image_of c.in-Ok.verified.image;
   code = c.in-Ok.ensures.code;
-  written = subst (λ (bytes : List ℕ). HasText (g.F.Files.holds c.write.new.self c.args.target.now) bytes) (c.deref.ensures.value ∙ c.in-Ok-encode.ensures) c.in-Ok-write.ensures.text;
+  written = subst (λ (bytes : List ℕ). HasText (g.F.Files.holds c.write.new.self c.args.target.now) bytes) (c.deref.ensures.value ∙ (c.in-Ok-encode.ensures ∙ ap (λ (i : Image). image_bytes (image_of i)) c.image.ensures.same)) c.in-Ok-write.ensures.text;
   status = refl;
   silent = refl;
   quiet = c.in-Ok.ensures.quiet;
