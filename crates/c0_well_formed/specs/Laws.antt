@@ -30,10 +30,11 @@ LoweredIsGuarded = (checks : Bool) (typed : Typed) → FitsProgram (program_of t
 abbrev pub ImagesAreVerified : Type 0
 ImagesAreVerified = (checks : Bool) (typed : Typed) → FitsProgram (program_of typed) → IsVerified (image_of_tree checks typed)
 
--- a number that a simple instruction names is one of 32 bits, and a character is below 128
+-- a number or a displacement that a simple instruction names is one of 32 bits, and a character is below 128
 abbrev pub NamesNumber : Operation → Type 0
 NamesNumber (op.Const d z) = FitsSigned w32 z
 NamesNumber (op.CharOf d c) = c < 128
+NamesNumber (op.Prefetch r off disp) = disp < 4294967296
 NamesNumber _ = Unit {0}
 
 -- the same of any instruction

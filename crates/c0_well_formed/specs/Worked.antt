@@ -1,5 +1,5 @@
 -- Small images, of which one is consistent and each other is not for one cause.
-use Rattle.std.specs.Prelude.{ℕ, List, [], ◌∷◌, Some, codes, pos, replicate}
+use Rattle.std.specs.Prelude.{ℕ, List, [], ◌∷◌, Some, None, codes, pos, replicate}
 use Rattle.code_form.specs.declared.form.Kind.{Kind}
 use Rattle.code_form.specs.declared.form.Kind.TheVariants as kind
 use Rattle.code_form.specs.declared.form.Fact.{Fact}
@@ -54,6 +54,10 @@ large_character = with_one [] [] 0 (kind.Int ∷ kind.Char ∷ []) 0 (op.CharOf 
 -- a number of 33 bits
 abbrev pub large_number : Image
 large_number = with_one [] [] 0 (kind.Int ∷ []) 0 (op.Const 0 (pos 2147483648))
+
+-- a displacement of 33 bits
+abbrev pub large_displacement : Image
+large_displacement = with_one [] ((kind.Int ∷ []) ∷ []) 0 (kind.Int ∷ kind.Ptr 0 ∷ []) 0 (op.Prefetch 1 None 4294967296)
 
 -- a fact of a scope that is not there
 abbrev pub missing_scope : Image

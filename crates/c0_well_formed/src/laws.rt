@@ -1,7 +1,7 @@
 //! Functions that compute nothing, and whose contracts are the laws.
 
 ghost use Rattle.c0_well_formed.specs.Laws.{ImagesAreConsistent, ImagesAreVerified, ImagesHaveNoFault, IsConsistent, LoweredIsGuarded, LoweredIsWellFormed};
-ghost use Rattle.c0_well_formed.specs.Worked.{consistent_image, five_scopes, large_byte, large_character, large_number, missing_scope, offset_as_parameter, offset_in_layout, with_texts, without_layout};
+ghost use Rattle.c0_well_formed.specs.Worked.{consistent_image, five_scopes, large_byte, large_character, large_displacement, large_number, missing_scope, offset_as_parameter, offset_in_layout, with_texts, without_layout};
 ghost use Rattle.std.specs.Prelude.{◌^◌, ◌≤◌, ℕ};
 
 use scope_verifier_laws::verified_is_accepted;
@@ -48,5 +48,6 @@ pub fn worked_images()
     ensures text { IsConsistent large_byte → ⊥ }
     ensures character { IsConsistent large_character → ⊥ }
     ensures number { IsConsistent large_number → ⊥ }
+    ensures displacement { IsConsistent large_displacement → ⊥ }
     ensures fact { IsConsistent missing_scope → ⊥ }
 {}

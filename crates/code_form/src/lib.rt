@@ -9,7 +9,7 @@ mod laws;
 mod touch;
 
 pub use allocation::Allocation;
-pub use calls::{call_fits, needs_shut};
+pub use calls::{call_fits, needs_shut, written_by};
 pub use form::{
     Block, Fact, Function, Image, Instruction, Kind, Operation, Relation, UnaryOperator,
 };

@@ -6,12 +6,12 @@ use Rattle.code_form.specs.declared.form.Fact.{Fact}
 use Rattle.code_form.specs.declared.form.Kind.{Kind}
 use Rattle.code_form.specs.Code.{is_register, place_fits}
 use Rattle.code_form.specs.Effects.{upd}
-use Rattle.code_form.specs.Known.{Knows, Unknown, KnownAimed, KnownShut, forget}
+use Rattle.code_form.specs.Known.{Knows, Unknown, KnownAimed, KnownShut, forget, written_by}
 use Rattle.middle_form.specs.Scoped.{Code, Nothing, Do, LoadBy, StoreBy, Loose, Fail, Then, Choose, Loop, Block, Exit, plain}
 use Rattle.middle_form.specs.Scoped as scoped
 use Rattle.middle_form.specs.Discipline.{IsDisciplined, Table, after, is_lost, join, stays, touches, writes}
 use Rattle.middle_form.specs.Discipline as table
-use Rattle.middle_form.specs.Guarded.{asked_inside, asks, written_by}
+use Rattle.middle_form.specs.Guarded.{asked_inside, asks}
 use Rattle.codegen.specs.Generated.{count, entry_facts, known_inside, listed}
 
 -- what is told at the entry of a block

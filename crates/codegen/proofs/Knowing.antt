@@ -11,13 +11,13 @@ use Rattle.code_form.specs.declared.form.Operation.{Operation}
 use Rattle.code_form.specs.declared.form.Operation.TheVariants as op
 use Rattle.code_form.specs.Code.{is_array_of, is_pointer, is_register, on_kind, place_fits}
 use Rattle.code_form.specs.Effects.{upd}
-use Rattle.code_form.specs.Known.{Known, Knows, Unknown, KnownAimed, KnownShut, AreKnown, IsKnown, after_operation, facts_known, forget, with_inside, with_nonnull, with_scope, wrote, wrote_some}
+use Rattle.code_form.specs.Known.{Known, Knows, Unknown, KnownAimed, KnownShut, AreKnown, IsKnown, after_operation, facts_known, forget, with_inside, with_nonnull, with_scope, written_by, wrote, wrote_some}
 use Rattle.code_form.specs.Asked.{IsChecked}
 use Rattle.codegen.specs.Generated.{listed, scope_fact}
 use Rattle.middle_form.specs.Discipline.{IsKnownAs, Brings, Table, is_lost, join, stays, touches, writes}
 use Rattle.middle_form.specs.Discipline as table
 use Rattle.middle_form.specs.Scoped.{Code}
-use Rattle.middle_form.specs.Guarded.{asked_before, is_by_pointer, is_kept, is_same_check, joined, names, place_check, with_check, without_check, written_by}
+use Rattle.middle_form.specs.Guarded.{asked_before, is_by_pointer, is_kept, is_same_check, joined, names, place_check, with_check, without_check}
 
 pub and_left : (a b : Bool) → (a && b) ≡ true → a ≡ true
 and_left true b h = refl

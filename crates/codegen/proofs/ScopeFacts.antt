@@ -5,12 +5,11 @@ use Rattle.std.specs.declared.vec.Vec.{Vec}
 use Rattle.std.specs.declared.alloc.Global.{Global}
 use Rattle.std.proofs.lemmas.List.{map-append, reverse-append}
 use Rattle.code_form.specs.declared.form.Fact.{Fact}
-use Rattle.code_form.specs.Known.{Knows, Unknown, KnownShut}
+use Rattle.code_form.specs.Known.{Knows, Unknown, KnownShut, written_by}
 use Rattle.middle_form.specs.Scoped.{Code, Nothing, Do, LoadBy, StoreBy, Loose, Fail, Then, Choose, Loop, Block, Exit, Function}
 use Rattle.middle_form.specs.Scoped as scoped
 use Rattle.middle_form.specs.Discipline.{Table, after, at_entry, join}
 use Rattle.middle_form.specs.Discipline as table
-use Rattle.middle_form.specs.Guarded.{written_by}
 use Rattle.codegen.specs.declared.known.Knows.{Knows as RustKnows}
 use Rattle.codegen.specs.Building.{in_front, known_back, knows_of, lists, of_scope}
 use Rattle.codegen.specs.Generated.{asked_of, entry_facts, known_inside, known_of, listed, scope_fact}

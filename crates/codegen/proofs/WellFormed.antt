@@ -15,7 +15,7 @@ use Rattle.code_form.specs.Form as image
 use Rattle.code_form.specs.declared.form.Operation.{Operation}
 use Rattle.code_form.specs.Code.{cell_kind, has, most_scopes, needs_shut, on_kind, op_fits, place_fits}
 use Rattle.code_form.specs.Effects.{upd}
-use Rattle.code_form.specs.Known.{Known, Knows, Unknown, KnownAimed, KnownShut, AreKnown, IsKnown, after_operation, facts_known, forget, with_scope, wrote, wrote_some}
+use Rattle.code_form.specs.Known.{Known, Knows, Unknown, KnownAimed, KnownShut, AreKnown, IsKnown, after_operation, facts_known, forget, with_scope, written_by, wrote, wrote_some}
 use Rattle.code_form.specs.Known as known
 use Rattle.code_form.specs.Asked.{Enters, IsAimChecked, IsAimedAt, IsChecked, KnowsAllShut, callee_fits}
 use Rattle.middle_form.specs.Scoped.{Code, Nothing, Do, LoadBy, StoreBy, Loose, Fail, Then, Choose, Loop, Block, Exit, Function, Program, plain, plain_function, plain_program}
@@ -26,7 +26,7 @@ use Rattle.middle_form.specs.Form as middle
 use Rattle.middle_form.specs.WellFormed.{all_fit, code_fits, function_fits, is_well_formed, main_fits, result_fits}
 use Rattle.middle_form.specs.WellFormed as form
 use Rattle.codegen.specs.Generated.{block_with, blocks, blocks_with, count, extra, facts_of, first, function_of, generated, last, listed, scope_fact}
-use Rattle.middle_form.specs.Guarded.{asked_before, asks, is_by_pointer, is_guarded, is_guarded_function, is_guarded_program, is_kept, is_nothing_asked, joined, place_check, uses_pointers, with_check, written_by}
+use Rattle.middle_form.specs.Guarded.{asked_before, asks, is_by_pointer, is_guarded, is_guarded_function, is_guarded_program, is_kept, is_nothing_asked, joined, place_check, uses_pointers, with_check}
 use Rattle.code_verification.specs.Verified.{AreGuarded, IsGuardedBlock, IsGuardedFunction, IsVerified, NamesFact, NamesFacts}
 use Rattle.code_verification.specs.WellFormed.{IsRest, IsWellFormed, IsWellFormedBlock, IsWellFormedFunction}
 use Rattle.code_verification.specs.WellFormed as here

@@ -3,13 +3,12 @@ ghost use Rattle.code_form.specs.Known.{Unknown, forget as forget_of};
 ghost use Rattle.codegen.specs.Building.{in_front as front_of, is_straight, known_back, knows_of, lists, of_scope};
 ghost use Rattle.codegen.specs.Generated.{facts_of, known_of, scope_fact};
 ghost use Rattle.middle_form.specs.Discipline.{after, is_lost as is_lost_of, join, touches as touches_of, writes as writes_of, wrote};
-ghost use Rattle.middle_form.specs.Guarded.{written_by as register_of};
 ghost use Rattle.middle_form.specs.ScopedViews.{scoped_code_of, scoped_function_of};
 ghost use Rattle.code_form.specs.Code.{is_register as is_register_of};
 ghost use Rattle.std.specs.Prelude.{◌≡◌, ◌++◌, ◌∷◌, ◌==◌, ℕ, [], IfOk, OnOk, cond, map, slice_index_or, true};
 
 use crate::asked::function_asks;
-use code_form::{Fact, Operation};
+use code_form::{Fact, written_by};
 use middle_form::{ScopedCode, ScopedFunction};
 use std::alloc::{AllocError, Global};
 
@@ -32,36 +31,6 @@ fn is_register(register: u32, given: Option<u32>) -> bool
     match given {
         None => false,
         Some(other) => register == other,
-    }
-}
-
-/// The register that a simple instruction writes.
-fn written_by(operation: &Operation) -> Option<u32>
-    ensures { result ≡ register_of operation.now }
-{
-    match operation {
-        Operation::Const { to, .. }
-        | Operation::TextOf { to, .. }
-        | Operation::BoolOf { to, .. }
-        | Operation::CharOf { to, .. }
-        | Operation::Null { to }
-        | Operation::Move { to, .. }
-        | Operation::Binary { to, .. }
-        | Operation::Unary { to, .. }
-        | Operation::Compare { to, .. }
-        | Operation::CheckIndex { to, .. }
-        | Operation::Len { to, .. }
-        | Operation::Alloc { to, .. }
-        | Operation::AllocArray { to, .. } => Some(*to),
-        Operation::CheckNull { .. }
-        | Operation::Prefetch { .. }
-        | Operation::Print { .. }
-        | Operation::Println { .. }
-        | Operation::Printint { .. }
-        | Operation::Printbool { .. }
-        | Operation::Printchar { .. }
-        | Operation::Flush
-        | Operation::Assert { .. } => None,
     }
 }
 

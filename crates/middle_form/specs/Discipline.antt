@@ -5,8 +5,7 @@ use Rattle.code_form.specs.declared.form.Kind.{Kind}
 use Rattle.code_form.specs.Form.{Simple}
 use Rattle.code_form.specs.Code.{is_register, needs_shut, place_fits}
 use Rattle.code_form.specs.Effects.{upd}
-use Rattle.code_form.specs.Known.{Knows, Unknown, KnownShut, KnownAimed, forget}
-use Rattle.middle_form.specs.Guarded.{written_by}
+use Rattle.code_form.specs.Known.{Knows, Unknown, KnownShut, KnownAimed, forget, written_by}
 use Rattle.middle_form.specs.Scoped.{Code, Nothing, Do, Load, Store, LoadBy, StoreBy, Aim, Leave, Loose, Call, Fail, Then, Choose, Loop, Block, Exit, Function, Program}
 
 -- what is known of each scope
@@ -115,10 +114,10 @@ Brings known asked = (s : ℕ) → IsKnownAs (asked s) (known s)
 abbrev pub AreShut : ℕ → Table → Type 0
 AreShut n k = (s : ℕ) → s < n → k s ≡ KnownShut
 
--- Code of a function with registers of these kinds and n scopes keeps the discipline where so much is known before it. `exits` is what has to be known at
--- the ways out of the loops and blocks round it, the innermost first; of an exit that leads nowhere nothing is asked, since it is stuck, and no well-formed
--- code has one
+-- of a function with registers of these kinds and n scopes
 module _ (ks : List Kind) (n : ℕ) where
+  -- Code keeps the discipline where so much is known before it. `exits` is what has to be known at the ways out of the loops and blocks round it, the
+  -- innermost first; of an exit that leads nowhere nothing is asked, since it is stuck, and no well-formed code has one
   abbrev pub IsDisciplined : List Table → Code → Table → Type 0
   IsDisciplined exits Nothing k = Unit {0}
   IsDisciplined exits (Do o) k = needs_shut (Simple o) ≡ true → AreShut n k

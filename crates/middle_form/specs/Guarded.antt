@@ -6,8 +6,9 @@ use Rattle.code_form.specs.declared.form.Fact.{Fact}
 use Rattle.code_form.specs.declared.form.Fact.TheVariants as fact
 use Rattle.code_form.specs.declared.form.Kind.{Kind}
 use Rattle.code_form.specs.declared.form.Operation.{Operation}
-use Rattle.code_form.specs.declared.form.Operation.TheVariants.{Const, TextOf, BoolOf, CharOf, Null, Move, Binary, Unary, Compare, CheckNull, CheckIndex, Len, Prefetch, Alloc, AllocArray, Print, Println, Printint, Printbool, Printchar, Flush, Assert}
+use Rattle.code_form.specs.declared.form.Operation.TheVariants.{CheckIndex, CheckNull}
 use Rattle.code_form.specs.Code.{is_pointer, is_register, on_kind}
+use Rattle.code_form.specs.Known.{written_by}
 use Rattle.middle_form.specs.Form.{Code, Nothing, Do, Load, Store, Call, Fail, Then, Choose, Loop, Block, Exit, Function, Program}
 
 -- two facts tell of the same check
@@ -47,31 +48,6 @@ joined (f ∷ fs) w = with_check f (joined fs w)
 abbrev pub is_nothing_asked : List Fact → Bool
 is_nothing_asked [] = true
 is_nothing_asked _ = false
-
--- the register that a simple instruction writes
-abbrev pub written_by : Operation → Option ℕ
-written_by (Const d z) = Some d
-written_by (TextOf d n) = Some d
-written_by (BoolOf d b) = Some d
-written_by (CharOf d c) = Some d
-written_by (Null d) = Some d
-written_by (Move d a) = Some d
-written_by (Binary o d a b) = Some d
-written_by (Unary u d a) = Some d
-written_by (Compare r d a b) = Some d
-written_by (CheckNull r) = None
-written_by (CheckIndex d r i size) = Some d
-written_by (Len d r) = Some d
-written_by (Prefetch r off disp) = None
-written_by (Alloc d l) = Some d
-written_by (AllocArray d l n) = Some d
-written_by (Print a) = None
-written_by (Println a) = None
-written_by (Printint a) = None
-written_by (Printbool a) = None
-written_by (Printchar a) = None
-written_by Flush = None
-written_by (Assert a) = None
 
 -- a write of this register, where there is one, is of none that is named
 abbrev pub is_kept : Option ℕ → List Fact → Bool

@@ -8,8 +8,7 @@ use Rattle.code_form.specs.declared.form.Kind.{Kind}
 use Rattle.code_form.specs.Form.{Simple}
 use Rattle.code_form.specs.Code.{needs_shut}
 use Rattle.code_form.specs.Effects.{upd}
-use Rattle.code_form.specs.Known.{Knows, Unknown, KnownShut, forget}
-use Rattle.middle_form.specs.Guarded.{written_by}
+use Rattle.code_form.specs.Known.{Knows, Unknown, KnownShut, forget, written_by}
 use Rattle.middle_form.specs.Form as m
 use Rattle.middle_form.specs.Scoped.{Code, Do, Call, Choose, Loop, Block, Exit}
 use Rattle.middle_form.specs.Discipline.{Brings, IsDisciplined, IsScoped, IsScopedFunction, Table, after, at_entry, wrote}

@@ -5,11 +5,11 @@ use Rattle.code_form.specs.declared.form.Fact.{Fact}
 use Rattle.code_form.specs.declared.form.Fact.TheVariants as fact
 use Rattle.code_form.specs.declared.form.Operation.{Operation}
 use Rattle.code_form.specs.declared.form.Operation.TheVariants.{Const, TextOf, BoolOf, CharOf, Null, Move, Binary, Unary, Compare, CheckNull, CheckIndex, Len, Prefetch, Alloc, AllocArray, Print, Println, Printint, Printbool, Printchar, Flush, Assert}
-use Rattle.code_form.specs.Known.{after_operation, facts_known, wrote_some}
+use Rattle.code_form.specs.Known.{after_operation, facts_known, written_by, wrote_some}
 use Rattle.scope_verifier_laws.specs.declared.fault.VerifyFault.{VerifyFault}
 use Rattle.scope_verifier_laws.specs.declared.fault.VerifyFault.TheVariants.{OutOfMemory}
 use Rattle.scope_verifier.specs.declared.knowledge.Knowledge.{Knowledge}
-use Rattle.scope_verifier.specs.Shown.{Follows, OperationHasPlace, OptionBelow, learned, written_by}
+use Rattle.scope_verifier.specs.Shown.{Follows, OperationHasPlace, OptionBelow, learned}
 
 -- what follows from what holds where memory was given
 pub weaker : (r : Result (Unit {0}) VerifyFault) (P Q : Type 0) → (P → Q) → MatchResult r (λ _. P) (λ f. f ≡ OutOfMemory) → MatchResult r (λ _. Q) (λ f. f ≡ OutOfMemory)

@@ -7,9 +7,9 @@ use Rattle.std.specs.declared.alloc.Global.{Global}
 use Rattle.code_form.specs.declared.form.Fact.{Fact}
 use Rattle.code_form.specs.declared.form.Fact.TheVariants as fact
 use Rattle.code_form.specs.declared.form.Operation.{Operation}
-use Rattle.code_form.specs.declared.form.Operation.TheVariants.{Const, TextOf, BoolOf, CharOf, Null, Move, Binary, Unary, Compare, CheckNull, CheckIndex, Len, Alloc, AllocArray}
+use Rattle.code_form.specs.declared.form.Operation.TheVariants.{CheckNull}
 use Rattle.code_form.specs.Form.{Instruction, Simple, Aim, Load, Leave, Call, Function}
-use Rattle.code_form.specs.Known.{Known, Knows, Unknown, KnownShut, KnownAimed, with_inside, with_nonnull, with_scope}
+use Rattle.code_form.specs.Known.{Known, Knows, Unknown, KnownShut, KnownAimed, with_inside, with_nonnull, with_scope, written_by}
 use Rattle.scope_verifier.specs.declared.knowledge.Check.{Check}
 use Rattle.scope_verifier.specs.declared.knowledge.Knowledge.{Knowledge}
 use Rattle.scope_verifier.specs.declared.knowledge.ScopeState.{ScopeState}
@@ -99,23 +99,6 @@ learned (fact.Aimed s r off disp) k = with_scope s (KnownAimed r off disp) k
 learned (fact.Shut s) k = with_scope s KnownShut k
 
 -- ---- what there has to be a place for
-
--- the register that a simple instruction writes
-abbrev pub written_by : Operation → Option ℕ
-written_by (Const d z) = Some d
-written_by (TextOf d n) = Some d
-written_by (BoolOf d b) = Some d
-written_by (CharOf d c) = Some d
-written_by (Null d) = Some d
-written_by (Move d a) = Some d
-written_by (Binary o d a b) = Some d
-written_by (Unary u d a) = Some d
-written_by (Compare r d a b) = Some d
-written_by (CheckIndex d r i size) = Some d
-written_by (Len d r) = Some d
-written_by (Alloc d l) = Some d
-written_by (AllocArray d l n) = Some d
-written_by _ = None
 
 -- a number that is given is below another
 abbrev pub OptionBelow : ℕ → Option ℕ → Type 0

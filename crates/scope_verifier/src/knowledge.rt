@@ -4,12 +4,12 @@ ghost use Rattle.code_form.specs.Form.{instruction_of};
 ghost use Rattle.code_form.specs.Known.{Known, after as after_instruction, after_operation as after_simple, facts_known, nothing, with_inside, with_nonnull, with_scope, wrote as wrote_register, wrote_some as wrote_some_register};
 ghost use Rattle.scope_verifier_laws.specs.Decided.{is_inside as inside_known, is_nonnull as nonnull_known};
 ghost use Rattle.scope_verifier_laws.specs.declared.fault.VerifyFault.TheVariants.{OutOfMemory};
-ghost use Rattle.scope_verifier.specs.Shown.{FactHasPlace, Follows, HasPlace, IsReady, OperationHasPlace, OptionBelow, Shows, checks, is_check, is_fresh, learned, offset_fresh, state_of, told_now as told_still, written_by as destination_of};
+ghost use Rattle.scope_verifier.specs.Shown.{FactHasPlace, Follows, HasPlace, IsReady, OperationHasPlace, OptionBelow, Shows, checks, is_check, is_fresh, learned, offset_fresh, state_of, told_now as told_still};
 ghost use Rattle.scope_verifier.specs.declared.knowledge.Check.{Check as CheckForm};
 ghost use Rattle.std.specs.List.{filter, list_any};
 ghost use Rattle.std.specs.Prelude.{◌≡◌, ◌+◌, ◌<◌, ◌&&◌, ◌++◌, ◌∷◌, ℕ, All, [], IfOk, List, MatchResult, OnOk, length, nat_le, replicate, slice_index, slice_index_or, slice_set};
 
-use code_form::{Fact, Instruction, Operation};
+use code_form::{Fact, Instruction, Operation, written_by};
 use scope_verifier_laws::VerifyFault;
 use std::alloc::{AllocError, Global};
 
@@ -130,28 +130,6 @@ fn note(scopes: &mut Vec<Told>, scope: u8, told: Told)
 {
     if (scope as usize) < scopes.len() {
         scopes[scope as usize] = told;
-    }
-}
-
-/// The register that a simple instruction writes.
-fn destination(operation: &Operation) -> Option<u32>
-    ensures { result ≡ destination_of operation.now }
-{
-    match *operation {
-        Operation::Const { to, .. }
-        | Operation::TextOf { to, .. }
-        | Operation::BoolOf { to, .. }
-        | Operation::CharOf { to, .. }
-        | Operation::Null { to }
-        | Operation::Move { to, .. }
-        | Operation::Binary { to, .. }
-        | Operation::Unary { to, .. }
-        | Operation::Compare { to, .. }
-        | Operation::CheckIndex { to, .. }
-        | Operation::Len { to, .. }
-        | Operation::Alloc { to, .. }
-        | Operation::AllocArray { to, .. } => Some(to),
-        _ => None,
     }
 }
 
@@ -317,7 +295,7 @@ impl Knowledge {
                 self.wrote(to)?;
                 self.indexed(to, register)
             }
-            _ => self.wrote_some(destination(operation)),
+            _ => self.wrote_some(written_by(operation)),
         }
     }
 

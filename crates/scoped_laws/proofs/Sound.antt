@@ -15,8 +15,7 @@ use Rattle.code_form.specs.declared.form.Operation.TheVariants.{Const, TextOf, B
 use Rattle.code_form.specs.Form.{Head}
 use Rattle.code_form.specs.Effects.{with_cell, upd}
 use Rattle.code_form.specs.Code.{Did, Goes, Tells, Sets, Makes, Prints, Stops, Fails, Scope, Shut, Aimed, Stale, call_fits, can_use, has, if_zero, indexes, int_of, is_register, length_of, makes, natural, offset, op_did, op_does, op_fits, place_fits, prints_text, sets_some, text_at, written}
-use Rattle.code_form.specs.Known.{Knows, Unknown, KnownShut, KnownAimed, forget}
-use Rattle.middle_form.specs.Guarded.{written_by}
+use Rattle.code_form.specs.Known.{Knows, Unknown, KnownShut, KnownAimed, forget, written_by}
 use Rattle.middle_form.specs.Meaning.{Outcome, Done, Stopped, Cut, Stuck, Registers, State, means, opening, then_do, told, turn, where_so}
 use Rattle.middle_form.specs.Meaning as m
 use Rattle.middle_form.specs.Scoped.{Code, Nothing, Do, Load, Store, LoadBy, StoreBy, Aim, Leave, Loose, Call, Fail, Then, Choose, Loop, Block, Exit, Function, Program, plain, plain_function, plain_program}
