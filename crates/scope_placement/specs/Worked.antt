@@ -9,6 +9,7 @@ use Rattle.scope_placement.specs.Placed.{in_order}
 abbrev pub shared : m.Code
 shared = sample.in_order (m.Load 0 3 None 0 ∷ m.Load 1 3 None 1 ∷ [])
 
+-- both aim scope 0, which is left behind them
 abbrev pub shared_placed : Code
 shared_placed = in_order (Load 0 0 3 None 0 ∷ Load 1 0 3 None 1 ∷ Leave 0 ∷ [])
 
@@ -16,6 +17,7 @@ shared_placed = in_order (Load 0 0 3 None 0 ∷ Load 1 0 3 None 1 ∷ Leave 0 �
 abbrev pub returning : m.Code
 returning = sample.in_order (m.Load 0 3 None 0 ∷ m.Load 0 7 None 0 ∷ m.Load 0 3 None 0 ∷ [])
 
+-- register 3 has its scope still where it comes again; both scopes are left at the end
 abbrev pub returning_placed : Code
 returning_placed = in_order (Load 0 0 3 None 0 ∷ Load 0 1 7 None 0 ∷ Load 0 0 3 None 0 ∷ Leave 0 ∷ Leave 1 ∷ [])
 
@@ -23,6 +25,7 @@ returning_placed = in_order (Load 0 0 3 None 0 ∷ Load 0 1 7 None 0 ∷ Load 0 
 abbrev pub many : m.Code
 many = sample.in_order (m.Load 0 10 None 0 ∷ m.Load 0 11 None 0 ∷ m.Load 0 12 None 0 ∷ m.Load 0 13 None 0 ∷ m.Load 0 14 None 0 ∷ m.Load 0 10 None 0 ∷ [])
 
+-- scope 3 is aimed for the fourth register, and then for the fifth
 abbrev pub many_placed : Code
 many_placed = in_order (
     Load 0 0 10 None 0 ∷ Load 0 1 11 None 0 ∷ Load 0 2 12 None 0 ∷ Load 0 3 13 None 0 ∷ Load 0 3 14 None 0 ∷ Load 0 0 10 None 0
@@ -32,5 +35,6 @@ many_placed = in_order (
 abbrev pub calling : m.Code
 calling = sample.in_order (m.Load 0 3 None 0 ∷ m.Call None 1 [] ∷ m.Load 0 3 None 0 ∷ [])
 
+-- scope 0 is left before the call and behind the second load
 abbrev pub calling_placed : Code
 calling_placed = in_order (Load 0 0 3 None 0 ∷ Leave 0 ∷ Call None 1 [] ∷ Load 0 0 3 None 0 ∷ Leave 0 ∷ [])
