@@ -1,5 +1,6 @@
 mod Entering
 mod Few
 mod Growth
+mod Plain
 mod Scopes
 mod Within

@@ -1,6 +1,7 @@
 //! The execution of an image up to its heap.
 ghost use Rattle.cells.specs.Stops.{stop_of as stop_read};
 ghost use Rattle.code_execution.specs.Decisions.{decided, growth_touch, makes, refuses};
+ghost use Rattle.code_execution.specs.Plain.{ArePlain, EndsPlain, plain_run};
 ghost use Rattle.code_execution.specs.Statuses.{allocated, core_of, followed};
 ghost use Rattle.code_form.specs.Code.{Frame, Running, Stuck, entry, begins, code, effect, most_scopes, output_of, stop_of, is_blocked as is_blocked_in};
 ghost use Rattle.code_form.specs.declared.allocation.Allocation.{Allocation};
@@ -8,7 +9,7 @@ ghost use Rattle.code_form.specs.Form.{block_of, function_of, image_of};
 ghost use Rattle.code_form.specs.Growth.{has_text, may_grow, rest_of};
 ghost use Rattle.code_form.specs.Touches.{IsWithin, cells_asked, resumed, touch_of};
 ghost use Rattle.code_form.specs.declared.touch.Touch.TheVariants.{Ends, Plain};
-ghost use Rattle.std.specs.Prelude.{◌≡◌, ◌≢◌, ◌∷◌, ℕ, suc, [], false, IfOk, List, MatchOption, MatchResult, None, length, Some, map, option_map, reverse, slice_get, true};
+ghost use Rattle.std.specs.Prelude.{◌≡◌, ◌≢◌, ◌∷◌, ◌<◌, ◌≤◌, ℕ, suc, [], false, IfOk, List, MatchOption, MatchResult, None, length, Some, map, option_map, reverse, slice_get, true};
 
 use crate::call::{Call, Decision, Scope};
 use crate::calls::Calls;
@@ -233,6 +234,27 @@ impl<'a> Execution<'a> {
                 .follow(self.alloc, &mut self.output, decision, loaded)?;
         }
         Ok(())
+    }
+
+    /// Does instructions one after the other, each decided once, as long as they touch nothing and find no scope open that must be shut, at
+    /// most `limit`, and tells how many. It ends before an instruction that touches something or finds such a scope, one that stops the
+    /// program or is stuck, and one to which memory is refused: of that one nothing is done.
+    pub fn run_plain(&mut self, limit: u64) -> u64
+        ensures within { result ≤ limit }
+        ensures ran { self.new ≡ record self.old { core = plain_run self.old.image result self.old.core } }
+        ensures plain { ArePlain self.old.image result self.old.core }
+        ensures ends { result < limit → EndsPlain self.new.image self.new.core }
+    {
+        match &mut self.status {
+            Status::Running(calls) => calls.run_plain(
+                self.alloc,
+                self.image,
+                &self.allocations,
+                &mut self.output,
+                limit,
+            ),
+            _ => 0,
+        }
     }
 
     /// What was printed.
