@@ -1,0 +1,6 @@
+mod Aims
+mod Numbers
+mod Instructions
+mod Functions
+mod Placed
+mod Encodable

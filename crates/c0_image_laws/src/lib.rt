@@ -1,0 +1,6 @@
+//! What holds of the image of every accepted text besides what it does: its bytes are those of no other image, and are read as it again.
+#![tactic(auto)]
+
+mod laws;
+
+pub use laws::{images_are_encodable, images_are_read_again, worked_image};
