@@ -23,5 +23,5 @@ pub returns-in_default : goal.returns-in_default
 returns-in_default c =
     weaker c.wrote_some.result _ _
     (λ q. others c.args.self.now c.wrote_some.new.self c.args.operation.now c.in_default.not-CheckNull c.in_default.not-CheckIndex
-    (subst (λ (x : Option ℕ). Follows c.args.self.now c.wrote_some.new.self (λ registers _. OptionBelow registers x) (wrote_some x)) c.destination.ensures q))
+    (subst (λ (x : Option ℕ). Follows c.args.self.now c.wrote_some.new.self (λ registers _. OptionBelow registers x) (wrote_some x)) c.written_by.ensures q))
     c.wrote_some.ensures
