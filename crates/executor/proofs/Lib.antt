@@ -1,13 +1,14 @@
+mod Copying
 mod Counts
 mod Filling
-mod Copying
 mod Holding
 mod Laws
+mod Looking
 mod Missing
 mod Opening
 mod Places
+mod Plainly
 mod Running
 mod Taking
 mod Ways
 mod Writing
-mod Looking

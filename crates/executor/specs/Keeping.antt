@@ -5,6 +5,7 @@ use Rattle.cells.specs.declared.ending.Want.TheVariants.{OutOfMemory, NoObjects,
 use Rattle.cells.specs.declared.ending.Run.{Run}
 use Rattle.cells.specs.declared.ending.Run.TheVariants.{Running, Stopped, Wanted}
 use Rattle.cells.specs.Stops.{stop_of as stop_read}
+use Rattle.code_execution.specs.Plain.{plain_run}
 use Rattle.code_form.specs.Effects.{upd}
 use Rattle.code_form.specs.Code.{effect, stop_of, is_blocked, most_scopes}
 use Rattle.code_form.specs.Placed.{pieces}
@@ -150,6 +151,10 @@ written s h i v = record s { view = with_note s.view h.object (added (note s.vie
 abbrev pub finished : State → ℕ → State
 finished s v = record s { core = resumed (effect s.image s.core) s.core v; completed = s.completed + 1 }
 
+-- n instructions are done, none of which loads
+abbrev pub ran_on : State → ℕ → State
+ran_on s n = record s { core = plain_run s.image n s.core; completed = s.completed + n }
+
 -- the allocation of n cells is done
 abbrev pub extended : State → ℕ → State
 extended s n = record s { core = resumed (effect s.image s.core) s.core 0; firsts = s.next ∷ s.firsts; next = s.next + pieces s.view.sizes.cells n; completed = s.completed + 1 }
@@ -220,6 +225,10 @@ abbrev pub Went : Type 0 → State → State → Run → Type 0
 Went reliable s t Running = SameProgram s t × (t.completed ≡ s.completed + 1) × IsGoing t × (t.refusals ≡ s.refusals)
 Went reliable s t (Stopped x) = SameProgram s t × (t.completed ≡ s.completed + 1) × (stop_of t.core ≡ Some (stop_read x)) × (t.refusals ≡ s.refusals)
 Went reliable s t (Wanted w) = SameProgram s t × (t.completed ≡ s.completed) × (t.want ≡ Some w) × (stop_of t.core ≡ None) × Caused reliable s.refusals t w
+
+-- n instructions were completed, and the program goes on
+abbrev pub WentOn : ℕ → State → State → Type 0
+WentOn n s t = SameProgram s t × (t.completed ≡ s.completed + n) × IsGoing t × (t.refusals ≡ s.refusals)
 
 -- why an allocation of n cells wants something
 abbrev pub AllocCause : State → ℕ → Want → Type 0

@@ -1,4 +1,5 @@
 //! A program with what its scopes hold, at one seat of a table: single steps, and those that keep the holds right.
+ghost use Rattle.code_execution.specs.Plain.{ArePlain};
 ghost use Rattle.code_form.specs.Code.{effect, is_blocked as is_blocked_in, most_scopes, output_of, stop_of};
 ghost use Rattle.code_form.specs.Form.{image_of};
 ghost use Rattle.code_form.specs.Growth.{has_text, may_grow, rest_of};
@@ -6,7 +7,7 @@ ghost use Rattle.code_form.specs.Placed.{pieces as pieces_of};
 ghost use Rattle.code_form.specs.Touches.{IsCell, IsCellOrNone, IsWithin, cells_asked, resumed};
 ghost use Rattle.code_form.specs.declared.touch.Touch.TheVariants.{Allocs, Ends, Plain};
 ghost use Rattle.cells.specs.Stops.{stop_of as stop_read};
-ghost use Rattle.executor.specs.Keeping.{Changes, Closes, Fails, HasWriter, Holds, HoldsObject, IsHolding, cleared, count_of, extended, finished, first_of, has_object, Misses, shut, shut_at, wants, written};
+ghost use Rattle.executor.specs.Keeping.{Changes, Closes, Fails, HasWriter, Holds, HoldsObject, IsHolding, cleared, count_of, extended, finished, first_of, has_object, Misses, ran_on, shut, shut_at, wants, written};
 ghost use Rattle.executor.specs.State.{AllShut, Matches, State, begin, hold_at, latest_in, next_touch, object_of};
 ghost use Rattle.executor.specs.Taken.{IsQuiet};
 ghost use Rattle.object_lock.specs.SeatViews.{IsSeat};
@@ -235,6 +236,19 @@ impl<'a, S: RawStore> Program<'a, S> {
         self.execution.proceed(0)?;
         self.completed += 1;
         Ok(())
+    }
+
+    /// Does instructions one after the other, as long as they touch nothing and find no scope open that must be shut, at most `limit`, and
+    /// tells how many.
+    pub(crate) fn proceed_plainly(&mut self, limit: u64) -> u64
+        requires room { self.old.completed + limit < 2 ^ 64 }
+        ensures within { result ≤ limit }
+        ensures ran { self.new ≡ ran_on self.old result }
+        ensures plain { ArePlain self.old.image result self.old.core }
+    {
+        let done = self.execution.run_plain(limit);
+        self.completed += done;
+        done
     }
 
     /// Does the next instruction, which is an allocation of this many pieces. `Err` where memory is refused: then nothing is

@@ -3,5 +3,8 @@ use Rattle.executor.specs.Keeping.{IsRun}
 use Rattle.executor.specs.State.{IsGoing, SameProgram}
 use Rattle.executor.proofs.program.Program.run.Given as goal
 
-abbrev pub invariant-loop-done : goal.invariant-loop-done
-invariant-loop-done g l = IsRun g.S.RawStore.honest l.self × IsGoing l.self × SameProgram l.initial.self l.self × (l.self.completed ≡ l.initial.self.completed + l._done) × (l.self.refusals ≡ l.initial.self.refusals)
+abbrev pub invariant-loop-left : goal.invariant-loop-left
+invariant-loop-left g l = IsRun g.S.RawStore.honest l.self × IsGoing l.self × SameProgram l.initial.self l.self × (l.self.completed + l.left ≡ l.initial.self.completed + l.limit) × (l.self.refusals ≡ l.initial.self.refusals)
+
+abbrev pub decreases-loop-left : goal.decreases-loop-left
+decreases-loop-left g l = l.left
