@@ -1,5 +1,6 @@
 //! Checks each text that the words name, prints its tree and reads what was printed, and tells of each in a line. Then it is compiled with its
-//! contracts and run, and what it prints and how it ends is told. The status is 1 where one is refused, or is printed otherwise the second time.
+//! contracts, its image is written, read again and run, and what it prints and how it ends is told. The status is 1 where one is refused, is printed
+//! otherwise the second time, or is read as another image than was written.
 #![tactic(auto)]
 
 use c0_front::{check_text, read_text};
@@ -9,7 +10,11 @@ use c0_source::position::line_column;
 use c0_syntax::level::Level;
 use c0_syntax::print::print;
 use cells::Ended;
+use code_form::Image;
+use image_bytes::encode;
+use image_reader::decode;
 use image_run::execute;
+use scope_verifier::{Verified, verify};
 use std::alloc::Global;
 use std::io::Write;
 use std::process::ExitCode;
@@ -30,10 +35,24 @@ fn reads_back(alloc: Global, text: &[u8]) -> Result<bool, Fault> {
     Ok(once == twice)
 }
 
-/// The end of the text's program, with its contracts checked.
-fn ended<R: Wait>(alloc: Global, rt: &R, text: &[u8]) -> Result<Ended, Fault> {
-    let verified = compile(alloc, text, true)?;
-    Ok(execute(alloc, rt, &verified)?)
+/// What is read where this image was written, verified. None where it is no such image, or its bytes are others.
+fn read_again(alloc: Global, image: &Image) -> Option<Verified> {
+    let bytes = encode(alloc, image).ok()?;
+    let read = decode(alloc, &bytes).ok()?;
+    let again = encode(alloc, &read).ok()?;
+    if again != bytes {
+        return None;
+    }
+    verify(alloc, read).ok()
+}
+
+/// The end of the text's program, with its contracts checked, as its image has it that was written and read again. None where that is another image.
+fn ended<R: Wait>(alloc: Global, rt: &R, text: &[u8]) -> Result<Option<Ended>, Fault> {
+    let compiled = compile(alloc, text, true)?;
+    match read_again(alloc, compiled.image()) {
+        Some(read) => Ok(Some(execute(alloc, rt, &read)?)),
+        None => Ok(None),
+    }
 }
 
 /// Tells what the fault of this text is, and where.
@@ -42,6 +61,13 @@ fn tell_fault<O: Write>(out: &mut O, name: &str, text: &[u8], fault: Fault) -> i
     let line = place.line;
     let column = place.column;
     writeln!(out, "{name}:{line}:{column}: {fault}")
+}
+
+/// Tells what a program printed, and how it ended.
+fn tell_end<O: Write>(out: &mut O, ended: &Ended) -> io::Result<()> {
+    out.write_all(&ended.output)?;
+    let run = &ended.run;
+    writeln!(out, "{run}")
 }
 
 /// Checks, prints and runs this text. False where something is not as it has to be.
@@ -64,11 +90,13 @@ fn tell<R: Wait, O: Write>(
         }
     }
     match ended(alloc, rt, text) {
-        Ok(ended) => {
-            out.write_all(&ended.output)?;
-            let run = &ended.run;
-            writeln!(out, "{run}")?;
+        Ok(Some(ended)) => {
+            tell_end(out, &ended)?;
             Ok(true)
+        }
+        Ok(None) => {
+            writeln!(out, "{name}: read otherwise")?;
+            Ok(false)
         }
         Err(fault) => {
             tell_fault(out, name, text, fault)?;

@@ -1,6 +1,6 @@
 //! Runs each text that the words name plainly, and prints what it means: the command, what the program prints, and how it ends. Where it ends,
-//! the text is compiled and run too, and a line tells whether that printed the same and ended the same way. Before a name may stand `-d`, for
-//! contracts to be checked, and a number of turns in place of 5,000. The status is 1 where a text is refused or a run differs.
+//! the text is compiled too, its image is written, read again and run, and a line tells whether that printed the same and ended the same way. Before a
+//! name may stand `-d`, for contracts to be checked, and a number of turns in place of 5,000. The status is 1 where a text is refused or a run differs.
 #![tactic(auto)]
 
 use c0_image::compile;
@@ -8,7 +8,11 @@ use c0_meaning::Meant;
 use c0_plain::mean_text;
 use c0_source::fault::Fault;
 use cells::{Run, Stop};
+use code_form::Image;
+use image_bytes::encode;
+use image_reader::decode;
 use image_run::execute;
+use scope_verifier::{Verified, verify};
 use std::alloc::Global;
 use std::io::Write;
 use std::process::ExitCode;
@@ -62,7 +66,18 @@ fn tell<O: Write>(out: &mut O, meant: &Meant) -> io::Result<()> {
     }
 }
 
-/// Whether the compiled text prints this and stops so.
+/// What is read where this image was written, verified. None where it is no such image, or its bytes are others.
+fn read_again(alloc: Global, image: &Image) -> Option<Verified> {
+    let bytes = encode(alloc, image).ok()?;
+    let read = decode(alloc, &bytes).ok()?;
+    let again = encode(alloc, &read).ok()?;
+    if again != bytes {
+        return None;
+    }
+    verify(alloc, read).ok()
+}
+
+/// Whether the compiled text, written and read again, prints this and stops so.
 fn runs_so<R: Wait>(
     alloc: Global,
     rt: &R,
@@ -71,8 +86,11 @@ fn runs_so<R: Wait>(
     output: &[u8],
     stop: &Stop,
 ) -> Result<bool, Fault> {
-    let verified = compile(alloc, text, checks)?;
-    let ended = execute(alloc, rt, &verified)?;
+    let compiled = compile(alloc, text, checks)?;
+    let Some(read) = read_again(alloc, compiled.image()) else {
+        return Ok(false);
+    };
+    let ended = execute(alloc, rt, &read)?;
     let same_end = match &ended.run {
         Run::Stopped(other) => other == stop,
         Run::Running | Run::Wanted(_) => false,
