@@ -3,15 +3,16 @@
 //! status is 1 where one was shown.
 #![tactic(auto)]
 
-mod rows;
+mod repeats;
 mod tell;
 
-use crate::rows::{Row, rows};
+use crate::repeats::expanded;
 use crate::tell::{Question, tell};
 use std::alloc::Global;
 use std::io::Write;
 use std::process::ExitCode;
 use std::{env, fs, io};
+use test_rows::{Row, compare, rows};
 
 /// Shows the rows of which something else is told than what is wanted. Whether there is none.
 fn go_through<O: Write>(
@@ -22,15 +23,9 @@ fn go_through<O: Write>(
 ) -> io::Result<bool> {
     let mut all = true;
     for row in rows {
-        let told = tell(alloc, question, row.given.bytes())?;
-        if told.as_slice() != row.wanted.bytes() {
-            all = false;
-            out.write_all(row.given.bytes())?;
-            writeln!(out)?;
-            writeln!(out, "told:")?;
-            out.write_all(&told)?;
-            writeln!(out)?;
-        }
+        let text = expanded(alloc, &row.given)?;
+        let told = tell(alloc, question, &text)?;
+        all = compare(row, &told, out)? && all;
     }
     Ok(all)
 }

@@ -8,6 +8,7 @@ use image_reader::decode;
 use instruction_table::ImageFault;
 use scope_verifier::verify;
 use std::alloc::{AllocError, Global};
+use test_rows::without_blanks;
 
 /// What is asked of a row.
 #[derive(Clone, Copy)]
@@ -66,9 +67,10 @@ fn changed(alloc: Global, bytes: &mut [u8]) -> Result<String, AllocError> {
     format!(in alloc; "{short} beginnings\n{changes} changes\n")
 }
 
-/// What is told of the bytes that these digits are.
+/// What is told of the bytes that these digits are, in which blanks and newlines count for nothing.
 pub(crate) fn tell(alloc: Global, asked: Asked, digits: &[u8]) -> Result<String, AllocError> {
-    let Ok(mut bytes) = hex::decode(alloc, digits) else {
+    let digits = without_blanks(alloc, digits)?;
+    let Ok(mut bytes) = hex::decode(alloc, &digits) else {
         return format!(in alloc; "no hexadecimal digits\n");
     };
     if let Asked::Changes = asked {
