@@ -125,9 +125,9 @@ fn a_held_aim_is_told(rt: HostRuntime) -> Result<(), Fail> {
     Ok(())
 }
 
-/// A function has as many scopes as it says.
+/// A function has as many scopes as it says: of none, no fact is told.
 #[test]
-fn no_scope_is_given_in_vain(rt: HostRuntime) -> Result<(), Fail> {
+fn a_function_has_as_many_scopes_as_it_says(rt: HostRuntime) -> Result<(), Fail> {
     let alloc = rt.alloc();
     let body = ScopedCode::Do(Operation::Const { to: 0, value: 5 });
     let image = generate(alloc, &program_with(alloc, 0, body)?)?;

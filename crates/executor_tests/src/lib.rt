@@ -1,5 +1,0 @@
-//! Sessions over stores in memory: the tests of `executor`.
-#![tactic(auto)]
-
-#[cfg(test)]
-mod tests;

@@ -1,0 +1,119 @@
+//! Goes through files of rows about runs: what is told of each must be what stands beside it. Each row of which something else is told is shown, and
+//! then how many rows there were; the status is 1 where one was shown.
+//!
+//! Before the name of a file stands what its rows and those of the files behind it are:
+//! - `images`: an image's bytes, under its name, and its listing; the rows behind it name it;
+//! - `touches`: a line for each instruction of a run tells what it touches, whether it is blocked, and whether the run has stopped, with plain ones in a row on one
+//!   line; then how the run stopped, and what it printed. `loads` has what its loads are given, in order;
+//! - `session`: an image runs over far memory, `runs` has how many instructions each call of `run` may complete; each call's answer is told, with how
+//!   many instructions were completed, and then what was printed;
+//! - `schedule`: images run in one world, by lines that stand behind how often each comes; what `replay` answers is told;
+//! - `steps`: the same step by step: behind each line the word of object 0 and its first cell are told, and how many of its steps were taken, unless
+//!   all were. In place of a number may stand `A..B`: the row holds for each number of these, whose first is `A` and whose last is `B`.
+//!
+//! A row names its `image`, or each of its images, and its numbers: `frames`, `objects`, `evacuators`. `fails at N` has the call of this number of the
+//! store fail alone, `fails from N` each one from there on.
+#![tactic(auto)]
+
+mod schedules;
+mod sessions;
+mod setting;
+mod shelf;
+mod steps;
+mod touches;
+
+use crate::setting::Setting;
+use crate::shelf::Shelf;
+use std::alloc::{AllocError, Global};
+use std::io::Write;
+use std::process::ExitCode;
+use std::sync::Wait;
+use std::{env, fs, io};
+use test_rows::{Row, compare, rows};
+
+/// What the rows of a file are.
+#[derive(Clone, Copy)]
+enum Kind {
+    Images,
+    Touches,
+    Session,
+    Schedule,
+    Steps,
+}
+
+impl Kind {
+    /// What this word says that rows are, if it is no name of a file.
+    fn of(word: &str) -> Option<Kind> {
+        match word {
+            "images" => Some(Kind::Images),
+            "touches" => Some(Kind::Touches),
+            "session" => Some(Kind::Session),
+            "schedule" => Some(Kind::Schedule),
+            "steps" => Some(Kind::Steps),
+            _ => None,
+        }
+    }
+}
+
+/// What is told of a run.
+fn tell_run<R: Wait>(
+    rt: &R,
+    alloc: Global,
+    kind: Kind,
+    given: &[u8],
+    shelf: &Shelf,
+) -> Result<String, AllocError> {
+    let Some(setting) = Setting::of(alloc, given)? else {
+        return String::from_str(alloc, "a line that says nothing");
+    };
+    match kind {
+        Kind::Images | Kind::Touches => touches::tell(alloc, shelf, &setting),
+        Kind::Session => sessions::tell(rt, alloc, shelf, &setting),
+        Kind::Schedule => schedules::tell(alloc, shelf, &setting),
+        Kind::Steps => steps::tell(alloc, shelf, &setting),
+    }
+}
+
+/// Shows the rows of which something else is told than what is wanted. Whether there is none.
+fn go_through<R: Wait, O: Write>(
+    rt: &R,
+    alloc: Global,
+    kind: Kind,
+    rows: &[Row],
+    shelf: &mut Shelf,
+    out: &mut O,
+) -> io::Result<bool> {
+    let mut all = true;
+    for row in rows {
+        let told = match kind {
+            Kind::Images => shelf.put(alloc, row.title(), row.given())?,
+            _ => tell_run(rt, alloc, kind, row.given(), shelf)?,
+        };
+        let told = told.as_bytes();
+        let told = told.strip_suffix(b"\n").unwrap_or(told);
+        all = compare(row, told, out)? && all;
+    }
+    Ok(all)
+}
+
+fn main(rt: HostRuntime) -> io::Result<ExitCode> {
+    let words: Vec<String> = env::args(&rt)?.collect(rt.alloc())?;
+    let mut out = io::writer(&rt);
+    let mut shelf = Shelf::new(rt.alloc());
+    let mut kind = Kind::Images;
+    let mut status = 0;
+    for word in words.iter().skip(1) {
+        if let Some(other) = Kind::of(word.as_str()) {
+            kind = other;
+            continue;
+        }
+        let text = fs::read(&rt, word.as_str())?;
+        let rows = rows(rt.alloc(), &text)?;
+        if !go_through(&rt, rt.alloc(), kind, &rows, &mut shelf, &mut out)? {
+            status = 1;
+        }
+        let count = rows.len();
+        writeln!(out, "{word}: {count} rows")?;
+    }
+    Ok(ExitCode::from(status))
+}

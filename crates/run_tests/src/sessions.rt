@@ -1,0 +1,89 @@
+//! Runs over far memory.
+ghost use Rattle.code_form.specs.Code.{most_scopes};
+ghost use Rattle.code_form.specs.Form.{function_of, image_of};
+ghost use Rattle.std.specs.Prelude.{◌≡◌, ◌≤◌, map, true};
+
+use crate::setting::Setting;
+use crate::shelf::Shelf;
+use crate::touches::put_output;
+use code_form::{Function, Image};
+use executor::Session;
+use object_lock::ObjectTable;
+use remote_store::{FarHeap, FaultStore, RawStore};
+use std::alloc::{AllocError, Global};
+use std::fmt::Write;
+use std::sync::Wait;
+
+/// Whether no function has more than four scopes.
+fn have_few_scopes(functions: &[Function]) -> bool
+    ensures { result ≡ true → most_scopes (map function_of functions.now) ≤ 4 }
+{
+    match functions {
+        [] => true,
+        [first, rest @ ..] => first.scopes <= 4 && have_few_scopes(rest),
+    }
+}
+
+/// Runs the session with each of these limits, and tells what it answers.
+fn put_runs<R: Wait, S: RawStore>(
+    rt: &R,
+    session: &mut Session<'_, S>,
+    limits: &[u64],
+    told: &mut String,
+) -> Result<(), AllocError> {
+    for limit in limits {
+        let limit = *limit;
+        if limit > u64::MAX - session.completed() {
+            return told.push_str("more than can be counted\n");
+        }
+        let run = session.run(rt, limit);
+        let completed = session.completed();
+        writeln!(told, "{run}, {completed} completed")?;
+    }
+    put_output(told, session.output())
+}
+
+/// What is told of an image's runs.
+fn tell_image<R: Wait>(
+    rt: &R,
+    alloc: Global,
+    image: &Image,
+    setting: &Setting<'_>,
+) -> Result<String, AllocError>
+    requires image { most_scopes (image_of image.now).functions ≤ 4 }
+{
+    let Some(config) = setting.config(alloc) else {
+        return String::from_str(alloc, "numbers out of range");
+    };
+    let Ok((table, mut owners, _movers)) = ObjectTable::<FaultStore<FarHeap>>::new(
+        alloc, 1, &config,
+    ) else {
+        return Err(AllocError);
+    };
+    let Some(seat) = owners.pop() else {
+        return Err(AllocError);
+    };
+    let Ok(mut session) = Session::new(alloc, &table, image, seat) else {
+        return Err(AllocError);
+    };
+    let mut told = String::new(alloc);
+    put_runs(rt, &mut session, &setting.numbers, &mut told)?;
+    Ok(told)
+}
+
+/// What is told of a row.
+pub(crate) fn tell<R: Wait>(
+    rt: &R,
+    alloc: Global,
+    shelf: &Shelf,
+    setting: &Setting<'_>,
+) -> Result<String, AllocError> {
+    let Some(images) = setting.images(alloc, shelf)? else {
+        return String::from_str(alloc, "no such image");
+    };
+    match images.first() {
+        Some(image) if have_few_scopes(&image.functions) => tell_image(rt, alloc, image, setting),
+        Some(_) => String::from_str(alloc, "more than four scopes"),
+        None => String::from_str(alloc, "no image"),
+    }
+}

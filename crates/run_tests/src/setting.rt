@@ -1,0 +1,177 @@
+//! What a row says of its run.
+ghost use Rattle.object_lock.specs.Fresh.{IsWithinLimits};
+ghost use Rattle.std.specs.Prelude.{◌≡◌, ◌<◌, ◌≤◌, IfSome};
+
+use crate::shelf::Shelf;
+use code_form::Image;
+use remote_store::{Config, FarHeap, FaultPlan, FaultStores};
+use std::alloc::{AllocError, Global};
+use std::str::from_utf8;
+
+/// A line of a schedule, and the least and the greatest number of how often it comes.
+#[derive(Clone, Copy)]
+pub struct Repeated<'a> {
+    pub(crate) least: u32,
+    pub(crate) most: u32,
+    pub(crate) line: &'a str,
+}
+
+/// What a row says of its run.
+#[derive(Drop)]
+pub struct Setting<'a> {
+    names: Vec<&'a str>,
+    frames: u32,
+    objects: u32,
+    evacuators: u32,
+    plan: FaultPlan,
+    pub(crate) numbers: Vec<u64>,
+    pub(crate) lines: Vec<Repeated<'a>>,
+}
+
+/// Sets the number to what the word is. Whether it is one.
+fn set(number: &mut u32, word: &str) -> bool {
+    match word.parse() {
+        Ok(value) => {
+            *number = value;
+            true
+        }
+        Err(_) => false,
+    }
+}
+
+/// The plan of these words.
+fn plan(words: &str) -> Option<FaultPlan> {
+    let (word, number) = words.split_once(' ')?;
+    let number = number.parse().ok()?;
+    match word {
+        "at" => Some(FaultPlan::Only(number)),
+        "from" => Some(FaultPlan::From(number)),
+        _ => None,
+    }
+}
+
+/// A line that comes so often, where the word is a number or two.
+fn line_of<'a>(word: &str, line: &'a str) -> Option<Repeated<'a>> {
+    let (least, most) = match word.split_once("..") {
+        Some((least, most)) => (least, most),
+        None => (word, word),
+    };
+    Some(Repeated {
+        least: least.parse().ok()?,
+        most: most.parse().ok()?,
+        line,
+    })
+}
+
+impl<'a> Setting<'a> {
+    /// One frame, one object, no evacuator, and a store that does not fail.
+    fn new(alloc: Global) -> Setting<'a> {
+        Setting {
+            names: Vec::new(alloc),
+            frames: 1,
+            objects: 1,
+            evacuators: 0,
+            plan: FaultPlan::Never,
+            numbers: Vec::new(alloc),
+            lines: Vec::new(alloc),
+        }
+    }
+
+    /// More numbers. Whether all these words are numbers.
+    fn add_numbers(&mut self, words: &str) -> Result<bool, AllocError> {
+        for word in words.split(' ') {
+            let Ok(number) = word.parse() else {
+                return Ok(false);
+            };
+            self.numbers.push(number)?;
+        }
+        Ok(true)
+    }
+
+    /// What this line says more. Whether it says something.
+    fn add(&mut self, line: &'a str) -> Result<bool, AllocError> {
+        let (word, rest) = line.split_once(' ').unwrap_or((line, ""));
+        match word {
+            "image" => {
+                self.names.push(rest)?;
+                Ok(true)
+            }
+            "frames" => Ok(set(&mut self.frames, rest)),
+            "objects" => Ok(set(&mut self.objects, rest)),
+            "evacuators" => Ok(set(&mut self.evacuators, rest)),
+            "loads" | "runs" => self.add_numbers(rest),
+            "fails" => match plan(rest) {
+                Some(plan) => {
+                    self.plan = plan;
+                    Ok(true)
+                }
+                None => Ok(false),
+            },
+            _ => match line_of(word, rest) {
+                Some(repeated) => {
+                    self.lines.push(repeated)?;
+                    Ok(true)
+                }
+                None => Ok(false),
+            },
+        }
+    }
+
+    /// What the lines of this text say. None where one of them says nothing.
+    pub(crate) fn of(alloc: Global, text: &'a [u8]) -> Result<Option<Setting<'a>>, AllocError> {
+        let mut setting = Setting::new(alloc);
+        for line in text.split(|byte| *byte == b'\n') {
+            let Ok(line) = from_utf8(line) else {
+                return Ok(None);
+            };
+            if !setting.add(line)? {
+                return Ok(None);
+            }
+        }
+        Ok(Some(setting))
+    }
+
+    /// The images that it names. None where one is not there.
+    pub(crate) fn images(
+        &self,
+        alloc: Global,
+        shelf: &Shelf,
+    ) -> Result<Option<Vec<Image>>, AllocError> {
+        let mut images = Vec::new(alloc);
+        for name in &self.names {
+            let Some(image) = shelf.image(alloc, name) else {
+                return Ok(None);
+            };
+            images.push(image)?;
+        }
+        Ok(Some(images))
+    }
+
+    /// Its numbers, and stores that fail by its plan. None where a number is out of its range, or memory ran out.
+    pub(crate) fn config(&self, alloc: Global) -> Option<Config<FaultStores<FarHeap>>>
+        ensures frames { IfSome result (λ c. (0 < c.frames) × (c.frames ≤ 1048576)) }
+        ensures objects { IfSome result (λ c. (0 < c.objects) × (c.objects ≤ 16777216)) }
+        ensures movers { IfSome result (λ c. (c.evacuators ≤ 64) × (c.fetchers ≡ 0)) }
+        ensures limits { IfSome result (λ c. IsWithinLimits 1 c.frames c.objects c.evacuators c.fetchers) }
+    {
+        let frames = self.frames;
+        let objects = self.objects;
+        let evacuators = self.evacuators;
+        if frames == 0 || frames > 1_048_576 || objects == 0 || objects > 16_777_216 {
+            return None;
+        }
+        if evacuators > 64 {
+            return None;
+        }
+        let Ok(stores) = FaultStores::new(alloc, FarHeap, self.plan) else {
+            return None;
+        };
+        Some(Config {
+            frames,
+            objects,
+            evacuators,
+            fetchers: 0,
+            stores,
+        })
+    }
+}

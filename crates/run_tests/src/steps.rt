@@ -1,0 +1,121 @@
+//! Steps of a world.
+ghost use Rattle.std.specs.Prelude.{◌<◌, ◌≤◌, length};
+
+use crate::schedules::put_ended;
+use crate::setting::{Repeated, Setting};
+use crate::shelf::Shelf;
+use code_form::Image;
+use remote_store::{FarHeap, FaultStore, RawStore};
+use schedule_lines::line::read_line;
+use std::alloc::{AllocError, Global};
+use std::fmt::Write;
+use world::{Actor, Choice, Step, World};
+
+/// How many of so many steps are taken.
+fn take<S: RawStore>(world: &mut World<'_, S>, actor: Actor, choice: Choice, count: u32) -> u32 {
+    let mut taken = 0u32;
+    for _ in 0..count {
+        if world.step(actor, choice) == Step::Took {
+            taken = taken.saturating_add(1);
+        }
+    }
+    taken
+}
+
+/// The word of object 0, and its first cell.
+fn put_object<S: RawStore>(text: &mut String, world: &World<'_, S>) -> Result<(), AllocError> {
+    let bits = world.word(0).bits;
+    write!(text, "word {bits:x}")?;
+    match world.cell(0, 0) {
+        Some(value) => writeln!(text, ", cell {value}"),
+        None => text.push_str(", no cell\n"),
+    }
+}
+
+/// Takes the steps of a line, and tells where object 0 is then.
+fn put_line<S: RawStore>(
+    alloc: Global,
+    text: &mut String,
+    world: &mut World<'_, S>,
+    line: &str,
+    count: u32,
+) -> Result<(), AllocError> {
+    let whole = format!(in alloc; "{line}\n")?;
+    let Some((actor, choice, _)) = read_line(whole.as_bytes()) else {
+        return text.push_str("no line\n");
+    };
+    let taken = take(world, actor, choice, count);
+    if taken < count {
+        write!(text, "{taken} taken, ")?;
+    }
+    put_object(text, world)
+}
+
+/// The ends of the programs.
+fn put_ends<S: RawStore>(
+    alloc: Global,
+    text: &mut String,
+    world: &World<'_, S>,
+) -> Result<(), AllocError> {
+    for number in 0..world.programs() {
+        put_ended(text, number, &world.ended(alloc, number)?)?;
+    }
+    Ok(())
+}
+
+/// What is told of these images where a line that comes in several numbers comes in its least and so many more.
+fn tell_images(
+    alloc: Global,
+    images: &[Image],
+    setting: &Setting<'_>,
+    more: u32,
+) -> Result<String, AllocError>
+    requires { (0 < length images.now) × (length images.now ≤ 256) }
+{
+    let Some(config) = setting.config(alloc) else {
+        return String::from_str(alloc, "numbers out of range");
+    };
+    let Ok(mut world) = World::<FaultStore<FarHeap>>::new(alloc, images, &config) else {
+        return Err(AllocError);
+    };
+    let mut told = String::new(alloc);
+    put_object(&mut told, &world)?;
+    for repeated in &setting.lines {
+        let count = repeated.least.saturating_add(more).min(repeated.most);
+        put_line(alloc, &mut told, &mut world, repeated.line, count)?;
+    }
+    put_ends(alloc, &mut told, &world)?;
+    Ok(told)
+}
+
+/// How many numbers the line comes in, but for one.
+fn more(lines: &[Repeated<'_>]) -> u32 {
+    let mut more = 0u32;
+    for repeated in lines {
+        more = more.max(repeated.most.saturating_sub(repeated.least));
+    }
+    more
+}
+
+/// What is told of a row, for each number in which its line comes. Where one differs from the first, that is told too.
+pub(crate) fn tell(
+    alloc: Global,
+    shelf: &Shelf,
+    setting: &Setting<'_>,
+) -> Result<String, AllocError> {
+    let Some(images) = setting.images(alloc, shelf)? else {
+        return String::from_str(alloc, "no such image");
+    };
+    if images.is_empty() || images.len() > 256 {
+        return String::from_str(alloc, "no image, or too many");
+    }
+    let mut first = tell_images(alloc, &images, setting, 0)?;
+    for more in 1..=more(&setting.lines) {
+        let other = tell_images(alloc, &images, setting, more)?;
+        if other != first {
+            write!(first, "and with {more} more:\n{other}")?;
+            return Ok(first);
+        }
+    }
+    Ok(first)
+}

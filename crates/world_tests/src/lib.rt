@@ -1,5 +1,0 @@
-//! Worked schedules: the tests of `world`.
-#![tactic(auto)]
-
-#[cfg(test)]
-mod tests;
