@@ -31,14 +31,20 @@ use std::sync::Wait;
 use std::{env, fs, io};
 use test_rows::{Row, compare, rows};
 
-/// What the rows of a file are.
+/// What is asked of a run.
 #[derive(Clone, Copy)]
-enum Kind {
-    Images,
+enum Asked {
     Touches,
     Session,
     Schedule,
     Steps,
+}
+
+/// What the rows of a file are.
+#[derive(Clone, Copy)]
+enum Kind {
+    Images,
+    Runs(Asked),
 }
 
 impl Kind {
@@ -46,10 +52,10 @@ impl Kind {
     fn of(word: &str) -> Option<Kind> {
         match word {
             "images" => Some(Kind::Images),
-            "touches" => Some(Kind::Touches),
-            "session" => Some(Kind::Session),
-            "schedule" => Some(Kind::Schedule),
-            "steps" => Some(Kind::Steps),
+            "touches" => Some(Kind::Runs(Asked::Touches)),
+            "session" => Some(Kind::Runs(Asked::Session)),
+            "schedule" => Some(Kind::Runs(Asked::Schedule)),
+            "steps" => Some(Kind::Runs(Asked::Steps)),
             _ => None,
         }
     }
@@ -59,18 +65,32 @@ impl Kind {
 fn tell_run<R: Wait>(
     rt: &R,
     alloc: Global,
-    kind: Kind,
+    asked: Asked,
     given: &[u8],
     shelf: &Shelf,
 ) -> Result<String, AllocError> {
     let Some(setting) = Setting::of(alloc, given)? else {
         return String::from_str(alloc, "a line that says nothing");
     };
+    match asked {
+        Asked::Touches => touches::tell(alloc, shelf, &setting),
+        Asked::Session => sessions::tell(rt, alloc, shelf, &setting),
+        Asked::Schedule => schedules::tell(alloc, shelf, &setting),
+        Asked::Steps => steps::tell(alloc, shelf, &setting),
+    }
+}
+
+/// What is told of a row.
+fn tell<R: Wait>(
+    rt: &R,
+    alloc: Global,
+    kind: Kind,
+    row: &Row,
+    shelf: &mut Shelf,
+) -> Result<String, AllocError> {
     match kind {
-        Kind::Images | Kind::Touches => touches::tell(alloc, shelf, &setting),
-        Kind::Session => sessions::tell(rt, alloc, shelf, &setting),
-        Kind::Schedule => schedules::tell(alloc, shelf, &setting),
-        Kind::Steps => steps::tell(alloc, shelf, &setting),
+        Kind::Images => shelf.put(alloc, &row.title, &row.given),
+        Kind::Runs(asked) => tell_run(rt, alloc, asked, &row.given, shelf),
     }
 }
 
@@ -85,10 +105,7 @@ fn go_through<R: Wait, O: Write>(
 ) -> io::Result<bool> {
     let mut all = true;
     for row in rows {
-        let told = match kind {
-            Kind::Images => shelf.put(alloc, row.title(), row.given())?,
-            _ => tell_run(rt, alloc, kind, row.given(), shelf)?,
-        };
+        let told = tell(rt, alloc, kind, row, shelf)?;
         let told = told.as_bytes();
         let told = told.strip_suffix(b"\n").unwrap_or(told);
         all = compare(row, told, out)? && all;

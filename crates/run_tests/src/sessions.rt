@@ -24,6 +24,21 @@ fn have_few_scopes(functions: &[Function]) -> bool
     }
 }
 
+/// Runs the session on, for so many instructions at most, and tells what it answers.
+fn put_run<R: Wait, S: RawStore>(
+    rt: &R,
+    session: &mut Session<'_, S>,
+    limit: u64,
+    told: &mut String,
+) -> Result<(), AllocError> {
+    if session.completed() > u64::MAX - limit {
+        return told.push_str("more than can be counted\n");
+    }
+    let run = session.run(rt, limit);
+    let completed = session.completed();
+    writeln!(told, "{run}, {completed} completed")
+}
+
 /// Runs the session with each of these limits, and tells what it answers.
 fn put_runs<R: Wait, S: RawStore>(
     rt: &R,
@@ -32,13 +47,7 @@ fn put_runs<R: Wait, S: RawStore>(
     told: &mut String,
 ) -> Result<(), AllocError> {
     for limit in limits {
-        let limit = *limit;
-        if limit > u64::MAX - session.completed() {
-            return told.push_str("more than can be counted\n");
-        }
-        let run = session.run(rt, limit);
-        let completed = session.completed();
-        writeln!(told, "{run}, {completed} completed")?;
+        put_run(rt, session, *limit, told)?;
     }
     put_output(told, session.output())
 }
