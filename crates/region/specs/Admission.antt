@@ -1,0 +1,34 @@
+-- Which programs are admitted to a system of so many frames, objects, evacuators and fetchers.
+use Rattle.std.specs.Prelude.{◌≡◌, ℕ, ◌+◌, ◌<◌, ◌≤◌, List, [], length, Option, Some, None, slice_get}
+use Rattle.code_form.specs.Form.{Image, image_of}
+use Rattle.object_lock.specs.Fresh.{IsWithinLimits}
+use Rattle.scope_verifier.specs.declared.acceptance.Verified.{Verified}
+use Rattle.world_semantics.specs.Enough.{scopes_below}
+use Rattle.region.specs.declared.fault.AdmitFault.{AdmitFault}
+use Rattle.region.specs.declared.fault.AdmitFault.TheVariants as f
+
+-- the image of a program, and one without functions where there is no program
+abbrev pub image_by : Option Verified → Image
+image_by None = record { head = record { texts = []; layouts = [] }; functions = [] }
+image_by (Some v) = image_of v.image
+
+-- the image of program k
+abbrev pub image_at : List Verified → ℕ → Image
+image_at programs k = image_by (slice_get programs k)
+
+-- how many frames these programs may need at once: one for each scope that a program may have open, and one for each evacuator and each fetcher
+abbrev pub needed : List Verified → ℕ → ℕ → ℕ
+needed programs evacuators fetchers = scopes_below (image_at programs) (length programs) + evacuators + fetchers
+
+-- in what follows there are so many frames, objects, evacuators and fetchers
+module _ (programs : List Verified) (frames objects evacuators fetchers : ℕ) where
+  -- each number is within its limit, and the frames suffice
+  abbrev pub IsAdmitted : Type 0
+  IsAdmitted = IsWithinLimits (length programs) frames objects evacuators fetchers × (needed programs evacuators fetchers ≤ frames)
+
+  -- why they are not admitted: a number is beyond its limit; or else the frames are too few, and both numbers are told. Memory is no cause
+  abbrev pub IsRefused : AdmitFault → Type 0
+  IsRefused f.TooMany = IsWithinLimits (length programs) frames objects evacuators fetchers → ⊥
+  IsRefused (f.TooSmall need have) =
+      IsWithinLimits (length programs) frames objects evacuators fetchers × (need ≡ needed programs evacuators fetchers) × (have ≡ frames) × (frames < needed programs evacuators fetchers)
+  IsRefused f.OutOfMemory = ⊥

@@ -1,0 +1,69 @@
+//! Whether there are frames enough.
+ghost use Rattle.object_lock.specs.Fresh.{IsWithinLimits};
+ghost use Rattle.region.specs.Admission.{IsAdmitted, IsRefused, needed};
+ghost use Rattle.std.specs.Prelude.{◌≡◌, ◌⊎◌, ◌≤◌, MatchResult, false, length, min, true};
+
+use crate::fault::AdmitFault;
+use remote_store::{Config, Stores};
+use scope_verifier::Verified;
+use scope_verifier_laws::accepted_is_verified;
+
+/// The most programs of a system.
+const MOST_PROGRAMS: usize = 256;
+
+/// The most frames of a system.
+const MOST_FRAMES: u32 = 1_048_576;
+
+/// The most objects of a system.
+const MOST_OBJECTS: u32 = 16_777_216;
+
+/// The most evacuators of a system, and the most fetchers.
+const MOST_MOVERS: u32 = 64;
+
+/// How many frames these programs may need at once, with so many evacuators and fetchers: one for each scope that a program may have open, and one for each
+/// evacuator and each fetcher; 2^64 - 1 where they are more than that.
+pub fn need(programs: &[Verified], evacuators: u32, fetchers: u32) -> u64
+    ensures { result ≡ min (needed programs.now evacuators fetchers) 18446744073709551615 }
+{
+    let mut frames = 0u64;
+    for program in programs {
+        frames = frames.saturating_add(u64::from(program.scopes()));
+    }
+    frames
+        .saturating_add(u64::from(evacuators))
+        .saturating_add(u64::from(fetchers))
+}
+
+/// Whether each number of a system is within its limit, and there is a program.
+fn is_within_limits<M: Stores + Drop>(programs: usize, config: &Config<M>) -> bool
+    ensures within { result ≡ true → IsWithinLimits programs config.now.frames config.now.objects config.now.evacuators config.now.fetchers }
+    ensures beyond { result ≡ false → IsWithinLimits programs config.now.frames config.now.objects config.now.evacuators config.now.fetchers → ⊥ }
+{
+    0 < programs
+        && programs <= MOST_PROGRAMS
+        && 0 < config.frames
+        && config.frames <= MOST_FRAMES
+        && 0 < config.objects
+        && config.objects <= MOST_OBJECTS
+        && config.evacuators <= MOST_MOVERS
+        && config.fetchers <= MOST_MOVERS
+}
+
+/// Whether programs are admitted to a system of these numbers. `TooMany` comes first: there is no program, or some number is beyond its limit. `TooSmall`
+/// comes then: there are fewer frames than the programs, evacuators and fetchers may need at once.
+pub fn fits<M: Stores + Drop>(programs: &[Verified], config: &Config<M>) -> Result<(), AdmitFault>
+    ensures { MatchResult result
+        (λ _. IsAdmitted programs.now config.now.frames config.now.objects config.now.evacuators config.now.fetchers)
+        (λ fault. IsRefused programs.now config.now.frames config.now.objects config.now.evacuators config.now.fetchers fault) }
+{
+    accepted_is_verified();
+    if !is_within_limits(programs.len(), config) {
+        return Err(AdmitFault::TooMany);
+    }
+    let need = need(programs, config.evacuators, config.fetchers);
+    let have = u64::from(config.frames);
+    if have < need {
+        return Err(AdmitFault::TooSmall { need, have });
+    }
+    Ok(())
+}
