@@ -10,11 +10,13 @@
 //! - `schedule`: images run in one world, by lines that stand behind how often each comes; what `replay` answers is told;
 //! - `steps`: the same step by step: behind each line the word of object 0 and its first cell are told, and how many of its steps were taken, unless
 //!   all were. In place of a number may stand `A..B`: the row holds for each number of these, whose first is `A` and whose last is `B`.
+//! - `admission`: how many frames the verified images may need at once is told, and whether they are admitted, or why not.
 //!
-//! A row names its `image`, or each of its images, and its numbers: `frames`, `objects`, `evacuators`. `fails at N` has the call of this number of the
+//! A row names its `image`, or each of its images, and its numbers: `frames`, `objects`, `evacuators`, `fetchers`. `fails at N` has the call of this number of the
 //! store fail alone, `fails from N` each one from there on.
 #![tactic(auto)]
 
+mod admissions;
 mod schedules;
 mod sessions;
 mod setting;
@@ -38,6 +40,7 @@ enum Asked {
     Session,
     Schedule,
     Steps,
+    Admission,
 }
 
 /// What the rows of a file are.
@@ -56,6 +59,7 @@ impl Kind {
             "session" => Some(Kind::Runs(Asked::Session)),
             "schedule" => Some(Kind::Runs(Asked::Schedule)),
             "steps" => Some(Kind::Runs(Asked::Steps)),
+            "admission" => Some(Kind::Runs(Asked::Admission)),
             _ => None,
         }
     }
@@ -77,6 +81,7 @@ fn tell_run<R: Wait>(
         Asked::Session => sessions::tell(rt, alloc, shelf, &setting),
         Asked::Schedule => schedules::tell(alloc, shelf, &setting),
         Asked::Steps => steps::tell(alloc, shelf, &setting),
+        Asked::Admission => admissions::tell(alloc, shelf, &setting),
     }
 }
 

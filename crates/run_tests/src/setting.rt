@@ -23,6 +23,7 @@ pub struct Setting<'a> {
     frames: u32,
     objects: u32,
     evacuators: u32,
+    fetchers: u32,
     plan: FaultPlan,
     pub(crate) numbers: Vec<u64>,
     pub(crate) lines: Vec<Repeated<'a>>,
@@ -64,13 +65,14 @@ fn line_of<'a>(word: &str, line: &'a str) -> Option<Repeated<'a>> {
 }
 
 impl<'a> Setting<'a> {
-    /// One frame, one object, no evacuator, and a store that does not fail.
+    /// One frame, one object, no evacuator and no fetcher, and a store that does not fail.
     fn new(alloc: Global) -> Setting<'a> {
         Setting {
             names: Vec::new(alloc),
             frames: 1,
             objects: 1,
             evacuators: 0,
+            fetchers: 0,
             plan: FaultPlan::Never,
             numbers: Vec::new(alloc),
             lines: Vec::new(alloc),
@@ -99,6 +101,7 @@ impl<'a> Setting<'a> {
             "frames" => Ok(set(&mut self.frames, rest)),
             "objects" => Ok(set(&mut self.objects, rest)),
             "evacuators" => Ok(set(&mut self.evacuators, rest)),
+            "fetchers" => Ok(set(&mut self.fetchers, rest)),
             "loads" | "runs" => self.add_numbers(rest),
             "fails" => match plan(rest) {
                 Some(plan) => {
@@ -147,7 +150,19 @@ impl<'a> Setting<'a> {
         Ok(Some(images))
     }
 
-    /// Its numbers, and stores that fail by its plan. None where a number is out of its range, or memory ran out.
+    /// Its numbers, whatever they are, and stores that fail by its plan. None where memory ran out.
+    pub(crate) fn any_config(&self, alloc: Global) -> Option<Config<FaultStores<FarHeap>>> {
+        let stores = FaultStores::new(alloc, FarHeap, self.plan).ok()?;
+        Some(Config {
+            frames: self.frames,
+            objects: self.objects,
+            evacuators: self.evacuators,
+            fetchers: self.fetchers,
+            stores,
+        })
+    }
+
+    /// Its numbers, with no fetcher, and stores that fail by its plan. None where a number is out of its range, or memory ran out.
     pub(crate) fn config(&self, alloc: Global) -> Option<Config<FaultStores<FarHeap>>>
         ensures frames { IfSome result (λ c. (0 < c.frames) × (c.frames ≤ 1048576)) }
         ensures objects { IfSome result (λ c. (0 < c.objects) × (c.objects ≤ 16777216)) }

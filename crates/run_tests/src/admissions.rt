@@ -1,0 +1,61 @@
+//! Which programs are admitted.
+
+use crate::setting::Setting;
+use crate::shelf::Shelf;
+use code_form::Image;
+use region::{AdmitFault, admit, fits, need};
+use remote_store::{Config, Stores};
+use scope_verifier::{Verified, verify};
+use std::alloc::{AllocError, Global};
+use std::fmt::Write;
+
+/// The verified images of these. None where one is refused.
+fn verified(alloc: Global, images: Vec<Image>) -> Result<Option<Vec<Verified>>, AllocError> {
+    let mut programs = Vec::new(alloc);
+    for image in images {
+        let Ok(program) = verify(alloc, image) else {
+            return Ok(None);
+        };
+        programs.push(program)?;
+    }
+    Ok(Some(programs))
+}
+
+/// How many programs, seats of owners and seats of movers a region has, into which these programs are admitted.
+fn admitted<M: Stores + Drop>(
+    alloc: Global,
+    programs: Vec<Verified>,
+    config: Config<M>,
+) -> Result<(usize, usize, usize), AdmitFault> {
+    fits(&programs, &config)?;
+    let (region, owners, movers) = admit(alloc, programs, config)?;
+    Ok((region.programs(), owners.len(), movers.len()))
+}
+
+/// What is told of a row.
+pub(crate) fn tell(
+    alloc: Global,
+    shelf: &Shelf,
+    setting: &Setting<'_>,
+) -> Result<String, AllocError> {
+    let Some(images) = setting.images(alloc, shelf)? else {
+        return String::from_str(alloc, "no such image");
+    };
+    let Some(programs) = verified(alloc, images)? else {
+        return String::from_str(alloc, "an image that is not verified");
+    };
+    let Some(config) = setting.any_config(alloc) else {
+        return Err(AllocError);
+    };
+    let need = need(&programs, config.evacuators, config.fetchers);
+    let mut told = String::new(alloc);
+    writeln!(told, "need {need}")?;
+    match admitted(alloc, programs, config) {
+        Ok((programs, owners, movers)) => writeln!(
+            told,
+            "admitted: {programs} programs, {owners} owners, {movers} movers"
+        )?,
+        Err(fault) => writeln!(told, "{fault}")?,
+    }
+    Ok(told)
+}
