@@ -60,6 +60,7 @@ impl<'a> Command<'a> {
 }
 
 /// A register gets a value, where what is named fits.
+#[inline(always)]
 fn sets_where<'a>(fits: bool, to: u32, value: u64) -> Command<'a>
     ensures { did_of result ≡ cond fits (Sets to value) Fails }
 {
@@ -129,6 +130,7 @@ impl<'a, 'r> Operands<'a, 'r> {
         sets_where(has_reference(self.kinds, to), to, 0)
     }
 
+    #[inline(always)]
     fn moves(&self, to: u32, from: u32) -> Command<'a>
         ensures { did_of result ≡ did_by self.now (form.Move to from) }
     {
@@ -139,6 +141,7 @@ impl<'a, 'r> Operands<'a, 'r> {
         )
     }
 
+    #[inline(always)]
     fn binary(&self, operator: Int32Op, to: u32, left: u32, right: u32) -> Command<'a>
         ensures { did_of result ≡ did_by self.now (form.Binary operator to left right) }
     {
@@ -154,6 +157,7 @@ impl<'a, 'r> Operands<'a, 'r> {
         }
     }
 
+    #[inline(always)]
     fn unary(&self, operator: UnaryOperator, to: u32, from: u32) -> Command<'a>
         ensures { did_of result ≡ did_by self.now (form.Unary operator to from) }
     {
@@ -164,6 +168,7 @@ impl<'a, 'r> Operands<'a, 'r> {
         }
     }
 
+    #[inline(always)]
     fn negate(&self, to: u32, from: u32) -> Command<'a>
         ensures { did_of result ≡ did_by self.now (form.Unary UnaryOperator.Negate to from) }
     {
@@ -171,6 +176,7 @@ impl<'a, 'r> Operands<'a, 'r> {
         sets_where(fits, to, cell_of(self.number(from).wrapping_neg()))
     }
 
+    #[inline(always)]
     fn complement(&self, to: u32, from: u32) -> Command<'a>
         ensures { did_of result ≡ did_by self.now (form.Unary UnaryOperator.Complement to from) }
     {
@@ -178,6 +184,7 @@ impl<'a, 'r> Operands<'a, 'r> {
         sets_where(fits, to, cell_of(!self.number(from)))
     }
 
+    #[inline(always)]
     fn not(&self, to: u32, from: u32) -> Command<'a>
         ensures { did_of result ≡ did_by self.now (form.Unary UnaryOperator.Not to from) }
     {
@@ -186,6 +193,7 @@ impl<'a, 'r> Operands<'a, 'r> {
         sets_where(fits, to, value)
     }
 
+    #[inline(always)]
     fn compare(&self, relation: Relation, to: u32, left: u32, right: u32) -> Command<'a>
         ensures { did_of result ≡ did_by self.now (form.Compare relation to left right) }
     {
@@ -194,6 +202,7 @@ impl<'a, 'r> Operands<'a, 'r> {
         sets_where(fits, to, cell_of_truth(value))
     }
 
+    #[inline(always)]
     fn check_null(&self, register: u32) -> Command<'a>
         ensures { did_of result ≡ did_by self.now (form.CheckNull register) }
     {
@@ -206,6 +215,7 @@ impl<'a, 'r> Operands<'a, 'r> {
         }
     }
 
+    #[inline(always)]
     fn check_index(&self, to: u32, register: u32, index: u32, size: u32) -> Command<'a>
         ensures { did_of result ≡ did_by self.now (form.CheckIndex to register index size) }
     {
@@ -217,6 +227,7 @@ impl<'a, 'r> Operands<'a, 'r> {
     }
 
     /// Whether the first register is an offset in the array of the second, whose elements have this size, and the third a number.
+    #[inline(always)]
     fn can_index(&self, to: u32, register: u32, index: u32, size: u32) -> bool
         ensures { result ≡ op_fits (image_of self.now.image.now).head self.now.kinds.now (form.CheckIndex to register index size) }
     {
@@ -226,6 +237,7 @@ impl<'a, 'r> Operands<'a, 'r> {
     }
 
     /// The offset of an element, or a fault where the array has no such element.
+    #[inline(always)]
     fn index(&self, to: u32, register: u32, index: u32, size: u32) -> Command<'a>
         ensures { did_of result ≡ indexes to (natural (int_of (slice_index self.now.registers.now index))) (length_of self.now.allocations.now (slice_index self.now.registers.now register)) size }
     {
@@ -239,6 +251,7 @@ impl<'a, 'r> Operands<'a, 'r> {
         }
     }
 
+    #[inline(always)]
     fn len(&self, to: u32, register: u32) -> Command<'a>
         ensures { did_of result ≡ did_by self.now (form.Len to register) }
     {
@@ -356,6 +369,7 @@ impl<'a, 'r> Operands<'a, 'r> {
         }
     }
 
+    #[inline(always)]
     fn assert(&self, condition: u32) -> Command<'a>
         ensures { did_of result ≡ did_by self.now (form.Assert condition) }
     {
@@ -369,6 +383,7 @@ impl<'a, 'r> Operands<'a, 'r> {
     }
 
     /// What a simple instruction is to do.
+    #[inline(always)]
     pub fn command(&self, operation: &Operation) -> Command<'a>
         requires { are_small (image_of self.now.image.now).head.layouts ≡ true }
         ensures { did_of result ≡ did_by self.now operation.now }
