@@ -1,7 +1,7 @@
 -- Which rows a text has.
 use Rattle.std.specs.Cmp.Lexicographic.{pointwise}
 use Rattle.std.specs.List.{join_with_byte, slice_split}
-use Rattle.std.specs.Prelude.{ℕ, ◌==◌, ◌-◌, Bool, true, false, ◌&&◌, not, cond, nat_eq, List, [], ◌∷◌, length, take, drop, Option, None, Some, is_some}
+use Rattle.std.specs.Prelude.{ℕ, ◌==◌, ◌-◌, Bool, false, ◌&&◌, not, cond, nat_eq, List, [], ◌∷◌, length, take, drop, Option, None, Some, is_some}
 use Rattle.test_rows.specs.declared.reading.Row.{Row}
 
 -- a text with its title, and what must be told of it
