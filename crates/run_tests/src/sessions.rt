@@ -1,7 +1,7 @@
 //! Runs over far memory.
 ghost use Rattle.code_form.specs.Code.{most_scopes};
 ghost use Rattle.code_form.specs.Form.{function_of, image_of};
-ghost use Rattle.std.specs.Prelude.{◌≡◌, ◌≤◌, map, true};
+ghost use Rattle.std.specs.Prelude.{◌≡◌, ◌≤◌, map};
 
 use crate::setting::Setting;
 use crate::shelf::Shelf;
@@ -14,14 +14,15 @@ use std::alloc::{AllocError, Global};
 use std::fmt::Write;
 use std::sync::Wait;
 
-/// Whether no function has more than four scopes.
-fn have_few_scopes(functions: &[Function]) -> bool
-    ensures { result ≡ true → most_scopes (map function_of functions.now) ≤ 4 }
+/// The greatest number of scopes of these functions.
+fn greatest_scopes(functions: &[Function]) -> u8
+    ensures { result ≡ most_scopes (map function_of functions.now) }
 {
-    match functions {
-        [] => true,
-        [first, rest @ ..] => first.scopes <= 4 && have_few_scopes(rest),
+    let mut scopes = 0;
+    for function in functions {
+        scopes = scopes.max(function.scopes);
     }
+    scopes
 }
 
 /// Runs the session on, for so many instructions at most, and tells what it answers.
@@ -90,9 +91,11 @@ pub(crate) fn tell<R: Wait>(
     let Some(images) = setting.images(alloc, shelf)? else {
         return String::from_str(alloc, "no such image");
     };
-    match images.first() {
-        Some(image) if have_few_scopes(&image.functions) => tell_image(rt, alloc, image, setting),
-        Some(_) => String::from_str(alloc, "more than four scopes"),
-        None => String::from_str(alloc, "no image"),
+    let Some(image) = images.first() else {
+        return String::from_str(alloc, "no image");
+    };
+    if greatest_scopes(&image.functions) > 4 {
+        return String::from_str(alloc, "more than four scopes");
     }
+    tell_image(rt, alloc, image, setting)
 }
