@@ -1,4 +1,4 @@
-//! What holds of the image of every accepted text besides what it does: its bytes are those of no other image, and are read as it again.
+//! What holds of the image of every accepted text besides what it does: it has bytes, and they are read as it again.
 #![tactic(auto)]
 
 mod laws;
