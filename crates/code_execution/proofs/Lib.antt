@@ -1,6 +1,11 @@
+mod Completed
 mod Entering
 mod Few
+mod Fits
+mod Framing
+mod Grounds
 mod Growth
 mod Plain
+mod Reading
 mod Scopes
 mod Within

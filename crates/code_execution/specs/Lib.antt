@@ -1,3 +1,6 @@
+pub mod Aimed
 pub mod Decisions
+pub mod Fitting
 pub mod Plain
+pub mod Stacks
 pub mod Statuses

@@ -1,18 +1,20 @@
 //! The execution of an image up to its heap.
 ghost use Rattle.cells.specs.Stops.{stop_of as stop_read};
-ghost use Rattle.code_execution.specs.Decisions.{decided, growth_touch, makes, refuses};
+ghost use Rattle.code_execution.specs.Decisions.{decided, growth_touch, is_simple, makes, refuses};
 ghost use Rattle.code_execution.specs.Plain.{ArePlain, EndsPlain, plain_run};
 ghost use Rattle.code_execution.specs.Statuses.{allocated, core_of, followed};
-ghost use Rattle.code_form.specs.Code.{Frame, Running, Stuck, entry, begins, code, effect, most_scopes, output_of, stop_of, is_blocked as is_blocked_in};
+ghost use Rattle.code_form.specs.Code.{Frame, Running, Stuck, begins, code, effect, most_scopes, output_of, stop_of, is_blocked as is_blocked_in};
 ghost use Rattle.code_form.specs.declared.allocation.Allocation.{Allocation};
 ghost use Rattle.code_form.specs.Form.{block_of, function_of, image_of};
 ghost use Rattle.code_form.specs.Growth.{has_text, may_grow, rest_of};
 ghost use Rattle.code_form.specs.Touches.{IsWithin, cells_asked, resumed, touch_of};
 ghost use Rattle.code_form.specs.declared.touch.Touch.TheVariants.{Ends, Plain};
-ghost use Rattle.std.specs.Prelude.{◌≡◌, ◌≢◌, ◌∷◌, ◌<◌, ◌≤◌, ℕ, suc, [], false, IfOk, List, MatchOption, MatchResult, None, length, Some, map, option_map, reverse, slice_get, true};
+ghost use Rattle.std.specs.Prelude.{◌≡◌, ◌≢◌, ◌∷◌, ◌<◌, ◌≤◌, ℕ, suc, [], false, IfOk, List, MatchOption, MatchResult, None, length, Some, option_map, slice_get, true};
 
-use crate::call::{Call, Decision, Scope};
+use crate::aims::Scope;
+use crate::call::Decision;
 use crate::calls::Calls;
+use crate::fitting::image_fits;
 use crate::halt::Halt;
 use cells::Stop;
 use code_form::{Block, Function, Image, Touch};
@@ -37,9 +39,12 @@ pub struct Execution<'a> {
     status: Status<'a>,
     allocations: Allocations,
     output: Vec<u8>,
+    // Whether it is known that what the image's instructions name fits.
+    fits: bool,
 }
 
 impl<'a> Model for Execution<'a> {
+    ghost use Rattle.code_execution.specs.Fitting.{IsKnownFit};
     ghost use Rattle.code_execution.specs.Statuses.{IsExecution, Progress, core_of};
     ghost use Rattle.code_form.specs.Form.{image_of};
 
@@ -47,7 +52,8 @@ impl<'a> Model for Execution<'a> {
 
     ghost view = { λ e. record { image = image_of e.image.now; core = core_of e.status e.allocations e.output.items } };
 
-    ghost invariant = { λ e. IsExecution (image_of e.image.now) (core_of e.status e.allocations e.output.items) };
+    ghost invariant = { λ e. IsExecution (image_of e.image.now) (core_of e.status e.allocations e.output.items)
+        × IsKnownFit e.fits (image_of e.image.now) (core_of e.status e.allocations e.output.items) };
 }
 
 impl<'a> Decision<'a> {
@@ -117,7 +123,7 @@ impl<'a> Status<'a> {
                 function,
                 block,
                 arguments,
-            } => calls.enter(alloc, to, function, block, arguments)?,
+            } => calls.enter(to, function, block, arguments)?,
             Decision::Returns { value } => {
                 if !calls.leave(value) {
                     *self = Status::Stopped(Halt::Ended(number(value)));
@@ -180,27 +186,12 @@ fn first_block(image: &Image) -> Option<(&Function, &Block)>
     Some((function, block))
 }
 
-/// The call of `main` alone. `Err` where memory is refused.
-fn first_call<'a>(
-    alloc: Global,
-    function: &'a Function,
-    block: &'a Block,
-) -> Result<Calls<'a>, AllocError>
-    ensures { IfOk result (λ c. (c.top ≡ entry (function_of function.now) [] None (block_of block.now)) × (c.waiting.items ≡ [])) }
-{
-    let registers = Vec::from_elem(alloc, 0u64, function.kinds.len())?;
-    Ok(Calls {
-        top: Call::new(alloc, function, block, registers, None)?,
-        waiting: Vec::new(alloc),
-    })
-}
-
 /// Where a run begins. `Err` where memory is refused.
 fn begin<'a>(alloc: Global, image: &'a Image) -> Result<Status<'a>, AllocError>
     ensures { IfOk result (λ s. core_of s [] [] ≡ begins (slice_get (image_of image.now).functions 0)) }
 {
     match first_block(image) {
-        Some((function, block)) => Ok(Status::Running(first_call(alloc, function, block)?)),
+        Some((function, block)) => Ok(Status::Running(Calls::new(alloc, function, block)?)),
         None => Ok(Status::Stuck),
     }
 }
@@ -212,10 +203,11 @@ impl<'a> Execution<'a> {
         ensures within { IsWithin (most_scopes self.now.image.functions) self.now.core result }
     {
         match &self.status {
-            Status::Running(calls) => calls
-                .top
-                .decide(self.image, &self.allocations)
-                .touch(&self.allocations, calls.count()),
+            Status::Running(calls) => {
+                calls
+                    .decide(self.image, &self.allocations, self.fits)
+                    .touch(&self.allocations, calls.count())
+            }
             _ => Touch::Nothing,
         }
     }
@@ -229,7 +221,7 @@ impl<'a> Execution<'a> {
             (λ _. (self.new ≡ self.old) × (touch_of (effect self.old.image self.old.core) ≡ Plain) × (may_grow Plain (rest_of self.old.core) ≡ true)) }
     {
         if let Status::Running(calls) = &self.status {
-            let decision = calls.top.decide(self.image, &self.allocations);
+            let decision = calls.decide(self.image, &self.allocations, self.fits);
             self.status
                 .follow(self.alloc, &mut self.output, decision, loaded)?;
         }
@@ -246,15 +238,29 @@ impl<'a> Execution<'a> {
         ensures ends { result < limit → EndsPlain self.new.image self.new.core }
     {
         match &mut self.status {
-            Status::Running(calls) => calls.run_plain(
-                self.alloc,
-                self.image,
-                &self.allocations,
-                &mut self.output,
-                limit,
-            ),
+            Status::Running(calls) => {
+                calls.run_plain(
+                    self.alloc,
+                    self.image,
+                    &self.allocations,
+                    self.fits,
+                    &mut self.output,
+                    limit,
+                )
+            }
             _ => 0,
         }
+    }
+
+    /// Does the next instruction, which uses a scope or tells a cell; `loaded` is what the cell holds that it loads, if it loads one.
+    pub fn complete(&mut self, loaded: u64)
+        requires { is_simple (touch_of (effect self.old.image self.old.core)) ≡ true }
+        ensures { self.new ≡ record self.old { core = resumed (effect self.old.image self.old.core) self.old.core loaded } }
+    {
+        let Status::Running(calls) = &mut self.status else {
+            return;
+        };
+        calls.complete(loaded);
     }
 
     /// What was printed.
@@ -285,10 +291,11 @@ impl<'a> Execution<'a> {
             (λ _. may_grow (touch_of (effect self.now.image self.now.core)) (rest_of self.now.core) ≡ true) }
     {
         match &self.status {
-            Status::Running(calls) => calls
-                .top
-                .decide(self.image, &self.allocations)
-                .stop(alloc, calls.count()),
+            Status::Running(calls) => {
+                calls
+                    .decide(self.image, &self.allocations, self.fits)
+                    .stop(alloc, calls.count())
+            }
             _ => Ok(None),
         }
     }
@@ -298,7 +305,7 @@ impl<'a> Execution<'a> {
         ensures { result ≡ is_blocked_in self.now.core }
     {
         match &self.status {
-            Status::Running(calls) => calls.top.is_blocked(),
+            Status::Running(calls) => calls.is_blocked(),
             _ => false,
         }
     }
@@ -314,10 +321,11 @@ impl<'a> Execution<'a> {
         let Status::Running(calls) = &self.status else {
             return Ok(());
         };
-        if let Decision::Does(Command::Makes { to, allocation }) = calls
-            .top
-            .decide(self.image, &self.allocations)
-        {
+        if let Decision::Does(Command::Makes { to, allocation }) = calls.decide(
+            self.image,
+            &self.allocations,
+            self.fits,
+        ) {
             self.allocations.push(allocation)?;
             self.status.get(to, self.allocations.count());
         }
@@ -337,6 +345,7 @@ impl<'a> Execution<'a> {
             status: begin(alloc, image)?,
             allocations: Allocations::new(alloc),
             output: Vec::new(alloc),
+            fits: image_fits(image),
         })
     }
 }

@@ -1,9 +1,12 @@
 //! The execution of an image up to its heap.
 #![tactic(auto)]
 
+mod aims;
 mod call;
 mod calls;
 mod execution;
+mod fitting;
 mod halt;
+mod places;
 
 pub use execution::Execution;

@@ -5,6 +5,7 @@ use Rattle.cells.specs.declared.ending.Want.TheVariants.{OutOfMemory, NoObjects,
 use Rattle.cells.specs.declared.ending.Run.{Run}
 use Rattle.cells.specs.declared.ending.Run.TheVariants.{Running, Stopped, Wanted}
 use Rattle.cells.specs.Stops.{stop_of as stop_read}
+pub use Rattle.code_execution.specs.Decisions.{is_simple}
 use Rattle.code_execution.specs.Plain.{plain_run}
 use Rattle.code_form.specs.Effects.{upd}
 use Rattle.code_form.specs.Code.{effect, stop_of, is_blocked, most_scopes}
@@ -86,15 +87,6 @@ pub record IsNext (x : Touch) (s : State) : Type 0 where
   pub is : next_touch s ≡ x
   pub free : is_blocked s.core ≡ false
   pub within : IsWithin (most_scopes s.image.functions) s.core x
-
--- an instruction that touches this uses a scope, or tells a cell
-abbrev pub IsSimple : Touch → Type 0
-IsSimple touch.Plain = ⊥
-IsSimple (touch.Allocs n) = ⊥
-IsSimple touch.Ends = ⊥
-IsSimple touch.Wrong = ⊥
-IsSimple touch.Nothing = ⊥
-IsSimple _ = Unit {0}
 
 -- what the latest stores became
 abbrev pub Stores : Touch → State → State → Type 0

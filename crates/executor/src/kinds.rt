@@ -2,7 +2,7 @@
 ghost use Rattle.code_form.specs.declared.touch.Touch.TheVariants.{Aims, Allocs, Ends, Hints, Leaves, Loads, Plain, Stores};
 ghost use Rattle.code_form.specs.Growth.{may_grow, rest_of};
 ghost use Rattle.code_form.specs.Placed.{pieces as pieces_of};
-ghost use Rattle.executor.specs.Keeping.{Allocated, IsHolding, IsNext, IsSafe, IsSimple, Made, Moves};
+ghost use Rattle.executor.specs.Keeping.{Allocated, IsHolding, IsNext, IsSafe, Made, Moves, is_simple};
 ghost use Rattle.executor.specs.State.{next_touch};
 ghost use Rattle.std.specs.Prelude.{◌≡◌, ◌+◌, ◌%◌, ◌<◌, ◌^◌, MatchResult, true};
 
@@ -124,7 +124,7 @@ impl<'a, S: RawStore> Program<'a, S> {
     {
         effect_laws();
         self.close_all();
-        self.finish(0);
+        self.finish_end();
     }
 
     /// Completes an allocation, or tells what it wants.
@@ -149,7 +149,7 @@ impl<'a, S: RawStore> Program<'a, S> {
     pub(crate) fn make<R: Wait>(&mut self, rt: &R, touch: Touch) -> bool
         requires safe { IsSafe self.old }
         requires next { IsNext touch self.old }
-        requires simple { IsSimple touch }
+        requires simple { is_simple touch ≡ true }
         requires room { self.old.completed + 1 < 2 ^ 64 }
         ensures { Made S.honest S.reliable touch self.old self.new result }
     {

@@ -4,10 +4,10 @@ ghost use Rattle.code_form.specs.Code.{effect, is_blocked as is_blocked_in, most
 ghost use Rattle.code_form.specs.Form.{image_of};
 ghost use Rattle.code_form.specs.Growth.{has_text, may_grow, rest_of};
 ghost use Rattle.code_form.specs.Placed.{pieces as pieces_of};
-ghost use Rattle.code_form.specs.Touches.{IsCell, IsCellOrNone, IsWithin, cells_asked, resumed};
+ghost use Rattle.code_form.specs.Touches.{IsCell, IsCellOrNone, IsWithin, resumed};
 ghost use Rattle.code_form.specs.declared.touch.Touch.TheVariants.{Allocs, Ends, Plain};
 ghost use Rattle.cells.specs.Stops.{stop_of as stop_read};
-ghost use Rattle.executor.specs.Keeping.{Changes, Closes, Fails, HasWriter, Holds, HoldsObject, IsHolding, cleared, count_of, extended, finished, first_of, has_object, Misses, ran_on, shut, shut_at, wants, written};
+ghost use Rattle.executor.specs.Keeping.{Changes, Closes, Fails, HasWriter, Holds, HoldsObject, IsHolding, cleared, count_of, extended, finished, first_of, has_object, is_simple, Misses, ran_on, shut, shut_at, wants, written};
 ghost use Rattle.executor.specs.State.{AllShut, Matches, State, begin, hold_at, latest_in, next_touch, object_of};
 ghost use Rattle.executor.specs.Taken.{IsQuiet};
 ghost use Rattle.object_lock.specs.SeatViews.{IsSeat};
@@ -214,14 +214,23 @@ impl<'a, S: RawStore> Program<'a, S> {
         self.table.load(&mut self.owner, object, frame, index)
     }
 
-    /// Does what is left of the next instruction, which is no allocation and uses a scope, tells a cell or ends the program.
+    /// Does what is left of the next instruction, which uses a scope or tells a cell.
     pub(crate) fn finish(&mut self, loaded: u64)
-        requires next { cells_asked (next_touch self.old) ≡ None }
-        requires other { next_touch self.old ≢ Plain }
+        requires next { is_simple (next_touch self.old) ≡ true }
         requires room { self.old.completed + 1 < 2 ^ 64 }
         ensures { self.new ≡ finished self.old loaded }
     {
-        let Ok(()) = self.execution.proceed(loaded) else {
+        self.execution.complete(loaded);
+        self.completed += 1;
+    }
+
+    /// Does the next instruction, which ends the program.
+    pub(crate) fn finish_end(&mut self)
+        requires next { next_touch self.old ≡ Ends }
+        requires room { self.old.completed + 1 < 2 ^ 64 }
+        ensures { self.new ≡ finished self.old 0 }
+    {
+        let Ok(()) = self.execution.proceed(0) else {
             unreachable!()
         };
         self.completed += 1;

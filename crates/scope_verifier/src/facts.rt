@@ -12,13 +12,14 @@ ghost use Rattle.scope_verifier_laws.specs.Numbers.{scope_fault};
 ghost use Rattle.scope_verifier_laws.specs.declared.fault.VerifyFault.TheVariants.{OperandKind};
 ghost use Rattle.std.specs.Prelude.{◌≡◌, Some, length, map, slice_get};
 
-use crate::kinds::{callee_fits, is_main, operation_fits};
+use crate::kinds::is_main;
 use crate::knowledge::{Knowledge, ScopeState};
 use crate::numbers::{scope_number, unless};
 use code_form::{
     Block, Fact, Function, Image, Instruction, Kind, has_array_of, has_kind, has_pointer, is_place,
     kind_of_cell, needs_shut,
 };
+use code_operations::{callee_fits, operation_fits};
 use scope_verifier_laws::VerifyFault;
 use std::alloc::Global;
 

@@ -1,0 +1,100 @@
+//! Texts that are run over 10 objects and 4 frames, once for each call of the store, which fails in that run alone.
+ghost use Rattle.code_form.specs.Code.{Covered};
+ghost use Rattle.code_form.specs.Form.{image_of};
+
+use c0_image::compile;
+use cells::{Run, Want};
+use code_form::Image;
+use executor::Session;
+use object_lock::ObjectTable;
+use remote_store::{Config, FarHeap, FaultPlan, FaultStore, FaultStores};
+use std::alloc::Global;
+use std::io;
+use std::io::Write;
+use std::sync::Wait;
+
+/// More calls than a run makes.
+const MOST_CALLS: u64 = 100;
+/// Fewer than a run makes.
+const LEAST_CALLS: u64 = 8;
+/// More instructions than a run completes.
+const LIMIT: u64 = 10_000;
+
+/// What the image answers where the store fails by this plan, and what it answers when it is asked again. None where memory ran out.
+fn ran<R: Wait>(alloc: Global, rt: &R, image: &Image, plan: FaultPlan) -> Option<(Run, Run)>
+    requires { Covered (image_of image.now) }
+{
+    let Ok(stores) = FaultStores::new(alloc, FarHeap, plan) else {
+        return None;
+    };
+    let config = Config {
+        frames: 4,
+        objects: 10,
+        evacuators: 0,
+        fetchers: 0,
+        stores,
+    };
+    let Ok((table, mut owners, _movers)) = ObjectTable::<FaultStore<FarHeap>>::new(
+        alloc, 1, &config,
+    ) else {
+        return None;
+    };
+    let Some(seat) = owners.pop() else {
+        return None;
+    };
+    let Ok(mut session) = Session::new(alloc, &table, image, seat) else {
+        return None;
+    };
+    let first = session.run(rt, LIMIT);
+    if session.completed() > LIMIT {
+        return None;
+    }
+    Some((first, session.run(rt, LIMIT)))
+}
+
+/// The first call that no run makes, and how the program ends where all calls succeed. None where a run did otherwise.
+fn each_call_fails<R: Wait>(alloc: Global, rt: &R, image: &Image) -> Option<(u64, Run)>
+    requires { Covered (image_of image.now) }
+{
+    for number in 1..MOST_CALLS {
+        let Some((first, second)) = ran(alloc, rt, image, FaultPlan::Only(number)) else {
+            return None;
+        };
+        if first != second {
+            return None;
+        }
+        if first != Run::Wanted(Want::StoreFailed) {
+            return Some((number, first));
+        }
+    }
+    None
+}
+
+/// Tells how the program of this text ends. False where a run did otherwise than it has to: where the store fails the program wants it, and
+/// still does when it is asked again, and behind the last call it ends as if none had failed. Ten objects in four frames are moved out six times
+/// at least, and brought back, by at least eight calls.
+pub(crate) fn fail_each_call<R: Wait, O: Write>(
+    alloc: Global,
+    rt: &R,
+    name: &str,
+    text: &[u8],
+    out: &mut O,
+) -> io::Result<bool> {
+    let image = match compile(alloc, text, false) {
+        Ok(verified) => verified.into_image(),
+        Err(fault) => {
+            writeln!(out, "{name}: {fault}")?;
+            return Ok(false);
+        }
+    };
+    match each_call_fails(alloc, rt, &image) {
+        Some((calls, run)) => {
+            writeln!(out, "{name}: {run}")?;
+            Ok(calls >= LEAST_CALLS)
+        }
+        None => {
+            writeln!(out, "{name}: a run did otherwise")?;
+            Ok(false)
+        }
+    }
+}

@@ -1,0 +1,98 @@
+//! Texts whose plain meaning is told, and compared with the run of their image.
+use crate::again::read_again;
+use c0_image::compile;
+use c0_meaning::Meant;
+use c0_plain::mean_text;
+use c0_source::fault::Fault;
+use cells::{Run, Stop};
+use image_run::execute;
+use std::alloc::Global;
+use std::io;
+use std::io::Write;
+use std::sync::Wait;
+use std::thread::Threads;
+
+/// Writes what a program printed, with its last line finished, and how it ended.
+fn tell<O: Write>(out: &mut O, meant: &Meant) -> io::Result<()> {
+    out.write_all(&meant.output)?;
+    if meant.output.last().is_some_and(|byte| *byte != b'\n') {
+        writeln!(out)?;
+    }
+    match &meant.stop {
+        Some(stop) => writeln!(out, "{stop}"),
+        None => writeln!(out, "cut"),
+    }
+}
+
+/// Whether the compiled text, written and read again, prints this and stops so.
+fn runs_so<R: Wait>(
+    alloc: Global,
+    rt: &R,
+    checks: bool,
+    text: &[u8],
+    output: &[u8],
+    stop: &Stop,
+) -> Result<bool, Fault> {
+    let compiled = compile(alloc, text, checks)?;
+    let Some(read) = read_again(alloc, compiled.image()) else {
+        return Ok(false);
+    };
+    let ended = execute(alloc, rt, &read)?;
+    let same_end = match &ended.run {
+        Run::Stopped(other) => other == stop,
+        Run::Running | Run::Wanted(_) => false,
+    };
+    Ok(same_end && ended.output.as_slice() == output)
+}
+
+/// Runs the compiled text where its meaning has ended, and tells whether it does what the meaning says. False where it does not.
+fn compare<R: Wait, O: Write>(
+    alloc: Global,
+    rt: &R,
+    checks: bool,
+    text: &[u8],
+    meant: &Meant,
+    out: &mut O,
+) -> io::Result<bool> {
+    let Some(stop) = &meant.stop else {
+        return Ok(true);
+    };
+    match runs_so(alloc, rt, checks, text, &meant.output, stop) {
+        Ok(true) => {
+            writeln!(out, "run: the same")?;
+            Ok(true)
+        }
+        Ok(false) => {
+            writeln!(out, "run: otherwise")?;
+            Ok(false)
+        }
+        Err(fault) => {
+            writeln!(out, "run: {fault}")?;
+            Ok(false)
+        }
+    }
+}
+
+/// Runs this text plainly, for so many turns, and tells what it means. False where it is refused, or the compiled text does something else.
+pub(crate) fn mean<R: Threads + Wait, O: Write>(
+    alloc: Global,
+    rt: &R,
+    checks: bool,
+    turns: u64,
+    name: &str,
+    text: &[u8],
+    out: &mut O,
+) -> io::Result<bool> {
+    let flag = if checks { " -d" } else { "" };
+    writeln!(out, "mean{flag} --turns {turns} {name}")?;
+    match mean_text(alloc, rt, text, checks, turns) {
+        Ok(meant) => {
+            tell(out, &meant)?;
+            compare(alloc, rt, checks, text, &meant, out)
+        }
+        Err(fault) => {
+            writeln!(out, "{fault}")?;
+            Ok(false)
+        }
+    }
+}

@@ -1,7 +1,0 @@
-use Rattle.std.proofs.Common.{arith}
-use Rattle.code_execution.proofs.Scopes.{written_more}
-use Rattle.code_execution.proofs.call.make_stale.Goals as goal
-
-pub loop-number-preserved : goal.loop-number-preserved
-loop-number-preserved c =
-    written_more c.args.register c.loop-number.scopes c.args.scopes.now c.loop-number.number c.written.result _ (omega arith) (omega arith) c.loop-number.invariant c.written.ensures
