@@ -1,9 +1,8 @@
 -- Texts and layouts by their numbers.
-use Rattle.std.proofs.Common.{◌≡◌, ◌≢◌, ℕ, zero, suc, ◌<◌, ◌≤◌, Bool, true, false, Option, Some, None, List, [], ◌∷◌, length, get_or, refl, sym, ap, subst, arith}
+use Rattle.std.proofs.Common.{◌≡◌, ◌≢◌, ℕ, zero, suc, ◌<◌, ◌≤◌, Bool, true, false, Some, None, List, [], ◌∷◌, length, get_or, refl, sym, ap, subst, arith}
 use Rattle.std.specs.Prelude.{◌-◌, ◌&&◌, nat_lt, map, slice_get}
 use Rattle.std.proofs.lemmas.Bool.Decides.{nat_tests}
 use Rattle.code_form.specs.declared.form.Kind.{Kind}
-use Rattle.code_form.specs.Form.{Head}
 use Rattle.code_form.specs.Code.{text_at}
 use Rattle.code_operations.specs.Layouts.{are_small}
 

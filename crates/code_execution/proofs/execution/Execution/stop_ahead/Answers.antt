@@ -1,4 +1,4 @@
-use Rattle.std.proofs.Common.{◌≡◌, length, sym, ◌∙◌}
+use Rattle.std.proofs.Common.{◌≡◌, length, sym}
 use Rattle.code_form.specs.Form.{image_of}
 use Rattle.code_execution.proofs.Grounds.{known_top}
 use Rattle.code_execution.proofs.Growth.{told_ahead}

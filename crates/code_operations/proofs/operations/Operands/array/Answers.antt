@@ -1,4 +1,4 @@
-use Rattle.std.proofs.Common.{◌≡◌, ◌<◌, length, get_or, arith, subst, sym, map, true}
+use Rattle.std.proofs.Common.{◌≡◌, arith, subst, sym, map, true}
 use Rattle.std.proofs.lemmas.Grind.{common_steps}
 use Rattle.code_operations.specs.Layouts.{are_small}
 use Rattle.code_operations.proofs.Texts.{small_in}
