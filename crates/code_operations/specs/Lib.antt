@@ -1,3 +1,4 @@
 pub mod Commands
 pub mod Layouts
+pub mod Outcomes
 pub mod Values

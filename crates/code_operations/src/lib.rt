@@ -7,6 +7,7 @@ mod fits;
 mod layouts;
 mod operations;
 mod output;
+mod results;
 mod values;
 
 pub use allocations::Allocations;
@@ -15,4 +16,5 @@ pub use fits::{callee_fits, operation_fits};
 pub use layouts::are_small;
 pub use operations::{Command, Operands};
 pub use output::Printed;
+pub use results::{Outcome, outcome_of};
 pub use values::{number, offset_in, text_of, value_in};

@@ -1,23 +1,21 @@
 //! What simple instructions do: a command for the registers, the allocations or the output.
-ghost use Rattle.code_form.specs.Code.{Frame, Sets, after, indexes, int_of, length_of, makes, natural, op_fits};
+ghost use Rattle.code_form.specs.Code.{Frame, after, int_of, makes, op_fits};
 ghost use Rattle.code_form.specs.declared.form.Operation.TheVariants as form;
 ghost use Rattle.code_form.specs.Form.{Instruction, image_of};
 ghost use Rattle.code_form.specs.Growth.{prints};
 ghost use Rattle.code_form.specs.Touches.{touch_of};
 ghost use Rattle.code_operations.specs.Commands.{did_by, did_of, done_by};
 ghost use Rattle.code_operations.specs.Layouts.{are_small};
-ghost use Rattle.code_operations.specs.Values.{is_of_values};
-ghost use Rattle.std.specs.Prelude.{◌≡◌, ◌<◌, ◌*◌, ℕ, List, slice_get, slice_index, true};
+ghost use Rattle.code_operations.specs.Outcomes.{only_writes};
+ghost use Rattle.std.specs.Prelude.{◌≡◌, ◌<◌, ◌*◌, ℕ, List, false, slice_get, slice_index, true};
 
 use crate::allocations::Allocations;
 use crate::fault::Fault;
 use crate::fits::operation_fits;
 use crate::output::Printed;
-use crate::values::{
-    cell_of, cell_of_truth, holds, natural_of, number, offset_in, text_of, value_in,
-};
-use cells::Int32Op;
-use code_form::{Allocation, Cell, Image, Kind, Operation, Relation, Touch, UnaryOperator};
+use crate::results::{Outcome, outcome_of};
+use crate::values::{natural_of, number, offset_in, text_of, value_in};
+use code_form::{Allocation, Cell, Image, Kind, Operation, Touch};
 
 /// What a simple instruction is to do.
 #[derive(Clone, Copy)]
@@ -72,59 +70,6 @@ impl<'a, 'r> Operands<'a, 'r> {
         ensures { result ≡ int_of (slice_index self.now.registers.now register) }
     {
         number(self.register(register))
-    }
-
-    #[inline(always)]
-    fn binary(&self, operator: Int32Op, to: u32, left: u32, right: u32) -> Command<'a>
-        ensures { did_of result ≡ done_by self.now (form.Binary operator to left right) }
-    {
-        match operator.apply(self.number(left), self.number(right)) {
-            Ok(value) => set(to, cell_of(value)),
-            Err(_) => Command::Stops(Fault::Arith),
-        }
-    }
-
-    #[inline(always)]
-    fn unary(&self, operator: UnaryOperator, to: u32, from: u32) -> Command<'a>
-        ensures { did_of result ≡ done_by self.now (form.Unary operator to from) }
-    {
-        let value = match operator {
-            UnaryOperator::Negate => cell_of(self.number(from).wrapping_neg()),
-            UnaryOperator::Complement => cell_of(!self.number(from)),
-            UnaryOperator::Not => if self.register(from) == 0 { 1 } else { 0 },
-        };
-        set(to, value)
-    }
-
-    #[inline(always)]
-    fn compare(&self, relation: Relation, to: u32, left: u32, right: u32) -> Command<'a>
-        ensures { did_of result ≡ done_by self.now (form.Compare relation to left right) }
-    {
-        let value = holds(relation, self.register(left), self.register(right));
-        set(to, cell_of_truth(value))
-    }
-
-    #[inline(always)]
-    fn check_null(&self, register: u32) -> Command<'a>
-        ensures { did_of result ≡ done_by self.now (form.CheckNull register) }
-    {
-        if self.register(register) == 0 {
-            Command::Stops(Fault::Null)
-        } else {
-            Command::Goes
-        }
-    }
-
-    /// The offset of an element, or a fault where the array has no such element.
-    #[inline(always)]
-    fn index(&self, to: u32, register: u32, index: u32, size: u32) -> Command<'a>
-        ensures { did_of result ≡ indexes to (natural (int_of (slice_index self.now.registers.now index))) (length_of self.now.allocations.now (slice_index self.now.registers.now register)) size }
-    {
-        match natural_of(self.number(index)) {
-            Some(place) if u64::from(place) < self.allocations.length(self.register(register)) =>
-                set(to, u64::from(place) * u64::from(size)),
-            _ => Command::Stops(Fault::Bounds),
-        }
     }
 
     #[tactic(auto, using(crate::proofs::Placing::place_back))]
@@ -189,47 +134,6 @@ impl<'a, 'r> Operands<'a, 'r> {
         Command::Prints(Printed::Letter((self.register(from) % (1 << 8)) as u8))
     }
 
-    #[inline(always)]
-    fn assert(&self, condition: u32) -> Command<'a>
-        ensures { did_of result ≡ done_by self.now (form.Assert condition) }
-    {
-        if self.register(condition) == 0 {
-            Command::Stops(Fault::AssertFailed)
-        } else {
-            Command::Goes
-        }
-    }
-
-    /// What a simple instruction that computes a value from values is to do, whose operands fit.
-    #[inline(always)]
-    fn value(&self, operation: &Operation) -> Command<'a>
-        requires { is_of_values operation.now ≡ true }
-        ensures { did_of result ≡ done_by self.now operation.now }
-    {
-        match *operation {
-            Operation::Const { to, value } => set(to, cell_of(value)),
-            Operation::TextOf { to, number } => set(to, u64::from(number)),
-            Operation::BoolOf { to, value } => set(to, cell_of_truth(value)),
-            Operation::CharOf { to, code } => set(to, u64::from(code)),
-            Operation::Null { to } => set(to, 0),
-            Operation::Move { to, from } => set(to, self.register(from)),
-            Operation::Binary {
-                operator,
-                to,
-                left,
-                right,
-            } => self.binary(operator, to, left, right),
-            Operation::Unary { operator, to, from } => self.unary(operator, to, from),
-            Operation::Compare {
-                relation,
-                to,
-                left,
-                right,
-            } => self.compare(relation, to, left, right),
-            _ => unreachable!(),
-        }
-    }
-
     /// What an instruction that prints is to do, whose operands fit.
     fn output(&self, operation: &Operation) -> Command<'a>
         requires { prints operation.now ≡ true }
@@ -245,23 +149,17 @@ impl<'a, 'r> Operands<'a, 'r> {
         }
     }
 
-    /// What a simple instruction is to do whose operands fit.
-    #[inline(always)]
-    fn does(&self, operation: &Operation) -> Command<'a>
-        requires { are_small (image_of self.now.image.now).head.layouts ≡ true }
+    /// What a simple instruction is to do whose operands fit, and which does more than to write a register, or stops the program.
+    fn does_more(&self, operation: &Operation) -> Command<'a>
+        requires small { are_small (image_of self.now.image.now).head.layouts ≡ true }
+        requires more { only_writes (done_by self.now operation.now) ≡ false }
         ensures { did_of result ≡ done_by self.now operation.now }
     {
         match *operation {
-            Operation::CheckNull { register } => self.check_null(register),
-            Operation::CheckIndex {
-                to,
-                register,
-                index,
-                size,
-            } => self.index(to, register, index, size),
-            Operation::Len { to, register } => {
-                set(to, self.allocations.length(self.register(register)))
-            }
+            Operation::Binary { .. } => Command::Stops(Fault::Arith),
+            Operation::CheckNull { .. } => Command::Stops(Fault::Null),
+            Operation::CheckIndex { .. } => Command::Stops(Fault::Bounds),
+            Operation::Assert { .. } => Command::Stops(Fault::AssertFailed),
             Operation::Prefetch {
                 register,
                 offset,
@@ -271,14 +169,24 @@ impl<'a, 'r> Operands<'a, 'r> {
             Operation::AllocArray { to, layout, length } => {
                 self.array(to, layout, natural_of(self.number(length)))
             }
-            Operation::Flush => Command::Goes,
-            Operation::Assert { condition } => self.assert(condition),
             Operation::Print { .. }
             | Operation::Println { .. }
             | Operation::Printint { .. }
             | Operation::Printbool { .. }
             | Operation::Printchar { .. } => self.output(operation),
-            _ => self.value(operation),
+            _ => unreachable!(),
+        }
+    }
+
+    /// What a simple instruction is to do whose operands fit.
+    fn does(&self, operation: &Operation) -> Command<'a>
+        requires { are_small (image_of self.now.image.now).head.layouts ≡ true }
+        ensures { did_of result ≡ done_by self.now operation.now }
+    {
+        match outcome_of(operation, self.registers, self.allocations) {
+            Outcome::Sets { to, value } => Command::Sets { to, value },
+            Outcome::Goes => Command::Goes,
+            Outcome::Other => self.does_more(operation),
         }
     }
 
@@ -295,14 +203,6 @@ impl<'a, 'r> Operands<'a, 'r> {
             Command::Fails
         }
     }
-}
-
-/// A register gets a value.
-#[inline(always)]
-fn set<'a>(to: u32, value: u64) -> Command<'a>
-    ensures { did_of result ≡ Sets to value }
-{
-    Command::Sets { to, value }
 }
 
 /// The allocation of an array of `count` elements of a layout with so many cells.

@@ -1,4 +1,5 @@
 //! Lists: a count, and so many items. An item is read before there is room for it, so a count that the bytes cannot hold takes none.
+//! What room is left over is given back.
 ghost use Rattle.code_form.specs.Form.{block_of, function_of, instruction_of};
 ghost use Rattle.image_reader.specs.Outcome.{Gives};
 ghost use Rattle.image_reader.specs.Reading.{block_at, cell_at, fact_at, function_at, instruction_at, kind_at, layout_at, letter_at, list_at, number_at, text_at};
@@ -22,6 +23,7 @@ pub(crate) fn registers_of(alloc: Global, bytes: &[u8]) -> Result<(Vec<u32>, &[u
         items.push(register)?;
         rest = behind;
     }
+    items.shrink_to_fit();
     Ok((items, rest))
 }
 
@@ -37,6 +39,7 @@ pub(crate) fn kinds_of(alloc: Global, bytes: &[u8]) -> Result<(Vec<Kind>, &[u8])
         items.push(kind)?;
         rest = behind;
     }
+    items.shrink_to_fit();
     Ok((items, rest))
 }
 
@@ -52,6 +55,7 @@ pub(crate) fn facts_of(alloc: Global, bytes: &[u8]) -> Result<(Vec<Fact>, &[u8])
         items.push(fact)?;
         rest = behind;
     }
+    items.shrink_to_fit();
     Ok((items, rest))
 }
 
@@ -67,6 +71,7 @@ pub(crate) fn code_of(alloc: Global, bytes: &[u8]) -> Result<(Vec<Instruction>, 
         items.push(instruction)?;
         rest = behind;
     }
+    items.shrink_to_fit();
     Ok((items, rest))
 }
 
@@ -92,6 +97,7 @@ pub(crate) fn blocks_of(alloc: Global, bytes: &[u8]) -> Result<(Vec<Block>, &[u8
         items.push(block)?;
         rest = behind;
     }
+    items.shrink_to_fit();
     Ok((items, rest))
 }
 
@@ -127,6 +133,7 @@ pub(crate) fn functions_of(alloc: Global, bytes: &[u8]) -> Result<(Vec<Function>
         items.push(function)?;
         rest = behind;
     }
+    items.shrink_to_fit();
     Ok((items, rest))
 }
 
@@ -157,6 +164,7 @@ pub(crate) fn texts_of(alloc: Global, bytes: &[u8]) -> Result<(Vec<String>, &[u8
         items.push(text)?;
         rest = behind;
     }
+    items.shrink_to_fit();
     Ok((items, rest))
 }
 
@@ -172,6 +180,7 @@ pub(crate) fn layout_of(alloc: Global, bytes: &[u8]) -> Result<(Vec<Kind>, &[u8]
         items.push(kind)?;
         rest = behind;
     }
+    items.shrink_to_fit();
     Ok((items, rest))
 }
 
@@ -187,5 +196,6 @@ pub(crate) fn layouts_of(alloc: Global, bytes: &[u8]) -> Result<(Vec<Vec<Kind>>,
         items.push(layout)?;
         rest = behind;
     }
+    items.shrink_to_fit();
     Ok((items, rest))
 }

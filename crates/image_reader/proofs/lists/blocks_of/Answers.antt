@@ -17,4 +17,4 @@ loop-preserved c =
     rw e (goes_on block_at (map block_of c.loop.items.items) c.in_ok-count.count c.loop.counter c.loop.rest.now (block_of c.in_ok-block.block) c.in_ok-block.behind.now (list_at block_at c.args.bytes.now) c.loop-test.true c.in_ok-block.ensures c.loop.invariant)
 
 pub returns : goal.returns
-returns c = is_done block_at (map block_of c.loop.items.items) c.in_ok-count.count c.loop.counter c.loop.rest.now (list_at block_at c.args.bytes.now) c.loop-test.false c.loop.invariant
+returns c = rw c.shrink_to_fit.ensures.items (is_done block_at (map block_of c.loop.items.items) c.in_ok-count.count c.loop.counter c.loop.rest.now (list_at block_at c.args.bytes.now) c.loop-test.false c.loop.invariant)

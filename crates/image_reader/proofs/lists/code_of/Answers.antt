@@ -17,4 +17,4 @@ loop-preserved c =
     rw e (goes_on instruction_at (map instruction_of c.loop.items.items) c.in_ok-count.count c.loop.counter c.loop.rest.now (instruction_of c.in_ok-instruction.instruction) c.in_ok-instruction.behind.now (list_at instruction_at c.args.bytes.now) c.loop-test.true c.in_ok-instruction.ensures c.loop.invariant)
 
 pub returns : goal.returns
-returns c = is_done instruction_at (map instruction_of c.loop.items.items) c.in_ok-count.count c.loop.counter c.loop.rest.now (list_at instruction_at c.args.bytes.now) c.loop-test.false c.loop.invariant
+returns c = rw c.shrink_to_fit.ensures.items (is_done instruction_at (map instruction_of c.loop.items.items) c.in_ok-count.count c.loop.counter c.loop.rest.now (list_at instruction_at c.args.bytes.now) c.loop-test.false c.loop.invariant)

@@ -17,4 +17,4 @@ loop-preserved c =
     rw e (goes_on function_at (map function_of c.loop.items.items) c.in_ok-count.count c.loop.counter c.loop.rest.now (function_of c.in_ok-function.function) c.in_ok-function.behind.now (list_at function_at c.args.bytes.now) c.loop-test.true c.in_ok-function.ensures c.loop.invariant)
 
 pub returns : goal.returns
-returns c = is_done function_at (map function_of c.loop.items.items) c.in_ok-count.count c.loop.counter c.loop.rest.now (list_at function_at c.args.bytes.now) c.loop-test.false c.loop.invariant
+returns c = rw c.shrink_to_fit.ensures.items (is_done function_at (map function_of c.loop.items.items) c.in_ok-count.count c.loop.counter c.loop.rest.now (list_at function_at c.args.bytes.now) c.loop-test.false c.loop.invariant)

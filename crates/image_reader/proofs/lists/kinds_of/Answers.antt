@@ -13,4 +13,4 @@ loop-preserved c =
     rw c.in_ok-push.ensures.items (goes_on kind_at c.loop.items.items c.in_ok-count.count c.loop.counter c.loop.rest.now c.in_ok-kind.kind c.in_ok-kind.behind.now (list_at kind_at c.args.bytes.now) c.loop-test.true c.in_ok-kind.ensures c.loop.invariant)
 
 pub returns : goal.returns
-returns c = is_done kind_at c.loop.items.items c.in_ok-count.count c.loop.counter c.loop.rest.now (list_at kind_at c.args.bytes.now) c.loop-test.false c.loop.invariant
+returns c = rw c.shrink_to_fit.ensures.items (is_done kind_at c.loop.items.items c.in_ok-count.count c.loop.counter c.loop.rest.now (list_at kind_at c.args.bytes.now) c.loop-test.false c.loop.invariant)

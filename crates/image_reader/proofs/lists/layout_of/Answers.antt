@@ -15,4 +15,4 @@ loop-preserved c =
 
 pub returns : goal.returns
 unfolding layout_at
-returns c = is_done cell_at c.loop.items.items c.in_ok-count.count c.loop.counter c.loop.rest.now (list_at cell_at c.args.bytes.now) c.loop-test.false c.loop.invariant
+returns c = rw c.shrink_to_fit.ensures.items (is_done cell_at c.loop.items.items c.in_ok-count.count c.loop.counter c.loop.rest.now (list_at cell_at c.args.bytes.now) c.loop-test.false c.loop.invariant)

@@ -19,4 +19,4 @@ loop-preserved c =
     rw e (goes_on layout_at (map (λ (v : Vec Kind Global). v.items) c.loop.items.items) c.in_ok-count.count c.loop.counter c.loop.rest.now ((λ (v : Vec Kind Global). v.items) c.in_ok-layout.layout) c.in_ok-layout.behind.now (list_at layout_at c.args.bytes.now) c.loop-test.true c.in_ok-layout.ensures c.loop.invariant)
 
 pub returns : goal.returns
-returns c = is_done layout_at (map (λ (v : Vec Kind Global). v.items) c.loop.items.items) c.in_ok-count.count c.loop.counter c.loop.rest.now (list_at layout_at c.args.bytes.now) c.loop-test.false c.loop.invariant
+returns c = rw c.shrink_to_fit.ensures.items (is_done layout_at (map (λ (v : Vec Kind Global). v.items) c.loop.items.items) c.in_ok-count.count c.loop.counter c.loop.rest.now (list_at layout_at c.args.bytes.now) c.loop-test.false c.loop.invariant)

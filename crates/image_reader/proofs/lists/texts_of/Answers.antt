@@ -17,4 +17,4 @@ loop-preserved c =
     rw e (goes_on text_at (map string_bytes c.loop.items.items) c.in_ok-count.count c.loop.counter c.loop.rest.now (string_bytes c.in_ok-text.text) c.in_ok-text.behind.now (list_at text_at c.args.bytes.now) c.loop-test.true c.in_ok-text.ensures c.loop.invariant)
 
 pub returns : goal.returns
-returns c = is_done text_at (map string_bytes c.loop.items.items) c.in_ok-count.count c.loop.counter c.loop.rest.now (list_at text_at c.args.bytes.now) c.loop-test.false c.loop.invariant
+returns c = rw c.shrink_to_fit.ensures.items (is_done text_at (map string_bytes c.loop.items.items) c.in_ok-count.count c.loop.counter c.loop.rest.now (list_at text_at c.args.bytes.now) c.loop-test.false c.loop.invariant)
