@@ -1,0 +1,11 @@
+pub mod Aimed
+pub mod Hoists
+pub mod Lifts
+pub mod Parts
+pub mod Ranks
+pub mod Same
+pub mod Serving
+pub mod Sizes
+pub mod Steady
+pub mod Tests
+pub mod Tidy

@@ -1,0 +1,8 @@
+use Rattle.guard_hoisting.proofs.Same.{asks_the_same, stays_guarded}
+use Rattle.guard_hoisting.proofs.laws.hoisted_is_guarded.Goals as goal
+
+pub returns-clause-guarded : goal.returns-clause-guarded
+returns-clause-guarded c = stays_guarded
+
+pub returns-clause-asked : goal.returns-clause-asked
+returns-clause-asked c = asks_the_same

@@ -1,0 +1,7 @@
+use Rattle.std.proofs.Common.{◌≡◌, ◌++◌, drop}
+use Rattle.scope_placement.specs.Building.{codes}
+use Rattle.guard_hoisting.specs.Hoisted.{closings}
+use Rattle.guard_hoisting.proofs.moving.leave_all.Given as goal
+
+abbrev pub invariant-loop-scope : goal.invariant-loop-scope
+invariant-loop-scope l = codes l.parts.items ++ closings l.scope (drop l.scope l.ways) ≡ codes l.fn.parts.items ++ closings 0 l.ways

@@ -1,0 +1,38 @@
+-- Scoped code under construction, in the words of the definitions.
+use Rattle.std.specs.Prelude.{ℕ, suc, nat_lt, Bool, true, false, cond, List, [], ◌∷◌, Option, Some, None}
+use Rattle.std.specs.declared.vec.Vec.{Vec}
+use Rattle.std.specs.declared.alloc.Global.{Global}
+use Rattle.middle_form.specs.Scoped.{Code, Do, Load, Store, LoadBy, StoreBy, Aim, Leave, Loose, Call, Fail, Exit}
+use Rattle.guard_hoisting.specs.declared.ways.Use.{Use}
+use Rattle.guard_hoisting.specs.declared.ways.Way.{Way}
+use Rattle.guard_hoisting.specs.Ways.{is_through}
+
+-- the ways of a vector, where there is one
+abbrev pub listed : Option (Vec Way Global) → Option (List Way)
+listed None = None
+listed (Some v) = Some v.items
+
+-- code that has no other code in it
+abbrev pub is_straight : Code → Bool
+is_straight (Do o) = true
+is_straight (Load to s r off disp) = true
+is_straight (Store s r off disp from) = true
+is_straight (LoadBy to s r off disp) = true
+is_straight (StoreBy s r off disp from) = true
+is_straight (Aim s r off disp) = true
+is_straight (Leave s) = true
+is_straight (Loose s) = true
+is_straight (Call to f args) = true
+is_straight (Fail a) = true
+is_straight (Exit k) = true
+is_straight _ = false
+
+-- the place of the first of these uses that is of register r, or that behind them
+abbrev pub place_through : ℕ → List Use → ℕ
+place_through r [] = 0
+place_through r (u ∷ us) = cond (is_through u.way r) 0 (suc (place_through r us))
+
+-- the place of the first that counts less, or that behind them
+abbrev pub place_below : ℕ → List Use → ℕ
+place_below n [] = 0
+place_below n (u ∷ us) = cond (nat_lt u.times n) 0 (suc (place_below n us))

@@ -1,0 +1,5 @@
+pub mod Building
+pub mod Hoisted
+pub mod Laws
+pub mod Ways
+pub mod Worked
