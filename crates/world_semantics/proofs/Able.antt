@@ -13,9 +13,11 @@ use Rattle.world_semantics.specs.declared.event.Actor.{Actor}
 use Rattle.world_semantics.specs.declared.event.Actor.TheVariants as actor
 use Rattle.world_semantics.specs.declared.event.Choice.{Choice}
 use Rattle.world_semantics.specs.declared.event.Choice.TheVariants as choice
+use Rattle.world_semantics.specs.Fetchers as fetching
+use Rattle.world_semantics.specs.Fetchers.{Fetching}
 use Rattle.world_semantics.specs.Programs.{Eviction, Copying, Stored, NotStored, Refused, Freed, Hold, Mode, Ready, Missing, Bringing, Reading, Filling, Evicting, Releasing, Retreating, Closing, Wanted, Program, Setting, next_touch, next_free, first_hold}
-use Rattle.world_semantics.specs.Turns.{Answer, Turn, NotEnabled, Alone, Calls, after_call, taken, as_next, put_of, evicts, ends_by, ready, by_mode, program_turn, evacuator_turn}
-use Rattle.world_semantics.specs.Worlds.{Sizes, World, Event, mover_of, setting, in_range, is_actor, with_program, with_evacuator, acted, event}
+use Rattle.world_semantics.specs.Turns.{Answer, Turn, NotEnabled, Alone, Calls, after_call, taken, as_next, put_of, evicts, ends_by, ready, by_mode, program_turn, evacuator_turn, brings, fetches, fetcher_turn}
+use Rattle.world_semantics.specs.Worlds.{Sizes, World, Event, mover_of, setting, in_range, is_actor, with_program, with_evacuator, with_fetcher, acted, event}
 use Rattle.world_semantics.specs.InHand.{FitsEviction, FitsMode, FitsEvacuator, HandsFit}
 use Rattle.world_semantics.proofs.Moving.{below, not_below}
 
@@ -95,6 +97,25 @@ evacuator_same : (n : ℕ) (s : State) (m : ℕ) (d : Option Eviction) (c : Choi
 evacuator_same n s m None c a b fits = refl
 evacuator_same n s m (Some e) c a b fits = same_next n s c _ _ (evicts_same n s m a b _ _ _ e fits.2)
 
+-- a read that fails leads on too
+brings_same : {A : Type 0} (n : ℕ) (s : State) (m : ℕ) (own : Bool) (a b : Answer) (go : Fetching → A) (done failed : A) (d : Fetching) → able n s (brings n m own a d go done failed) ≡ able n s (brings n m own b d go done failed)
+brings_same n s m own a b go done failed (fetching.Bringing o) = refl
+brings_same n s m own a b go done failed (fetching.Reading o f) = refl
+brings_same n s m own a b go done failed (fetching.Filling o f words k) = refl
+brings_same n s m own a b go done failed (fetching.Releasing o f) = refl
+brings_same n s m own a b go done failed (fetching.Retreating o) = refl
+
+fetches_same : (n : ℕ) (s : State) (m : ℕ) (d : Fetching) (c : Choice) (a b : Answer) → able n s (fetches n m d c a) ≡ able n s (fetches n m d c b)
+fetches_same n s m d choice.Next a b = brings_same n s m false a b Some None None d
+fetches_same n s m d (choice.Look f) a b = refl
+fetches_same n s m d (choice.Claim f) a b = refl
+fetches_same n s m d (choice.Mark o f) a b = refl
+fetches_same n s m d (choice.Begin o) a b = refl
+
+fetcher_same : (n : ℕ) (s : State) (m : ℕ) (d : Option Fetching) (c : Choice) (a b : Answer) → able n s (fetcher_turn n m d c a) ≡ able n s (fetcher_turn n m d c b)
+fetcher_same n s m None c a b = refl
+fetcher_same n s m (Some d) c a b = fetches_same n s m d c a b
+
 -- ---- events
 
 with_program_able : (w : World) (k : ℕ) (r : Option (State × Program)) → is_some (with_program w k r) ≡ is_some r
@@ -105,16 +126,20 @@ with_evacuator_able : (w : World) (k : ℕ) (r : Option (State × Option Evictio
 with_evacuator_able w k None = refl
 with_evacuator_able w k (Some r) = refl
 
+with_fetcher_able : (w : World) (k : ℕ) (r : Option (State × Option Fetching)) → is_some (with_fetcher w k r) ≡ is_some r
+with_fetcher_able w k None = refl
+with_fetcher_able w k (Some r) = refl
+
 -- the turn of the actor leads somewhere
 abbrev pub actor_able : Sizes → (ℕ → Image) → World → Actor → Choice → Answer → Bool
 actor_able z images w (actor.Program k) c a = able z.cells w.lock (program_turn (setting z images k) w.lock (w.programs k) c a)
 actor_able z images w (actor.Evacuator k) c a = able z.cells w.lock (evacuator_turn z.cells (mover_of z (actor.Evacuator k)) (w.evacuators k) c a)
-actor_able z images w (actor.Fetcher k) c a = false
+actor_able z images w (actor.Fetcher k) c a = able z.cells w.lock (fetcher_turn z.cells (mover_of z (actor.Fetcher k)) (w.fetchers k) c a)
 
 acted_able : (z : Sizes) (images : ℕ → Image) (w : World) (who : Actor) (c : Choice) (a : Answer) → is_some (acted z images w who c a) ≡ actor_able z images w who c a
 acted_able z images w (actor.Program k) c a = with_program_able w k _ ∙ taken_able z.cells w.lock (program_turn (setting z images k) w.lock (w.programs k) c a)
 acted_able z images w (actor.Evacuator k) c a = with_evacuator_able w k _ ∙ taken_able z.cells w.lock (evacuator_turn z.cells (mover_of z (actor.Evacuator k)) (w.evacuators k) c a)
-acted_able z images w (actor.Fetcher k) c a = refl
+acted_able z images w (actor.Fetcher k) c a = with_fetcher_able w k _ ∙ taken_able z.cells w.lock (fetcher_turn z.cells (mover_of z (actor.Fetcher k)) (w.fetchers k) c a)
 
 some_where : (b : Bool) (x : Option World) → is_some (cond b x None) ≡ (b && is_some x)
 some_where true x = refl
@@ -130,7 +155,7 @@ actor_same : (h : Type 0) (z : Sizes) (images : ℕ → Image) (w : World) (who 
 actor_same h z images w (actor.Program k) c a b there fits = mode_same h (setting z images k) w.lock (w.programs k) a b (w.programs k).mode c (fits.program k (below k z.programs there))
 actor_same h z images w (actor.Evacuator k) c a b there fits =
     evacuator_same z.cells w.lock (mover_of z (actor.Evacuator k)) (w.evacuators k) c a b (fits.evacuator k (below k z.evacuators there))
-actor_same h z images w (actor.Fetcher k) c a b there fits = refl
+actor_same h z images w (actor.Fetcher k) c a b there fits = fetcher_same z.cells w.lock (mover_of z (actor.Fetcher k)) (w.fetchers k) c a b
 
 not_there : (x y b r : Bool) → x ≡ false → ((x && y) && b) ≡ ((x && y) && r)
 not_there true y b r e = cc

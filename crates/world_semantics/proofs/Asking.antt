@@ -17,9 +17,11 @@ use Rattle.pointer_word.proofs.Asking.{asked_may}
 use Rattle.pointer_word.proofs.Legal.{may_legal}
 use Rattle.world_semantics.specs.declared.event.Choice.{Choice}
 use Rattle.world_semantics.specs.declared.event.Choice.TheVariants as choice
-use Rattle.world_semantics.specs.Programs.{Eviction, Copying, Stored, NotStored, Refused, Freed, Hold, Mode, Ready, Missing, Bringing, Reading, Filling, Evicting, Releasing, Retreating, Closing, Wanted, Program, Setting, next_touch, object_of, object_or_none, next_free, hold_at, in_mode, first_hold}
-use Rattle.world_semantics.specs.Turns.{Answer, Turn, NotEnabled, Alone, Calls, as_next, put_of, put_so, evicts, evacuator_idle, evacuator_turn, aims_at, loads_from, loads_by, stores_to, stores_by, leaves_by, ends_by, ready, seeks, fills, gives_up, by_mode}
-use Rattle.world_semantics.specs.InHand.{MovesOut, FitsEviction, OnlyBrings, BringsInto, IsPromised, FitsMode, FitsEvacuator}
+use Rattle.world_semantics.specs.Fetchers as fetching
+use Rattle.world_semantics.specs.Fetchers.{Fetching, as_mode}
+use Rattle.world_semantics.specs.Programs.{Eviction, Copying, Stored, NotStored, Refused, Freed, Hold, Mode, Ready, Missing, Bringing, Reading, Filling, Evicting, Releasing, Retreating, Closing, Wanted, Program, Setting, next_touch, object_of, object_or_none, next_free, hold_at, in_mode, finished, first_hold}
+use Rattle.world_semantics.specs.Turns.{Answer, Turn, NotEnabled, Alone, Calls, as_next, put_of, put_so, evicts, evacuator_idle, evacuator_turn, aims_at, loads_from, loads_by, stores_to, stores_by, leaves_by, ends_by, ready, seeks, brings, fetcher_idle, fetcher_claims, fetches, fetcher_turn, program_brings, gives_up, by_mode}
+use Rattle.world_semantics.specs.InHand.{MovesOut, FitsEviction, OnlyBrings, BringsInto, IsPromised, FitsMode, FitsEvacuator, FitsFetcher}
 use Rattle.world_semantics.specs.Holding.{one, count_of}
 use Rattle.world_semantics.specs.Enabled.{is_turn}
 use Rattle.world_semantics.specs.Scopes.{IsNext, IsAiming, AimsIn}
@@ -124,6 +126,25 @@ module _ {A : Type 0} (owner : ℕ → ℕ) (h : Type 0) (n : ℕ) (s : State) (
   asks_evicts (Refused o f) fits = (refl, (fits.0, fits.1))
   asks_evicts (Freed f) fits = (refl, fits.1)
 
+-- ---- bringing in
+
+module _ {A : Type 0} (owner : ℕ → ℕ) (h : Type 0) (n : ℕ) (s : State) (m : ℕ) (own : Bool) (a : Answer) (go : Fetching → A) (done failed : A) where
+  asks_fill : (o f : ℕ) (words : List ℕ) (k : ℕ) → (own ≡ true → (owner o ≡ m) × (0 < (s.note o).count)) → BringsInto o f (s.hand m) → IsFilled (s.hand m) words k → (h → IsPromised n (s.hand m) words)
+      → AsksTurn owner h n s m (brings n m own a (fetching.Filling o f words k) go done failed)
+  asks_fill o f words k mine into is same = asks_cond owner h n s m (nat_lt k n) _ _
+      (λ e. (refl, below k n e, into.2))
+      (λ e. let far : n ≤ k = not_below k n e in
+      (refl, (λ q. (mine q).0), (into.0, into.2, (λ i l. (listed words i, is i (omega arith), λ y. same y i l)), (λ q. (mine q).1), refl)))
+
+  -- an owner has a hold of what it brings in
+  pub asks_brings : (d : Fetching) → ((o : ℕ) → (s.hand m).bringing ≡ Some o → own ≡ true → (owner o ≡ m) × (0 < (s.note o).count)) → FitsMode h n s.far (s.hand m) (as_mode d)
+      → AsksTurn owner h n s m (brings n m own a d go done failed)
+  asks_brings (fetching.Bringing o) mine fits = (refl, fits.2.0, fits.0)
+  asks_brings (fetching.Reading o f) mine fits = tt
+  asks_brings (fetching.Filling o f words k) mine fits = asks_fill o f words k (mine o fits.0.0) fits.0 fits.1 fits.2
+  asks_brings (fetching.Releasing o f) mine fits = (refl, fits.2)
+  asks_brings (fetching.Retreating o) mine fits = (refl, fits.2.0, fits.0)
+
 -- ---- a program
 
 module _ (owner : ℕ → ℕ) (h : Type 0) (g : Setting) (s : State) (p : Program) (a : Answer) (some : 0 < g.size) (own : (o : ℕ) → InShare g o → owner o ≡ g.mover) (holds : Holds1 g s p)
@@ -215,11 +236,11 @@ module _ (owner : ℕ → ℕ) (h : Type 0) (g : Setting) (s : State) (p : Progr
   asks_seek o (choice.Mark v f) aiming only =
       (refl, (only.1, only.2, (λ q e. let same : o ≡ q = (let k : Some o ≡ Some q = sym only.0 ∙ e in cc) in subst (λ i. owner i ≡ g.mover) same (aimed o aiming).0)))
 
-  asks_fill : (o f : ℕ) (words : List ℕ) (k : ℕ) → IsAiming g p o → BringsInto o f (s.hand g.mover) → IsFilled (s.hand g.mover) words k → (h → IsPromised g.size (s.hand g.mover) words) → Asks (fills g p o f words k)
-  asks_fill o f words k aiming into is same = asks_if (nat_lt k g.size) _ _
-      (λ e. (refl, below k g.size e, into.2))
-      (λ e. let far : g.size ≤ k = not_below k g.size e in
-      (refl, (λ _. (aimed o aiming).0), (into.0, into.2, (λ i l. (listed words i, is i (omega arith), λ y. same y i l)), (λ _. (aimed o aiming).1), refl)))
+  brings_own : (o : ℕ) → IsAiming g p o → (s.hand g.mover).bringing ≡ Some o → (q : ℕ) → (s.hand g.mover).bringing ≡ Some q → true ≡ true → (owner q ≡ g.mover) × (0 < (s.note q).count)
+  brings_own o aiming only q e r = let same : o ≡ q = (let k : Some o ≡ Some q = sym only ∙ e in cc) in subst (λ i. (owner i ≡ g.mover) × (0 < (s.note i).count)) same (aimed o aiming)
+
+  asks_bring : (d : Fetching) (o : ℕ) → IsAiming g p o → (s.hand g.mover).bringing ≡ Some o → FitsMode h g.size s.far (s.hand g.mover) (as_mode d) → Asks (program_brings g p a d)
+  asks_bring d o aiming only fits = asks_brings owner h g.size s g.mover true a (λ e. in_mode p (as_mode e)) (finished g p 0) (in_mode p Closing) d (brings_own o aiming only) fits
 
   asks_giving_up : (q : Option (ℕ × Hold)) → first_hold p.holds ≡ q → Asks (gives_up p q)
   asks_giving_up None e = tt
@@ -230,12 +251,12 @@ module _ (owner : ℕ → ℕ) (h : Type 0) (g : Setting) (s : State) (p : Progr
   asks_program (Missing o) c fits aims told =
       asks_next owner h g.size s g.mover c _ (refl, fits, (λ _. ((aimed o aims).0, (aimed o aims).1, refl)), (λ other. cc))
   asks_program (Bringing o) c fits aims told = asks_seek o c aims fits
-  asks_program (Reading o f) c fits aims told = asks_next owner h g.size s g.mover c _ tt
-  asks_program (Filling o f words k) c fits aims told = asks_next owner h g.size s g.mover c _ (asks_fill o f words k aims fits.0 fits.1 fits.2)
+  asks_program (Reading o f) c fits aims told = asks_next owner h g.size s g.mover c _ (asks_bring (fetching.Reading o f) o aims fits.0.0 fits)
+  asks_program (Filling o f words k) c fits aims told = asks_next owner h g.size s g.mover c _ (asks_bring (fetching.Filling o f words k) o aims fits.0.0 fits)
   asks_program (Evicting o d) c fits aims told =
       asks_next owner h g.size s g.mover c _ (asks_evicts owner h g.size s g.mover a (λ d. in_mode p (Evicting o d)) (in_mode p (Bringing o)) (in_mode p (Retreating o)) fits.1 d fits.2)
-  asks_program (Releasing o f) c fits aims told = asks_next owner h g.size s g.mover c _ (refl, fits.2)
-  asks_program (Retreating o) c fits aims told = asks_next owner h g.size s g.mover c _ (refl, fits.2.0, fits.0)
+  asks_program (Releasing o f) c fits aims told = asks_next owner h g.size s g.mover c _ (asks_bring (fetching.Releasing o f) o aims fits.0 fits)
+  asks_program (Retreating o) c fits aims told = asks_next owner h g.size s g.mover c _ (asks_bring (fetching.Retreating o) o aims fits.0 fits)
   asks_program Closing c fits aims told = asks_next owner h g.size s g.mover c _ (asks_giving_up (first_hold p.holds) refl)
   asks_program (Wanted w) c fits aims told = tt
 
@@ -251,3 +272,31 @@ asks_idle owner h n s m (choice.Mark o f) has = (refl, (has.1, has.2, (λ q e. l
 pub asks_evacuator : (owner : ℕ → ℕ) (h : Type 0) (n : ℕ) (s : State) (m : ℕ) (d : Option Eviction) (c : Choice) (a : Answer) → FitsEvacuator n s.far (s.hand m) d → AsksTurn owner h n s m (evacuator_turn n m d c a)
 asks_evacuator owner h n s m None c a fits = asks_idle owner h n s m c fits
 asks_evacuator owner h n s m (Some e) c a fits = asks_next owner h n s m c _ (asks_evicts owner h n s m a Some None None fits.1 e fits.2)
+
+-- ---- a fetcher
+
+module _ (owner : ℕ → ℕ) (h : Type 0) (n : ℕ) (s : State) (m : ℕ) where
+  asks_begin : (c : Choice) → HasNothing (s.hand m) → AsksTurn owner h n s m (fetcher_idle m c)
+  asks_begin choice.Next has = tt
+  asks_begin (choice.Look f) has = tt
+  asks_begin (choice.Claim f) has = tt
+  asks_begin (choice.Mark o f) has = tt
+  asks_begin (choice.Begin o) has = (refl, has, (λ own. cc), (λ other. refl))
+
+  asks_claim : (f : ℕ) (d : Fetching) → FitsMode h n s.far (s.hand m) (as_mode d) → AsksTurn owner h n s m (fetcher_claims m f d)
+  asks_claim f (fetching.Bringing o) fits = (refl, fits.0, fits.1, fits.2)
+  asks_claim f (fetching.Reading o g) fits = tt
+  asks_claim f (fetching.Filling o g words k) fits = tt
+  asks_claim f (fetching.Releasing o g) fits = tt
+  asks_claim f (fetching.Retreating o) fits = tt
+
+  asks_fetches : (d : Fetching) (c : Choice) (a : Answer) → FitsMode h n s.far (s.hand m) (as_mode d) → AsksTurn owner h n s m (fetches n m d c a)
+  asks_fetches d choice.Next a fits = asks_brings owner h n s m false a Some None None d (λ o e own. cc) fits
+  asks_fetches d (choice.Look f) a fits = tt
+  asks_fetches d (choice.Claim f) a fits = asks_claim f d fits
+  asks_fetches d (choice.Mark o f) a fits = tt
+  asks_fetches d (choice.Begin o) a fits = tt
+
+  pub asks_fetcher : (d : Option Fetching) (c : Choice) (a : Answer) → FitsFetcher h n s.far (s.hand m) d → AsksTurn owner h n s m (fetcher_turn n m d c a)
+  asks_fetcher None c a fits = asks_begin c fits
+  asks_fetcher (Some d) c a fits = asks_fetches d c a fits

@@ -8,8 +8,7 @@ use Rattle.pointer_word.specs.Calls.{Call, Opens, Closes, Clears, Stores, Begins
 use Rattle.pointer_word.specs.Sound.{Inv}
 use Rattle.world_semantics.specs.Programs.{Eviction, Copying, Stored, NotStored, Refused, Freed, Mode, Ready, Missing, Bringing, Reading, Filling, Evicting, Releasing, Retreating, Closing, Wanted}
 use Rattle.world_semantics.specs.Steps.{maker}
-use Rattle.world_semantics.specs.Fetchers as fetching
-use Rattle.world_semantics.specs.Fetchers.{Fetching}
+use Rattle.world_semantics.specs.Fetchers.{Fetching, as_mode}
 use Rattle.world_semantics.specs.InHand.{WasPut, FitsEviction, FitsMode, FitsEvacuator, FitsFetcher}
 use Rattle.pointer_word.proofs.Upd.{upd-same, upd-other, upd_kept}
 
@@ -73,8 +72,9 @@ commits s m o f = commits_at s m o f (s.word o).place
 pub fills_one : (s : State) (m f i v : ℕ) → After m s (act s (Fills m f i v)) (filling (s.hand m) i v)
 fills_one s m f i v = record { hand = upd-same s.hand m _ m refl; far = refl }
 
-pub arrives : (s : State) (m o f : ℕ) (k : Bool) → After m s (act s (Arrives m o f k true)) (arriving (s.hand m))
-arrives s m o f k = record { hand = upd-same s.hand m _ m refl; far = refl }
+pub arrives : (s : State) (m o f : ℕ) (k own : Bool) → After m s (act s (Arrives m o f k own)) (arriving (s.hand m))
+arrives s m o f k true = record { hand = upd-same s.hand m _ m refl; far = refl }
+arrives s m o f k false = record { hand = upd-same s.hand m _ m refl; far = refl }
 
 pub unclaims : (s : State) (m f : ℕ) → After m s (act s (Unclaims m f)) (unclaiming (s.hand m))
 unclaims s m f = record { hand = upd-same s.hand m _ m refl; far = refl }
@@ -225,8 +225,4 @@ evacuator_stays n j s t x (Some e) stay is fits = (fits.0, fits.1, eviction_stay
 
 pub fetcher_stays : (h : Type 0) (n j : ℕ) (s t : State) (x : Hand) (d : Option Fetching) → StoresStay j s t → s.hand j ≡ x → FitsFetcher h n s.far x d → FitsFetcher h n t.far x d
 fetcher_stays h n j s t x None stay is fits = fits
-fetcher_stays h n j s t x (Some (fetching.Bringing o)) stay is fits = fits
-fetcher_stays h n j s t x (Some (fetching.Reading o f)) stay is fits = (fits.0, stay.put o fits.1)
-fetcher_stays h n j s t x (Some (fetching.Filling o f words k)) stay is fits = fits
-fetcher_stays h n j s t x (Some (fetching.Releasing o f)) stay is fits = fits
-fetcher_stays h n j s t x (Some (fetching.Retreating o)) stay is fits = fits
+fetcher_stays h n j s t x (Some d) stay is fits = mode_stays h n j s t x (as_mode d) stay is fits

@@ -18,9 +18,11 @@ use Rattle.world_semantics.specs.declared.event.Actor.{Actor}
 use Rattle.world_semantics.specs.declared.event.Actor.TheVariants as actor
 use Rattle.world_semantics.specs.declared.event.Choice.{Choice}
 use Rattle.world_semantics.specs.declared.event.Choice.TheVariants as choice
+use Rattle.world_semantics.specs.Fetchers as fetching
+use Rattle.world_semantics.specs.Fetchers.{Fetching, as_mode}
 use Rattle.world_semantics.specs.Programs.{Eviction, Copying, Stored, NotStored, Refused, Freed, Hold, Mode, Ready, Missing, Bringing, Reading, Filling, Evicting, Releasing, Retreating, Closing, Wanted, Program, Setting, next_touch, object_of, object_or_none, next_free, hold_at, holding, in_mode, first_hold, may_grow, rest_of}
-use Rattle.world_semantics.specs.Turns.{Answer, NotEnabled, Calls, taken, put_so, committed_so, evicts, grows, closes, aims_at, loads_from, loads_by, stores_to, stores_by, leaves_by, ends_by, ready, began, to_fill, seeks, read_so, fills, closed_so, gives_up, by_mode, program_turn}
-use Rattle.world_semantics.specs.Worlds.{Sizes, World, Event, Follows, setting, start, in_range, is_actor, with_program, with_evacuator, acted, event}
+use Rattle.world_semantics.specs.Turns.{Answer, NotEnabled, Calls, taken, put_so, committed_so, evicts, grows, closes, aims_at, loads_from, loads_by, stores_to, stores_by, leaves_by, ends_by, ready, began, to_fill, seeks, read_so, program_brings, closed_so, gives_up, by_mode, program_turn}
+use Rattle.world_semantics.specs.Worlds.{Sizes, World, Event, Follows, setting, start, in_range, is_actor, with_program, with_evacuator, with_fetcher, acted, event}
 use Rattle.world_semantics.specs.Causes.{HasFailed, IsRefused, IsCaused, CauseOf, LeadsTo, HasCause}
 use Rattle.world_semantics.proofs.Going.{Leads, leads_cond, leads_next}
 use Rattle.world_semantics.proofs.Reached.{leads_taken}
@@ -109,7 +111,7 @@ module _ (g : Setting) (s : State) (p : Program) (a : Answer) where
       let t : State = act s (Begins g.mover o (s.note o).count true) in
       chosen t (holds (t.hand g.mover).bringing o) _ _ (λ _. tt) (λ _. chosen t (known (t.note o).frame) _ _ (λ _. tt) (λ _. tt))
 
-  fill_so : (o f : ℕ) (y : Far) → IsCaused g p a (to_fill o f y)
+  fill_so : (o f : ℕ) (y : Far) → IsCaused g p a (as_mode (to_fill o f y))
   fill_so o f Never = tt
   fill_so o f (Kept words) = tt
   fill_so o f Unknown = tt
@@ -125,7 +127,7 @@ module _ (g : Setting) (s : State) (p : Program) (a : Answer) where
       let t : State = act s (Marks g.mover v f) in
       chosen t (holds (t.hand g.mover).leaving v) _ _ (λ _. tt) (λ _. subst (IsCaused g p a) (sym e) tt)
 
-  read_caused : (o f : ℕ) (read : Option (List ℕ)) → a.read ≡ read → p.mode ≡ Reading o f → Q s (in_mode p (read_so o f read))
+  read_caused : (o f : ℕ) (read : Option (List ℕ)) → a.read ≡ read → p.mode ≡ Reading o f → Q s (in_mode p (as_mode (read_so o f read)))
   read_caused o f None r e = refused (Reading o f) e r
   read_caused o f (Some words) r e = tt
 
@@ -145,7 +147,7 @@ module _ (g : Setting) (s : State) (p : Program) (a : Answer) where
   evicts_so o (Refused v f) e = tt
   evicts_so o (Freed f) e = tt
 
-  fills_so : (o f : ℕ) (words : List ℕ) (k : ℕ) → Leads s Q (fills g p o f words k)
+  fills_so : (o f : ℕ) (words : List ℕ) (k : ℕ) → Leads s Q (program_brings g p a (fetching.Filling o f words k))
   fills_so o f words k = leads_cond s Q (nat_lt k g.size) _ _ (λ _. tt) (λ _. tt)
 
   closed_caused : (t : State) (r : Program) (q : Option (ℕ × Hold)) → r.mode ≡ Closing → p.mode ≡ Closing → Q t (closed_so r q)
@@ -208,11 +210,18 @@ module _ (z : Sizes) (images : ℕ → Image) where
       let same : v ≡ u = (let s : Some v ≡ Some u = q in cc) in
       subst (λ (y : World). y.programs k ≡ w.programs k) same refl
 
+  by_fetcher : (w u : World) (j k : ℕ) (x : Option (State × Option Fetching)) → with_fetcher w j x ≡ Some u → u.programs k ≡ w.programs k
+  by_fetcher w u j k None q = cc
+  by_fetcher w u j k (Some r) q =
+      let v : World = record w { lock = r.0; fetchers = upd w.fetchers j r.1 } in
+      let same : v ≡ u = (let s : Some v ≡ Some u = q in cc) in
+      subst (λ (y : World). y.programs k ≡ w.programs k) same refl
+
   -- an event of another leaves the program
   other_program : (w u : World) (who : Actor) (c : Choice) (a : Answer) (k : ℕ) → acted z images w who c a ≡ Some u → (who ≡ actor.Program k) ⊎ (u.programs k ≡ w.programs k)
   other_program w u (actor.Program j) c a k e = elim (same_or k j) [ inl d ↦ inl (ap actor.Program (sym d)) | inr d ↦ inr (by_other w u j k d _ e) ]
   other_program w u (actor.Evacuator j) c a k e = inr (by_evacuator w u j k _ e)
-  other_program w u (actor.Fetcher j) c a k e = cc
+  other_program w u (actor.Fetcher j) c a k e = inr (by_fetcher w u j k _ e)
 
   from_caused : (g : Setting) (p : Program) (a : Answer) (y : Mode) → IsCaused g p a y → HasFailed y → HasFailed p.mode ⊎ IsRefused g.size p.mode a
   from_caused g p a (Evicting o (NotStored v f)) is has = is

@@ -19,15 +19,16 @@ use Rattle.pointer_word.proofs.Upd.{upd-same, upd-other, same_or}
 use Rattle.world_semantics.specs.declared.event.Actor.{Actor}
 use Rattle.world_semantics.specs.declared.event.Actor.TheVariants as actor
 use Rattle.world_semantics.specs.declared.event.Choice.{Choice}
+use Rattle.world_semantics.specs.Fetchers.{Fetching}
 use Rattle.world_semantics.specs.Programs.{Eviction, Hold, Mode, Ready, Missing, Bringing, Reading, Filling, Evicting, Releasing, Retreating, Closing, Wanted, Program, Setting, begun, next_touch, hold_at, object_or_none}
-use Rattle.world_semantics.specs.Turns.{Answer, Turn, NotEnabled, Alone, Calls, after_call, taken, evacuator_turn, program_turn}
-use Rattle.world_semantics.specs.Worlds.{Sizes, World, Event, share, mover_of, setting, start, in_range, is_actor, with_program, with_evacuator, acted, event, Follows}
+use Rattle.world_semantics.specs.Turns.{Answer, Turn, NotEnabled, Alone, Calls, after_call, taken, evacuator_turn, fetcher_turn, program_turn}
+use Rattle.world_semantics.specs.Worlds.{Sizes, World, Event, share, mover_of, setting, start, in_range, is_actor, with_program, with_evacuator, with_fetcher, acted, event, Follows}
 use Rattle.world_semantics.specs.Steps.{IsSound}
 use Rattle.world_semantics.specs.Holding.{count_of, HoldsFit}
 use Rattle.world_semantics.specs.Enabled.{has_turn, is_enabled, owner_of, OneAsked}
 use Rattle.world_semantics.specs.Scopes.{IsAiming, AimsIn, object_in, IsAsCode, IsShut, IsAimed, ScopeFits, IsFramed}
 use Rattle.world_semantics.proofs.Able.{actor_able, event_able}
-use Rattle.world_semantics.proofs.Asking.{AsksTurn, ToldFit, HoldTold, IsPending, asked_able, asks_program, asks_evacuator, counts_one}
+use Rattle.world_semantics.proofs.Asking.{AsksTurn, ToldFit, HoldTold, IsPending, asked_able, asks_program, asks_evacuator, asks_fetcher, counts_one}
 use Rattle.world_semantics.proofs.Following.{Laws, Within1, goes_within}
 use Rattle.world_semantics.proofs.Going.{Goes, program_leads}
 use Rattle.world_semantics.proofs.Holding.{InShare, Held, Kept, Opened, Closed, Written, Holds1, aims_there, mode_h, holds_on}
@@ -185,10 +186,21 @@ module _ (laws : Laws) (h : Type 0) (z : Sizes) (images : ℕ → Image) (some :
       let one = taken_asked (owner_of z) h z.cells w.lock m (evacuator_turn z.cells m (w.evacuators k) c a) r e (asks_evacuator (owner_of z) h z.cells w.lock m (w.evacuators k) c a (sound.hands.evacuator k l)) in
       subst (λ (u : World). OneAsked h z w (actor.Evacuator k) u × AllFit z images u) same (one, (λ j. others_fit w (actor.Evacuator k) r.0 j (λ e. cc) one all))
 
+  by_fetcher : (w u : World) (k : ℕ) (c : Choice) (a : Answer) (x : Option (State × Option Fetching)) → k < z.fetchers
+      → taken z.cells w.lock (fetcher_turn z.cells (suc (z.programs + z.evacuators + k)) (w.fetchers k) c a) ≡ x → with_fetcher w k x ≡ Some u → IsSound h z w → AllFit z images w
+      → OneAsked h z w (actor.Fetcher k) u × AllFit z images u
+  by_fetcher w u k c a None l e q sound all = cc
+  by_fetcher w u k c a (Some r) l e q sound all =
+      let m : ℕ = suc (z.programs + z.evacuators + k) in
+      let v : World = record w { lock = r.0; fetchers = upd w.fetchers k r.1 } in
+      let same : v ≡ u = (let s : Some v ≡ Some u = q in cc) in
+      let one = taken_asked (owner_of z) h z.cells w.lock m (fetcher_turn z.cells m (w.fetchers k) c a) r e (asks_fetcher (owner_of z) h z.cells w.lock m (w.fetchers k) c a (sound.hands.fetcher k l)) in
+      subst (λ (u : World). OneAsked h z w (actor.Fetcher k) u × AllFit z images u) same (one, (λ j. others_fit w (actor.Fetcher k) r.0 j (λ e. cc) one all))
+
   by_actor : (w u : World) (who : Actor) (c : Choice) (a : Answer) → is_actor z who ≡ true → acted z images w who c a ≡ Some u → IsSound h z w → AllFit z images w → OneAsked h z w who u × AllFit z images u
   by_actor w u (actor.Program k) c a there e sound all = by_program w u k c a _ (below k z.programs there) refl e sound all
   by_actor w u (actor.Evacuator k) c a there e sound all = by_evacuator w u k c a _ (below k z.evacuators there) refl e sound all
-  by_actor w u (actor.Fetcher k) c a there e sound all = cc
+  by_actor w u (actor.Fetcher k) c a there e sound all = by_fetcher w u k c a _ (below k z.fetchers there) refl e sound all
 
   both : (a b : Bool) → (a && b) ≡ true → (a ≡ true) × (b ≡ true)
   both true b e = (refl, e)
@@ -212,7 +224,10 @@ module _ (laws : Laws) (h : Type 0) (z : Sizes) (images : ℕ → Image) (some :
       let m : ℕ = suc (z.programs + k) in
       asked_able (owner_of z) h z.cells w.lock m (evacuator_turn z.cells m (w.evacuators k) c a)
       (asks_evacuator (owner_of z) h z.cells w.lock m (w.evacuators k) c a (sound.hands.evacuator k (below k z.evacuators there)))
-  actor_open w (actor.Fetcher k) c a there sound all = refl
+  actor_open w (actor.Fetcher k) c a there sound all =
+      let m : ℕ = suc (z.programs + z.evacuators + k) in
+      asked_able (owner_of z) h z.cells w.lock m (fetcher_turn z.cells m (w.fetchers k) c a)
+      (asks_fetcher (owner_of z) h z.cells w.lock m (w.fetchers k) c a (sound.hands.fetcher k (below k z.fetchers there)))
 
   not_there : (x y b r : Bool) → x ≡ false → ((x && y) && b) ≡ ((x && y) && r)
   not_there true y b r e = cc

@@ -16,8 +16,10 @@ use Rattle.pointer_word.specs.Calls.{Call, Opens, Closes, Clears, Begins, Claims
 use Rattle.pointer_word.specs.Legal.{holds}
 use Rattle.world_semantics.specs.declared.event.Choice.{Choice}
 use Rattle.world_semantics.specs.declared.event.Choice.TheVariants as choice
+use Rattle.world_semantics.specs.Fetchers as fetching
+use Rattle.world_semantics.specs.Fetchers.{Fetching, as_mode}
 use Rattle.world_semantics.specs.Programs.{Eviction, Copying, Stored, NotStored, Refused, Freed, Hold, Mode, Ready, Missing, Bringing, Reading, Filling, Evicting, Releasing, Retreating, Closing, Wanted, Program, Setting, next_touch, object_of, object_or_none, next_free, hold_at, holding, in_mode, finished, first_hold, may_grow, rest_of}
-use Rattle.world_semantics.specs.Turns.{Answer, Turn, NotEnabled, Alone, Calls, as_next, put_of, evicts, grows, closes, found, aims_at, loads_from, loads_by, stores_to, stores_by, leaves_by, allocates, ends_by, ready, began, to_fill, seeks, read_so, fills, closed_so, gives_up, by_mode, program_turn}
+use Rattle.world_semantics.specs.Turns.{Answer, Turn, NotEnabled, Alone, Calls, as_next, put_of, evicts, grows, closes, found, aims_at, loads_from, loads_by, stores_to, stores_by, leaves_by, allocates, ends_by, ready, began, to_fill, seeks, read_so, brings, program_brings, closed_so, gives_up, by_mode, program_turn}
 use Rattle.world_semantics.specs.Scopes.{IsNext, IsAiming, AimsIn}
 use Rattle.world_semantics.proofs.Latest.{is_store, keeps_latest, stores_latest}
 
@@ -51,6 +53,20 @@ module _ {A : Type 0} (n : ℕ) (s : State) (m : ℕ) (a : Answer) (go : Evictio
   leads_evicts (NotStored o f) = fails (act s (Aborts m o f)) (keeps_latest s (Aborts m o f) refl)
   leads_evicts (Refused o f) = ends (act s (Aborts m o f)) (keeps_latest s (Aborts m o f) refl)
   leads_evicts (Freed f) = ends (act s (Releases m f)) (keeps_latest s (Releases m f) refl)
+
+-- bringing an object in stores nothing
+module _ {A : Type 0} (n : ℕ) (s : State) (m : ℕ) (own : Bool) (a : Answer) (go : Fetching → A) (done failed : A) (Q : State → A → Type 0)
+    (goes : (t : State) (d : Fetching) → ((o i : ℕ) → latest t o i ≡ latest s o i) → Q t (go d))
+    (ends : (t : State) → ((o i : ℕ) → latest t o i ≡ latest s o i) → Q t done)
+    (fails : (t : State) → ((o i : ℕ) → latest t o i ≡ latest s o i) → Q t failed) where
+  pub leads_brings : (d : Fetching) → Leads s Q (brings n m own a d go done failed)
+  leads_brings (fetching.Bringing o) = fails (act s (Retreats m o)) (keeps_latest s (Retreats m o) refl)
+  leads_brings (fetching.Reading o f) = goes s (read_so o f a.read) (λ o i. refl)
+  leads_brings (fetching.Filling o f words k) = leads_cond s Q (nat_lt k n) _ _
+      (λ _. goes (act s (Fills m f k (listed words k))) (fetching.Filling o f words (suc k)) (keeps_latest s (Fills m f k (listed words k)) refl))
+      (λ _. ends (act s (Arrives m o f false own)) (keeps_latest s (Arrives m o f false own) refl))
+  leads_brings (fetching.Releasing o f) = goes (act s (Unclaims m f)) (fetching.Retreating o) (keeps_latest s (Unclaims m f) refl)
+  leads_brings (fetching.Retreating o) = fails (act s (Retreats m o)) (keeps_latest s (Retreats m o) refl)
 
 -- an instruction that touches this goes on or stops
 abbrev pub IsMoving : Touch → Type 0
@@ -258,7 +274,7 @@ module _ (g : Setting) (s : State) (p : Program) (a : Answer) where
       (λ _. stays (act s c) (in_mode p (Bringing o)) refl refl (same_call c refl) (aiming_on (Bringing o) o aiming))
       (λ _. finds (act s c) o (same_call c refl) aiming)
 
-  fill_aims : (o f : ℕ) (y : Far) → IsAiming g p o → AimsIn g (in_mode p (to_fill o f y)) (to_fill o f y)
+  fill_aims : (o f : ℕ) (y : Far) → IsAiming g p o → AimsIn g (in_mode p (as_mode (to_fill o f y))) (as_mode (to_fill o f y))
   fill_aims o f Never aiming = aiming_on _ o aiming
   fill_aims o f (Kept words) aiming = aiming_on _ o aiming
   fill_aims o f Unknown aiming = aiming_on _ o aiming
@@ -271,7 +287,7 @@ module _ (g : Setting) (s : State) (p : Program) (a : Answer) where
       let c : Call = Claims g.mover o f in
       let t : State = act s c in
       chosen t (holds (t.hand g.mover).claimed f) _ _
-      (λ _. stays t (in_mode p (to_fill o f (t.far o))) refl refl (same_call c refl) (fill_aims o f (t.far o) aiming))
+      (λ _. stays t (in_mode p (as_mode (to_fill o f (t.far o)))) refl refl (same_call c refl) (fill_aims o f (t.far o) aiming))
       (λ _. stays t p refl refl (same_call c refl) (subst (AimsIn g p) (sym e) aiming))
   seeks_to o (choice.Mark v f) aiming e =
       let c : Call = Marks g.mover v f in
@@ -280,11 +296,11 @@ module _ (g : Setting) (s : State) (p : Program) (a : Answer) where
       (λ _. stays t (in_mode p (Evicting o (Copying v f []))) refl refl (same_call c refl) (aiming_on _ o aiming))
       (λ _. stays t p refl refl (same_call c refl) (subst (AimsIn g p) (sym e) aiming))
 
-  read_to : (o f : ℕ) (read : Option (List ℕ)) → IsAiming g p o → Q s (in_mode p (read_so o f read))
+  read_to : (o f : ℕ) (read : Option (List ℕ)) → IsAiming g p o → Q s (in_mode p (as_mode (read_so o f read)))
   read_to o f None aiming = stays s _ refl refl still (aiming_on _ o aiming)
   read_to o f (Some words) aiming = stays s _ refl refl still (aiming_on _ o aiming)
 
-  fills_to : (o f : ℕ) (words : List ℕ) (k : ℕ) → IsAiming g p o → Leads s Q (fills g p o f words k)
+  fills_to : (o f : ℕ) (words : List ℕ) (k : ℕ) → IsAiming g p o → Leads s Q (program_brings g p a (fetching.Filling o f words k))
   fills_to o f words k aiming = leads_cond s Q (nat_lt k g.size) _ _
       (λ _. stays (act s (Fills g.mover f k (listed words k))) _ refl refl (same_call (Fills g.mover f k (listed words k)) refl) (aiming_on _ o aiming))
       (λ _. plain (touch.Aims aiming.scope (Some aiming.cell)) aiming.is tt (act s (Arrives g.mover o f false true)) (same_call (Arrives g.mover o f false true) refl) p.holds)

@@ -20,8 +20,9 @@ use Rattle.pointer_word.proofs.Upd.{same_or}
 use Rattle.std.specs.Prelude.{slice_get}
 use Rattle.world_semantics.specs.declared.event.Choice.{Choice}
 use Rattle.world_semantics.specs.declared.event.Choice.TheVariants as choice
+use Rattle.world_semantics.specs.Fetchers as fetching
 use Rattle.world_semantics.specs.Programs.{Eviction, Copying, Stored, NotStored, Refused, Freed, Hold, Mode, Ready, Missing, Bringing, Reading, Filling, Evicting, Releasing, Retreating, Closing, Wanted, Program, Setting, cells_in, next_touch, object_of, object_or_none, next_free, hold_at, holding, in_mode, first_hold, may_grow, rest_of}
-use Rattle.world_semantics.specs.Turns.{Answer, NotEnabled, Calls, put_of, evicts, grows, closes, aims_at, loads_from, loads_by, stores_to, stores_by, leaves_by, ends_by, ready, began, seeks, fills, closed_so, gives_up, by_mode}
+use Rattle.world_semantics.specs.Turns.{Answer, NotEnabled, Calls, put_of, evicts, grows, closes, aims_at, loads_from, loads_by, stores_to, stores_by, leaves_by, ends_by, ready, began, seeks, program_brings, closed_so, gives_up, by_mode}
 use Rattle.world_semantics.specs.Holding.{one, count_of}
 use Rattle.world_semantics.proofs.Counting.{is_counting, keeps_count, one_other, opens_count, closes_count, count_set, hold_there, first_at}
 use Rattle.world_semantics.specs.Scopes.{IsNext}
@@ -195,7 +196,7 @@ module _ (g : Setting) (s : State) (p : Program) (a : Answer) (there : (k : ℕ)
       let t : State = act s c in
       chosen t (holds (t.hand g.mover).bringing o) _ _ (by_call c _ refl refl) (chosen t (known (t.note o).frame) _ _ (by_call c _ refl refl) (by_call c _ refl refl))
 
-  fills_h : (o f : ℕ) (words : List ℕ) (k : ℕ) → Leads s Q (fills g p o f words k)
+  fills_h : (o f : ℕ) (words : List ℕ) (k : ℕ) → Leads s Q (program_brings g p a (fetching.Filling o f words k))
   fills_h o f words k = leads_cond s Q (nat_lt k g.size) _ _ (λ _. by_call (Fills g.mover f k (listed words k)) _ refl refl) (λ _. by_call (Arrives g.mover o f false true) _ refl refl)
 
   evicts_h : (o : ℕ) (d : Eviction) → Leads s Q (evicts g.size g.mover a d (λ x. in_mode p (Evicting o x)) (in_mode p (Bringing o)) (in_mode p (Retreating o)))

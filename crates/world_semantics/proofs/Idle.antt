@@ -12,7 +12,7 @@ use Rattle.world_semantics.proofs.Stepping.{enabled, happened, starts, stepped}
 
 -- no actor is the mover m
 abbrev pub IsNobody : Sizes → ℕ → Type 0
-IsNobody z m = (m ≡ 0) ⊎ (z.programs + z.evacuators < m)
+IsNobody z m = (m ≡ 0) ⊎ (z.programs + z.evacuators + z.fetchers < m)
 
 pub record Rests (z : Sizes) (images : ℕ → Image) (w : World) : Type 0 where
   pub hands : (m : ℕ) → IsNobody z m → w.lock.hand m ≡ empty_handed
@@ -27,7 +27,8 @@ not_mover z (actor.Program k) m there (inl e) q = let l : k < z.programs = below
 not_mover z (actor.Program k) m there (inr b) q = let l : k < z.programs = below k z.programs there in absurd (omega arith)
 not_mover z (actor.Evacuator k) m there (inl e) q = let l : k < z.evacuators = below k z.evacuators there in absurd (omega arith)
 not_mover z (actor.Evacuator k) m there (inr b) q = let l : k < z.evacuators = below k z.evacuators there in absurd (omega arith)
-not_mover z (actor.Fetcher k) m there nobody q = cc
+not_mover z (actor.Fetcher k) m there (inl e) q = let l : k < z.fetchers = below k z.fetchers there in absurd (omega arith)
+not_mover z (actor.Fetcher k) m there (inr b) q = let l : k < z.fetchers = below k z.fetchers there in absurd (omega arith)
 
 program_stays : (z : Sizes) (who : Actor) (w u : World) (k : ℕ) → is_actor z who ≡ true → OthersStay w u who → z.programs ≤ k → u.programs k ≡ w.programs k
 program_stays z (actor.Program j) w u k there stay b = let l : j < z.programs = below j z.programs there in stay.0 k (λ e. absurd (omega arith))

@@ -1,5 +1,6 @@
 pub mod Able
 pub mod Asking
+pub mod Bringing
 pub mod Calling
 pub mod Causing
 pub mod Counting

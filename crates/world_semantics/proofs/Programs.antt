@@ -1,34 +1,27 @@
 -- a program's turn: its call is granted, and it has in hand what its mode says
-use Rattle.std.proofs.Common.{◌≡◌, inl, inr, ℕ, suc, ◌≤◌, Bool, true, false, cond, not, ◌&&◌, List, [], length, Option, Some, None, refl, sym, ap, ◌∙◌, subst, arith}
+use Rattle.std.proofs.Common.{◌≡◌, inl, inr, ℕ, Bool, true, false, cond, not, ◌&&◌, [], length, Option, Some, None, refl, sym, ap, ◌∙◌, subst, arith}
 use Rattle.std.specs.Prelude.{◌==◌, ◌+◌, ◌%◌, nat_lt, nat_le}
-use Rattle.std.proofs.lemmas.Bool.Decides.{eqb_tells}
 use Rattle.code_form.specs.declared.touch.Touch.{Touch}
 use Rattle.code_form.specs.declared.touch.Touch.TheVariants as touch
 use Rattle.code_form.specs.Code.{is_blocked}
 use Rattle.code_form.specs.Placed.{pieces}
-use Rattle.pointer_word.specs.Hands.{Hand, known, listed, claiming}
-use Rattle.pointer_word.specs.Machine.{Far, Never, Kept, Unknown, State, content}
-use Rattle.pointer_word.specs.Calls.{Opens, Closes, Begins, Claims, Marks, act}
+use Rattle.pointer_word.specs.Hands.{Hand, known}
+use Rattle.pointer_word.specs.Machine.{State}
+use Rattle.pointer_word.specs.Calls.{Opens, Closes, Begins, Marks, act}
 use Rattle.pointer_word.specs.Asked.{HasNothing}
 use Rattle.pointer_word.specs.Legal.{holds}
-use Rattle.pointer_word.specs.Ordered.{IsFilled}
-use Rattle.pointer_word.specs.Sound.{Inv, PlaceOk}
-use Rattle.pointer_word.proofs.Ordered.{filled_one}
+use Rattle.pointer_word.specs.Sound.{Inv}
 use Rattle.world_semantics.specs.declared.event.Choice.{Choice}
 use Rattle.world_semantics.specs.declared.event.Choice.TheVariants as choice
+use Rattle.world_semantics.specs.Fetchers as fetching
+use Rattle.world_semantics.specs.Fetchers.{Fetching, as_mode}
 use Rattle.world_semantics.specs.Programs.{Eviction, Copying, Hold, Mode, Ready, Missing, Bringing, Reading, Filling, Evicting, Releasing, Retreating, Closing, Wanted, Program, Setting, next_touch, object_of, object_or_none, next_free, hold_at, holding, in_mode, finished, first_hold, may_grow, rest_of}
-use Rattle.world_semantics.specs.Turns.{Answer, Turn, NotEnabled, Calls, as_next, evacuator_idle, evacuator_turn, grows, closes, found, aims_at, loads_from, loads_by, stores_to, stores_by, leaves_by, ends_by, ready, began, to_fill, claimed_so, marked_so, seeks, read_so, fills, closed_so, gives_up, by_mode}
-use Rattle.world_semantics.specs.Worlds.{IsHonestRead, ReadsHonestly}
-use Rattle.world_semantics.specs.InHand.{WasPut, OnlyBrings, BringsInto, IsPromised, FitsMode, FitsEvacuator}
-use Rattle.world_semantics.proofs.Calling.{begins, claims, marks, fills_one, arrives, unclaims, retreats}
-use Rattle.world_semantics.proofs.Moving.{TurnOk, turn_cond, not_below, evicts_ok}
-
-holds_none : (x : Option ℕ) (f : ℕ) → x ≡ None → holds x f ≡ true → ⊥
-holds_none None f e q = cc
-holds_none (Some g) f e q = cc
-
-holds_self : (x : Option ℕ) (f : ℕ) → x ≡ Some f → holds x f ≡ false → ⊥
-holds_self x f e q = let r : (f == f) ≡ false = sym (ap (λ y. holds y f) e) ∙ q in elim (eqb_tells f f) [ inl k ↦ (let z : true ≡ false = sym k.0 ∙ r in cc) | inr k ↦ k.1 refl ]
+use Rattle.world_semantics.specs.Turns.{Answer, Turn, NotEnabled, Calls, as_next, evacuator_idle, evacuator_turn, grows, closes, found, aims_at, loads_from, loads_by, stores_to, stores_by, leaves_by, ends_by, ready, began, marked_so, seeks, program_brings, closed_so, gives_up, by_mode}
+use Rattle.world_semantics.specs.Worlds.{ReadsHonestly}
+use Rattle.world_semantics.specs.InHand.{OnlyBrings, FitsMode, FitsEvacuator}
+use Rattle.world_semantics.proofs.Calling.{begins, marks}
+use Rattle.world_semantics.proofs.Bringing.{brings_ok, claim_ok, holds_none, holds_self}
+use Rattle.world_semantics.proofs.Moving.{TurnOk, turn_cond, evicts_ok}
 
 as_next_ok : {A : Type 0} (h : Type 0) (n : ℕ) (s : State) (m : ℕ) (Q : State → A → Type 0) (c : Choice) (x : Turn A) → TurnOk h n s m Q x → TurnOk h n s m Q (as_next c x)
 as_next_ok h n s m Q choice.Next x ok = ok
@@ -131,37 +124,6 @@ module _ (h : Type 0) (g : Setting) (s : State) (p : Program) (a : Answer) (inv 
 
   -- ---- bringing in
 
-  -- what the berth in hand keeps is what the store cell has
-  promised : (o : ℕ) → (s.hand g.mover).bringing ≡ Some o → content (s.far o) ≡ Some (s.hand g.mover).promised
-  promised o e = (subst (PlaceOk h g.size s o) ((inv.mover g.mover).brings o e) (inv.object o)).2
-
-  to_fill_ok : (far : ℕ → Far) (x : Hand) (o f : ℕ) → BringsInto o f x → content (far o) ≡ Some x.promised → (y : Far) → far o ≡ y → FitsMode h g.size far x (to_fill o f y)
-  to_fill_ok far x o f into same Never e =
-      let q : [] ≡ x.promised = (let r : Some [] ≡ Some x.promised = sym (ap content e) ∙ same in cc) in
-      (into, (λ i l. absurd (omega arith)), (λ _ i l. ap (λ ws. listed ws i) q))
-  to_fill_ok far x o f into same (Kept words) e = (into, subst WasPut (sym e) tt)
-  to_fill_ok far x o f into same Unknown e = (into, subst WasPut (sym e) tt)
-
-  claim_ok : (o f : ℕ) → OnlyBrings o (s.hand g.mover) → p.mode ≡ Bringing o → Ok (Calls (Claims g.mover o f) (claimed_so g p o f))
-  claim_ok o f only m =
-      let t : State = act s (Claims g.mover o f) in
-      let x : Hand = s.hand g.mover in
-      let tried = claims s g.mover o f in
-      let keeps : content (t.far o) ≡ Some x.promised = ap (λ (far : ℕ → Far). content (far o)) tried.far ∙ promised o only.0 in (
-        only.2.0,
-        refl,
-        either t (holds (t.hand g.mover).claimed f) (in_mode p (to_fill o f (t.far o))) p
-            (λ q. elim tried.hand [
-              | inl e ↦ subst (λ (y : Hand). FitsMode h g.size t.far y (to_fill o f (t.far o))) (sym e)
-                  (to_fill_ok t.far (claiming x f) o f (only.0, only.1, refl, only.2.1) keeps (t.far o) refl)
-              | inr e ↦ absurd (holds_none (t.hand g.mover).claimed f (ap (λ (y : Hand). y.claimed) e ∙ only.2.0) q)
-            ])
-            (λ q. elim tried.hand [
-              | inl e ↦ absurd (holds_self (t.hand g.mover).claimed f (ap (λ (y : Hand). y.claimed) e) q)
-              | inr e ↦ subst (λ y. FitsMode h g.size t.far (t.hand g.mover) y) (sym m) (subst (OnlyBrings o) (sym e) only)
-            ]),
-      )
-
   mark_ok : (o v f : ℕ) → OnlyBrings o (s.hand g.mover) → p.mode ≡ Bringing o → Ok (Calls (Marks g.mover v f) (marked_so g p o v f))
   mark_ok o v f only m =
       let t : State = act s (Marks g.mover v f) in
@@ -185,43 +147,25 @@ module _ (h : Type 0) (g : Setting) (s : State) (p : Program) (a : Answer) (inv 
   seeks_ok o choice.Next only m = tt
   seeks_ok o (choice.Begin v) only m = tt
   seeks_ok o (choice.Look f) only m = subst (λ y. FitsMode h g.size s.far (s.hand g.mover) y) (sym m) only
-  seeks_ok o (choice.Claim f) only m = claim_ok o f only m
+  seeks_ok o (choice.Claim f) only m =
+      claim_ok h g.size s g.mover inv (λ d. in_mode p (as_mode d)) Fits (λ t d is. is) o f p (λ t is. subst (λ y. FitsMode h g.size t.far (t.hand g.mover) y) (sym m) is) only
   seeks_ok o (choice.Mark v f) only m = mark_ok o v f only m
 
-  read_ok : (o f : ℕ) (read : Option (List ℕ)) (y : Far) → s.far o ≡ y → BringsInto o f (s.hand g.mover) → WasPut y → (h → IsHonestRead g.size y read)
-      → FitsMode h g.size s.far (s.hand g.mover) (read_so o f read)
-  read_ok o f None y e into put honest = into
-  read_ok o f (Some words) Never e into put honest = absurd put
-  read_ok o f (Some words) (Kept ws) e into put honest =
-      let q : ws ≡ (s.hand g.mover).promised = (let r : Some ws ≡ Some (s.hand g.mover).promised = sym (ap content e) ∙ promised o into.0 in cc) in
-      (into, (λ i l. absurd (omega arith)), (λ k i l. honest k i l ∙ ap (λ vs. listed vs i) q))
-  read_ok o f (Some words) Unknown e into put honest =
-      let r : None ≡ Some (s.hand g.mover).promised = sym (ap content e) ∙ promised o into.0 in cc
-
-  fills_ok : (o f : ℕ) (words : List ℕ) (k : ℕ) → BringsInto o f (s.hand g.mover) → IsFilled (s.hand g.mover) words k → (h → IsPromised g.size (s.hand g.mover) words) → Ok (fills g p o f words k)
-  fills_ok o f words k into is same =
-      turn_cond h g.size s g.mover Fits (nat_lt k g.size) _ _
-      (λ e. (into.2, refl, subst (λ (y : Hand). FitsMode h g.size s.far y (Filling o f words (suc k))) (sym (fills_one s g.mover f k (listed words k)).hand) (into, filled_one (s.hand g.mover) words k is, same)))
-      (λ e. let far : g.size ≤ k = not_below k g.size e in (
-        (λ q i v l r. let w : Some (listed words i) ≡ Some v = sym (is i (omega arith)) ∙ r in let u : listed words i ≡ v = cc in sym u ∙ same q i l),
-        refl,
-        subst HasNothing (sym (arrives s g.mover o f false).hand) (refl, into.1, (refl, into.3)),
-      ))
+  bring_ok : (d : Fetching) → FitsMode h g.size s.far (s.hand g.mover) (as_mode d) → (h → ReadsHonestly g.size s (as_mode d) a.read) → Ok (program_brings g p a d)
+  bring_ok d fits honest = brings_ok h g.size s g.mover inv (λ e. in_mode p (as_mode e)) Fits (λ t e is. is) true a (finished g p 0) (in_mode p Closing) (λ t is. is) (λ t is. is) d fits honest
 
   pub program_ok : (m : Mode) → p.mode ≡ m → FitsMode h g.size s.far (s.hand g.mover) m → (c : Choice) → (h → ReadsHonestly g.size s m a.read) → Ok (by_mode g s p m c a)
   program_ok Ready e fits c honest =
       as_next_ok h g.size s g.mover Fits c _ (turn_cond h g.size s g.mover Fits (is_blocked p.core) NotEnabled (ready g s p a (next_touch g p)) (λ _. tt) (λ _. ready_ok fits (next_touch g p) e))
   program_ok (Missing o) e fits c honest = as_next_ok h g.size s g.mover Fits c _ (missing_ok fits o)
   program_ok (Bringing o) e fits c honest = seeks_ok o c fits e
-  program_ok (Reading o f) e fits c honest = as_next_ok h g.size s g.mover Fits c _ (read_ok o f a.read (s.far o) refl fits.0 fits.1 honest)
-  program_ok (Filling o f words k) e fits c honest = as_next_ok h g.size s g.mover Fits c _ (fills_ok o f words k fits.0 fits.1 fits.2)
+  program_ok (Reading o f) e fits c honest = as_next_ok h g.size s g.mover Fits c _ (bring_ok (fetching.Reading o f) fits honest)
+  program_ok (Filling o f words k) e fits c honest = as_next_ok h g.size s g.mover Fits c _ (bring_ok (fetching.Filling o f words k) fits honest)
   program_ok (Evicting o d) e fits c honest =
       as_next_ok h g.size s g.mover Fits c _
       (evicts_ok h g.size s g.mover a (λ d. in_mode p (Evicting o d)) (in_mode p (Bringing o)) (in_mode p (Retreating o)) Fits (Some o) (λ t d is. is) (λ t is. is) (λ t is. is) fits.0 fits.1 d fits.2)
-  program_ok (Releasing o f) e fits c honest =
-      as_next_ok h g.size s g.mover Fits c _ (fits.2, refl, subst (OnlyBrings o) (sym (unclaims s g.mover f).hand) (fits.0, fits.1, (refl, fits.3)))
-  program_ok (Retreating o) e fits c honest =
-      as_next_ok h g.size s g.mover Fits c _ (fits.0, refl, subst HasNothing (sym (retreats s g.mover o).hand) (refl, fits.1, fits.2))
+  program_ok (Releasing o f) e fits c honest = as_next_ok h g.size s g.mover Fits c _ (bring_ok (fetching.Releasing o f) fits honest)
+  program_ok (Retreating o) e fits c honest = as_next_ok h g.size s g.mover Fits c _ (bring_ok (fetching.Retreating o) fits honest)
   program_ok Closing e fits c honest = as_next_ok h g.size s g.mover Fits c _ (closing_ok fits (first_hold p.holds) e)
   program_ok (Wanted w) e fits c honest = tt
 

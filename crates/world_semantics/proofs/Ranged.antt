@@ -1,29 +1,53 @@
 -- whatever is in a frame, or comes into one, is one of the world's objects
-use Rattle.std.proofs.Common.{◌≡◌, ◌≢◌, ◌⊎◌, inl, inr, ℕ, zero, suc, ◌+◌, ◌-◌, ◌*◌, ◌<◌, ◌≤◌, Bool, true, false, cond, List, [], ◌∷◌, Option, Some, None, refl, sym, ap, ◌∙◌, subst, arith}
+use Rattle.std.proofs.Common.{◌≡◌, ◌⊎◌, inl, inr, ℕ, zero, suc, ◌+◌, ◌-◌, ◌*◌, ◌<◌, ◌≤◌, Bool, true, false, cond, ◌&&◌, List, [], ◌∷◌, Option, Some, None, refl, sym, ap, ◌∙◌, subst, arith}
 use Rattle.std.specs.Prelude.{◌==◌, ◌/◌, nat_lt}
 use Rattle.std.proofs.Math.Nat.{mul-div-le, mul-le-mul_right, suc-mul}
 use Rattle.code_form.specs.Form.{Image}
 use Rattle.pointer_word.specs.Words.{Place, Away, Coming, Here, Leaving, Word, counted, cleared, framed, Change, Open, Close, Clear, Begin, Arrive, Retreat, Mark, Commit, Abort, Leave, begun, arrived, retreated, marked, committed, aborted, left, changed}
 use Rattle.pointer_word.specs.Hands.{Hand, upd}
-use Rattle.pointer_word.specs.Machine.{Far, State}
-use Rattle.pointer_word.specs.Calls.{Call, act, change_of, changed_or, words_with, IsLawful}
+use Rattle.pointer_word.specs.Machine.{Far, Never, Kept, Unknown, State}
+use Rattle.pointer_word.specs.Calls.{Call, Begins, Claims, act, change_of, changed_or, words_with, IsLawful}
+use Rattle.pointer_word.specs.Legal.{holds}
 use Rattle.pointer_word.specs.Sound.{PlaceOk}
 use Rattle.pointer_word.proofs.Upd.{same_or, upd-same, upd-other}
+use Rattle.world_semantics.specs.declared.event.Actor.{Actor}
+use Rattle.world_semantics.specs.declared.event.Actor.TheVariants as actor
+use Rattle.world_semantics.specs.declared.event.Choice.{Choice}
+use Rattle.world_semantics.specs.declared.event.Choice.TheVariants as choice
+use Rattle.world_semantics.specs.Fetchers as fetching
+use Rattle.world_semantics.specs.Fetchers.{Fetching}
 use Rattle.world_semantics.specs.Programs.{Eviction, Mode, Ready, Missing, Bringing, Reading, Filling, Evicting, Releasing, Retreating, Closing, Wanted, Program, Setting}
-use Rattle.world_semantics.specs.Worlds.{Sizes, World, Event, mover_of, share, setting, start, event, IsHonest, Follows}
-use Rattle.world_semantics.specs.InHand.{FitsMode, FitsEvacuator}
-use Rattle.world_semantics.specs.Steps.{OneCall, IsSound}
+use Rattle.world_semantics.specs.Turns.{Answer, taken, to_fill, read_so, brings, fetcher_idle, fetcher_claims, fetches, fetcher_turn}
+use Rattle.world_semantics.specs.Worlds.{Sizes, World, Event, mover_of, share, setting, start, in_range, is_actor, with_fetcher, acted, event, IsHonest, Follows}
+use Rattle.world_semantics.specs.InHand.{FitsMode, FitsEvacuator, FitsFetcher}
+use Rattle.world_semantics.specs.Steps.{OneCall, OthersStay, IsSound}
 use Rattle.world_semantics.specs.Scopes.{IsAiming, AimsIn}
 use Rattle.world_semantics.proofs.Fitting.{AllFit, begin_fit, fits_on}
 use Rattle.world_semantics.proofs.Following.{Laws}
+use Rattle.world_semantics.proofs.Going.{Leads, leads_cond}
 use Rattle.world_semantics.proofs.Holding.{InShare}
 use Rattle.world_semantics.proofs.Idle.{IsNobody, Rests, rests_on, rests_first}
 use Rattle.world_semantics.proofs.Moving.{below, not_below}
-use Rattle.world_semantics.proofs.Stepping.{happened, starts}
+use Rattle.world_semantics.proofs.Reached.{leads_taken}
+use Rattle.world_semantics.proofs.Stepping.{enabled, happened, starts}
 
--- only the world's objects are anywhere but away
-abbrev pub AreRanged : Sizes → World → Type 0
-AreRanged z w = (o : ℕ) → z.objects ≤ o → (w.lock.word o).place ≡ Away
+-- the object that is brought in is below n
+abbrev IsBelow : ℕ → Fetching → Type 0
+IsBelow n (fetching.Bringing o) = o < n
+IsBelow n (fetching.Reading o f) = o < n
+IsBelow n (fetching.Filling o f words k) = o < n
+IsBelow n (fetching.Releasing o f) = o < n
+IsBelow n (fetching.Retreating o) = o < n
+
+-- a fetcher brings in an object below n, if any
+abbrev FetchesBelow : ℕ → Option Fetching → Type 0
+FetchesBelow n None = Unit {0}
+FetchesBelow n (Some d) = IsBelow n d
+
+-- only the world's objects are anywhere but away, and are brought in by fetchers
+pub record AreRanged (z : Sizes) (w : World) : Type 0 where
+  pub away : (o : ℕ) → z.objects ≤ o → (w.lock.word o).place ≡ Away
+  pub fetched : (k : ℕ) → FetchesBelow z.objects (w.fetchers k)
 
 lt_by : (a b : ℕ) (c : Bool) → nat_lt a b ≡ c → (a < b) ⊎ (b ≤ a)
 lt_by a b true e = inl (below a b e)
@@ -105,7 +129,16 @@ evacuator_brings : (n : ℕ) (far : ℕ → Far) (x : Hand) (d : Option Eviction
 evacuator_brings n far x None o fits e = brings_none x o fits.0 e
 evacuator_brings n far x (Some d) o fits e = brings_none x o fits.0 e
 
-module _ (h : Type 0) (z : Sizes) (images : ℕ → Image) (w : World) (sound : IsSound h z w) (all : AllFit z images w) (rests : Rests z images w) where
+-- a fetcher brings in what its mode names
+fetcher_brings : (h : Type 0) (n : ℕ) (far : ℕ → Far) (x : Hand) (d : Option Fetching) (objects o : ℕ) → FitsFetcher h n far x d → FetchesBelow objects d → x.bringing ≡ Some o → o < objects
+fetcher_brings h n far x None objects o fits l e = absurd (brings_none x o fits.0 e)
+fetcher_brings h n far x (Some (fetching.Bringing i)) objects o fits l e = subst (λ j. j < objects) (brings_same x i o fits.0 e) l
+fetcher_brings h n far x (Some (fetching.Reading i f)) objects o fits l e = subst (λ j. j < objects) (brings_same x i o fits.0.0 e) l
+fetcher_brings h n far x (Some (fetching.Filling i f words k)) objects o fits l e = subst (λ j. j < objects) (brings_same x i o fits.0.0 e) l
+fetcher_brings h n far x (Some (fetching.Releasing i f)) objects o fits l e = subst (λ j. j < objects) (brings_same x i o fits.0 e) l
+fetcher_brings h n far x (Some (fetching.Retreating i)) objects o fits l e = subst (λ j. j < objects) (brings_same x i o fits.0 e) l
+
+module _ (h : Type 0) (z : Sizes) (images : ℕ → Image) (w : World) (sound : IsSound h z w) (all : AllFit z images w) (rests : Rests z images w) (fetched : (k : ℕ) → FetchesBelow z.objects (w.fetchers k)) where
   abbrev hands : ℕ → Hand
   hands m = w.lock.hand m
 
@@ -121,18 +154,26 @@ module _ (h : Type 0) (z : Sizes) (images : ℕ → Image) (w : World) (sound : 
   nobody_brings : (m o : ℕ) → IsNobody z m → (hands m).bringing ≡ Some o → ⊥
   nobody_brings m o nobody e = brings_none (hands m) o (ap (λ (x : Hand). x.bringing) (rests.hands m nobody)) e
 
-  other_brings : (k o : ℕ) → z.programs ≤ k → (hands (suc k)).bringing ≡ Some o → ⊥
+  other_brings : (k o : ℕ) → z.programs ≤ k → (hands (suc k)).bringing ≡ Some o → o < z.objects
   other_brings k o l e =
       let i : ℕ = k - z.programs in
       let same : suc k ≡ suc (z.programs + i) = omega arith in
       elim (lt_or i z.evacuators) [
-        | inl b ↦ evacuator_brings z.cells w.lock.far (hands (suc (z.programs + i))) (w.evacuators i) o (sound.hands.evacuator i b) (subst (λ m. (hands m).bringing ≡ Some o) same e)
-        | inr b ↦ nobody_brings (suc k) o (inr (omega arith)) e
+        | inl b ↦ absurd (evacuator_brings z.cells w.lock.far (hands (suc (z.programs + i))) (w.evacuators i) o (sound.hands.evacuator i b) (subst (λ m. (hands m).bringing ≡ Some o) same e))
+        | inr b ↦
+            let q : ℕ = i - z.evacuators in
+            let also : suc k ≡ suc (z.programs + z.evacuators + q) = omega arith in
+            elim (lt_or q z.fetchers) [
+              | inl c ↦
+                  fetcher_brings h z.cells w.lock.far (hands (suc (z.programs + z.evacuators + q))) (w.fetchers q) z.objects o (sound.hands.fetcher q c) (fetched q)
+                  (subst (λ m. (hands m).bringing ≡ Some o) also e)
+              | inr c ↦ absurd (nobody_brings (suc k) o (inr (omega arith)) e)
+            ]
       ]
 
   brought_below : (m o : ℕ) → (hands m).bringing ≡ Some o → o < z.objects
   brought_below zero o e = absurd (nobody_brings 0 o (inl refl) e)
-  brought_below (suc k) o e = elim (lt_or k z.programs) [ inl l ↦ program_brings k o l e | inr l ↦ absurd (other_brings k o l e) ]
+  brought_below (suc k) o e = elim (lt_or k z.programs) [ inl l ↦ program_brings k o l e | inr l ↦ other_brings k o l e ]
 
   -- what is in no frame, and is none of the objects, is away
   away_by : (o : ℕ) → z.objects ≤ o → (p : Place) → framed p ≡ None → PlaceOk h z.cells w.lock o p → p ≡ Away
@@ -141,14 +182,98 @@ module _ (h : Type 0) (z : Sizes) (images : ℕ → Image) (w : World) (sound : 
   away_by o far (Here f k) none ok = cc
   away_by o far (Leaving f m k) none ok = cc
 
+-- ---- what fetchers bring in
+
+idle_below : (z : Sizes) (s : State) (m : ℕ) (c : Choice) → in_range z c ≡ true → Leads s (λ (t : State) (d : Option Fetching). FetchesBelow z.objects d) (fetcher_idle m c)
+idle_below z s m choice.Next inside = tt
+idle_below z s m (choice.Look f) inside = tt
+idle_below z s m (choice.Claim f) inside = tt
+idle_below z s m (choice.Mark o f) inside = tt
+idle_below z s m (choice.Begin o) inside = by_test (holds ((act s (Begins m o 0 false)).hand m).bringing o)
+  where
+    by_test : (b : Bool) → FetchesBelow z.objects (cond b (Some (fetching.Bringing o)) None)
+    by_test true = below o z.objects inside
+    by_test false = tt
+
+fill_below : (n o f : ℕ) (y : Far) → o < n → IsBelow n (to_fill o f y)
+fill_below n o f Never l = l
+fill_below n o f (Kept words) l = l
+fill_below n o f Unknown l = l
+
+read_below : (n o f : ℕ) (read : Option (List ℕ)) → o < n → IsBelow n (read_so o f read)
+read_below n o f None l = l
+read_below n o f (Some words) l = l
+
+claim_below : (n : ℕ) (s : State) (m f : ℕ) (d : Fetching) → IsBelow n d → Leads s (λ (t : State) (e : Option Fetching). FetchesBelow n e) (fetcher_claims m f d)
+claim_below n s m f (fetching.Bringing o) l = let t : State = act s (Claims m o f) in by_test (holds (t.hand m).claimed f) (t.far o)
+  where
+    by_test : (b : Bool) (y : Far) → FetchesBelow n (cond b (Some (to_fill o f y)) (Some (fetching.Bringing o)))
+    by_test true y = fill_below n o f y l
+    by_test false y = l
+claim_below n s m f (fetching.Reading o g) l = tt
+claim_below n s m f (fetching.Filling o g words k) l = tt
+claim_below n s m f (fetching.Releasing o g) l = tt
+claim_below n s m f (fetching.Retreating o) l = tt
+
+brings_below : (n cells : ℕ) (s : State) (m : ℕ) (a : Answer) (d : Fetching) → IsBelow n d → Leads s (λ (t : State) (e : Option Fetching). FetchesBelow n e) (brings cells m false a d Some None None)
+brings_below n cells s m a (fetching.Bringing o) l = tt
+brings_below n cells s m a (fetching.Reading o f) l = read_below n o f a.read l
+brings_below n cells s m a (fetching.Filling o f words k) l = leads_cond s (λ (t : State) (e : Option Fetching). FetchesBelow n e) (nat_lt k cells) _ _ (λ _. l) (λ _. tt)
+brings_below n cells s m a (fetching.Releasing o f) l = l
+brings_below n cells s m a (fetching.Retreating o) l = tt
+
+fetches_below : (n cells : ℕ) (s : State) (m : ℕ) (d : Fetching) (c : Choice) (a : Answer) → IsBelow n d → Leads s (λ (t : State) (e : Option Fetching). FetchesBelow n e) (fetches cells m d c a)
+fetches_below n cells s m d choice.Next a l = brings_below n cells s m a d l
+fetches_below n cells s m d (choice.Look f) a l = tt
+fetches_below n cells s m d (choice.Claim f) a l = claim_below n s m f d l
+fetches_below n cells s m d (choice.Mark o f) a l = tt
+fetches_below n cells s m d (choice.Begin o) a l = tt
+
+fetcher_below : (z : Sizes) (s : State) (m : ℕ) (d : Option Fetching) (c : Choice) (a : Answer) → in_range z c ≡ true → FetchesBelow z.objects d
+    → Leads s (λ (t : State) (e : Option Fetching). FetchesBelow z.objects e) (fetcher_turn z.cells m d c a)
+fetcher_below z s m None c a inside l = idle_below z s m c inside
+fetcher_below z s m (Some d) c a inside l = fetches_below z.objects z.cells s m d c a l
+
+own_below : (z : Sizes) (w u : World) (k : ℕ) (c : Choice) (a : Answer) (x : Option (State × Option Fetching))
+    → taken z.cells w.lock (fetcher_turn z.cells (suc (z.programs + z.evacuators + k)) (w.fetchers k) c a) ≡ x → with_fetcher w k x ≡ Some u → in_range z c ≡ true → FetchesBelow z.objects (w.fetchers k)
+    → FetchesBelow z.objects (u.fetchers k)
+own_below z w u k c a None e q inside l = cc
+own_below z w u k c a (Some r) e q inside l =
+    let m : ℕ = suc (z.programs + z.evacuators + k) in
+    let v : World = record w { lock = r.0; fetchers = upd w.fetchers k r.1 } in
+    let same : v ≡ u = (let s : Some v ≡ Some u = q in cc) in
+    let led : FetchesBelow z.objects r.1 =
+    leads_taken z.cells w.lock (λ (t : State) (d : Option Fetching). FetchesBelow z.objects d) (fetcher_turn z.cells m (w.fetchers k) c a) r e (fetcher_below z w.lock m (w.fetchers k) c a inside l) in
+    subst (λ (y : World). FetchesBelow z.objects (y.fetchers k)) same (subst (FetchesBelow z.objects) (sym (upd-same w.fetchers k r.1 k refl)) led)
+
+fetched_by : (z : Sizes) (images : ℕ → Image) (w u : World) (who : Actor) (c : Choice) (a : Answer) → acted z images w who c a ≡ Some u → in_range z c ≡ true → OthersStay w u who
+    → ((k : ℕ) → FetchesBelow z.objects (w.fetchers k)) → (k : ℕ) → FetchesBelow z.objects (u.fetchers k)
+fetched_by z images w u (actor.Program k) c a e inside others all = subst (λ (fs : ℕ → Option Fetching). (j : ℕ) → FetchesBelow z.objects (fs j)) (sym others.2) all
+fetched_by z images w u (actor.Evacuator k) c a e inside others all = subst (λ (fs : ℕ → Option Fetching). (j : ℕ) → FetchesBelow z.objects (fs j)) (sym others.2) all
+fetched_by z images w u (actor.Fetcher k) c a e inside others all = λ j. elim (same_or j k) [
+  | inl i ↦ subst (λ (i : ℕ). FetchesBelow z.objects (u.fetchers i)) (sym i) (own_below z w u k c a _ refl e inside (all k))
+  | inr d ↦ subst (FetchesBelow z.objects) (sym (others.0 j d)) (all j)
+]
+
+both : (a b : Bool) → (a && b) ≡ true → (a ≡ true) × (b ≡ true)
+both true b e = (refl, e)
+both false b e = cc
+
 -- ---- every list of events
 
 module _ (laws : Laws) (h : Type 0) (z : Sizes) (images : ℕ → Image) (some : 0 < z.cells) where
   ranged_on : (w u : World) (e : Event) → event z images w e ≡ Some u → (h → IsHonest z w e.actor e.answer) → IsSound h z w → AllFit z images w → Rests z images w → AreRanged z w → AreRanged z u
-  ranged_on w u e is honest sound all rests ranged o far =
+  ranged_on w u e is honest sound all rests ranged =
       let did = happened h z images w u e is honest sound in
-      let none : framed (u.lock.word o).place ≡ None = stays_outside h z.cells (mover_of z e.actor) w.lock u.lock did.call o (ranged o far) in
-      away_by h z images u did.sound (fits_on laws h z images some w u e is sound all).1 (rests_on h z images w u e is honest sound rests) o far (u.lock.word o).place none (did.sound.lock.object o)
+      let on = enabled (is_actor z e.actor && in_range z e.choice) (acted z images w e.actor e.choice e.answer) u is in
+      let fetched : (k : ℕ) → FetchesBelow z.objects (u.fetchers k) =
+      fetched_by z images w u e.actor e.choice e.answer on.1 (both (is_actor z e.actor) (in_range z e.choice) on.0).1 did.others ranged.fetched in
+      record {
+        away = λ o far.
+            let none : framed (u.lock.word o).place ≡ None = stays_outside h z.cells (mover_of z e.actor) w.lock u.lock did.call o (ranged.away o far) in
+            away_by h z images u did.sound (fits_on laws h z images some w u e is sound all).1 (rests_on h z images w u e is honest sound rests) fetched o far (u.lock.word o).place none (did.sound.lock.object o);
+        fetched = fetched;
+      }
 
   ranging : (w v : World) (es : List Event) → Follows h z images w es v → IsSound h z w → AllFit z images w → Rests z images w → AreRanged z w → AreRanged z v
   ranging w v [] f sound all rests ranged = subst (AreRanged z) (sym f) ranged
@@ -158,4 +283,4 @@ module _ (laws : Laws) (h : Type 0) (z : Sizes) (images : ℕ → Image) (some :
 
   -- in every world that is reached
   pub reached_ranged : (events : List Event) (v : World) → Follows h z images (start images) events v → AreRanged z v
-  reached_ranged events v f = ranging (start images) v events f (starts h z images) (begin_fit z images) (rests_first z images) (λ o far. refl)
+  reached_ranged events v f = ranging (start images) v events f (starts h z images) (begin_fit z images) (rests_first z images) (record { away = λ o far. refl; fetched = λ k. tt })

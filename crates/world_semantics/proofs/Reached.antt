@@ -8,7 +8,7 @@ use Rattle.code_form.specs.Placed.{next_object, object_at}
 use Rattle.code_form.specs.Tracked.{WaitsShut}
 use Rattle.pointer_word.specs.Hands.{upd}
 use Rattle.pointer_word.specs.Machine.{State, latest}
-use Rattle.pointer_word.specs.Calls.{Call, Marks, act}
+use Rattle.pointer_word.specs.Calls.{Call, Begins, Claims, Marks, act}
 use Rattle.pointer_word.specs.Legal.{legal}
 use Rattle.pointer_word.proofs.Upd.{upd-same, upd-other, same_or}
 use Rattle.pointer_word.proofs.Safe.{safe}
@@ -16,14 +16,16 @@ use Rattle.world_semantics.specs.declared.event.Actor.{Actor}
 use Rattle.world_semantics.specs.declared.event.Actor.TheVariants as actor
 use Rattle.world_semantics.specs.declared.event.Choice.{Choice}
 use Rattle.world_semantics.specs.declared.event.Choice.TheVariants as choice
+use Rattle.world_semantics.specs.Fetchers as fetching
+use Rattle.world_semantics.specs.Fetchers.{Fetching}
 use Rattle.world_semantics.specs.Programs.{Eviction, Program, begun}
-use Rattle.world_semantics.specs.Turns.{Answer, Turn, NotEnabled, Alone, Calls, after_call, taken, evacuator_idle, evacuator_turn, program_turn}
-use Rattle.world_semantics.specs.Worlds.{Sizes, World, Event, setting, share, start, in_range, is_actor, with_program, with_evacuator, acted, event, Follows}
+use Rattle.world_semantics.specs.Turns.{Answer, Turn, NotEnabled, Alone, Calls, after_call, taken, evacuator_idle, evacuator_turn, fetcher_idle, fetcher_claims, fetches, fetcher_turn, program_turn}
+use Rattle.world_semantics.specs.Worlds.{Sizes, World, Event, setting, share, start, in_range, is_actor, with_program, with_evacuator, with_fetcher, acted, event, Follows}
 use Rattle.world_semantics.specs.Steps.{IsSound}
 use Rattle.world_semantics.specs.Following.{IsAt}
 use Rattle.world_semantics.proofs.Few.{few_begins}
 use Rattle.world_semantics.proofs.Latest.{keeps_latest}
-use Rattle.world_semantics.proofs.Going.{Goes, Leads, leads_evicts, program_leads}
+use Rattle.world_semantics.proofs.Going.{Goes, Leads, leads_brings, leads_evicts, program_leads}
 use Rattle.world_semantics.proofs.Following.{Laws, Follows1, goes_on, goes_outside, apart_from, not_in_both}
 use Rattle.world_semantics.proofs.Stepping.{enabled, happened, starts}
 
@@ -40,9 +42,11 @@ leads_taken {A} n s Q (Alone a) r e ok =
     subst (λ (z : State × A). Q z.0 z.1) q ok
 leads_taken n s Q (Calls c go) r e ok = called_leads n s Q c go r (legal n s c) e ok
 
--- an evacuator stores nothing
-abbrev Same : State → State → Option Eviction → Type 0
+-- nothing is stored
+abbrev Same : {A : Type 0} → State → State → A → Type 0
 Same s t d = (o i : ℕ) → latest t o i ≡ latest s o i
+
+-- ---- an evacuator stores nothing
 
 idle_leads : (s : State) (m : ℕ) (c : Choice) → Leads s (Same s) (evacuator_idle m c)
 idle_leads s m choice.Next = tt
@@ -61,6 +65,33 @@ moving_leads n s m e (choice.Begin o) a = tt
 evacuator_leads : (n : ℕ) (s : State) (m : ℕ) (d : Option Eviction) (c : Choice) (a : Answer) → Leads s (Same s) (evacuator_turn n m d c a)
 evacuator_leads n s m None c a = idle_leads s m c
 evacuator_leads n s m (Some e) c a = moving_leads n s m e c a
+
+-- ---- nor does a fetcher
+
+begin_leads : (s : State) (m : ℕ) (c : Choice) → Leads s (Same s) (fetcher_idle m c)
+begin_leads s m choice.Next = tt
+begin_leads s m (choice.Look f) = tt
+begin_leads s m (choice.Claim f) = tt
+begin_leads s m (choice.Mark o f) = tt
+begin_leads s m (choice.Begin o) = keeps_latest s (Begins m o 0 false) refl
+
+claim_leads : (s : State) (m f : ℕ) (d : Fetching) → Leads s (Same s) (fetcher_claims m f d)
+claim_leads s m f (fetching.Bringing o) = keeps_latest s (Claims m o f) refl
+claim_leads s m f (fetching.Reading o g) = tt
+claim_leads s m f (fetching.Filling o g words k) = tt
+claim_leads s m f (fetching.Releasing o g) = tt
+claim_leads s m f (fetching.Retreating o) = tt
+
+fetches_lead : (n : ℕ) (s : State) (m : ℕ) (d : Fetching) (c : Choice) (a : Answer) → Leads s (Same s) (fetches n m d c a)
+fetches_lead n s m d choice.Next a = leads_brings n s m false a Some None None (Same s) (λ t e same. same) (λ t same. same) (λ t same. same) d
+fetches_lead n s m d (choice.Look f) a = tt
+fetches_lead n s m d (choice.Claim f) a = claim_leads s m f d
+fetches_lead n s m d (choice.Mark o f) a = tt
+fetches_lead n s m d (choice.Begin o) a = tt
+
+fetcher_leads : (n : ℕ) (s : State) (m : ℕ) (d : Option Fetching) (c : Choice) (a : Answer) → Leads s (Same s) (fetcher_turn n m d c a)
+fetcher_leads n s m None c a = begin_leads s m c
+fetcher_leads n s m (Some d) c a = fetches_lead n s m d c a
 
 -- every program is where the run of its code is
 abbrev pub AllFollow : Sizes → (ℕ → Image) → World → Type 0
@@ -93,10 +124,20 @@ module _ (laws : Laws) (h : Type 0) (sure : h) (z : Sizes) (images : ℕ → Ima
       let stored : Same w.lock r.0 r.1 = leads_taken z.cells w.lock (Same w.lock) (evacuator_turn z.cells m (w.evacuators k) c a) r e (evacuator_leads z.cells w.lock m (w.evacuators k) c a) in
       subst (AllFollow z images) same (λ j. apart_from laws (setting z images j) some w.lock r.0 (w.programs j) (λ o i low high. stored o i) (all j))
 
+  by_fetcher : (w u : World) (k : ℕ) (c : Choice) (a : Answer) (x : Option (State × Option Fetching))
+      → taken z.cells w.lock (fetcher_turn z.cells (suc (z.programs + z.evacuators + k)) (w.fetchers k) c a) ≡ x → with_fetcher w k x ≡ Some u → AllFollow z images w → AllFollow z images u
+  by_fetcher w u k c a None e q all = cc
+  by_fetcher w u k c a (Some r) e q all =
+      let m : ℕ = suc (z.programs + z.evacuators + k) in
+      let v : World = record w { lock = r.0; fetchers = upd w.fetchers k r.1 } in
+      let same : v ≡ u = (let s : Some v ≡ Some u = q in cc) in
+      let stored : Same w.lock r.0 r.1 = leads_taken z.cells w.lock (Same w.lock) (fetcher_turn z.cells m (w.fetchers k) c a) r e (fetcher_leads z.cells w.lock m (w.fetchers k) c a) in
+      subst (AllFollow z images) same (λ j. apart_from laws (setting z images j) some w.lock r.0 (w.programs j) (λ o i low high. stored o i) (all j))
+
   by_actor : (w u : World) (who : Actor) (c : Choice) (a : Answer) → acted z images w who c a ≡ Some u → IsSound h z w → AllFollow z images w → AllFollow z images u
   by_actor w u (actor.Program k) c a e is all = by_program w u k c a _ refl e is all
   by_actor w u (actor.Evacuator k) c a e is all = by_evacuator w u k c a _ refl e all
-  by_actor w u (actor.Fetcher k) c a e is all = cc
+  by_actor w u (actor.Fetcher k) c a e is all = by_fetcher w u k c a _ refl e all
 
   pub all_follow : (w u : World) (e : Event) → event z images w e ≡ Some u → IsSound h z w → AllFollow z images w → AllFollow z images u
   all_follow w u e b is all = by_actor w u e.actor e.choice e.answer (enabled (is_actor z e.actor && in_range z e.choice) (acted z images w e.actor e.choice e.answer) u b).1 is all

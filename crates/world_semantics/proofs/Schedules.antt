@@ -3,7 +3,7 @@ use Rattle.std.proofs.Common.{◌≡◌, Some, None, [], ◌∷◌, ◌++◌, re
 use Rattle.std.specs.Prelude.{pos}
 use Rattle.cells.specs.Stops.{Ended, NullFault}
 use Rattle.cells.specs.declared.ending.Want.TheVariants.{StoreFailed}
-use Rattle.world_semantics.specs.Rows.{Reliable, NoPuts, NoReads, five, faulty, two_objects, row, times, e0, p0, e0_mark, written, brought_back, read_meanwhile, held_meanwhile, put_failed, get_failed, holding_one, moved_itself, failed_itself}
+use Rattle.world_semantics.specs.Rows.{Reliable, NoPuts, NoReads, five, faulty, two_objects, row, times, e0, p0, e0_mark, written, brought_back, read_meanwhile, held_meanwhile, put_failed, get_failed, holding_one, moved_itself, failed_itself, f0, f0_begin, five_fetched, put_away, brought_by, fetched_first, given_up, fetch_failed, opened_first, begun_first}
 
 pub brought : row (five Reliable) (brought_back ++ p0 ∷ []) ≡ (214, Some (record { stop = Some (Ended (pos 5)); want = None; word = 0x180000; first = 5; second = 5 }))
 brought = refl
@@ -46,3 +46,30 @@ moves = refl
 
 pub fails : row (two_objects NoPuts) failed_itself ≡ (142, Some (record { stop = None; want = Some StoreFailed; word = 0x80000; first = 0; second = 0 }))
 fails = refl
+
+pub fetched : row (five_fetched Reliable) fetched_first ≡ (214, Some (record { stop = Some (Ended (pos 5)); want = None; word = 0x180000; first = 5; second = 5 }))
+fetched = refl
+
+pub comes : row (five_fetched Reliable) brought_by ≡ (210, Some (record { stop = None; want = None; word = 0x180000; first = 5; second = 5 }))
+comes = refl
+
+pub gives_up : row (five_fetched Reliable) given_up ≡ (144, Some (record { stop = None; want = None; word = 0; first = 5; second = 0 }))
+gives_up = refl
+
+pub idle_again : row (five_fetched Reliable) (given_up ++ f0 ∷ []) ≡ (145, None)
+idle_again = refl
+
+pub opens : row (five_fetched Reliable) opened_first ≡ (144, Some (record { stop = None; want = None; word = 1; first = 5; second = 0 }))
+opens = refl
+
+pub none_begun : row (five_fetched Reliable) (opened_first ++ f0 ∷ []) ≡ (145, None)
+none_begun = refl
+
+pub begins : row (five_fetched Reliable) begun_first ≡ (146, Some (record { stop = None; want = None; word = 1; first = 5; second = 0 }))
+begins = refl
+
+pub no_fetch : row (five_fetched NoReads) fetch_failed ≡ (148, Some (record { stop = None; want = None; word = 1; first = 5; second = 0 }))
+no_fetch = refl
+
+pub nobody : row (five Reliable) (put_away ++ f0_begin 0 ∷ []) ≡ (143, None)
+nobody = refl

@@ -19,8 +19,10 @@ use Rattle.pointer_word.specs.Legal.{holds}
 use Rattle.pointer_word.proofs.Upd.{same_or}
 use Rattle.world_semantics.specs.declared.event.Choice.{Choice}
 use Rattle.world_semantics.specs.declared.event.Choice.TheVariants as choice
+use Rattle.world_semantics.specs.Fetchers as fetching
+use Rattle.world_semantics.specs.Fetchers.{as_mode}
 use Rattle.world_semantics.specs.Programs.{Eviction, Copying, Stored, NotStored, Refused, Freed, Hold, Mode, Ready, Missing, Bringing, Reading, Filling, Evicting, Releasing, Retreating, Closing, Wanted, Program, Setting, cells_in, next_touch, object_of, object_or_none, next_free, hold_at, holding, in_mode, finished, first_hold, behind, may_grow, rest_of}
-use Rattle.world_semantics.specs.Turns.{Answer, NotEnabled, Calls, evicts, grows, closes, found, aims_at, loads_from, loads_by, stores_to, stores_by, leaves_by, ends_by, ready, began, to_fill, seeks, read_so, fills, closed_so, gives_up, by_mode, program_turn}
+use Rattle.world_semantics.specs.Turns.{Answer, NotEnabled, Calls, evicts, grows, closes, found, aims_at, loads_from, loads_by, stores_to, stores_by, leaves_by, ends_by, ready, began, to_fill, seeks, read_so, program_brings, closed_so, gives_up, by_mode, program_turn}
 use Rattle.world_semantics.specs.Scopes.{IsNext, IsAiming, AimsIn, object_in, IsAsCode, Shuts, IsShut, IsAimed, ScopeFits}
 use Rattle.world_semantics.proofs.Counting.{hold_there, first_at}
 use Rattle.world_semantics.proofs.Following.{Laws, Within1, Tidies, tidy_next}
@@ -282,7 +284,7 @@ module _ (laws : Laws) (g : Setting) (some : 0 < g.size) (s : State) (p : Progra
         let t : State = act s (Begins g.mover o (s.note o).count true) in
         chosen t (holds (t.hand g.mover).bringing o) (in_mode p (Bringing o)) (found g p o t) (λ _. carried (Bringing o)) (λ _. found_s t)
 
-    fill_s : (f : ℕ) (y : Far) (k : ℕ) → ScopeFits g (in_mode p (to_fill o f y)) (to_fill o f y) k
+    fill_s : (f : ℕ) (y : Far) (k : ℕ) → ScopeFits g (in_mode p (as_mode (to_fill o f y))) (as_mode (to_fill o f y)) k
     fill_s f Never k = carried (Filling o f [] 0) k
     fill_s f (Kept words) k = carried (Reading o f) k
     fill_s f Unknown k = carried (Reading o f) k
@@ -297,16 +299,16 @@ module _ (laws : Laws) (g : Setting) (some : 0 < g.size) (s : State) (p : Progra
     seeks_s (choice.Look f) m = stays_s s m
     seeks_s (choice.Claim f) m =
         let t : State = act s (Claims g.mover o f) in
-        chosen t (holds (t.hand g.mover).claimed f) (in_mode p (to_fill o f (t.far o))) p (λ _. fill_s f (t.far o)) (λ _. stays_s t m)
+        chosen t (holds (t.hand g.mover).claimed f) (in_mode p (as_mode (to_fill o f (t.far o)))) p (λ _. fill_s f (t.far o)) (λ _. stays_s t m)
     seeks_s (choice.Mark v f) m =
         let t : State = act s (Marks g.mover v f) in
         chosen t (holds (t.hand g.mover).leaving v) (in_mode p (Evicting o (Copying v f []))) p (λ _. carried (Evicting o (Copying v f []))) (λ _. stays_s t m)
 
-    read_s : (f : ℕ) (read : Option (List ℕ)) → Q s (in_mode p (read_so o f read))
+    read_s : (f : ℕ) (read : Option (List ℕ)) → Q s (in_mode p (as_mode (read_so o f read)))
     read_s f None = carried (Releasing o f)
     read_s f (Some words) = carried (Filling o f words 0)
 
-    fills_s : (f : ℕ) (words : List ℕ) (k : ℕ) → Leads s Q (fills g p o f words k)
+    fills_s : (f : ℕ) (words : List ℕ) (k : ℕ) → Leads s Q (program_brings g p a (fetching.Filling o f words k))
     fills_s f words k = leads_cond s Q (nat_lt k g.size) _ _ (λ _. carried (Filling o f words (suc k))) (λ _. aim_done s)
 
     evicts_s : (d : Eviction) → Leads s Q (evicts g.size g.mover a d (λ x. in_mode p (Evicting o x)) (in_mode p (Bringing o)) (in_mode p (Retreating o)))

@@ -13,11 +13,12 @@ use Rattle.world_semantics.specs.declared.event.Actor.{Actor}
 use Rattle.world_semantics.specs.declared.event.Actor.TheVariants as actor
 use Rattle.world_semantics.specs.declared.event.Choice.{Choice}
 use Rattle.world_semantics.specs.Programs.{Eviction, Mode, Program}
-use Rattle.world_semantics.specs.Turns.{Answer, Turn, NotEnabled, Alone, Calls, after_call, taken, evacuator_turn, program_turn}
-use Rattle.world_semantics.specs.Worlds.{Sizes, World, Event, mover_of, setting, start, in_range, is_actor, with_program, with_evacuator, acted, event, IsHonest, Follows}
+use Rattle.world_semantics.specs.Turns.{Answer, Turn, NotEnabled, Alone, Calls, after_call, taken, evacuator_turn, fetcher_turn, program_turn}
+use Rattle.world_semantics.specs.Worlds.{Sizes, World, Event, mover_of, setting, start, in_range, is_actor, with_program, with_evacuator, with_fetcher, acted, event, IsHonest, Follows}
 use Rattle.world_semantics.specs.Fetchers.{Fetching}
 use Rattle.world_semantics.specs.InHand.{FitsMode, FitsEvacuator, FitsFetcher}
 use Rattle.world_semantics.specs.Steps.{maker, or_self, OneCall, OthersStay, OtherHandsStay, IsSound, IsStep}
+use Rattle.world_semantics.proofs.Bringing.{fetcher_ok}
 use Rattle.world_semantics.proofs.Calling.{other_hand, stores_stay, mode_stays, evacuator_stays, fetcher_stays}
 use Rattle.world_semantics.proofs.Moving.{below, granted_may, TurnOk}
 use Rattle.world_semantics.proofs.Programs.{program_ok, evacuator_ok}
@@ -142,6 +143,35 @@ by_evacuator h z w u k c a (Some r) l e q is =
       others = ((λ j d. upd-other w.evacuators k r.1 j d), refl, refl);
     })
 
+by_fetcher : (h : Type 0) (z : Sizes) (w u : World) (k : ℕ) (c : Choice) (a : Answer) (x : Option (State × Option Fetching)) → k < z.fetchers
+    → taken z.cells w.lock (fetcher_turn z.cells (suc (z.programs + z.evacuators + k)) (w.fetchers k) c a) ≡ x → with_fetcher w k x ≡ Some u
+    → (h → IsHonest z w (actor.Fetcher k) a) → IsSound h z w → Happened h z w (actor.Fetcher k) u
+by_fetcher h z w u k c a None l e q honest is = cc
+by_fetcher h z w u k c a (Some r) l e q honest is =
+    let n : ℕ = z.cells in
+    let m : ℕ = suc (z.programs + z.evacuators + k) in
+    let ok = fetcher_ok h n w.lock m is.lock (w.fetchers k) c a (is.hands.fetcher k l) honest in
+    let did : Took h n w.lock m (λ (t : State) (d : Option Fetching). FitsFetcher h n t.far (t.hand m) d) r = took h n w.lock m _ (fetcher_turn n m (w.fetchers k) c a) r e ok is.lock in
+    let v : World = record w { lock = r.0; fetchers = upd w.fetchers k r.1 } in
+    let same : v ≡ u = (let s : Some v ≡ Some u = q in cc) in
+    subst (Happened h z w (actor.Fetcher k)) same (record {
+      sound = record {
+        lock = did.lock;
+        hands = record {
+          program = λ j b. other_mode h n m w.lock r.0 did.call is.lock (suc j) (λ i. absurd (omega arith)) (w.programs j).mode (is.hands.program j b);
+          evacuator = λ j b. other_evacuator h n m w.lock r.0 did.call is.lock (suc (z.programs + j)) (λ i. absurd (omega arith)) (w.evacuators j) (is.hands.evacuator j b);
+          fetcher = λ j b. elim (same_or j k) [
+            | inl i ↦ subst (λ (i : ℕ). FitsFetcher h n r.0.far (r.0.hand (suc (z.programs + z.evacuators + i))) (upd w.fetchers k r.1 i)) (sym i)
+                (subst (λ (d : Option Fetching). FitsFetcher h n r.0.far (r.0.hand m) d) (sym (upd-same w.fetchers k r.1 k refl)) did.fits)
+            | inr d ↦ subst (λ (x : Option Fetching). FitsFetcher h n r.0.far (r.0.hand (suc (z.programs + z.evacuators + j))) x) (sym (upd-other w.fetchers k r.1 j d))
+                (other_fetcher h n m w.lock r.0 did.call is.lock (suc (z.programs + z.evacuators + j)) (λ i. d (omega arith)) (w.fetchers j) (is.hands.fetcher j b))
+          ];
+        };
+      };
+      call = did.call;
+      others = ((λ j d. upd-other w.fetchers k r.1 j d), refl, refl);
+    })
+
 both : (a b : Bool) → (a && b) ≡ true → (a ≡ true) × (b ≡ true)
 both true b e = (refl, e)
 both false b e = cc
@@ -154,7 +184,7 @@ by_actor : (h : Type 0) (z : Sizes) (images : ℕ → Image) (w u : World) (who 
     → (h → IsHonest z w who a) → IsSound h z w → Happened h z w who u
 by_actor h z images w u (actor.Program k) c a there e honest is = by_program h z images w u k c a _ (below k z.programs there) refl e honest is
 by_actor h z images w u (actor.Evacuator k) c a there e honest is = by_evacuator h z w u k c a _ (below k z.evacuators there) refl e is
-by_actor h z images w u (actor.Fetcher k) c a there e honest is = cc
+by_actor h z images w u (actor.Fetcher k) c a there e honest is = by_fetcher h z w u k c a _ (below k z.fetchers there) refl e honest is
 
 pub happened : (h : Type 0) (z : Sizes) (images : ℕ → Image) (w u : World) (e : Event) → event z images w e ≡ Some u → (h → IsHonest z w e.actor e.answer) → IsSound h z w → Happened h z w e.actor u
 happened h z images w u e is honest sound =

@@ -1,4 +1,4 @@
--- each frame that is held has a ticket of its own: of a scope, of an aim that is under way, or of an evacuator
+-- each frame that is held has a ticket of its own: of a scope, of an aim that is under way, of an evacuator or of a fetcher
 use Rattle.std.proofs.Common.{◌≡◌, ◌≢◌, ◌⊎◌, inl, inr, ℕ, zero, suc, ◌+◌, ◌-◌, ◌*◌, ◌<◌, ◌≤◌, Bool, true, false, cond, not, ◌&&◌, List, [], ◌∷◌, Option, Some, None, refl, sym, ap, ◌∙◌, subst, arith, ne_eqb}
 use Rattle.std.specs.Prelude.{◌==◌, ◌/◌, ◌%◌}
 use Rattle.std.proofs.Math.Nat.{mod-lt}
@@ -14,9 +14,11 @@ use Rattle.pointer_word.specs.Machine.{Far, Holder, Nobody, Object, Claimer, Fre
 use Rattle.pointer_word.specs.Asked.{HasNothing}
 use Rattle.pointer_word.specs.Sound.{PlaceOk, FrameOk}
 use Rattle.pointer_word.proofs.Upd.{same_or}
+use Rattle.world_semantics.specs.Fetchers as fetching
+use Rattle.world_semantics.specs.Fetchers.{Fetching}
 use Rattle.world_semantics.specs.Programs.{Eviction, Copying, Stored, NotStored, Refused, Freed, Hold, Mode, Ready, Missing, Bringing, Reading, Filling, Evicting, Releasing, Retreating, Closing, Wanted, Program, Setting, object_or_none, hold_at}
 use Rattle.world_semantics.specs.Worlds.{Sizes, World, share, setting}
-use Rattle.world_semantics.specs.InHand.{FitsEviction, OnlyBrings, BringsInto, FitsMode, FitsEvacuator}
+use Rattle.world_semantics.specs.InHand.{FitsEviction, OnlyBrings, BringsInto, FitsMode, FitsEvacuator, FitsFetcher}
 use Rattle.world_semantics.specs.Steps.{IsSound}
 use Rattle.world_semantics.specs.Holding.{one, count_of}
 use Rattle.world_semantics.specs.Scopes.{IsAiming, AimsIn, object_in, IsAsCode, IsShut, IsAimed, ScopeFits}
@@ -86,6 +88,15 @@ only_brings x o f only has = no_frame x f only.2.0 only.1 only.2.1 has
 
 into_only : (x : Hand) (o f g : ℕ) → BringsInto o f x → HasFrame x g → OnlyFrame x g
 into_only x o f g into has = has_only x g f has (claimed_only x f into.2 into.1 into.3)
+
+-- a fetcher's
+fetcher_only : (h : Type 0) (n : ℕ) (far : ℕ → Far) (x : Hand) (d : Option Fetching) (f : ℕ) → FitsFetcher h n far x d → HasFrame x f → OnlyFrame x f
+fetcher_only h n far x None f fits has = absurd (none_in_hand x f fits has)
+fetcher_only h n far x (Some (fetching.Bringing o)) f fits has = absurd (only_brings x o f fits has)
+fetcher_only h n far x (Some (fetching.Reading o i)) f fits has = into_only x o i f fits.0 has
+fetcher_only h n far x (Some (fetching.Filling o i words k)) f fits has = into_only x o i f fits.0 has
+fetcher_only h n far x (Some (fetching.Releasing o i)) f fits has = into_only x o i f fits has
+fetcher_only h n far x (Some (fetching.Retreating o)) f fits has = absurd (only_brings x o f fits has)
 
 for_aim : (h : Type 0) (g : Setting) (p : Program) (far : ℕ → Far) (x : Hand) (y : Mode) (f : ℕ) → FitsMode h g.size far x y → AimsIn g p y → HasFrame x f → ForAim g p x f
 for_aim h g p far x Ready f fits aims has = absurd (none_in_hand x f fits has)
@@ -220,7 +231,8 @@ module _ (h : Type 0) (z : Sizes) (images : ℕ → Image) (w : World) (sound : 
   data IsTicket (f t : ℕ) : Type 0 where
     ByScope : (k s : ℕ) → (x : Hold) → k < z.programs → hold_at (w.programs k).holds s ≡ Some x → framed (w.lock.word x.object).place ≡ Some f → t ≡ slot images k s → IsTicket f t
     ByAim : (k : ℕ) → k < z.programs → (a : ForAim (setting z images k) (w.programs k) (w.lock.hand (suc k)) f) → HasFrame (w.lock.hand (suc k)) f → t ≡ slot images k a.aiming.scope → IsTicket f t
-    ByEvacuator : (e : ℕ) → e < z.evacuators → OnlyFrame (w.lock.hand (suc (z.programs + e))) f → HasFrame (w.lock.hand (suc (z.programs + e))) f → t ≡ scopes_below images z.programs + e → IsTicket f t
+    -- evacuators, and behind them fetchers
+    ByMover : (e : ℕ) → e < z.evacuators + z.fetchers → OnlyFrame (w.lock.hand (suc (z.programs + e))) f → HasFrame (w.lock.hand (suc (z.programs + e))) f → t ≡ scopes_below images z.programs + e → IsTicket f t
 
   below_scopes : (k s : ℕ) (x : Hold) → hold_at (w.programs k).holds s ≡ Some x → s < most_scopes (images k).functions
   below_scopes k s x e = scope_few (setting z images k) (w.programs k) (all k).within.few s x e (w.programs k).mode ((all k).scopes s)
@@ -234,7 +246,7 @@ module _ (h : Type 0) (z : Sizes) (images : ℕ → Image) (w : World) (sound : 
   ticket_below : (f t : ℕ) → IsTicket f t → t < need z images
   ticket_below f t (ByScope k s x l e there i) = let b : slot images k s < scopes_below images z.programs = slot_below k s l (below_scopes k s x e) in omega arith
   ticket_below f t (ByAim k l a has i) = let b : slot images k a.aiming.scope < scopes_below images z.programs = slot_below k a.aiming.scope l (aim_below k a.object a.aiming) in omega arith
-  ticket_below f t (ByEvacuator e l only has i) = omega arith
+  ticket_below f t (ByMover e l only has i) = omega arith
 
   -- the object that an aim is under way for is in no frame
   aim_frameless : (k o f : ℕ) → (hands (suc k)).bringing ≡ Some o → framed (w.lock.word o).place ≡ Some f → ⊥
@@ -271,15 +283,15 @@ module _ (h : Type 0) (z : Sizes) (images : ℕ → Image) (w : World) (sound : 
   ticket_apart : (f g t : ℕ) → IsTicket f t → IsTicket g t → f ≡ g
   ticket_apart f g t (ByScope j s x l e there i) (ByScope k u y m d too n) = scope_scope j s k u f g x y e there d too (sym i ∙ n)
   ticket_apart f g t (ByScope j s x l e there i) (ByAim k m b has n) = absurd (scope_aim j s k b.object f x b.aiming e there b.brings (sym i ∙ n))
-  ticket_apart f g t (ByScope j s x l e there i) (ByEvacuator k m only has n) = let b : slot images j s < scopes_below images z.programs = slot_below j s l (below_scopes j s x e) in absurd (omega arith)
+  ticket_apart f g t (ByScope j s x l e there i) (ByMover k m only has n) = let b : slot images j s < scopes_below images z.programs = slot_below j s l (below_scopes j s x e) in absurd (omega arith)
   ticket_apart f g t (ByAim j l a has i) (ByScope k u y m d too n) = absurd (scope_aim k u j a.object g y a.aiming d too a.brings (sym n ∙ i))
   ticket_apart f g t (ByAim j l a has i) (ByAim k m b too n) = aim_aim j k f g a b has (sym i ∙ n)
-  ticket_apart f g t (ByAim j l a has i) (ByEvacuator k m only too n) =
+  ticket_apart f g t (ByAim j l a has i) (ByMover k m only too n) =
       let b : slot images j a.aiming.scope < scopes_below images z.programs = slot_below j a.aiming.scope l (aim_below j a.object a.aiming) in absurd (omega arith)
-  ticket_apart f g t (ByEvacuator j l only has i) (ByScope k u y m d too n) = let b : slot images k u < scopes_below images z.programs = slot_below k u m (below_scopes k u y d) in absurd (omega arith)
-  ticket_apart f g t (ByEvacuator j l only has i) (ByAim k m b too n) =
+  ticket_apart f g t (ByMover j l only has i) (ByScope k u y m d too n) = let b : slot images k u < scopes_below images z.programs = slot_below k u m (below_scopes k u y d) in absurd (omega arith)
+  ticket_apart f g t (ByMover j l only has i) (ByAim k m b too n) =
       let c : slot images k b.aiming.scope < scopes_below images z.programs = slot_below k b.aiming.scope m (aim_below k b.object b.aiming) in absurd (omega arith)
-  ticket_apart f g t (ByEvacuator j l only has i) (ByEvacuator k m also too n) =
+  ticket_apart f g t (ByMover j l only has i) (ByMover k m also too n) =
       let same : j ≡ k = omega arith in also f (subst (λ e. HasFrame (hands (suc (z.programs + e))) f) same has)
 
   -- ---- every frame that is taken has one
@@ -291,7 +303,15 @@ module _ (h : Type 0) (z : Sizes) (images : ℕ → Image) (w : World) (sound : 
       (slot images k a.aiming.scope, ByAim k l a has refl)
 
   by_evacuator : (e f : ℕ) → e < z.evacuators → HasFrame (hands (suc (z.programs + e))) f → (t : ℕ) × IsTicket f t
-  by_evacuator e f l has = (scopes_below images z.programs + e, ByEvacuator e l (evacuator_only z.cells w.lock.far (hands (suc (z.programs + e))) (w.evacuators e) f (sound.hands.evacuator e l) has) has refl)
+  by_evacuator e f l has =
+      (scopes_below images z.programs + e, ByMover e (omega arith) (evacuator_only z.cells w.lock.far (hands (suc (z.programs + e))) (w.evacuators e) f (sound.hands.evacuator e l) has) has refl)
+
+  by_fetcher : (q f : ℕ) → q < z.fetchers → HasFrame (hands (suc (z.programs + z.evacuators + q))) f → (t : ℕ) × IsTicket f t
+  by_fetcher q f l has =
+      let e : ℕ = z.evacuators + q in
+      let same : suc (z.programs + z.evacuators + q) ≡ suc (z.programs + e) = omega arith in
+      let only = fetcher_only h z.cells w.lock.far (hands (suc (z.programs + z.evacuators + q))) (w.fetchers q) f (sound.hands.fetcher q l) has in
+      (scopes_below images z.programs + e, ByMover e (omega arith) (subst (λ m. OnlyFrame (hands m) f) same only) (subst (λ m. HasFrame (hands m) f) same has) refl)
 
   by_nobody : (m f : ℕ) → IsNobody z m → HasFrame (hands m) f → ⊥
   by_nobody m f nobody has = no_frame empty_handed f refl refl refl (subst (λ (x : Hand). HasFrame x f) (rests.hands m nobody) has)
@@ -302,7 +322,13 @@ module _ (h : Type 0) (z : Sizes) (images : ℕ → Image) (w : World) (sound : 
       let same : suc k ≡ suc (z.programs + e) = omega arith in
       elim (lt_or e z.evacuators) [
         | inl b ↦ by_evacuator e f b (subst (λ m. HasFrame (hands m) f) same has)
-        | inr b ↦ absurd (by_nobody (suc k) f (inr (omega arith)) has)
+        | inr b ↦
+            let q : ℕ = e - z.evacuators in
+            let same : suc k ≡ suc (z.programs + z.evacuators + q) = omega arith in
+            elim (lt_or q z.fetchers) [
+              | inl c ↦ by_fetcher q f c (subst (λ m. HasFrame (hands m) f) same has)
+              | inr c ↦ absurd (by_nobody (suc k) f (inr (omega arith)) has)
+            ]
       ]
 
   by_mover : (m f : ℕ) → HasFrame (hands m) f → (t : ℕ) × IsTicket f t
@@ -348,7 +374,7 @@ module _ (h : Type 0) (z : Sizes) (images : ℕ → Image) (w : World) (sound : 
 
   -- an object in a frame is one of the objects
   framed_below : (o f : ℕ) (k : Bool) → (w.lock.word o).place ≡ Here f k → o < z.objects
-  framed_below o f k e = elim (lt_or o z.objects) [ inl l ↦ l | inr far ↦ (let no : Here f k ≡ Away = sym e ∙ ranged o far in cc) ]
+  framed_below o f k e = elim (lt_or o z.objects) [ inl l ↦ l | inr far ↦ (let no : Here f k ≡ Away = sym e ∙ ranged.away o far in cc) ]
 
   here_at : (o f : ℕ) (p : Place) → (w.lock.word o).place ≡ p → framed p ≡ Some f → is_here p ≡ true → (w.lock.word o).count ≡ 0 → IsUnheld z w.lock f
   here_at o f Away e there here none = cc
@@ -382,7 +408,7 @@ module _ (h : Type 0) (z : Sizes) (images : ℕ → Image) (w : World) (sound : 
   spare k o a only l f t (ByAim j b c has i) q =
       let r = one_slot images j c.aiming.scope k a.scope (aim_below j c.object c.aiming) (aim_below k o a) (sym i ∙ q) in
       only_brings (hands (suc k)) o f only (subst (λ m. HasFrame (hands (suc m)) f) r.0 has)
-  spare k o a only l f t (ByEvacuator e b c has i) q = let m : slot images k a.scope < scopes_below images z.programs = slot_below k a.scope l (aim_below k o a) in absurd (omega arith)
+  spare k o a only l f t (ByMover e b c has i) q = let m : slot images k a.scope < scopes_below images z.programs = slot_below k a.scope l (aim_below k o a) in absurd (omega arith)
 
   seeks : (k o : ℕ) → k < z.programs → (w.programs k).mode ≡ Bringing o → need z images ≤ z.frames → (f : ℕ) × (f < z.frames) × IsUnheld z w.lock f
   seeks k o l m fits =

@@ -16,8 +16,10 @@ use Rattle.pointer_word.specs.Sound.{Inv}
 use Rattle.pointer_word.proofs.Upd.{same_or}
 use Rattle.world_semantics.specs.declared.event.Choice.{Choice}
 use Rattle.world_semantics.specs.declared.event.Choice.TheVariants as choice
+use Rattle.world_semantics.specs.Fetchers as fetching
+use Rattle.world_semantics.specs.Fetchers.{as_mode}
 use Rattle.world_semantics.specs.Programs.{Eviction, Copying, Stored, NotStored, Refused, Freed, Hold, Mode, Ready, Missing, Bringing, Reading, Filling, Evicting, Releasing, Retreating, Closing, Wanted, Program, Setting, next_touch, object_of, object_or_none, next_free, hold_at, holding, in_mode, finished, first_hold, may_grow, rest_of}
-use Rattle.world_semantics.specs.Turns.{Answer, NotEnabled, Calls, put_of, evicts, grows, closes, found, aims_at, loads_from, loads_by, stores_to, stores_by, leaves_by, ends_by, ready, began, to_fill, seeks, read_so, fills, closed_so, gives_up, by_mode, program_turn}
+use Rattle.world_semantics.specs.Turns.{Answer, NotEnabled, Calls, put_of, evicts, grows, closes, found, aims_at, loads_from, loads_by, stores_to, stores_by, leaves_by, ends_by, ready, began, to_fill, seeks, read_so, program_brings, closed_so, gives_up, by_mode, program_turn}
 use Rattle.world_semantics.proofs.Asking.{HoldTold, IsOpened, IsPending, ToldFit}
 use Rattle.world_semantics.proofs.Counting.{hold_there, first_at}
 use Rattle.world_semantics.proofs.Going.{Leads, leads_cond, leads_next}
@@ -164,7 +166,7 @@ module _ (h : Type 0) (g : Setting) (s : State) (p : Program) (a : Answer) (inv 
         let c : Call = Begins g.mover o (s.note o).count true in
         chosen (act s c) (holds ((act s c).hand g.mover).bringing o) (in_mode p (Bringing o)) (found g p o (act s c)) (λ _. on c) (λ _. found_t c)
 
-    fill_t : (c : Call) (f : ℕ) (y : Far) → Q (act s c) (in_mode p (to_fill o f y))
+    fill_t : (c : Call) (f : ℕ) (y : Far) → Q (act s c) (in_mode p (as_mode (to_fill o f y)))
     fill_t c f Never = on c
     fill_t c f (Kept words) = on c
     fill_t c f Unknown = on c
@@ -179,16 +181,16 @@ module _ (h : Type 0) (g : Setting) (s : State) (p : Program) (a : Answer) (inv 
     seeks_t (choice.Look f) m = λ j x e n. elim (told j x e) [ inl t ↦ inl t | inr pending ↦ inr (subst (λ y. IsPending y x) (sym m) pending) ]
     seeks_t (choice.Claim f) m =
         let c : Call = Claims g.mover o f in
-        chosen (act s c) (holds ((act s c).hand g.mover).claimed f) (in_mode p (to_fill o f ((act s c).far o))) p (λ _. fill_t c f ((act s c).far o)) (λ _. refused c m)
+        chosen (act s c) (holds ((act s c).hand g.mover).claimed f) (in_mode p (as_mode (to_fill o f ((act s c).far o)))) p (λ _. fill_t c f ((act s c).far o)) (λ _. refused c m)
     seeks_t (choice.Mark v f) m =
         let c : Call = Marks g.mover v f in
         chosen (act s c) (holds ((act s c).hand g.mover).leaving v) (in_mode p (Evicting o (Copying v f []))) p (λ _. on c) (λ _. refused c m)
 
-    read_t : (f : ℕ) (read : Option (List ℕ)) → Q s (in_mode p (read_so o f read))
+    read_t : (f : ℕ) (read : Option (List ℕ)) → Q s (in_mode p (as_mode (read_so o f read)))
     read_t f None = λ j x e n. told j x e
     read_t f (Some words) = λ j x e n. told j x e
 
-    fills_t : (f : ℕ) (words : List ℕ) (k : ℕ) → Leads s Q (fills g p o f words k)
+    fills_t : (f : ℕ) (words : List ℕ) (k : ℕ) → Leads s Q (program_brings g p a (fetching.Filling o f words k))
     fills_t f words k = leads_cond s Q (nat_lt k g.size) _ _ (λ _. on (Fills g.mover f k (listed words k)))
         (λ _ j x e n. inl (settled (Arrives g.mover o f false true) (arrived_frame s g.mover o f false) j x e n))
 

@@ -8,7 +8,7 @@ use Rattle.pointer_word.specs.Asked.{Asked}
 use Rattle.world_semantics.specs.declared.event.Actor.{Actor}
 use Rattle.world_semantics.specs.declared.event.Actor.TheVariants as actor
 use Rattle.world_semantics.specs.declared.event.Choice.{Choice}
-use Rattle.world_semantics.specs.Turns.{Answer, Turn, NotEnabled, Alone, Calls, evacuator_turn, program_turn}
+use Rattle.world_semantics.specs.Turns.{Answer, Turn, NotEnabled, Alone, Calls, evacuator_turn, fetcher_turn, program_turn}
 use Rattle.world_semantics.specs.Worlds.{Sizes, World, Event, share, mover_of, setting, in_range, is_actor}
 
 -- there is something that an actor does, by a call or without one
@@ -21,7 +21,7 @@ is_turn (Calls c go) = true
 abbrev pub has_turn : Sizes → (ℕ → Image) → World → Actor → Choice → Answer → Bool
 has_turn z images w (actor.Program k) c a = is_turn (program_turn (setting z images k) w.lock (w.programs k) c a)
 has_turn z images w (actor.Evacuator k) c a = is_turn (evacuator_turn z.cells (mover_of z (actor.Evacuator k)) (w.evacuators k) c a)
-has_turn z images w (actor.Fetcher k) c a = false
+has_turn z images w (actor.Fetcher k) c a = is_turn (fetcher_turn z.cells (mover_of z (actor.Fetcher k)) (w.fetchers k) c a)
 
 -- there are such an actor, object and frame, and there is something that the actor does
 abbrev pub is_enabled : Sizes → (ℕ → Image) → World → Event → Bool

@@ -6,8 +6,7 @@ use Rattle.pointer_word.specs.Calls.{Copied}
 use Rattle.pointer_word.specs.Asked.{HasNoFrame, HasNothing}
 use Rattle.pointer_word.specs.Ordered.{IsCopied, IsFilled}
 use Rattle.world_semantics.specs.declared.event.Actor.TheVariants as actor
-use Rattle.world_semantics.specs.Fetchers as fetching
-use Rattle.world_semantics.specs.Fetchers.{Fetching}
+use Rattle.world_semantics.specs.Fetchers.{Fetching, as_mode}
 use Rattle.world_semantics.specs.Programs.{Eviction, Copying, Stored, NotStored, Refused, Freed, Mode, Ready, Missing, Bringing, Reading, Filling, Evicting, Releasing, Retreating, Closing, Wanted}
 use Rattle.world_semantics.specs.Worlds.{Sizes, World, mover_of}
 
@@ -59,14 +58,10 @@ abbrev pub FitsEvacuator : ℕ → (ℕ → Far) → Hand → Option Eviction �
 FitsEvacuator n far x None = HasNothing x
 FitsEvacuator n far x (Some e) = (x.bringing ≡ None) × (x.claimed ≡ None) × FitsEviction n far x e
 
--- a fetcher that is idle, or brings an object in
+-- a fetcher that is idle, or brings an object in as a program does
 abbrev pub FitsFetcher : Type 0 → ℕ → (ℕ → Far) → Hand → Option Fetching → Type 0
 FitsFetcher h n far x None = HasNothing x
-FitsFetcher h n far x (Some (fetching.Bringing o)) = OnlyBrings o x
-FitsFetcher h n far x (Some (fetching.Reading o f)) = BringsInto o f x × WasPut (far o)
-FitsFetcher h n far x (Some (fetching.Filling o f words k)) = BringsInto o f x × IsFilled x words k × (h → IsPromised n x words)
-FitsFetcher h n far x (Some (fetching.Releasing o f)) = BringsInto o f x
-FitsFetcher h n far x (Some (fetching.Retreating o)) = OnlyBrings o x
+FitsFetcher h n far x (Some d) = FitsMode h n far x (as_mode d)
 
 -- each actor has in hand what its mode says
 pub record HandsFit (h : Type 0) (z : Sizes) (w : World) : Type 0 where

@@ -1,4 +1,4 @@
--- Worked schedules of one program beside one evacuator, over pieces of 64 cells.
+-- Worked schedules of one program beside one evacuator, and one fetcher or none, over pieces of 64 cells.
 use Rattle.std.specs.Prelude.{ℕ, zero, suc, true, false, Option, Some, None, List, [], ◌∷◌, ◌++◌, length, pos}
 use Rattle.cells.specs.declared.ending.Want.{Want}
 use Rattle.cells.specs.Stops.{Stop}
@@ -12,6 +12,7 @@ use Rattle.world_semantics.specs.declared.event.Actor.{Actor}
 use Rattle.world_semantics.specs.declared.event.Actor.TheVariants as actor
 use Rattle.world_semantics.specs.declared.event.Choice.{Choice}
 use Rattle.world_semantics.specs.declared.event.Choice.TheVariants as choice
+use Rattle.world_semantics.specs.Fetchers.{Fetching, as_mode}
 use Rattle.world_semantics.specs.Programs.{Mode, Reading, Wanted}
 use Rattle.world_semantics.specs.Turns.{Answer}
 use Rattle.world_semantics.specs.Worlds.{Sizes, World, start, event}
@@ -47,6 +48,18 @@ e0 = (actor.Evacuator 0, choice.Next)
 abbrev pub e0_mark : ℕ → ℕ → Line
 e0_mark o f = (actor.Evacuator 0, choice.Mark o f)
 
+-- the fetcher goes on
+abbrev pub f0 : Line
+f0 = (actor.Fetcher 0, choice.Next)
+
+-- the fetcher tries to begin to bring an object in
+abbrev pub f0_begin : ℕ → Line
+f0_begin o = (actor.Fetcher 0, choice.Begin o)
+
+-- the fetcher tries to claim a frame
+abbrev pub f0_claim : ℕ → Line
+f0_claim f = (actor.Fetcher 0, choice.Claim f)
+
 -- ---- what lines lead to
 
 -- a store: it never fails; every put fails; every read fails
@@ -55,11 +68,12 @@ pub data Store : Type 0 where
   NoPuts : Store
   NoReads : Store
 
--- what a program runs on
+-- what a program runs on, and how many fetchers are beside it
 pub record Setup : Type 0 where
   pub image : Image
   pub frames : ℕ
   pub objects : ℕ
+  pub fetchers : ℕ
   pub store : Store
 
 -- what a store that never fails reads
@@ -68,26 +82,37 @@ kept Never = None
 kept (Kept words) = Some words
 kept Unknown = None
 
--- what the program reads, where it reads
+-- what is read in a mode that reads
 abbrev pub read_in : State → Mode → Option (List ℕ)
 read_in s (Reading o f) = kept (s.far o)
 read_in s _ = None
 
--- the answer of a store
-abbrev pub answer_of : Store → World → Answer
-answer_of Reliable w = record { stored = true; read = read_in w.lock (w.programs 0).mode; grew = true }
-answer_of NoPuts w = record { stored = false; read = read_in w.lock (w.programs 0).mode; grew = true }
-answer_of NoReads w = record { stored = true; read = None; grew = true }
+-- what a fetcher reads
+abbrev pub fetched : State → Option Fetching → Option (List ℕ)
+fetched s None = None
+fetched s (Some d) = read_in s (as_mode d)
 
--- one program and one evacuator
+-- what an actor reads in its next event
+abbrev pub read_by : World → Actor → Option (List ℕ)
+read_by w (actor.Program k) = read_in w.lock (w.programs k).mode
+read_by w (actor.Evacuator k) = None
+read_by w (actor.Fetcher k) = fetched w.lock (w.fetchers k)
+
+-- the answer of a store to an actor
+abbrev pub answer_of : Store → World → Actor → Answer
+answer_of Reliable w who = record { stored = true; read = read_by w who; grew = true }
+answer_of NoPuts w who = record { stored = false; read = read_by w who; grew = true }
+answer_of NoReads w who = record { stored = true; read = None; grew = true }
+
+-- one program, one evacuator and the fetchers
 abbrev pub sizes : Setup → Sizes
-sizes x = record { cells = 64; programs = 1; evacuators = 1; fetchers = 0; frames = x.frames; objects = x.objects }
+sizes x = record { cells = 64; programs = 1; evacuators = 1; fetchers = x.fetchers; frames = x.frames; objects = x.objects }
 
 -- the world after these lines; none where one of them is refused
 abbrev pub replayed : Setup → Option World → List Line → Option World
 replayed x None ls = None
 replayed x (Some w) [] = Some w
-replayed x (Some w) (l ∷ ls) = replayed x (event (sizes x) (λ _. x.image) w (record { actor = l.0; choice = l.1; answer = answer_of x.store w })) ls
+replayed x (Some w) (l ∷ ls) = replayed x (event (sizes x) (λ _. x.image) w (record { actor = l.0; choice = l.1; answer = answer_of x.store w l.0 })) ls
 
 -- what is shown of a world: how the program has stopped, or what it wants; the bits of object 0's word, and cell 0 of each of two frames
 pub record Shown : Type 0 where
@@ -116,7 +141,7 @@ row x ls = (length ls, shown (replayed x (Some (start (λ _. x.image))) ls))
 
 -- with two frames, over a store
 abbrev pub five : Store → Setup
-five store = record { image = image_v; frames = 2; objects = 1; store = store }
+five store = record { image = image_v; frames = 2; objects = 1; fetchers = 0; store = store }
 
 -- the program writes the object: alloc, const, chk_null, open, begin, claim, 64 fills, arrive, begin to write, store, close
 abbrev pub written : List Line
@@ -150,11 +175,45 @@ put_failed = copied ++ times 2 e0 ++ times 4 p0
 abbrev pub get_failed : List Line
 get_failed = moved_out ++ times 4 p0
 
+-- ---- the same program, with a fetcher
+
+-- with three frames, over a store
+abbrev pub five_fetched : Store → Setup
+five_fetched store = record { image = image_v; frames = 3; objects = 1; fetchers = 1; store = store }
+
+-- the evacuator puts the object, commits, and releases the frame
+abbrev pub put_away : List Line
+put_away = copied ++ times 3 e0
+
+-- the fetcher begins to bring it in, claims a frame, gets it, fills the frame, and arrives
+abbrev pub brought_by : List Line
+brought_by = put_away ++ f0_begin 0 ∷ f0_claim 1 ∷ times 66 f0
+
+-- the program opens, loads, closes and returns
+abbrev pub fetched_first : List Line
+fetched_first = brought_by ++ times 4 p0
+
+-- the fetcher begins, and gives the object up
+abbrev pub given_up : List Line
+given_up = put_away ++ f0_begin 0 ∷ f0 ∷ []
+
+-- the fetcher's get fails; it releases the frame and retreats, and the program opens
+abbrev pub fetch_failed : List Line
+fetch_failed = put_away ++ f0_begin 0 ∷ f0_claim 1 ∷ times 3 f0 ++ p0 ∷ []
+
+-- the program opens a hold, and the fetcher tries to begin
+abbrev pub opened_first : List Line
+opened_first = put_away ++ p0 ∷ f0_begin 0 ∷ []
+
+-- the fetcher begins; the program opens a hold and tries to begin; the fetcher gives the object up
+abbrev pub begun_first : List Line
+begun_first = put_away ++ f0_begin 0 ∷ times 2 p0 ++ f0 ∷ []
+
 -- ---- a program that stops by a fault while it holds an object
 
 -- it aims a scope at an object, and then meets NULL
 abbrev pub faulty : Setup
-faulty = record { image = image_with (Simple (Alloc 0 0) ∷ Aim 0 0 None 0 ∷ Simple (Null 0) ∷ Simple (CheckNull 0) ∷ []); frames = 1; objects = 1; store = Reliable }
+faulty = record { image = image_with (Simple (Alloc 0 0) ∷ Aim 0 0 None 0 ∷ Simple (Null 0) ∷ Simple (CheckNull 0) ∷ []); frames = 1; objects = 1; fetchers = 0; store = Reliable }
 
 -- alloc, open, begin, claim, 64 fills, arrive, null
 abbrev pub holding_one : List Line
@@ -168,6 +227,7 @@ two_objects store = record {
   image = image_with (Simple (Alloc 0 0) ∷ Aim 0 0 None 0 ∷ Leave 0 ∷ Simple (Alloc 0 0) ∷ Aim 0 0 None 0 ∷ Leave 0 ∷ Simple (Const 1 (pos 5)) ∷ Return 1 ∷ []);
   frames = 1;
   objects = 2;
+  fetchers = 0;
   store = store;
 }
 

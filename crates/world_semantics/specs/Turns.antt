@@ -11,6 +11,8 @@ use Rattle.pointer_word.specs.Calls.{Call, Opens, Closes, Clears, Stores, Begins
 use Rattle.pointer_word.specs.Legal.{holds, acts}
 use Rattle.world_semantics.specs.declared.event.Choice.{Choice}
 use Rattle.world_semantics.specs.declared.event.Choice.TheVariants as choice
+use Rattle.world_semantics.specs.Fetchers as fetching
+use Rattle.world_semantics.specs.Fetchers.{Fetching, as_mode}
 use Rattle.world_semantics.specs.Programs.{Eviction, Copying, Stored, NotStored, Refused, Freed, Hold, Mode, Ready, Missing, Bringing, Reading, Filling, Evicting, Releasing, Retreating, Closing, Wanted, Program, Setting, next_touch, object_of, object_or_none, next_free, hold_at, holding, in_mode, finished, first_hold, may_grow, rest_of}
 
 -- What nobody can know before: whether a put succeeds, what a read of the store gives (none where it fails, or finds a header that differs), and
@@ -82,6 +84,53 @@ abbrev pub evacuator_turn : ℕ → ℕ → Option Eviction → Choice → Answe
 evacuator_turn n m None c a = evacuator_idle m c
 evacuator_turn n m (Some e) c a = as_next c (evicts n m a e Some None None)
 
+-- ---- bringing in, by the mover m: a claim of a frame, a get where something was ever put, n fills in the order of the indexes, and an arrival; or a
+-- release of the frame, and a retreat
+
+-- a frame was claimed: it is filled with zeros where nothing was ever put, else with what the store has
+abbrev pub to_fill : ℕ → ℕ → Far → Fetching
+to_fill o f Never = fetching.Filling o f [] 0
+to_fill o f (Kept words) = fetching.Reading o f
+to_fill o f Unknown = fetching.Reading o f
+
+-- after a try to claim: `go` goes on with the frame, or the mover is as it was
+abbrev pub claimed_so : {A : Type 0} → ℕ → ℕ → ℕ → (go : Fetching → A) → (same : A) → State → A
+claimed_so m o f go same t = cond (holds (t.hand m).claimed f) (go (to_fill o f (t.far o))) same
+
+-- after a read of the store
+abbrev pub read_so : ℕ → ℕ → Option (List ℕ) → Fetching
+read_so o f None = fetching.Releasing o f
+read_so o f (Some words) = fetching.Filling o f words 0
+
+-- what is next: `go` goes on, and the bringing in ends well, or the object is given up; `own` says that the mover owns the object and has a hold
+abbrev pub brings : {A : Type 0} → ℕ → ℕ → Bool → Answer → Fetching → (go : Fetching → A) → (done failed : A) → Turn A
+brings n m own a (fetching.Bringing o) go done failed = Calls (Retreats m o) (λ t. failed)
+brings n m own a (fetching.Reading o f) go done failed = Alone (go (read_so o f a.read))
+brings n m own a (fetching.Filling o f words k) go done failed =
+    cond (nat_lt k n) (Calls (Fills m f k (listed words k)) (λ t. go (fetching.Filling o f words (suc k)))) (Calls (Arrives m o f false own) (λ t. done))
+brings n m own a (fetching.Releasing o f) go done failed = Calls (Unclaims m f) (λ t. go (fetching.Retreating o))
+brings n m own a (fetching.Retreating o) go done failed = Calls (Retreats m o) (λ t. failed)
+
+-- a fetcher that is idle tries to begin to bring an object in, which must be away with no hold
+abbrev pub fetcher_idle : ℕ → Choice → Turn (Option Fetching)
+fetcher_idle m (choice.Begin o) = Calls (Begins m o 0 false) (λ t. cond (holds (t.hand m).bringing o) (Some (fetching.Bringing o)) None)
+fetcher_idle m _ = NotEnabled
+
+-- a fetcher that seeks a frame tries to claim this one
+abbrev pub fetcher_claims : ℕ → ℕ → Fetching → Turn (Option Fetching)
+fetcher_claims m f (fetching.Bringing o) = Calls (Claims m o f) (claimed_so m o f Some (Some (fetching.Bringing o)))
+fetcher_claims m f _ = NotEnabled
+
+-- a fetcher that brings an object in claims a frame, or does what is next; its failure ends the bringing in, and is told to nobody
+abbrev pub fetches : ℕ → ℕ → Fetching → Choice → Answer → Turn (Option Fetching)
+fetches n m d (choice.Claim f) a = fetcher_claims m f d
+fetches n m d c a = as_next c (brings n m false a d Some None None)
+
+-- a fetcher is idle, or brings an object in
+abbrev pub fetcher_turn : ℕ → ℕ → Option Fetching → Choice → Answer → Turn (Option Fetching)
+fetcher_turn n m None c a = fetcher_idle m c
+fetcher_turn n m (Some d) c a = fetches n m d c a
+
 -- ---- an instruction
 
 -- the next instruction is completed, or memory was refused to it
@@ -151,21 +200,15 @@ ready g s p a touch.Ends = ends_by g p a (first_hold p.holds)
 ready g s p a touch.Wrong = NotEnabled
 ready g s p a touch.Nothing = NotEnabled
 
--- ---- bringing in
+-- ---- a program that brings an object in
 
 -- after a try to begin: the program has the berth, or finds the object in a frame, or neither
 abbrev pub began : Setting → Program → ℕ → State → Program
 began g p o t = cond (holds (t.hand g.mover).bringing o) (in_mode p (Bringing o)) (found g p o t)
 
--- a frame was claimed: it is filled with zeros where nothing was ever put, else with what the store has
-abbrev pub to_fill : ℕ → ℕ → Far → Mode
-to_fill o f Never = Filling o f [] 0
-to_fill o f (Kept words) = Reading o f
-to_fill o f Unknown = Reading o f
-
 -- after a try to claim
-abbrev pub claimed_so : Setting → Program → ℕ → ℕ → State → Program
-claimed_so g p o f t = cond (holds (t.hand g.mover).claimed f) (in_mode p (to_fill o f (t.far o))) p
+abbrev pub program_claimed : Setting → Program → ℕ → ℕ → State → Program
+program_claimed g p o f = claimed_so g.mover o f (λ d. in_mode p (as_mode d)) p
 
 -- after a try to mark
 abbrev pub marked_so : Setting → Program → ℕ → ℕ → ℕ → State → Program
@@ -174,20 +217,14 @@ marked_so g p o v f t = cond (holds (t.hand g.mover).leaving v) (in_mode p (Evic
 -- a program that seeks a frame looks at one, tries to claim it, or tries to mark the object in it
 abbrev pub seeks : Setting → Program → ℕ → Choice → Turn Program
 seeks g p o (choice.Look f) = Alone p
-seeks g p o (choice.Claim f) = Calls (Claims g.mover o f) (claimed_so g p o f)
+seeks g p o (choice.Claim f) = Calls (Claims g.mover o f) (program_claimed g p o f)
 seeks g p o (choice.Mark v f) = Calls (Marks g.mover v f) (marked_so g p o v f)
 seeks g p o choice.Next = NotEnabled
 seeks g p o (choice.Begin v) = NotEnabled
 
--- after a read of the store
-abbrev pub read_so : ℕ → ℕ → Option (List ℕ) → Mode
-read_so o f None = Releasing o f
-read_so o f (Some words) = Filling o f words 0
-
--- a cell is filled, in the order of the indexes; behind the last the object arrives
-abbrev pub fills : Setting → Program → ℕ → ℕ → List ℕ → ℕ → Turn Program
-fills g p o f words k =
-    cond (nat_lt k g.size) (Calls (Fills g.mover f k (listed words k)) (λ t. in_mode p (Filling o f words (suc k)))) (Calls (Arrives g.mover o f false true) (λ t. finished g p 0))
+-- with a frame claimed it goes on; its aim completes with the arrival, and behind a failure it closes its holds
+abbrev pub program_brings : Setting → Program → Answer → Fetching → Turn Program
+program_brings g p a d = brings g.size g.mover true a d (λ e. in_mode p (as_mode e)) (finished g p 0) (in_mode p Closing)
 
 -- with its last hold closed a program whose store failed wants that
 abbrev pub closed_so : Program → Option (ℕ × Hold) → Program
@@ -206,11 +243,11 @@ abbrev pub by_mode : Setting → State → Program → Mode → Choice → Answe
 by_mode g s p Ready c a = as_next c (cond (is_blocked p.core) NotEnabled (ready g s p a (next_touch g p)))
 by_mode g s p (Missing o) c a = as_next c (Calls (Begins g.mover o (s.note o).count true) (began g p o))
 by_mode g s p (Bringing o) c a = seeks g p o c
-by_mode g s p (Reading o f) c a = as_next c (Alone (in_mode p (read_so o f a.read)))
-by_mode g s p (Filling o f words k) c a = as_next c (fills g p o f words k)
+by_mode g s p (Reading o f) c a = as_next c (program_brings g p a (fetching.Reading o f))
+by_mode g s p (Filling o f words k) c a = as_next c (program_brings g p a (fetching.Filling o f words k))
 by_mode g s p (Evicting o e) c a = as_next c (evicts g.size g.mover a e (λ d. in_mode p (Evicting o d)) (in_mode p (Bringing o)) (in_mode p (Retreating o)))
-by_mode g s p (Releasing o f) c a = as_next c (Calls (Unclaims g.mover f) (λ t. in_mode p (Retreating o)))
-by_mode g s p (Retreating o) c a = as_next c (Calls (Retreats g.mover o) (λ t. in_mode p Closing))
+by_mode g s p (Releasing o f) c a = as_next c (program_brings g p a (fetching.Releasing o f))
+by_mode g s p (Retreating o) c a = as_next c (program_brings g p a (fetching.Retreating o))
 by_mode g s p Closing c a = as_next c (gives_up p (first_hold p.holds))
 by_mode g s p (Wanted w) c a = NotEnabled
 

@@ -18,11 +18,11 @@ ghost use Rattle.world_semantics.specs.Scopes.{AimsIn, IsFramed, ScopeFits};
 ghost use Rattle.world_semantics.specs.Steps.{IsSound, IsStep};
 ghost use Rattle.world_semantics.specs.Turns.{Answer};
 ghost use Rattle.world_semantics.specs.Worlds.{Event, Follows, IsHonest, Sizes, World, event, setting, start};
-ghost use Rattle.world_semantics.specs.Rows.{NoPuts, NoReads, Reliable, brought_back, e0, e0_mark, failed_itself, faulty, five, get_failed, held_meanwhile, holding_one, moved_itself, p0, put_failed, read_meanwhile, row, times, two_objects, written};
+ghost use Rattle.world_semantics.specs.Rows.{NoPuts, NoReads, Reliable, begun_first, brought_back, brought_by, e0, e0_mark, f0, f0_begin, failed_itself, faulty, fetch_failed, fetched_first, five, five_fetched, get_failed, given_up, held_meanwhile, holding_one, moved_itself, opened_first, p0, put_away, put_failed, read_meanwhile, row, times, two_objects, written};
 
 use code_form::{effect_laws, heap_laws, run_laws};
 
-/// What worked schedules of one program and one evacuator come to: how many lines they have, how the program has stopped or what
+/// What worked schedules of one program, one evacuator, and one fetcher or none come to: how many lines they have, how the program has stopped or what
 /// it wants, the bits of object 0's word, and cell 0 of two frames. None where a line is refused.
 pub fn worked_schedules()
     ensures brought_back { row (five Reliable) (brought_back ++ p0 ∷ []) ≡ (214, Some (record { stop = Some (Ended (pos 5)); want = None; word = 0x18_0000; first = 5; second = 5 })) }
@@ -39,6 +39,15 @@ pub fn worked_schedules()
     ensures stops { row faulty (holding_one ++ times 2 p0) ≡ (72, Some (record { stop = Some NullFault; want = None; word = 0x8_0000; first = 0; second = 0 })) }
     ensures moved_itself { row (two_objects Reliable) moved_itself ≡ (210, Some (record { stop = Some (Ended (pos 5)); want = None; word = 0; first = 0; second = 0 })) }
     ensures failed_itself { row (two_objects NoPuts) failed_itself ≡ (142, Some (record { stop = None; want = Some StoreFailed; word = 0x8_0000; first = 0; second = 0 })) }
+    ensures fetched_first { row (five_fetched Reliable) fetched_first ≡ (214, Some (record { stop = Some (Ended (pos 5)); want = None; word = 0x18_0000; first = 5; second = 5 })) }
+    ensures brought_by { row (five_fetched Reliable) brought_by ≡ (210, Some (record { stop = None; want = None; word = 0x18_0000; first = 5; second = 5 })) }
+    ensures given_up { row (five_fetched Reliable) given_up ≡ (144, Some (record { stop = None; want = None; word = 0; first = 5; second = 0 })) }
+    ensures given_up_twice { row (five_fetched Reliable) (given_up ++ f0 ∷ []) ≡ (145, None) }
+    ensures opened_first { row (five_fetched Reliable) opened_first ≡ (144, Some (record { stop = None; want = None; word = 1; first = 5; second = 0 })) }
+    ensures nothing_begun { row (five_fetched Reliable) (opened_first ++ f0 ∷ []) ≡ (145, None) }
+    ensures begun_first { row (five_fetched Reliable) begun_first ≡ (146, Some (record { stop = None; want = None; word = 1; first = 5; second = 0 })) }
+    ensures fetch_failed { row (five_fetched NoReads) fetch_failed ≡ (148, Some (record { stop = None; want = None; word = 1; first = 5; second = 0 })) }
+    ensures no_fetcher { row (five Reliable) (put_away ++ f0_begin 0 ∷ []) ≡ (143, None) }
 {}
 
 /// Whatever events whichever actors make in whichever order, over any number of programs, evacuators and fetchers, any images, frames and objects

@@ -1,4 +1,4 @@
-use Rattle.world_semantics.proofs.Schedules.{brought, not_yet, read, held, idle, no_frame, elsewhere, no_put, no_get, no_more, closes, stops, moves, fails}
+use Rattle.world_semantics.proofs.Schedules.{brought, not_yet, read, held, idle, no_frame, elsewhere, no_put, no_get, no_more, closes, stops, moves, fails, fetched, comes, gives_up, idle_again, opens, none_begun, begins, no_fetch, nobody}
 use Rattle.world_semantics.proofs.laws.worked_schedules.Goals as goal
 
 pub returns : goal.returns
@@ -17,4 +17,13 @@ returns c = record {
   stops = stops;
   moved_itself = moves;
   failed_itself = fails;
+  fetched_first = fetched;
+  brought_by = comes;
+  given_up = gives_up;
+  given_up_twice = idle_again;
+  opened_first = opens;
+  nothing_begun = none_begun;
+  begun_first = begins;
+  fetch_failed = no_fetch;
+  no_fetcher = nobody;
 }
