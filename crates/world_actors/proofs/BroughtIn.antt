@@ -25,11 +25,12 @@ use Rattle.world_actors.specs.Acting.{Done, Failed, IsProgram, Leads, Moves, On,
 use Rattle.world_memory.specs.Answered.{AnswersSo, Nothing, reading}
 use Rattle.world_actors.specs.Asking.{asked_in}
 use Rattle.world_semantics.specs.InHand.{FitsMode, OnlyBrings, WasPut}
+use Rattle.world_semantics.specs.Fetchers.{as_mode}
 use Rattle.world_semantics.specs.Programs.{Copying, Mode, Ready, Missing, Bringing, Reading, Filling, Evicting, Releasing, Retreating, Closing, Wanted, Program, finished as finished_as, in_mode}
 use Rattle.world_actors.specs.Seats.{Seat, eviction_of, finished, mode_of}
 use Rattle.world_memory.specs.Shown.{AreTables, IsNew, Shown}
 use Rattle.world_memory.specs.Tables.{Tables, frame_at, frame_word, is_away_at, object_at, place_of}
-use Rattle.world_semantics.specs.Turns.{Answer, Turn, Alone, Calls, began, claimed_so, evicts, found, marked_so, read_so, taken, to_fill}
+use Rattle.world_semantics.specs.Turns.{Answer, Turn, Alone, Calls, began, evicts, found, marked_so, program_claimed, read_so, taken, to_fill}
 use Rattle.world_semantics.specs.Worlds.{IsHonestRead, ReadsHonestly, Sizes}
 use Rattle.world_actors.proofs.Acting.{bringing_inside, claimed_inside, leads_call, plain, refused_call}
 use Rattle.world_actors.proofs.Answered.{unasked}
@@ -53,6 +54,21 @@ reads_none n s (Releasing o f) = tt
 reads_none n s (Retreating o) = tt
 reads_none n s Closing = tt
 reads_none n s (Wanted w) = tt
+
+-- ---- what the tables tell of a word
+
+pub away : (x : RustPlace) → is_away_at x ≡ true → place_of x ≡ Away
+away placed.Away e = refl
+away (placed.Coming j) e = cc
+away (placed.Here f) e = cc
+away (placed.Leaving f j k) e = cc
+
+not_zero : (o : ℕ) → (suc o == 0) ≡ false
+not_zero o = grind (arith, nat_tests)
+
+pub word_is : (y : Option ℕ) (b : Bool) → is_none y ≡ b → (frame_word y == 0) ≡ b
+word_is None b e = e
+word_is (Some o) b e = not_zero o ∙ e
 
 -- ---- a program that code holds, with one thing changed
 
@@ -118,12 +134,6 @@ module _ {C : Type 0} (content : C → Option (List ℕ)) (h : Type 0) (z : Size
   begin_legal : (o : ℕ) → x.mode ≡ m.Missing o → 0 < (object_at t o).count → legal piece_cells s (Begins x.setting.mover o (s.note o).count true) ≡ true
   begin_legal o e l = may_legal h piece_cells s (Begins x.setting.mover o (s.note o).count true) ((fits_as (m.Missing o) e).0, λ _. subst (λ n. 0 < n) (sym (note_count o)) l)
 
-  away : (x : RustPlace) → is_away_at x ≡ true → place_of x ≡ Away
-  away placed.Away e = refl
-  away (placed.Coming j) e = cc
-  away (placed.Here f) e = cc
-  away (placed.Leaving f j k) e = cc
-
   not_away : (o c : ℕ) (y : RustPlace) → is_away_at y ≡ false → begin_at s x.setting.mover o c true (place_of y) ≡ after_told s o
   not_away o c placed.Away e = cc
   not_away o c (placed.Coming j) e = refl
@@ -173,17 +183,10 @@ module _ {C : Type 0} (content : C → Option (List ℕ)) (h : Type 0) (z : Size
   claim_legal : (o f : ℕ) → x.mode ≡ m.Bringing o → legal piece_cells s (Claims x.setting.mover o f) ≡ true
   claim_legal o f e = may_legal h piece_cells s (Claims x.setting.mover o f) (only o e).2.0
 
-  not_zero : (o : ℕ) → (suc o == 0) ≡ false
-  not_zero o = grind (arith, nat_tests)
-
-  word_is : (y : Option ℕ) (b : Bool) → is_none y ≡ b → (frame_word y == 0) ≡ b
-  word_is None b e = e
-  word_is (Some o) b e = not_zero o ∙ e
-
   pub claims_free : (o f : ℕ) (t' : Tables) (x' : Seat) (new : Bool) → x.mode ≡ m.Bringing o → f < z.frames → is_none (frame_at t f).held_for ≡ true
       → (Shown z t s → f < z.frames → AreTables z t' s.word s.note (upd s.frame f (suc o)) s.cell) → IsNew new (s.far o)
-      → ((far : Far) (p : Program) → IsNew new far → IsProgram x p → IsProgram x' (in_mode p (to_fill o f far))) → x'.setting ≡ x.setting
-      → TurnsTo (λ a. Calls (Claims x.setting.mover o f) (claimed_so x.setting p o f)) t' berths x'
+      → ((far : Far) (p : Program) → IsNew new far → IsProgram x p → IsProgram x' (in_mode p (as_mode (to_fill o f far)))) → x'.setting ≡ x.setting
+      → TurnsTo (λ a. Calls (Claims x.setting.mover o f) (program_claimed x.setting p o f)) t' berths x'
   claims_free o f t' x' new e inside none shown far starts same =
       let j = x.setting.mover in
       let u : State = after_claim s j o f in
@@ -192,21 +195,21 @@ module _ {C : Type 0} (content : C → Option (List ℕ)) (h : Type 0) (z : Size
       let zero : (s.frame f == 0) ≡ true = ap (λ n. n == 0) (is.shows.tables.frames f) ∙ word_is (frame_at t f).held_for true none in
       let after : act s (Claims j o f) ≡ u = ap (λ b. cond b u s) zero in
       let held : holds (u.hand j).claimed f ≡ true = ap (λ (k : Hand). holds k.claimed f) hand ∙ eq-eqb f f refl in
-      let goes : claimed_so x.setting p o f u ≡ in_mode p (to_fill o f (s.far o)) = ap (λ b. cond b (in_mode p (to_fill o f (s.far o))) p) held in
-      calls_to (λ a. Calls (Claims j o f) (claimed_so x.setting p o f)) t' berths x' (Claims j o f) (claimed_so x.setting p o f) refl (claim_legal o f e)
+      let goes : program_claimed x.setting p o f u ≡ in_mode p (as_mode (to_fill o f (s.far o))) = ap (λ b. cond b (in_mode p (as_mode (to_fill o f (s.far o)))) p) held in
+      calls_to (λ a. Calls (Claims j o f) (program_claimed x.setting p o f)) t' berths x' (Claims j o f) (program_claimed x.setting p o f) refl (claim_legal o f e)
       (subst (λ (v : State). Shows content z t' berths v) (sym after) (record { tables = shown is.shows.tables inside; far = is.shows.far; many = is.shows.many; objects_few = is.shows.objects_few; frames_few = is.shows.frames_few }))
-      (subst (λ (v : State). IsProgram x' (claimed_so x.setting p o f v)) (sym after) (subst (IsProgram x') (sym goes) (starts (s.far o) p far is.program))) same
+      (subst (λ (v : State). IsProgram x' (program_claimed x.setting p o f v)) (sym after) (subst (IsProgram x') (sym goes) (starts (s.far o) p far is.program))) same
 
-  pub claims_held : (o f : ℕ) → x.mode ≡ m.Bringing o → is_none (frame_at t f).held_for ≡ false → TurnsTo (λ a. Calls (Claims x.setting.mover o f) (claimed_so x.setting p o f)) t berths x
+  pub claims_held : (o f : ℕ) → x.mode ≡ m.Bringing o → is_none (frame_at t f).held_for ≡ false → TurnsTo (λ a. Calls (Claims x.setting.mover o f) (program_claimed x.setting p o f)) t berths x
   claims_held o f e none =
       let j = x.setting.mover in
       let zero : (s.frame f == 0) ≡ false = ap (λ n. n == 0) (is.shows.tables.frames f) ∙ word_is (frame_at t f).held_for false none in
       let after : act s (Claims j o f) ≡ s = ap (λ b. cond b (after_claim s j o f) s) zero in
       let free : holds (s.hand j).claimed f ≡ false = ap (λ y. holds y f) (only o e).2.0 in
-      let goes : claimed_so x.setting p o f s ≡ p = ap (λ b. cond b (in_mode p (to_fill o f (s.far o))) p) free in
-      calls_to (λ a. Calls (Claims j o f) (claimed_so x.setting p o f)) t berths x (Claims j o f) (claimed_so x.setting p o f) refl (claim_legal o f e)
+      let goes : program_claimed x.setting p o f s ≡ p = ap (λ b. cond b (in_mode p (as_mode (to_fill o f (s.far o)))) p) free in
+      calls_to (λ a. Calls (Claims j o f) (program_claimed x.setting p o f)) t berths x (Claims j o f) (program_claimed x.setting p o f) refl (claim_legal o f e)
       (subst (λ (v : State). Shows content z t berths v) (sym after) is.shows)
-      (subst (λ (v : State). IsProgram x (claimed_so x.setting p o f v)) (sym after) (subst (IsProgram x) (sym goes) is.program)) refl
+      (subst (λ (v : State). IsProgram x (program_claimed x.setting p o f v)) (sym after) (subst (IsProgram x) (sym goes) is.program)) refl
 
   pub marks_other : (o v f : ℕ) (t' : Tables) (berths' : List (Berth C)) (x' : Seat) (b : Bool) → x.mode ≡ m.Bringing o
       → Shows content z t' berths' (act s (Marks x.setting.mover v f)) × (holds ((act s (Marks x.setting.mover v f)).hand x.setting.mover).leaving v ≡ b)
@@ -233,7 +236,7 @@ module _ {C : Type 0} (content : C → Option (List ℕ)) (h : Type 0) (z : Size
   unasked_in reliable failures gives q a mode e none = unasked reliable failures gives piece_cells berths q q s.far a (asked_in piece_cells p.mode) (asked_as_mode mode e ∙ none) refl
 
   pub reads : (o f : ℕ) (words : List ℕ) (x' : Seat) (told : Answer → Type 0) → told (reading true words) → x.mode ≡ m.Reading o f → (h → IsHonestRead piece_cells (s.far o) (Some words)) → x' ≡ record x { words = words; mode = m.Filling o f 0 }
-      → TurnsToSo told (λ a. Alone (in_mode p (read_so o f a.read))) t berths x'
+      → TurnsToSo told (λ a. Alone (in_mode p (as_mode (read_so o f a.read)))) t berths x'
   reads o f words x' told answered e honest same =
       let a : Answer = reading true words in (
         a,
@@ -250,7 +253,7 @@ module _ {C : Type 0} (content : C → Option (List ℕ)) (h : Type 0) (z : Size
       )
 
   pub reads_not : (o f : ℕ) (words : List ℕ) (x' : Seat) (told : Answer → Type 0) → told (reading false words) → x' ≡ record x { words = words; mode = m.Releasing o f }
-      → TurnsToSo told (λ a. Alone (in_mode p (read_so o f a.read))) t berths x'
+      → TurnsToSo told (λ a. Alone (in_mode p (as_mode (read_so o f a.read)))) t berths x'
   reads_not o f words x' told answered same = (
     reading false words,
     ((λ _. reads_none piece_cells s p.mode), answered),

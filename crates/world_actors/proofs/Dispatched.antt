@@ -11,26 +11,27 @@ use Rattle.world_semantics.specs.declared.event.Choice.TheVariants as choice
 use Rattle.world_actors.specs.declared.program.Mode.{Mode as RustMode}
 use Rattle.world_actors.specs.declared.program.Mode.TheVariants as m
 use Rattle.world_actors.specs.Acting.{IsProgram}
+use Rattle.world_semantics.specs.Fetchers as fetching
 use Rattle.world_semantics.specs.Programs.{Filling, Program, Setting, finished, in_mode}
 use Rattle.world_actors.specs.Seats.{Seat, mode_of}
-use Rattle.world_semantics.specs.Turns.{Answer, Turn, NotEnabled, Calls, as_next, by_mode, fills, program_turn, taken}
+use Rattle.world_semantics.specs.Turns.{Answer, Turn, NotEnabled, Calls, as_next, by_mode, program_brings, program_turn, taken}
 
-below_true : (a b : ℕ) → a < b → nat_lt a b ≡ true
+pub below_true : (a b : ℕ) → a < b → nat_lt a b ≡ true
 below_true a b l = grind (arith, nat_tests)
 
-below_false : (a b : ℕ) → b ≤ a → nat_lt a b ≡ false
+pub below_false : (a b : ℕ) → b ≤ a → nat_lt a b ≡ false
 below_false a b l = grind (arith, nat_tests)
 
 -- it fills a cell, or is at the end
-pub fills_cell : (g : Setting) (p : Program) (o f k : ℕ) (words : List ℕ) → g.size ≡ piece_cells → k < piece_cells
-    → fills g p o f words k ≡ Calls (Fills g.mover f k (listed words k)) (λ t. in_mode p (Filling o f words (suc k)))
-fills_cell g p o f k words e l =
+pub fills_cell : (g : Setting) (p : Program) (a : Answer) (o f k : ℕ) (words : List ℕ) → g.size ≡ piece_cells → k < piece_cells
+    → program_brings g p a (fetching.Filling o f words k) ≡ Calls (Fills g.mover f k (listed words k)) (λ t. in_mode p (Filling o f words (suc k)))
+fills_cell g p a o f k words e l =
     ap (λ b. cond b (Calls (Fills g.mover f k (listed words k)) (λ (t : State). in_mode p (Filling o f words (suc k)))) (Calls (Arrives g.mover o f false true) (λ t. finished g p 0)))
     (ap (nat_lt k) e ∙ below_true k piece_cells l)
 
-pub fills_all : (g : Setting) (p : Program) (o f k : ℕ) (words : List ℕ) → g.size ≡ piece_cells → piece_cells ≤ k
-    → fills g p o f words k ≡ Calls (Arrives g.mover o f false true) (λ t. finished g p 0)
-fills_all g p o f k words e l =
+pub fills_all : (g : Setting) (p : Program) (a : Answer) (o f k : ℕ) (words : List ℕ) → g.size ≡ piece_cells → piece_cells ≤ k
+    → program_brings g p a (fetching.Filling o f words k) ≡ Calls (Arrives g.mover o f false true) (λ t. finished g p 0)
+fills_all g p a o f k words e l =
     ap (λ b. cond b (Calls (Fills g.mover f k (listed words k)) (λ (t : State). in_mode p (Filling o f words (suc k)))) (Calls (Arrives g.mover o f false true) (λ t. finished g p 0)))
     (ap (nat_lt k) e ∙ below_false k piece_cells l)
 

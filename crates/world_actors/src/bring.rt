@@ -6,10 +6,11 @@ ghost use Rattle.pointer_word.specs.Machine.{Far};
 ghost use Rattle.remote_store.specs.Kept.{piece_cells};
 ghost use Rattle.world_actors.specs.Acting.{IsProgram, Turns, TurnsIn, TurnsTold};
 ghost use Rattle.world_memory.specs.Answered.{AnswersSo};
+ghost use Rattle.world_semantics.specs.Fetchers.{as_mode};
 ghost use Rattle.world_semantics.specs.Programs.{Program as Defined, Bringing, Closing, Evicting, Filling, Missing, Retreating, finished as finished_as, in_mode};
 ghost use Rattle.world_actors.specs.Seats.{IsSteady, Waits, eviction_of, mode_of, next_touch};
 ghost use Rattle.world_memory.specs.Shown.{IsNew};
-ghost use Rattle.world_semantics.specs.Turns.{Alone, Calls, began, claimed_so, evicts, marked_so, read_so, seeks, to_fill};
+ghost use Rattle.world_semantics.specs.Turns.{Alone, Calls, began, evicts, marked_so, program_claimed, read_so, seeks, to_fill};
 ghost use Rattle.world_semantics.specs.Worlds.{in_range};
 
 use crate::evict::mark;
@@ -57,7 +58,7 @@ impl<'a> Program<'a> {
     fn start(&mut self, object: usize, frame: usize, is_new: bool)
         requires { IsSteady (next_touch self.old) }
         ensures setting { self.new.setting ≡ self.old.setting }
-        ensures starts { (far : Far) (p : Defined) → IsNew is_new far → IsProgram self.old p → IsProgram self.new (in_mode p (to_fill object frame far)) }
+        ensures starts { (far : Far) (p : Defined) → IsNew is_new far → IsProgram self.old p → IsProgram self.new (in_mode p (as_mode (to_fill object frame far))) }
     {
         if is_new {
             self.set_mode(Mode::Clearing {
@@ -75,7 +76,7 @@ impl<'a> Program<'a> {
         requires mode { self.old.mode ≡ Mode.Bringing object }
         requires steady { IsSteady (next_touch self.old) }
         ensures { TurnsIn S.content (λ z. frame < z.frames) S.honest lock.old.memory lock.new.memory lock.old.berths.items lock.new.berths.items self.old self.new
-            (λ s p a. Calls (Claims self.old.setting.mover object frame) (claimed_so self.old.setting p object frame)) ((lock.new ≡ lock.old) × (self.new ≡ self.old)) result }
+            (λ s p a. Calls (Claims self.old.setting.mover object frame) (program_claimed self.old.setting p object frame)) ((lock.new ≡ lock.old) × (self.new ≡ self.old)) result }
     {
         if lock.memory.is_free(frame) {
             lock.memory.hold_frame(frame, Some(object));
@@ -149,7 +150,7 @@ impl<'a> Program<'a> {
         requires mode { self.old.mode ≡ Mode.Reading object frame }
         requires steady { IsSteady (next_touch self.old) }
         ensures { TurnsTold S.content (λ z. Unit {0}) S.honest lock.now.memory lock.now.memory lock.now.berths.items lock.now.berths.items self.old self.new
-            (AnswersSo S.reliable S.failures S.read_gives piece_cells lock.now.berths.items port.old port.new) (λ s p a. Alone (in_mode p (read_so object frame a.read))) (Unit {0}) Step.Took }
+            (AnswersSo S.reliable S.failures S.read_gives piece_cells lock.now.berths.items port.old port.new) (λ s p a. Alone (in_mode p (as_mode (read_so object frame a.read)))) (Unit {0}) Step.Took }
     {
         if self.get(lock, port, object) {
             self.set_mode(Mode::Filling {

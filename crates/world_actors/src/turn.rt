@@ -4,7 +4,8 @@ ghost use Rattle.std.specs.Prelude.{◌≡◌, [], true};
 ghost use Rattle.world_actors.specs.Acting.{Turns, TurnsTold};
 ghost use Rattle.world_memory.specs.Answered.{AnswersSo};
 ghost use Rattle.world_actors.specs.Seats.{IsSteady, Waits, mode_of, next_touch};
-ghost use Rattle.world_semantics.specs.Turns.{by_mode, fills, program_turn};
+ghost use Rattle.world_semantics.specs.Fetchers.{Filling};
+ghost use Rattle.world_semantics.specs.Turns.{by_mode, program_brings, program_turn};
 ghost use Rattle.world_semantics.specs.Worlds.{in_range};
 
 use crate::program::{Mode, Program};
@@ -24,7 +25,7 @@ impl<'a> Program<'a> {
         requires mode { self.old.mode ≡ Mode.Filling object frame index }
         requires steady { IsSteady (next_touch self.old) }
         ensures { Turns S.content S.honest lock.old.memory lock.new.memory lock.old.berths.items lock.new.berths.items self.old self.new
-            (λ s p a. fills self.old.setting p object frame self.old.words index) ((lock.new ≡ lock.old) × (self.new ≡ self.old)) result }
+            (λ s p a. program_brings self.old.setting p a (Filling object frame self.old.words index)) ((lock.new ≡ lock.old) × (self.new ≡ self.old)) result }
     {
         if index < PIECE_CELLS {
             let value = self.word(index);
@@ -51,7 +52,7 @@ impl<'a> Program<'a> {
         requires mode { self.old.mode ≡ Mode.Clearing object frame index }
         requires steady { IsSteady (next_touch self.old) }
         ensures { Turns S.content S.honest lock.old.memory lock.new.memory lock.old.berths.items lock.new.berths.items self.old self.new
-            (λ s p a. fills self.old.setting p object frame [] index) ((lock.new ≡ lock.old) × (self.new ≡ self.old)) result }
+            (λ s p a. program_brings self.old.setting p a (Filling object frame [] index)) ((lock.new ≡ lock.old) × (self.new ≡ self.old)) result }
     {
         if index < PIECE_CELLS {
             let next = Mode::Clearing {

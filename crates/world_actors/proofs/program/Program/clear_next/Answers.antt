@@ -13,10 +13,10 @@ pub returns-then-index-lt-PIECE_CELLS : goal.returns-then-index-lt-PIECE_CELLS
 returns-then-index-lt-PIECE_CELLS g c z s p is =
     let x = c.args.self.now in
     let mode = ap (λ y. mode_of y x.words) c.requires.mode in
-    goes_turn s _ _ _ _ (Unit {0}) step.Took (λ a. fills_cell x.setting p c.args.object c.args.frame c.args.index [] is.size c.if-index-lt-PIECE_CELLS.true) (c.fill.ensures [] mode refl (ap (Filling c.args.object c.args.frame []) (next c.args.index)) z s p is)
+    goes_turn s _ _ _ _ (Unit {0}) step.Took (λ a. fills_cell x.setting p a c.args.object c.args.frame c.args.index [] is.size c.if-index-lt-PIECE_CELLS.true) (c.fill.ensures [] mode refl (ap (Filling c.args.object c.args.frame []) (next c.args.index)) z s p is)
 
 pub returns-else-index-lt-PIECE_CELLS : goal.returns-else-index-lt-PIECE_CELLS
 returns-else-index-lt-PIECE_CELLS g c z s p is =
     let x = c.args.self.now in
     let mode = ap (λ y. mode_of y x.words) c.requires.mode in
-    goes_turn s _ _ _ _ _ c.arrive.result (λ a. fills_all x.setting p c.args.object c.args.frame c.args.index [] is.size c.if-index-lt-PIECE_CELLS.false) (c.arrive.ensures [] c.args.index mode c.if-index-lt-PIECE_CELLS.false z s p is)
+    goes_turn s _ _ _ _ _ c.arrive.result (λ a. fills_all x.setting p a c.args.object c.args.frame c.args.index [] is.size c.if-index-lt-PIECE_CELLS.false) (c.arrive.ensures [] c.args.index mode c.if-index-lt-PIECE_CELLS.false z s p is)
