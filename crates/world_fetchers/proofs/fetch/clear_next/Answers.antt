@@ -1,0 +1,15 @@
+use Rattle.std.proofs.Common.{[], refl}
+use Rattle.world_fetchers.proofs.Bringing.{arrived, filled}
+use Rattle.world_fetchers.proofs.fetch.clear_next.Goals as goal
+
+pub returns-then-at-lt-PIECE_CELLS : goal.returns-then-at-lt-PIECE_CELLS
+returns-then-at-lt-PIECE_CELLS g c words m z s is =
+    let old = c.args.lock.now in
+    let now = c.fill.new.lock in
+    filled g.S.RawStore.content g.S.RawStore.honest z old.memory old.berths.items m s c.args.object c.args.frame c.args.at 0 [] now.memory now.berths.items is c.if-at-lt-PIECE_CELLS.true refl (c.fill.ensures m z s is.inv is.fits.0.2 is.shows)
+
+pub returns-else-at-lt-PIECE_CELLS : goal.returns-else-at-lt-PIECE_CELLS
+returns-else-at-lt-PIECE_CELLS g c words m z s is =
+    let old = c.args.lock.now in
+    let now = c.arrive.new.lock in
+    arrived g.S.RawStore.content g.S.RawStore.honest z old.memory old.berths.items m s c.args.object c.args.frame c.args.at [] now.memory now.berths.items is c.if-at-lt-PIECE_CELLS.false (c.arrive.ensures m z s is.inv is.fits.0.0 is.shows)
