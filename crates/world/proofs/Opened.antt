@@ -11,14 +11,18 @@ use Rattle.pointer_word.specs.Sound.{Inv, FrameOk, PlaceOk}
 use Rattle.remote_store.specs.Kept.{piece_cells}
 use Rattle.remote_store.specs.declared.berth.Berth.{Berth}
 use Rattle.world_actors.specs.declared.evacuator.Evacuator.{Evacuator}
+use Rattle.world_fetchers.specs.declared.fetcher.Fetcher.{Fetcher}
+use Rattle.world_fetchers.specs.declared.fetch.Fetching.{Fetching as RustFetching}
 use Rattle.world_memory.specs.declared.memory.Frame.{Frame}
 use Rattle.world_memory.specs.declared.memory.Object.{Object}
 use Rattle.world_actors.specs.declared.program.Eviction.{Eviction as RustEviction}
 use Rattle.world_actors.specs.Acting.{IsProgram}
+use Rattle.world.specs.Parts.{Parts}
 use Rattle.world.specs.Stepped.{IsWorld}
-use Rattle.world.specs.Opened.{AreBegun, AreIdle, cell_of, images_of, sizes_of}
+use Rattle.world.specs.Opened.{AreAtRest, AreBegun, AreIdle, cell_of, images_of, sizes_of}
 use Rattle.world_semantics.specs.Programs.{begun}
 use Rattle.world_actors.specs.Seats.{Seat, begin, eviction_of}
+use Rattle.world_fetchers.specs.Fetching.{fetching_of}
 use Rattle.world_memory.specs.Shown.{AreFar, IsFar, IsObject, Shown}
 use Rattle.world_memory.specs.Tables.{FrameFits, Tables, cells_at, frame_word, free, object_at, place_of, resting}
 use Rattle.world_semantics.specs.Worlds.{Sizes, World, start}
@@ -70,18 +74,28 @@ idle_push {P} programs movers movers' y e all none mover =
       | inr r ↦ all k x r
     ])
 
+-- one more fetcher that is idle
+pub rest_push : {P : Type 0} (before : ℕ) (movers movers' : List (Fetcher × P)) (y : Fetcher × P) → movers' ≡ movers ++ y ∷ [] → AreAtRest before movers → y.0.fetching ≡ None → y.0.mover ≡ suc (before + length movers)
+    → AreAtRest before movers'
+rest_push {P} before movers movers' y e all none mover =
+    subst (AreAtRest before) (sym e) (λ k x q. elim (push_tells movers y k x q) [
+      | inl r ↦ (ap (λ (v : Fetcher × P). v.0.fetching) r.1 ∙ none, ap (λ (v : Fetcher × P). v.0.mover) r.1 ∙ (mover ∙ ap (λ n. suc (before + n)) (sym r.0)))
+      | inr r ↦ all k x r
+    ])
+
 -- the opening world
-pub opens_world : {C P : Type 0} (content : C → Option (List ℕ)) (h : Type 0) (images : List RustImage) (frames objects evacuators fetchers : ℕ) (t : Tables) (berths : List (Berth C)) (seats : List (Seat × P)) (movers : List (Evacuator × P))
-    → t ≡ record { objects = replicate objects resting; frames = replicate frames free } → objects ≤ 16777216 → frames ≤ 1048576
-    → length berths ≡ objects → AreFar content berths (λ _. Never) → length seats ≡ length images → AreBegun images (objects / length images) seats → length movers ≡ evacuators → AreIdle (length images) movers
-    → IsWorld content h (sizes_of (length images) frames objects evacuators fetchers) (images_of images) t berths seats movers (start (images_of images))
-opens_world {C} {P} content h images frames objects evacuators fetchers t berths seats movers e few few_frames many far seats_many begun_all movers_many idle_all = record {
+pub opens_world : {S C : Type 0} (content : C → Option (List ℕ)) (h : Type 0) (images : List RustImage) (frames objects evacuators fetchers : ℕ) (x : Parts S C)
+    → x.tables ≡ record { objects = replicate objects resting; frames = replicate frames free } → objects ≤ 16777216 → frames ≤ 1048576
+    → length x.berths ≡ objects → AreFar content x.berths (λ _. Never) → length x.programs ≡ length images → AreBegun images (objects / length images) x.programs → length x.evacuators ≡ evacuators
+    → AreIdle (length images) x.evacuators → length x.fetchers ≡ fetchers → AreAtRest (length images + evacuators) x.fetchers
+    → IsWorld content h (sizes_of (length images) frames objects evacuators fetchers) (images_of images) x (start (images_of images))
+opens_world {S} {C} content h images frames objects evacuators fetchers x e few few_frames many far seats_many begun_all movers_many idle_all fetchers_many rest_all = record {
   shows = record {
     tables = subst (λ (y : Tables). Shown (sizes_of (length images) frames objects evacuators fetchers) y (start (images_of images)).lock) (sym e) (record {
-      objects = λ o. subst (λ (x : Object). IsObject x (counted 0 Away) blank) (sym (same_at objects resting o)) (record { word = refl; count = refl; told = refl; writing = refl });
-      frames = λ f. sym (ap (λ (x : Frame). frame_word x.held_for) (same_at frames free f));
-      cells = λ f i. zeros_at piece_cells i ∙ sym (ap (λ (x : Frame). listed x.cells i) (same_at frames free f));
-      wide = λ f. ap (λ (x : Frame). length x.cells) (same_at frames free f);
+      objects = λ o. subst (λ (y : Object). IsObject y (counted 0 Away) blank) (sym (same_at objects resting o)) (record { word = refl; count = refl; told = refl; writing = refl });
+      frames = λ f. sym (ap (λ (y : Frame). frame_word y.held_for) (same_at frames free f));
+      cells = λ f i. zeros_at piece_cells i ∙ sym (ap (λ (y : Frame). listed y.cells i) (same_at frames free f));
+      wide = λ f. ap (λ (y : Frame). length y.cells) (same_at frames free f);
       objects_many = length-replicate objects resting;
       frames_many = length-replicate frames free;
     });
@@ -90,16 +104,17 @@ opens_world {C} {P} content h images frames objects evacuators fetchers t berths
     objects_few = few;
     frames_few = few_frames;
   };
-  programs = λ k x q. let is = begun_all k x q in (
-    subst (λ (y : Seat). IsProgram y (begun (images_of images k))) (sym is) (record { core = refl; holds = refl; mode = refl; completed = refl }),
-    ap (λ (y : Seat). y.setting) is,
+  programs = λ k y q. let is = begun_all k y q in (
+    subst (λ (v : Seat). IsProgram v (begun (images_of images k))) (sym is) (record { core = refl; holds = refl; mode = refl; completed = refl }),
+    ap (λ (v : Seat). v.setting) is,
   );
-  evacuators = λ k x q. let is = idle_all k x q in (sym (ap (option_map (λ (y : RustEviction). eviction_of y x.0.words)) is.0), is.1);
-  fetchers = λ k. refl;
+  evacuators = λ k y q. let is = idle_all k y q in (sym (ap (option_map (λ (v : RustEviction). eviction_of v y.0.words)) is.0), is.1);
+  fetchers = λ k y q. let is = rest_all k y q in (sym (ap (option_map (λ (v : RustFetching). fetching_of v y.0.words)) is.0), is.1);
   reached = ([], refl);
   cells = refl;
   programs_many = seats_many;
   evacuators_many = movers_many;
+  fetchers_many = fetchers_many;
 }
 
 -- ---- words and cells
@@ -119,22 +134,21 @@ framed_inside h z t s o f inv shown e = at (s.word o).place refl
     at (Here g k) q = let r : Some g ≡ Some f = ap framed (sym q) ∙ e in let i : g ≡ f = cc in there (subst (λ j. s.who j ≡ ObjectHolds o) i (holds (Here g k) q).1)
     at (Leaving g m k) q = let r : Some g ≡ Some f = ap framed (sym q) ∙ e in let i : g ≡ f = cc in there (subst (λ j. s.who j ≡ ObjectHolds o) i (holds (Leaving g m k) q).1)
 
-module _ {C P : Type 0} (content : C → Option (List ℕ)) (h : Type 0) (z : Sizes) (images : ℕ → Image) (t : Tables) (berths : List (Berth C)) (seats : List (Seat × P)) (movers : List (Evacuator × P)) (w : World)
-    (is : IsWorld content h z images t berths seats movers w) where
+module _ {S C : Type 0} (content : C → Option (List ℕ)) (h : Type 0) (z : Sizes) (images : ℕ → Image) (x : Parts S C) (w : World) (is : IsWorld content h z images x w) where
   -- a frame's number fits its word
-  pub frame_fits : (o : ℕ) → FrameFits (place_of (object_at t o).place)
+  pub frame_fits : (o : ℕ) → FrameFits (place_of (object_at x.tables o).place)
   frame_fits o f e =
       let shown = is.shows.tables in
       let few = is.shows.frames_few in
-      let place : framed (w.lock.word o).place ≡ framed (place_of (object_at t o).place) = ap (λ (y : Word). framed y.place) (shown.objects o).word in
-      let inv : Inv h piece_cells w.lock = subst (λ n. Inv h n w.lock) is.cells (sound content h z images t berths seats movers w is).lock in
-      let inside = framed_inside h z t w.lock o f inv shown (place ∙ e) in
+      let place : framed (w.lock.word o).place ≡ framed (place_of (object_at x.tables o).place) = ap (λ (y : Word). framed y.place) (shown.objects o).word in
+      let inv : Inv h piece_cells w.lock = subst (λ n. Inv h n w.lock) is.cells (sound content h z images x w is).lock in
+      let inside = framed_inside h z x.tables w.lock o f inv shown (place ∙ e) in
       omega arith
 
-  pub no_cell : (o i : ℕ) → None ≡ framed (place_of (object_at t o).place) → None ≡ cell_of w.lock o i
+  pub no_cell : (o i : ℕ) → None ≡ framed (place_of (object_at x.tables o).place) → None ≡ cell_of w.lock o i
   no_cell o i e = ap (option_map (λ f. w.lock.cell f i)) (e ∙ sym (ap (λ (y : Word). framed y.place) (is.shows.tables.objects o).word))
 
-  pub the_cell : (o i f v : ℕ) → Some f ≡ framed (place_of (object_at t o).place) → v ≡ listed (cells_at t f) i → Some v ≡ cell_of w.lock o i
+  pub the_cell : (o i f v : ℕ) → Some f ≡ framed (place_of (object_at x.tables o).place) → v ≡ listed (cells_at x.tables f) i → Some v ≡ cell_of w.lock o i
   the_cell o i f v e q = ap Some (q ∙ sym (is.shows.tables.cells f i)) ∙ ap (option_map (λ g. w.lock.cell g i)) (e ∙ sym (ap (λ (y : Word). framed y.place) (is.shows.tables.objects o).word))
 
 -- an image that was read

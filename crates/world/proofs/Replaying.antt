@@ -9,15 +9,14 @@ use Rattle.world_semantics.specs.declared.event.Actor.{Actor}
 use Rattle.world_semantics.specs.declared.event.Actor.TheVariants as actor
 use Rattle.world_semantics.specs.Programs.{Program}
 use Rattle.schedule_lines.specs.Lines.{Line, IsLine, IsLine32, spell, spell_actor, spell_choice}
+use Rattle.world.specs.Parts.{Parts}
 use Rattle.world.specs.Stepped.{IsWorld}
 use Rattle.world.specs.Telling.{IsPortOf, StoreTold}
-use Rattle.world_actors.specs.Seats.{Seat}
-use Rattle.world_memory.specs.Tables.{Tables}
-use Rattle.world_actors.specs.declared.evacuator.Evacuator.{Evacuator}
+use Rattle.remote_store.specs.declared.port.Port.{Port}
 use Rattle.world_semantics.specs.declared.event.Choice.{Choice}
-use Rattle.world.specs.Reports.{event_of, AreEnds, AreLines, HasCome, HasLed, IsEnded, LinesLead, Told, Ways}
+use Rattle.world.specs.Reports.{event_of, AreEnds, AreLines, HasCome, HasLed, IsEnded, LinesLead, Told}
 use Rattle.world_semantics.specs.Turns.{Answer}
-use Rattle.world_semantics.specs.Worlds.{IsHonest, Sizes, World, event, in_range}
+use Rattle.world_semantics.specs.Worlds.{IsHonest, Sizes, World, event}
 
 -- one line more
 pub line_more : (xs : List Line) (x : Line) (text : List ℕ) → AreLines xs text → IsLine32 x → AreLines (xs ++ x ∷ []) (text ++ spell x)
@@ -34,19 +33,19 @@ many_more (y ∷ ys) x = ap suc (many_more ys x)
 
 module _ {S C : Type 0} (honest reliable : Type 0) (failures : S → ℕ) (gives : S → C → List ℕ → S → Type 0) where
   -- one event more
-  pub leads_more : (z : Sizes) (images : ℕ → Image) (w v u : World) (x y t : Ways S C) (ls : List Line) (l : Line) (a : Answer) → LinesLead honest reliable failures gives z images w x ls v y
+  pub leads_more : (z : Sizes) (images : ℕ → Image) (w v u : World) (x y t : Parts S C) (ls : List Line) (l : Line) (a : Answer) → LinesLead honest reliable failures gives z images w x ls v y
       → event z images v (event_of l a) ≡ Some u → (honest → IsHonest z v l.actor a) → Told honest reliable failures gives z v y t l.actor a
       → LinesLead honest reliable failures gives z images w x (ls ++ l ∷ []) u t
   leads_more z images w v u x y t [] l a led is honestly told =
-      subst (λ (p : Ways S C). LinesLead honest reliable failures gives z images w p (l ∷ []) u t) led.1
+      subst (λ (p : Parts S C). LinesLead honest reliable failures gives z images w p (l ∷ []) u t) led.1
       (subst (λ (p : World). LinesLead honest reliable failures gives z images p y (l ∷ []) u t) led.0 (a, u, t, is, honestly, told, (refl, refl)))
   leads_more z images w v u x y t (k ∷ ks) l a led is honestly told =
       (led.0, led.1, led.2, led.3, led.4, led.5, leads_more z images led.1 v u led.2 y t ks l a led.6 is honestly told)
 
-  pub comes : (z : Sizes) (images : ℕ → Image) (w : World) (x : Ways S C) (schedule : List ℕ) → HasCome honest reliable failures gives z images w x schedule schedule 1 w x
+  pub comes : (z : Sizes) (images : ℕ → Image) (w : World) (x : Parts S C) (schedule : List ℕ) → HasCome honest reliable failures gives z images w x schedule schedule 1 w x
   comes z images w x schedule = record { before = []; text = []; cut = refl; lines = refl; count = refl; leads = (refl, refl) }
 
-  pub come_more : (z : Sizes) (images : ℕ → Image) (w v u : World) (x y t : Ways S C) (schedule rest others : List ℕ) (line : ℕ) (l : Line) (a : Answer)
+  pub come_more : (z : Sizes) (images : ℕ → Image) (w v u : World) (x y t : Parts S C) (schedule rest others : List ℕ) (line : ℕ) (l : Line) (a : Answer)
       → HasCome honest reliable failures gives z images w x schedule rest line v y → IsLine l others rest → event z images v (event_of l a) ≡ Some u → (honest → IsHonest z v l.actor a)
       → Told honest reliable failures gives z v y t l.actor a → HasCome honest reliable failures gives z images w x schedule others (line + 1) u t
   come_more z images w v u x y t schedule rest others line l a come is e honestly told = record {
@@ -58,7 +57,7 @@ module _ {S C : Type 0} (honest reliable : Type 0) (failures : S → ℕ) (gives
     leads = leads_more z images w v u x y t come.before l a come.leads e honestly told;
   }
 
-  pub has_led : (z : Sizes) (images : ℕ → Image) (w v : World) (x y : Ways S C) (schedule rest : List ℕ) (line : ℕ)
+  pub has_led : (z : Sizes) (images : ℕ → Image) (w v : World) (x y : Parts S C) (schedule rest : List ℕ) (line : ℕ)
       → HasCome honest reliable failures gives z images w x schedule rest line v y → length rest ≡ 0 → HasLed honest reliable failures gives z images w x schedule v y
   has_led z images w v x y schedule [] line come none = (come.before, subst (AreLines come.before) (sym (come.cut ∙ append-nil come.text)) come.lines, come.leads)
   has_led z images w v x y schedule (b ∷ rest) line come none = absurd (omega (arith, none))
@@ -75,21 +74,19 @@ way_at {A} {P} xs k n many less = elim (slice_get_cases xs k).1 [
   | inr r ↦ absurd (let below : k < n = ltb-true k n less in omega (arith, r.0, below, many))
 ]
 
-pub way_of : {P : Type 0} (z : Sizes) (images : ℕ → Image) (w u : World) (seats : List (Seat × P)) (movers : List (Evacuator × P)) (who : Actor) (c : Choice) (a : Answer) → length seats ≡ z.programs → length movers ≡ z.evacuators
-    → event z images w (record { actor = who; choice = c; answer = a }) ≡ Some u → (p : P) × IsPortOf seats movers who p
-way_of z images w u seats movers (actor.Program k) c a programs evacuators is = let r = way_at seats k z.programs programs (is_there _ _ _ u is) in (r.0, (r.1, r.2))
-way_of z images w u seats movers (actor.Evacuator k) c a programs evacuators is = let r = way_at movers k z.evacuators evacuators (is_there _ _ _ u is) in (r.0, (r.1, r.2))
-way_of z images w u seats movers (actor.Fetcher k) c a programs evacuators is = absurd (let no : false ≡ true = is_there false (in_range z c) None u is in cc)
+pub way_of : {S C : Type 0} (z : Sizes) (images : ℕ → Image) (w u : World) (x : Parts S C) (who : Actor) (c : Choice) (a : Answer) → length x.programs ≡ z.programs → length x.evacuators ≡ z.evacuators → length x.fetchers ≡ z.fetchers
+    → event z images w (record { actor = who; choice = c; answer = a }) ≡ Some u → (p : Port S C) × IsPortOf x who p
+way_of z images w u x (actor.Program k) c a programs evacuators fetchers is = let r = way_at x.programs k z.programs programs (is_there _ _ _ u is) in (r.0, (r.1, r.2))
+way_of z images w u x (actor.Evacuator k) c a programs evacuators fetchers is = let r = way_at x.evacuators k z.evacuators evacuators (is_there _ _ _ u is) in (r.0, (r.1, r.2))
+way_of z images w u x (actor.Fetcher k) c a programs evacuators fetchers is = let r = way_at x.fetchers k z.fetchers fetchers (is_there _ _ _ u is) in (r.0, (r.1, r.2))
 
 module _ {S C : Type 0} (content : C → Option (List ℕ)) (honest reliable : Type 0) (failures : S → ℕ) (gives : S → C → List ℕ → S → Type 0) where
   -- what the store answered in an event of worlds that code holds, by their ways
-  pub told_by : (z : Sizes) (images : ℕ → Image) (w u : World) (t t' : Tables) (x y : Ways S C) (who : Actor) (c : Choice) (a : Answer)
-      → IsWorld content honest z images t x.berths x.programs x.evacuators w → IsWorld content honest z images t' y.berths y.programs y.evacuators u
-      → event z images w (record { actor = who; choice = c; answer = a }) ≡ Some u → StoreTold reliable failures gives z w x.berths x.programs x.evacuators y.programs y.evacuators who a
-      → Told honest reliable failures gives z w x y who a
-  told_by z images w u t t' x y who c a is will happens told =
-      let p = way_of z images w u x.programs x.evacuators who c a is.programs_many is.evacuators_many happens in
-      let q = way_of z images w u y.programs y.evacuators who c a will.programs_many will.evacuators_many happens in
+  pub told_by : (z : Sizes) (images : ℕ → Image) (w u : World) (x y : Parts S C) (who : Actor) (c : Choice) (a : Answer) → IsWorld content honest z images x w → IsWorld content honest z images y u
+      → event z images w (record { actor = who; choice = c; answer = a }) ≡ Some u → StoreTold reliable failures gives z w x y who a → Told honest reliable failures gives z w x y who a
+  told_by z images w u x y who c a is will happens told =
+      let p = way_of z images w u x who c a is.programs_many is.evacuators_many is.fetchers_many happens in
+      let q = way_of z images w u y who c a will.programs_many will.evacuators_many will.fetchers_many happens in
       record { many = is.shows.many; before = p.0; after = q.0; from = p.1; to = q.1; answered = told p.0 q.0 p.1 q.1 }
 
 -- a line has a byte at least

@@ -6,6 +6,7 @@ use Rattle.pointer_word.specs.Machine.{State}
 use Rattle.pointer_word.specs.Words.{framed}
 use Rattle.remote_store.specs.Kept.{piece_cells}
 use Rattle.world_actors.specs.declared.evacuator.Evacuator.{Evacuator}
+use Rattle.world_fetchers.specs.declared.fetcher.Fetcher.{Fetcher}
 use Rattle.world_actors.specs.Seats.{Seat, begin}
 use Rattle.world_semantics.specs.Worlds.{Sizes}
 
@@ -29,6 +30,10 @@ AreBegun {P} images share seats = (k : ℕ) (x : Seat × P) → slice_get seats 
 -- each evacuator is idle
 abbrev pub AreIdle : {P : Type 0} → ℕ → List (Evacuator × P) → Type 0
 AreIdle {P} programs movers = (k : ℕ) (x : Evacuator × P) → slice_get movers k ≡ Some x → (x.0.eviction ≡ None) × (x.0.mover ≡ suc (programs + k))
+
+-- each fetcher is idle, where there are so many movers before them
+abbrev pub AreAtRest : {P : Type 0} → ℕ → List (Fetcher × P) → Type 0
+AreAtRest {P} before movers = (k : ℕ) (x : Fetcher × P) → slice_get movers k ≡ Some x → (x.0.fetching ≡ None) × (x.0.mover ≡ suc (before + k))
 
 -- the cell i of the frame where the object o is, where it is in one
 abbrev pub cell_of : State → ℕ → ℕ → Option ℕ

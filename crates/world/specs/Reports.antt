@@ -7,15 +7,13 @@ use Rattle.cells.specs.declared.ending.Want.{Want}
 use Rattle.cells.specs.Stops.{stop_of as stop_read}
 use Rattle.code_form.specs.Code.{output_of, stop_of}
 use Rattle.code_form.specs.Form.{Image}
-use Rattle.remote_store.specs.declared.berth.Berth.{Berth}
 use Rattle.remote_store.specs.declared.port.Port.{Port}
 use Rattle.schedule_lines.specs.Lines.{Line, IsLine, IsLine32, IsNoLine, spell}
 use Rattle.world_semantics.specs.declared.event.Actor.{Actor}
 use Rattle.world_semantics.specs.Programs.{Program, Wanted}
 use Rattle.world_memory.specs.Answered.{AnswersSo}
 use Rattle.world.specs.Telling.{IsPortOf, asked_by}
-use Rattle.world_actors.specs.Seats.{Seat}
-use Rattle.world_actors.specs.declared.evacuator.Evacuator.{Evacuator}
+use Rattle.world.specs.Parts.{Parts}
 use Rattle.world.specs.declared.schedule.Refused.{Refused}
 use Rattle.world.specs.declared.schedule.Refused.TheVariants as refused
 use Rattle.world_semantics.specs.Turns.{Answer}
@@ -37,12 +35,6 @@ pub record IsEnded (p : Program) (e : Ended) : Type 0 where
 abbrev pub event_of : Line → Answer → Event
 event_of x a = record { actor = x.actor; choice = x.choice; answer = a }
 
--- the cells of the store that objects have, and each program's and each evacuator's way to it
-pub record Ways (S C : Type 0) : Type 0 where
-  pub berths : List (Berth C)
-  pub programs : List (Seat × Port S C)
-  pub evacuators : List (Evacuator × Port S C)
-
 -- the text of lines, whose numbers fit in 32 bits
 abbrev pub AreLines : List Line → List ℕ → Type 0
 AreLines [] text = text ≡ []
@@ -60,28 +52,28 @@ IsStuckAt z images w text = IsNoLine text ⊎ ((x : Line) × (rest : List ℕ) �
 -- `honest` says that the store gives back what was put, `reliable` that it never fails, `failures` counts its calls that failed, and
 -- `gives` tells what a read of a cell gave, by the store before it and after it
 module _ {S C : Type 0} (honest reliable : Type 0) (failures : S → ℕ) (gives : S → C → List ℕ → S → Type 0) where
-  -- in the world w, with a berth for each object, the store answered so to this actor, by its way to it before and after
-  pub record Told (z : Sizes) (w : World) (x y : Ways S C) (actor : Actor) (a : Answer) : Type 0 where
+  -- in the world w, which code held so before and so after, with a berth for each object, the store answered so to this actor, by its way to it
+  pub record Told (z : Sizes) (w : World) (x y : Parts S C) (actor : Actor) (a : Answer) : Type 0 where
     pub many : length x.berths ≡ z.objects
     pub before : Port S C
     pub after : Port S C
-    pub from : IsPortOf x.programs x.evacuators actor before
-    pub to : IsPortOf y.programs y.evacuators actor after
+    pub from : IsPortOf x actor before
+    pub to : IsPortOf y actor after
     pub answered : AnswersSo reliable failures gives z.cells x.berths before after w.lock.far (asked_by z w actor) a
 
   -- these lines lead from one world to another, as the store answered to each
-  abbrev pub LinesLead : Sizes → (ℕ → Image) → World → Ways S C → List Line → World → Ways S C → Type 0
+  abbrev pub LinesLead : Sizes → (ℕ → Image) → World → Parts S C → List Line → World → Parts S C → Type 0
   LinesLead z images w x [] v y = (v ≡ w) × (y ≡ x)
   LinesLead z images w x (l ∷ ls) v y =
-      (a : Answer) × (u : World) × (t : Ways S C) × (event z images w (event_of l a) ≡ Some u) × (honest → IsHonest z w l.actor a) × Told z w x t l.actor a
+      (a : Answer) × (u : World) × (t : Parts S C) × (event z images w (event_of l a) ≡ Some u) × (honest → IsHonest z w l.actor a) × Told z w x t l.actor a
       × LinesLead z images u t ls v y
 
   -- all lines of the schedule lead from the world w to the world v
-  abbrev pub HasLed : Sizes → (ℕ → Image) → World → Ways S C → List ℕ → World → Ways S C → Type 0
+  abbrev pub HasLed : Sizes → (ℕ → Image) → World → Parts S C → List ℕ → World → Parts S C → Type 0
   HasLed z images w x schedule v y = (lines : List Line) × AreLines lines schedule × LinesLead z images w x lines v y
 
   -- the lines before this one, counted from 1, lead from the world w to the world v, and the rest of the schedule stands behind them
-  pub record HasCome (z : Sizes) (images : ℕ → Image) (w : World) (x : Ways S C) (schedule rest : List ℕ) (line : ℕ) (v : World) (y : Ways S C) : Type 0 where
+  pub record HasCome (z : Sizes) (images : ℕ → Image) (w : World) (x : Parts S C) (schedule rest : List ℕ) (line : ℕ) (v : World) (y : Parts S C) : Type 0 where
     pub before : List Line
     pub text : List ℕ
     pub cut : schedule ≡ text ++ rest
@@ -90,20 +82,20 @@ module _ {S C : Type 0} (honest reliable : Type 0) (failures : S → ℕ) (gives
     pub leads : LinesLead z images w x before v y
 
   -- the lines before this one, counted from 1, lead from the world w to one in which it is no line or is not enabled
-  abbrev pub IsRefusedLine : Sizes → (ℕ → Image) → World → Ways S C → List ℕ → ℕ → Type 0
+  abbrev pub IsRefusedLine : Sizes → (ℕ → Image) → World → Parts S C → List ℕ → ℕ → Type 0
   IsRefusedLine z images w x schedule line =
-      (v : World) × (y : Ways S C) × (rest : List ℕ) × HasCome z images w x schedule rest line v y × (0 < length rest) × IsStuckAt z images v rest
+      (v : World) × (y : Parts S C) × (rest : List ℕ) × HasCome z images w x schedule rest line v y × (0 < length rest) × IsStuckAt z images v rest
 
   -- all lines of the schedule lead from the beginning to a world, and these are the ends of its programs
   pub record IsReport (z : Sizes) (images : ℕ → Image) (schedule : List ℕ) (ends : List Ended) : Type 0 where
-    pub opening : Ways S C
+    pub opening : Parts S C
     pub world : World
-    pub closing : Ways S C
+    pub closing : Parts S C
     pub led : HasLed z images (start images) opening schedule world closing
     pub all : length ends ≡ z.programs
     pub ended : AreEnds world.programs 0 ends
 
   -- why a schedule is refused: a line of it, or want of memory
   abbrev pub IsRefusal : Sizes → (ℕ → Image) → List ℕ → Refused → Type 0
-  IsRefusal z images schedule (refused.Line line) = (opening : Ways S C) × IsRefusedLine z images (start images) opening schedule line
+  IsRefusal z images schedule (refused.Line line) = (opening : Parts S C) × IsRefusedLine z images (start images) opening schedule line
   IsRefusal z images schedule refused.OutOfMemory = Unit {0}

@@ -2,6 +2,7 @@
 ghost use Rattle.std.specs.Prelude.{◌≡◌, ◌<◌, ℕ, IfOk, length};
 ghost use Rattle.code_form.specs.Form.{Image};
 ghost use Rattle.world_actors.specs.Acting.{IsProgram};
+ghost use Rattle.world.specs.Parts.{parts};
 ghost use Rattle.world.specs.Stepped.{IsWorld};
 ghost use Rattle.world_semantics.specs.Programs.{Program as Defined};
 ghost use Rattle.world.specs.Reports.{AreEnds, IsEnded, RunsAs};
@@ -43,8 +44,8 @@ impl<'a, S: RawStore> World<'a, S> {
     /// What a program printed, how it runs, and how many instructions it completed, modulo 2^64. `Err` where memory is refused for the
     /// output or the text of an error.
     pub fn ended(&self, alloc: Global, program: usize) -> Result<Ended, AllocError>
-        requires { program < length self.now.programs.items }
-        ensures { IfOk result (λ e. (z : Sizes) (images : ℕ → Image) (w : DefinedWorld) → IsWorld S.content S.honest z images self.now.lock.memory self.now.lock.berths.items self.now.programs.items self.now.evacuators.items w
+        requires { program < length (parts self.now).programs }
+        ensures { IfOk result (λ e. (z : Sizes) (images : ℕ → Image) (w : DefinedWorld) → IsWorld S.content S.honest z images (parts self.now) w
             → IsEnded (w.programs program) e) }
     {
         end_of(alloc, &self.programs[program].0)
@@ -52,14 +53,14 @@ impl<'a, S: RawStore> World<'a, S> {
 
     /// How many programs there are.
     pub fn programs(&self) -> usize
-        ensures { result ≡ length self.now.programs.items }
+        ensures { result ≡ length (parts self.now).programs }
     {
         self.programs.len()
     }
 
     /// The same of each program, in order.
     pub(crate) fn ends(&self, alloc: Global) -> Result<Vec<Ended>, AllocError>
-        ensures { IfOk result (λ v. (z : Sizes) (images : ℕ → Image) (w : DefinedWorld) → IsWorld S.content S.honest z images self.now.lock.memory self.now.lock.berths.items self.now.programs.items self.now.evacuators.items w
+        ensures { IfOk result (λ v. (z : Sizes) (images : ℕ → Image) (w : DefinedWorld) → IsWorld S.content S.honest z images (parts self.now) w
             → (length v.items ≡ z.programs) × AreEnds w.programs 0 v.items) }
     {
         let mut ends = Vec::new(alloc);

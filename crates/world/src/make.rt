@@ -3,13 +3,14 @@ ghost use Rattle.code_form.specs.Form.{image_of};
 ghost use Rattle.pointer_word.specs.Machine.{Never};
 ghost use Rattle.std.specs.Prelude.{◌≡◌, ◌≢◌, ◌+◌, ◌*◌, ◌<◌, ◌≤◌, ℕ, IfErr, IfOk, None, length};
 ghost use Rattle.world_memory.specs.Shown.{AreFar};
-ghost use Rattle.world.specs.Opened.{AreBegun, AreIdle};
+ghost use Rattle.world.specs.Opened.{AreAtRest, AreBegun, AreIdle};
 
 use cells::Want;
 use code_form::Image;
 use remote_store::{Berth, Port, RawStore, Stores};
 use std::alloc::Global;
 use world_actors::{Evacuator, Program};
+use world_fetchers::Fetcher;
 
 /// A berth for each object, into which nothing was put yet.
 pub(crate) fn new_berths<S: RawStore>(
@@ -85,4 +86,27 @@ pub(crate) fn new_evacuators<S: RawStore, M: Stores<S = S>>(
         }
     }
     Ok(evacuators)
+}
+
+/// Fetchers that are idle, whose numbers as movers are those behind `before`, each with a way to the store.
+pub(crate) fn new_fetchers<S: RawStore, M: Stores<S = S>>(
+    alloc: Global,
+    stores: &M,
+    before: usize,
+    count: usize,
+) -> Result<Vec<(Fetcher, Port<S>)>, Want>
+    requires { (before ≤ 320) × (count ≤ 64) }
+    ensures made { IfOk result (λ v. (length v.items ≡ count) × AreAtRest before v.items) }
+    ensures wants { IfErr result (λ want. want ≢ Want.NoObjects) }
+{
+    let mut fetchers = Vec::new(alloc);
+    while fetchers.len() < count {
+        let number = before + fetchers.len() + 1;
+        let port = Port::new(stores.one(alloc)?);
+        let fetcher = Fetcher::new(number as u16);
+        if let Err(_refused) = fetchers.push((fetcher, port)) {
+            return Err(Want::OutOfMemory);
+        }
+    }
+    Ok(fetchers)
 }

@@ -3,6 +3,7 @@ ghost use Rattle.std.specs.Prelude.{◌≡◌, ◌<◌, ◌≤◌, ℕ, MatchOpt
 ghost use Rattle.code_form.specs.Form.{Image as ImageOf};
 ghost use Rattle.world.specs.Stepped.{IsWorld};
 ghost use Rattle.world.specs.Opened.{images_of, sizes_of};
+ghost use Rattle.world.specs.Parts.{parts};
 ghost use Rattle.world.specs.Reports.{HasLed, IsRefusal, IsRefusedLine, IsReport};
 ghost use Rattle.world_semantics.specs.Worlds.{Sizes, World as Defined};
 
@@ -34,11 +35,11 @@ pub enum Refused {
 
 /// Does the lines of a schedule in turn. The number of the first that can't be read or is not enabled, if there is one.
 pub(crate) fn follow<S: RawStore>(world: &mut World<'_, S>, schedule: &[u8]) -> Option<u64>
-    ensures { (z : Sizes) (images : ℕ → ImageOf) (w : Defined) → IsWorld S.content S.honest z images world.old.lock.memory world.old.lock.berths.items world.old.programs.items world.old.evacuators.items w
-        → MatchOption result ((v : Defined) × HasLed S.honest S.reliable S.failures S.read_gives z images w (record { berths = world.old.lock.berths.items; programs = world.old.programs.items; evacuators = world.old.evacuators.items })
-        schedule.now v (record { berths = world.new.lock.berths.items; programs = world.new.programs.items; evacuators = world.new.evacuators.items })
-        × IsWorld S.content S.honest z images world.new.lock.memory world.new.lock.berths.items world.new.programs.items world.new.evacuators.items v)
-        (λ line. IsRefusedLine S.honest S.reliable S.failures S.read_gives z images w (record { berths = world.old.lock.berths.items; programs = world.old.programs.items; evacuators = world.old.evacuators.items }) schedule.now line) }
+    ensures { (z : Sizes) (images : ℕ → ImageOf) (w : Defined) → IsWorld S.content S.honest z images (parts world.old) w
+        → MatchOption result ((v : Defined) × HasLed S.honest S.reliable S.failures S.read_gives z images w (parts world.old)
+        schedule.now v (parts world.new)
+        × IsWorld S.content S.honest z images (parts world.new) v)
+        (λ line. IsRefusedLine S.honest S.reliable S.failures S.read_gives z images w (parts world.old) schedule.now line) }
 {
     let mut rest = schedule;
     let mut line = 1;
@@ -61,7 +62,7 @@ pub(crate) fn follow<S: RawStore>(world: &mut World<'_, S>, schedule: &[u8]) -> 
 /// then nothing, or a blank and a verb with its numbers (`look F`, `claim F`, `mark O F`, `begin O`), and a newline.
 ///
 /// `Line` names the first line that can't be read or is not enabled, counted from 1. `OutOfMemory` where a growth was refused, or a store
-/// could not be made. There are 1 to 256 images, and no fetchers yet.
+/// could not be made. There are 1 to 256 images, and at most 64 evacuators and 64 fetchers.
 pub fn replay<M: Stores + Drop>(
     alloc: Global,
     images: Vec<Image>,
@@ -72,7 +73,7 @@ pub fn replay<M: Stores + Drop>(
     requires frames { (0 < config.now.frames) × (config.now.frames ≤ 1048576) }
     requires objects { (0 < config.now.objects) × (config.now.objects ≤ 16777216) }
     requires evacuators { config.now.evacuators ≤ 64 }
-    requires fetchers { config.now.fetchers ≡ 0 }
+    requires fetchers { config.now.fetchers ≤ 64 }
     ensures { MatchResult result
         (λ report. IsReport M.S.honest M.S.reliable M.S.failures M.S.read_gives (sizes_of (length images.items) config.now.frames config.now.objects config.now.evacuators config.now.fetchers) (images_of images.items) schedule.now report.ended.items)
         (λ refused. IsRefusal M.S.honest M.S.reliable M.S.failures M.S.read_gives (sizes_of (length images.items) config.now.frames config.now.objects config.now.evacuators config.now.fetchers) (images_of images.items) schedule.now refused) }

@@ -1,20 +1,22 @@
-//! The world: its memory, programs and evacuators, and its events.
+//! The world: its memory, programs, evacuators and fetchers, and its events.
 ghost use Rattle.std.specs.Prelude.{◌≡◌, ◌≢◌, ◌<◌, ◌≤◌, ℕ, IfOk, IfErr, length, true};
 ghost use Rattle.code_form.specs.Form.{Image as ImageOf};
 ghost use Rattle.remote_store.specs.Kept.{piece_cells};
 ghost use Rattle.world.specs.Opened.{cell_of, images_of, sizes_of};
+ghost use Rattle.world.specs.Parts.{parts};
 ghost use Rattle.pointer_word.specs.Words.{pack};
 ghost use Rattle.world.specs.Stepped.{IsWorld, Stepped};
 ghost use Rattle.world.specs.Telling.{StoreTold};
 ghost use Rattle.world_semantics.specs.Worlds.{Sizes, World as Defined, in_range, start};
 
-use crate::make::{new_berths, new_evacuators, new_programs};
+use crate::make::{new_berths, new_evacuators, new_fetchers, new_programs};
 use cells::Want;
 use code_form::Image;
 use pointer_word::Word;
 use remote_store::{Config, Port, RawStore, Stores};
 use std::alloc::Global;
 use world_actors::{Evacuator, Program};
+use world_fetchers::Fetcher;
 use world_memory::{Lock, Memory};
 use world_semantics::event::{Actor, Choice, Step};
 
@@ -24,11 +26,12 @@ pub struct World<'a, S: RawStore> {
     pub(crate) lock: Lock<S>,
     pub(crate) programs: Vec<(Program<'a>, Port<S>)>,
     pub(crate) evacuators: Vec<(Evacuator, Port<S>)>,
+    pub(crate) fetchers: Vec<(Fetcher, Port<S>)>,
 }
 
 impl<'a, S: RawStore> World<'a, S> {
     /// The opening world: every object away with no hold, every frame free and zero, nothing in the store, each program at its
-    /// beginning and each evacuator idle. `OutOfMemory` where a growth was refused, and the wants of making the stores and their cells.
+    /// beginning, and each evacuator and each fetcher idle. `OutOfMemory` where a growth was refused, and the wants of making the stores and their cells.
     pub fn new<M: Stores<S = S> + Drop>(
         alloc: Global,
         images: &'a [Image],
@@ -38,9 +41,9 @@ impl<'a, S: RawStore> World<'a, S> {
         requires frames { (0 < config.now.frames) × (config.now.frames ≤ 1048576) }
         requires objects { (0 < config.now.objects) × (config.now.objects ≤ 16777216) }
         requires evacuators { config.now.evacuators ≤ 64 }
-        requires fetchers { config.now.fetchers ≡ 0 }
+        requires fetchers { config.now.fetchers ≤ 64 }
         ensures opens { IfOk result (λ world. IsWorld S.content S.honest (sizes_of (length images.now) config.now.frames config.now.objects config.now.evacuators config.now.fetchers) (images_of images.now)
-            world.lock.memory world.lock.berths.items world.programs.items world.evacuators.items (start (images_of images.now))) }
+            (parts world) (start (images_of images.now))) }
         ensures wants { IfErr result (λ want. want ≢ Want.NoObjects) }
     {
         let objects = config.objects as usize;
@@ -53,16 +56,19 @@ impl<'a, S: RawStore> World<'a, S> {
         let programs = new_programs(alloc, &config.stores, images, share as u64)?;
         let count = config.evacuators as usize;
         let evacuators = new_evacuators(alloc, &config.stores, images.len(), count)?;
+        let before = images.len() + count;
+        let fetchers = new_fetchers(alloc, &config.stores, before, config.fetchers as usize)?;
         Ok(World {
             lock: Lock { memory, berths },
             programs,
             evacuators,
+            fetchers,
         })
     }
 
     /// An object's word.
     pub fn word(&self, object: u32) -> Word
-        ensures { (z : Sizes) (images : ℕ → ImageOf) (w : Defined) → IsWorld S.content S.honest z images self.now.lock.memory self.now.lock.berths.items self.now.programs.items self.now.evacuators.items w
+        ensures { (z : Sizes) (images : ℕ → ImageOf) (w : Defined) → IsWorld S.content S.honest z images (parts self.now) w
             → result.bits ≡ pack (w.lock.word object) }
     {
         self.lock.memory.object(object as usize).word()
@@ -71,7 +77,7 @@ impl<'a, S: RawStore> World<'a, S> {
     /// The cell of this index of the frame where the object is, if it is in one.
     pub fn cell(&self, object: u32, index: usize) -> Option<u64>
         requires { index < piece_cells }
-        ensures { (z : Sizes) (images : ℕ → ImageOf) (w : Defined) → IsWorld S.content S.honest z images self.now.lock.memory self.now.lock.berths.items self.now.programs.items self.now.evacuators.items w
+        ensures { (z : Sizes) (images : ℕ → ImageOf) (w : Defined) → IsWorld S.content S.honest z images (parts self.now) w
             → result ≡ cell_of w.lock object index }
     {
         match self.lock.memory.object(object as usize).place.frame() {
@@ -98,10 +104,10 @@ impl<'a, S: RawStore> World<'a, S> {
 
     /// An evacuator does what it chooses, where that is in range.
     fn step_evacuator(&mut self, number: usize, choice: Choice) -> Step
-        ensures { (z : Sizes) (images : ℕ → ImageOf) (w : Defined) → in_range z choice ≡ true → IsWorld S.content S.honest z images self.old.lock.memory self.old.lock.berths.items self.old.programs.items self.old.evacuators.items w
-            → Stepped S.content S.honest z images self.new.lock.memory self.new.lock.berths.items self.new.programs.items self.new.evacuators.items w (Actor.Evacuator number) choice
-            (StoreTold S.reliable S.failures S.read_gives z w self.old.lock.berths.items self.old.programs.items self.old.evacuators.items self.new.programs.items self.new.evacuators.items (Actor.Evacuator number))
-            ((self.new.lock ≡ self.old.lock) × (self.new.programs.items ≡ self.old.programs.items) × (self.new.evacuators.items ≡ self.old.evacuators.items)) result }
+        ensures { (z : Sizes) (images : ℕ → ImageOf) (w : Defined) → in_range z choice ≡ true → IsWorld S.content S.honest z images (parts self.old) w
+            → Stepped S.content S.honest z images (parts self.new) w (Actor.Evacuator number) choice
+            (StoreTold S.reliable S.failures S.read_gives z w (parts self.old) (parts self.new) (Actor.Evacuator number))
+            (parts self.new ≡ parts self.old) result }
     {
         if number < self.evacuators.len() {
             let (evacuator, port) = &mut self.evacuators[number];
@@ -111,12 +117,27 @@ impl<'a, S: RawStore> World<'a, S> {
         }
     }
 
+    /// A fetcher does what it chooses, where that is in range.
+    fn step_fetcher(&mut self, number: usize, choice: Choice) -> Step
+        ensures { (z : Sizes) (images : ℕ → ImageOf) (w : Defined) → in_range z choice ≡ true → IsWorld S.content S.honest z images (parts self.old) w
+            → Stepped S.content S.honest z images (parts self.new) w (Actor.Fetcher number) choice
+            (StoreTold S.reliable S.failures S.read_gives z w (parts self.old) (parts self.new) (Actor.Fetcher number))
+            (parts self.new ≡ parts self.old) result }
+    {
+        if number < self.fetchers.len() {
+            let (fetcher, port) = &mut self.fetchers[number];
+            fetcher.turn(&mut self.lock, port, choice)
+        } else {
+            Step::NotEnabled
+        }
+    }
+
     /// A program does what it chooses, where that is in range.
     fn step_program(&mut self, number: usize, choice: Choice) -> Step
-        ensures { (z : Sizes) (images : ℕ → ImageOf) (w : Defined) → in_range z choice ≡ true → IsWorld S.content S.honest z images self.old.lock.memory self.old.lock.berths.items self.old.programs.items self.old.evacuators.items w
-            → Stepped S.content S.honest z images self.new.lock.memory self.new.lock.berths.items self.new.programs.items self.new.evacuators.items w (Actor.Program number) choice
-            (StoreTold S.reliable S.failures S.read_gives z w self.old.lock.berths.items self.old.programs.items self.old.evacuators.items self.new.programs.items self.new.evacuators.items (Actor.Program number))
-            ((self.new.lock ≡ self.old.lock) × (self.new.programs.items ≡ self.old.programs.items) × (self.new.evacuators.items ≡ self.old.evacuators.items)) result }
+        ensures { (z : Sizes) (images : ℕ → ImageOf) (w : Defined) → in_range z choice ≡ true → IsWorld S.content S.honest z images (parts self.old) w
+            → Stepped S.content S.honest z images (parts self.new) w (Actor.Program number) choice
+            (StoreTold S.reliable S.failures S.read_gives z w (parts self.old) (parts self.new) (Actor.Program number))
+            (parts self.new ≡ parts self.old) result }
     {
         if number < self.programs.len() {
             let (program, port) = &mut self.programs[number];
@@ -128,10 +149,10 @@ impl<'a, S: RawStore> World<'a, S> {
 
     /// An actor does what it chooses. Took exactly where the world has that step, which is then made; else nothing changes.
     pub fn step(&mut self, actor: Actor, choice: Choice) -> Step
-        ensures { (z : Sizes) (images : ℕ → ImageOf) (w : Defined) → IsWorld S.content S.honest z images self.old.lock.memory self.old.lock.berths.items self.old.programs.items self.old.evacuators.items w
-            → Stepped S.content S.honest z images self.new.lock.memory self.new.lock.berths.items self.new.programs.items self.new.evacuators.items w actor choice
-            (StoreTold S.reliable S.failures S.read_gives z w self.old.lock.berths.items self.old.programs.items self.old.evacuators.items self.new.programs.items self.new.evacuators.items actor)
-            ((self.new.lock ≡ self.old.lock) × (self.new.programs.items ≡ self.old.programs.items) × (self.new.evacuators.items ≡ self.old.evacuators.items)) result }
+        ensures { (z : Sizes) (images : ℕ → ImageOf) (w : Defined) → IsWorld S.content S.honest z images (parts self.old) w
+            → Stepped S.content S.honest z images (parts self.new) w actor choice
+            (StoreTold S.reliable S.failures S.read_gives z w (parts self.old) (parts self.new) actor)
+            (parts self.new ≡ parts self.old) result }
     {
         if !self.is_in_range(choice) {
             return Step::NotEnabled;
@@ -139,7 +160,7 @@ impl<'a, S: RawStore> World<'a, S> {
         match actor {
             Actor::Program(number) => self.step_program(number as usize, choice),
             Actor::Evacuator(number) => self.step_evacuator(number as usize, choice),
-            Actor::Fetcher(_) => Step::NotEnabled,
+            Actor::Fetcher(number) => self.step_fetcher(number as usize, choice),
         }
     }
 }

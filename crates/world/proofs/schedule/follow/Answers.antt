@@ -16,7 +16,7 @@ loop-rest-preserved g c =
             took.3.0,
             come_more g.S.RawStore.honest g.S.RawStore.reliable g.S.RawStore.failures g.S.RawStore.read_gives z images w at.0 took.3.0 _ _ _ c.args.schedule.now c.loop-rest.rest.now c.in-Some.others.now c.loop-rest.line x took.0
                 at.1 line took.3.1 (λ h. took.1 h)
-                (told_by g.S.RawStore.content g.S.RawStore.honest g.S.RawStore.reliable g.S.RawStore.failures g.S.RawStore.read_gives z images at.0 took.3.0 _ _ _ _ c.in-Some.actor c.in-Some.choice took.0 at.2 took.3.2 took.3.1 took.2),
+                (told_by g.S.RawStore.content g.S.RawStore.honest g.S.RawStore.reliable g.S.RawStore.failures g.S.RawStore.read_gives z images at.0 took.3.0 _ _ c.in-Some.actor c.in-Some.choice took.0 at.2 took.3.2 took.3.1 took.2),
             took.3.2,
           ),
     )

@@ -1,0 +1,9 @@
+use Rattle.std.proofs.Common.{◌-◌, ◌≤◌, length}
+use Rattle.world.specs.Opened.{AreAtRest}
+use Rattle.world.proofs.make.new_fetchers.Given as goal
+
+abbrev pub invariant-loop-alloc : goal.invariant-loop-alloc
+invariant-loop-alloc g l = (length l.fetchers.items ≤ l.count) × AreAtRest l.before l.fetchers.items
+
+abbrev pub decreases-loop-alloc : goal.decreases-loop-alloc
+decreases-loop-alloc g l = l.count - length l.fetchers.items
