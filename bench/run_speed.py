@@ -1,7 +1,8 @@
 #!/usr/bin/env python3
-"""How long `c0far run` takes over four programs, beside the same programs in Lua 5.4: run_speed.py PROGRAM
+"""How long `c0far run` takes over eight programs, beside the same programs in Lua 5.4: run_speed.py PROGRAM
 
-fib(27); a list of 20,000 nodes that is walked 10 times; an array of 100,000 ints that is scanned 10 times; a sieve to 200,000.
+fib(27); a list that is walked, an array that is scanned and a sieve, each once so small that all its objects are in frames, and once so large that they
+move all the time: a list of 50 and of 20,000 nodes, 3,000 and 100,000 ints, a sieve to 4,000 and to 200,000; a product of two matrices of 100 x 100 ints.
 Prints for each the seconds of both, the least of three runs, less those of a program that does nothing, and their ratio; without
 `lua5.4` the seconds of `c0far` alone. Both have to print the same number.
 """
@@ -19,6 +20,29 @@ PROGRAMS = [
         "fib(27)",
         "int fib(int n) { if (n < 2) return n; return fib(n - 1) + fib(n - 2); } int main() { return fib(27); }",
         "local function fib(n) if n < 2 then return n end return fib(n - 1) + fib(n - 2) end\nprint('result: ' .. fib(27))",
+    ),
+    (
+        "list of 50 nodes, walked 4,000 times",
+        "struct node { int v; struct node* next; };\n"
+        "int main() { struct node* l = NULL; for (int i = 0; i < 50; i++) { struct node* n = alloc(struct node); n->v = i; n->next = l; l = n; }"
+        " int s = 0; for (int k = 0; k < 4000; k++) { struct node* p = l; while (p != NULL) { s += p->v; p = p->next; } } return s; }",
+        "local l = nil\nfor i = 0, 49 do l = {v = i, next = l} end\nlocal s = 0\n"
+        "for k = 1, 4000 do local p = l while p ~= nil do s = s + p.v; p = p.next end end\nprint('result: ' .. s)",
+    ),
+    (
+        "3,000 ints, scanned 333 times",
+        "int main() { int[] a = alloc_array(int, 3000); for (int i = 0; i < 3000; i++) { a[i] = i % 100; }"
+        " int s = 0; for (int k = 0; k < 333; k++) { for (int i = 0; i < 3000; i++) { s += a[i]; } } return s; }",
+        "local a = {}\nfor i = 0, 2999 do a[i] = i % 100 end\nlocal s = 0\n"
+        "for k = 1, 333 do for i = 0, 2999 do s = s + a[i] end end\nprint('result: ' .. s)",
+    ),
+    (
+        "a sieve to 4,000, 60 times",
+        "int main() { int n = 4000; int primes = 0; bool[] out = alloc_array(bool, n + 1); for (int k = 0; k < 60; k++) {"
+        " for (int i = 0; i <= n; i++) { out[i] = false; } primes = 0; for (int i = 2; i <= n; i++) {"
+        " if (!out[i]) { primes++; for (int j = 2 * i; j <= n; j += i) { out[j] = true; } } } } return primes; }",
+        "local n = 4000\nlocal out = {}\nlocal primes = 0\nfor k = 1, 60 do for i = 0, n do out[i] = false end primes = 0\n"
+        "for i = 2, n do if not out[i] then primes = primes + 1 for j = 2 * i, n, i do out[j] = true end end end end\nprint('result: ' .. primes)",
     ),
     (
         "list of 20,000 nodes, walked 10 times",
@@ -41,6 +65,15 @@ PROGRAMS = [
         " if (!out[i]) { primes++; for (int j = 2 * i; j <= n; j += i) { out[j] = true; } } } return primes; }",
         "local n = 200000\nlocal out = {}\nfor i = 0, n do out[i] = false end\nlocal primes = 0\n"
         "for i = 2, n do if not out[i] then primes = primes + 1 for j = 2 * i, n, i do out[j] = true end end end\nprint('result: ' .. primes)",
+    ),
+    (
+        "a product of 100 x 100 ints",
+        "int main() { int n = 100; int[][] a = alloc_array(int[], n); int[][] b = alloc_array(int[], n);"
+        " for (int i = 0; i < n; i++) { a[i] = alloc_array(int, n); b[i] = alloc_array(int, n);"
+        " for (int j = 0; j < n; j++) { a[i][j] = i + j; b[i][j] = i - j; } }"
+        " int s = 0; for (int i = 0; i < n; i++) { for (int j = 0; j < n; j++) { int c = 0; for (int k = 0; k < n; k++) { c += a[i][k] * b[k][j]; } s += c; } } return s; }",
+        "local n = 100\nlocal a, b = {}, {}\nfor i = 0, n - 1 do a[i], b[i] = {}, {} for j = 0, n - 1 do a[i][j] = i + j; b[i][j] = i - j end end\n"
+        "local s = 0\nfor i = 0, n - 1 do for j = 0, n - 1 do local c = 0 for k = 0, n - 1 do c = c + a[i][k] * b[k][j] end s = s + c end end\nprint('result: ' .. s)",
     ),
 ]
 
