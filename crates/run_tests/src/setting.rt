@@ -162,20 +162,21 @@ impl<'a> Setting<'a> {
         })
     }
 
-    /// Its numbers, with no fetcher, and stores that fail by its plan. None where a number is out of its range, or memory ran out.
+    /// Its numbers, and stores that fail by its plan. None where a number is out of its range, or memory ran out.
     pub(crate) fn config(&self, alloc: Global) -> Option<Config<FaultStores<FarHeap>>>
         ensures frames { IfSome result (λ c. (0 < c.frames) × (c.frames ≤ 1048576)) }
         ensures objects { IfSome result (λ c. (0 < c.objects) × (c.objects ≤ 16777216)) }
-        ensures movers { IfSome result (λ c. (c.evacuators ≤ 64) × (c.fetchers ≡ 0)) }
+        ensures movers { IfSome result (λ c. (c.evacuators ≤ 64) × (c.fetchers ≤ 64)) }
         ensures limits { IfSome result (λ c. IsWithinLimits 1 c.frames c.objects c.evacuators c.fetchers) }
     {
         let frames = self.frames;
         let objects = self.objects;
         let evacuators = self.evacuators;
+        let fetchers = self.fetchers;
         if frames == 0 || frames > 1_048_576 || objects == 0 || objects > 16_777_216 {
             return None;
         }
-        if evacuators > 64 {
+        if evacuators > 64 || fetchers > 64 {
             return None;
         }
         let Ok(stores) = FaultStores::new(alloc, FarHeap, self.plan) else {
@@ -185,7 +186,7 @@ impl<'a> Setting<'a> {
             frames,
             objects,
             evacuators,
-            fetchers: 0,
+            fetchers,
             stores,
         })
     }
