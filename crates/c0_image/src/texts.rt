@@ -17,8 +17,9 @@ use c0_syntax::level::Level;
 use c0_well_formed::{images_are_accepted, images_are_consistent};
 use code_form::Image;
 use codegen::{generate, generated_keeps_the_meaning};
+use guard_hoisting::{hoist, hoisted_means_the_same};
 use lower::lower;
-use scope_placement::{place, placed_means_the_same};
+use scope_placement::{place, placed_is_scoped, placed_means_the_same};
 use scope_verifier::{Verified, verify};
 use scope_verifier_laws::VerifyFault;
 use std::alloc::{AllocError, Global};
@@ -47,13 +48,16 @@ pub fn compile(alloc: Global, text: &[u8], checks: bool) -> Result<Verified, Fau
     ensures every { (p : y.Program) → IsTypedAs false text.now p → MatchResult result (λ v. Behaves p checks (image_of v.image)) (λ f. f.kind ≡ OutOfMemory) }
 {
     elaborated();
+    placed_is_scoped();
     placed_means_the_same();
+    hoisted_means_the_same();
     generated_keeps_the_meaning();
     images_are_consistent();
     images_are_accepted();
     let typed = check_text(alloc, text, Level::C0)?;
     let middle = lower(alloc, &typed, checks)?;
-    let scoped = place(alloc, middle)?;
+    let placed = place(alloc, middle)?;
+    let scoped = hoist(alloc, placed)?;
     let image = generate(alloc, &scoped)?;
     Ok(verified(alloc, image)?)
 }

@@ -1,6 +1,6 @@
 -- Instructions and entry facts that fit an image whose lists have few items can be written.
-use Rattle.std.proofs.Common.{◌≡◌, ℕ, zero, suc, ◌<◌, ◌≤◌, Bool, true, false, cond, Option, Some, None, List, [], ◌∷◌, length, refl, sym, subst, arith}
-use Rattle.std.specs.Prelude.{◌&&◌, ◌==◌, is_some, nat_lt, slice_get}
+use Rattle.std.proofs.Common.{◌≡◌, ℕ, zero, suc, ◌<◌, ◌≤◌, Bool, true, false, Option, Some, None, List, [], ◌∷◌, length, refl, sym, subst, arith}
+use Rattle.std.specs.Prelude.{◌&&◌, is_some, nat_lt, slice_get}
 use Rattle.std.specs.List.{AllByRecursion, list_all}
 use Rattle.std.proofs.lemmas.Bool.{ltb-true}
 use Rattle.code_form.specs.declared.form.Fact.{Fact}
@@ -14,17 +14,15 @@ use Rattle.code_form.specs.declared.form.UnaryOperator.TheVariants as operator
 use Rattle.code_form.specs.Form.{Instruction, Simple, Aim, Load, Store, Leave, Call, Jump, Branch, Return, ReturnVoid, Error, Function, Image}
 use Rattle.code_form.specs.Code.{args_fit, has, has_size, is_array, is_array_of, is_compared, is_pointer, is_reference, on_kind, op_fits, place_fits, result_fits}
 use Rattle.code_form.specs.Counts.{few_arguments, is_few}
-use Rattle.code_form.specs.Known.{Known, KnownAimed, after, with_scope}
-use Rattle.code_form.specs.Asked.{Enters, IsAimedAt, callee_fits, leads_out}
+use Rattle.code_form.specs.Known.{Known, after}
+use Rattle.code_form.specs.Asked.{Enters, callee_fits, leads_out}
 use Rattle.code_verification.specs.Verified.{NamesFact}
 use Rattle.code_verification.specs.WellFormed.{IsRest}
-use Rattle.codegen.proofs.Knowing.{same_scope}
 use Rattle.image_bytes.specs.Encodable.{FactFits, InstructionFits, IsByte, IsWord, OptionalFits}
 use Rattle.scope_verifier_laws.proofs.Firsts.{both_true}
 use Rattle.scope_verifier_laws.proofs.Ranges.{aimed_there, array_there, found, has_there, like_there, offset_there, on_there, there, to_there}
-use Rattle.c0_well_formed.specs.Laws.{NamesNumber, NamesNumbers}
-use Rattle.c0_image_laws.proofs.Aims.{AreUsed, IsUsed, TellsNoAim}
-use Rattle.c0_image_laws.proofs.Numbers.{HasFew, count_fits, displacement_fits, item_fits, optional_fits, size_fits}
+use Rattle.c0_well_formed.specs.Laws.{NamesNumber, NamesNumbers, TellsNumber}
+use Rattle.c0_image_laws.proofs.Numbers.{HasFew, count_fits, item_fits, optional_fits, size_fits}
 
 module _ (C : Image) (f : Function) (few : HasFew C) (kinds : is_few f.kinds ≡ true) (blocks : is_few f.blocks ≡ true) (scopes : f.scopes ≤ 4) where
   -- ---- registers, scopes, blocks and functions
@@ -98,18 +96,6 @@ module _ (C : Image) (f : Function) (few : HasFew C) (kinds : is_few f.kinds ≡
   operation_fits Flush h n = tt
   operation_fits (Assert a) h n = (of_kind a kind.Bool h, tt)
 
-  -- the cell that a scope was aimed at just before is there
-  aimed : (s t r : ℕ) (off : Option ℕ) (disp a : ℕ) (k : Known) → t ≡ s → IsAimedAt C f ((with_scope s (KnownAimed r off disp) k).scope t) a → IsWord disp
-  aimed s t r off disp a k e h =
-      let at : IsAimedAt C f (cond (s == s) (KnownAimed r off disp) (k.scope s)) a = subst (λ u. IsAimedAt C f ((with_scope s (KnownAimed r off disp) k).scope u) a) e h in
-      let is : IsAimedAt C f (KnownAimed r off disp) a = subst (λ z. IsAimedAt C f z a) (same_scope s (KnownAimed r off disp) (k.scope s)) at in
-      displacement_fits C.head few.each_layout f.kinds (λ j. has f.kinds a j) r disp is.1
-
-  aim_near : (s r : ℕ) (off : Option ℕ) (disp : ℕ) (rest : List Instruction) (k : Known) → IsRest C f k (Aim s r off disp ∷ rest) → IsUsed (Aim s r off disp) rest → IsWord disp
-  aim_near s r off disp (Load to t ∷ rest) k h used = aimed s t r off disp to k used h.1.0.1.1
-  aim_near s r off disp (Store t from ∷ rest) k h used = aimed s t r off disp from k used h.1.0.1.1
-  aim_near s r off disp _ k h used = absurd used
-
   arguments_fit : (theirs : List Kind) (n : ℕ) (args : List ℕ) → args_fit f.kinds theirs n args ≡ true → AllByRecursion IsWord args
   arguments_fit theirs n [] h = tt
   arguments_fit theirs zero (a ∷ args) h = absurd (cc h)
@@ -128,34 +114,34 @@ module _ (C : Image) (f : Function) (few : HasFew C) (kinds : is_few f.kinds ≡
       let q = both_true (args_fit f.kinds x.kinds x.parameters args) (result_fits f.kinds x.result to) h in
       (to_fits x.result to q.1, (item_fits C.functions g few.functions (found C.functions g x e), ((count_fits args short, arguments_fit x.kinds x.parameters args q.0), tt)))
 
-  instruction_fits : (i : Instruction) (rest : List Instruction) (k : Known) → IsRest C f k (i ∷ rest) → IsUsed i rest → NamesNumbers i → few_arguments i ≡ true → InstructionFits i
-  instruction_fits (Simple o) rest k h used n short = operation_fits o h.0.1 n
-  instruction_fits (Aim s r off disp) rest k h used n short = let q = place r off h.0.1.0 in (scope s h.0.1.1, (q.0, (q.1, (aim_near s r off disp rest k h used, tt))))
-  instruction_fits (Load to s) rest k h used n short = (register to (aimed_there C f (k.scope s) to h.0.1.1), (scope s h.0.1.0, tt))
-  instruction_fits (Store s from) rest k h used n short = (scope s h.0.1.0, (register from (aimed_there C f (k.scope s) from h.0.1.1), tt))
-  instruction_fits (Leave s) rest k h used n short = (scope s h.0.1, tt)
-  instruction_fits (Call to g args) rest k h used n short = call_fits (slice_get C.functions g) to g args refl h.0.1 short
-  instruction_fits (Jump b) rest k h used n short = (block k b h.0.1, tt)
-  instruction_fits (Branch a b c) rest k h used n short = (of_kind a kind.Bool h.0.1.0, (block k b h.0.1.1, (block k c h.0.1.2, tt)))
-  instruction_fits (Return a) rest k h used n short = (register a (like_there f.kinds a f.result h.0.1), tt)
-  instruction_fits ReturnVoid rest k h used n short = tt
-  instruction_fits (Error a) rest k h used n short = (of_kind a kind.Text h.0.1, tt)
+  instruction_fits : (i : Instruction) (rest : List Instruction) (k : Known) → IsRest C f k (i ∷ rest) → NamesNumbers i → few_arguments i ≡ true → InstructionFits i
+  instruction_fits (Simple o) rest k h n short = operation_fits o h.0.1 n
+  instruction_fits (Aim s r off disp) rest k h n short = let q = place r off h.0.1.0 in (scope s h.0.1.1, (q.0, (q.1, (n, tt))))
+  instruction_fits (Load to s) rest k h n short = (register to (aimed_there C f (k.scope s) to h.0.1.1), (scope s h.0.1.0, tt))
+  instruction_fits (Store s from) rest k h n short = (scope s h.0.1.0, (register from (aimed_there C f (k.scope s) from h.0.1.1), tt))
+  instruction_fits (Leave s) rest k h n short = (scope s h.0.1, tt)
+  instruction_fits (Call to g args) rest k h n short = call_fits (slice_get C.functions g) to g args refl h.0.1 short
+  instruction_fits (Jump b) rest k h n short = (block k b h.0.1, tt)
+  instruction_fits (Branch a b c) rest k h n short = (of_kind a kind.Bool h.0.1.0, (block k b h.0.1.1, (block k c h.0.1.2, tt)))
+  instruction_fits (Return a) rest k h n short = (register a (like_there f.kinds a f.result h.0.1), tt)
+  instruction_fits ReturnVoid rest k h n short = tt
+  instruction_fits (Error a) rest k h n short = (of_kind a kind.Text h.0.1, tt)
 
   -- what stands behind an instruction, where something stands there
   behind : (Q : List Instruction → Type 0) (out : Bool) (rest : List Instruction) (k : Known) → Q [] → (IsRest C f k rest → Q rest) → elim out as (λ b. Type 0) [ true ↦ rest ≡ [] | false ↦ IsRest C f k rest ] → Q rest
   behind Q true rest k none go e = subst Q (sym e) none
   behind Q false rest k none go h = go h
 
-  pub code_fits : (is : List Instruction) (k : Known) → IsRest C f k is → AreUsed is → AllByRecursion NamesNumbers is → list_all few_arguments is ≡ true → AllByRecursion InstructionFits is
-  code_fits [] k h used n short = tt
-  code_fits (i ∷ rest) k h used n short =
+  pub code_fits : (is : List Instruction) (k : Known) → IsRest C f k is → AllByRecursion NamesNumbers is → list_all few_arguments is ≡ true → AllByRecursion InstructionFits is
+  code_fits [] k h n short = tt
+  code_fits (i ∷ rest) k h n short =
       let q = both_true (few_arguments i) (list_all few_arguments rest) short in
-      (instruction_fits i rest k h used.0 n.0 q.0, behind (AllByRecursion InstructionFits) (leads_out i) rest (after i k) tt (λ r. code_fits rest (after i k) r used.1 n.1 q.1) h.1)
+      (instruction_fits i rest k h n.0 q.0, behind (AllByRecursion InstructionFits) (leads_out i) rest (after i k) tt (λ r. code_fits rest (after i k) r n.1 q.1) h.1)
 
   -- ---- entry facts
 
-  pub fact_fits : (x : Fact) → NamesFact f.kinds f.scopes x → TellsNoAim x → FactFits x
+  pub fact_fits : (x : Fact) → NamesFact f.kinds f.scopes x → TellsNumber x → FactFits x
   fact_fits (fact.Nonnull r) h n = register r (on_there f.kinds is_pointer r h)
   fact_fits (fact.Inside d r) h n = (register d (offset_there f.kinds d r h), register r (array_there f.kinds d r h))
-  fact_fits (fact.Aimed s r off disp) h n = absurd n
+  fact_fits (fact.Aimed s r off disp) h n = let q = place r off h.1 in (scope s h.0, (q.0, (q.1, n)))
   fact_fits (fact.Shut s) h n = scope s h

@@ -1,6 +1,4 @@
-mod Aims
 mod Numbers
 mod Instructions
 mod Functions
-mod Placed
 mod Encodable

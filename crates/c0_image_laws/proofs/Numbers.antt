@@ -6,12 +6,11 @@ use Rattle.std.proofs.lemmas.Bool.{eqb-true, ltb-true}
 use Rattle.code_form.specs.declared.form.Kind.{Kind}
 use Rattle.code_form.specs.declared.form.Kind.TheVariants as kind
 use Rattle.code_form.specs.Form.{Head, Image}
-use Rattle.code_form.specs.Code.{and_then, cell_kind, has_size, is_size, layout_of, on_kind}
+use Rattle.code_form.specs.Code.{and_then, has_size, is_size, layout_of}
 use Rattle.code_form.specs.Counts.{few_in_function, has_few_items, is_few}
 use Rattle.image_bytes.specs.Encodable.{CellFits, IsWord, KindFits, OptionalFits, ResultFits}
 use Rattle.scope_verifier_laws.specs.Numbers.{is_cell_kind, is_result_kind, is_value, names_layout}
 use Rattle.scope_verifier_laws.proofs.Firsts.{both_true}
-use Rattle.scope_verifier_laws.proofs.Ranges.{on_there}
 
 -- ---- lists
 
@@ -61,15 +60,9 @@ module _ (count : ℕ) (few : IsWord count) where
   result_fits None h = tt
   result_fits (Some k) h = kind_fits k (both_true (names_layout count k) (is_value k) h).0
 
--- ---- cells
+-- ---- the cells of layouts
 
--- a cell of one of these layouts
-cell_near : (ls : List (List Kind)) (test : Kind → Bool) (l disp : ℕ) → list_all is_few ls ≡ true → on_kind test (and_then (slice_get ls l) (λ cs. slice_get cs disp)) ≡ true → IsWord disp
-cell_near [] test l disp few h = absurd (cc h)
-cell_near (cs ∷ ls) test zero disp few h = item_fits cs disp (both_true (is_few cs) (list_all is_few ls) few).0 (on_there cs test disp h)
-cell_near (cs ∷ ls) test (suc l) disp few h = cell_near ls test l disp (both_true (is_few cs) (list_all is_few ls) few).1 h
-
--- the length of one of them
+-- the length of one of these layouts
 size_near : (ls : List (List Kind)) (l size : ℕ) → list_all is_few ls ≡ true → is_size size (slice_get ls l) ≡ true → IsWord size
 size_near [] l size few h = absurd (cc h)
 size_near (cs ∷ ls) zero size few h =
@@ -80,17 +73,6 @@ size_near (cs ∷ ls) (suc l) size few h = size_near ls l size (both_true (is_fe
 
 module _ (H : Head) (few : list_all is_few H.layouts ≡ true) where
   -- of what a register refers to
-  pub displacement_fits : (ks : List Kind) (test : Kind → Bool) (r disp : ℕ) → on_kind test (cell_kind H ks r disp) ≡ true → IsWord disp
-  displacement_fits ks test r disp h = of_kind (slice_get ks r) h
-    where
-      of_layout : (o : Option ℕ) → on_kind test (and_then o (λ l. and_then (slice_get H.layouts l) (λ cs. slice_get cs disp))) ≡ true → IsWord disp
-      of_layout None e = absurd (cc e)
-      of_layout (Some l) e = cell_near H.layouts test l disp few e
-
-      of_kind : (o : Option Kind) → on_kind test (and_then o (λ k. and_then (layout_of k) (λ l. and_then (slice_get H.layouts l) (λ cs. slice_get cs disp)))) ≡ true → IsWord disp
-      of_kind None e = absurd (cc e)
-      of_kind (Some k) e = of_layout (layout_of k) e
-
   pub size_fits : (size : ℕ) (o : Option Kind) → has_size H size o ≡ true → IsWord size
   size_fits size None h = absurd (cc h)
   size_fits size (Some k) h = of_layout (layout_of k) h

@@ -3,4 +3,6 @@
 
 mod laws;
 
-pub use laws::{images_are_encodable, images_are_read_again, worked_image};
+pub use laws::{
+    consistent_is_encodable, images_are_encodable, images_are_read_again, worked_image,
+};

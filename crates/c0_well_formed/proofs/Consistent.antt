@@ -1,6 +1,7 @@
 -- The image of a well-typed program is consistent.
 use Rattle.std.proofs.Common.{◌≡◌, ℕ, zero, suc, ◌+◌, ◌<◌, ◌≤◌, Bool, true, false, cond, List, [], ◌∷◌, ◌++◌, length, map, take, Some, refl, sym, subst, arith}
-use Rattle.std.specs.Prelude.{nat_lt, All, slice_get}
+use Rattle.std.specs.Prelude.{◌&&◌, nat_lt, All, slice_get}
+use Rattle.std.specs.List.{list_all}
 use Rattle.std.proofs.lemmas.List.{length-append, length-map}
 use Rattle.c0_typed.specs.Trees.{Ty, VoidTy, IntTy, BoolTy, CharTy, TextTy, StructTy, PointerTy, ArrayTy}
 use Rattle.c0_typed.specs.Typing.{FitsProgram}
@@ -17,8 +18,10 @@ use Rattle.c0_typed.specs.declared.tree.Function.{Function}
 use Rattle.c0_typed.specs.declared.tree.Typed.{Typed}
 use Rattle.code_form.specs.declared.form.Fact.{Fact}
 use Rattle.code_form.specs.declared.form.Kind.{Kind}
+use Rattle.code_form.specs.Counts.{has_few_items, is_few}
 use Rattle.code_form.specs.Form as image
 use Rattle.middle_form.specs.Form as f
+use Rattle.middle_form.specs.WellFormed.{all_fit, code_fits, function_fits, main_fits, result_fits}
 use Rattle.lower_tables.specs.Gathered.{singles_of, types_of_functions}
 use Rattle.lower_tables.specs.Kinds as k
 use Rattle.lower_tables.specs.Kinds.{layouts_of}
@@ -28,16 +31,23 @@ use Rattle.lower.specs.Lowered.{lowered, result_kind, with_main_first}
 use Rattle.lower_expressions.specs.Expressions.{checked, constant_kind, unary_kind}
 use Rattle.lower.proofs.Layouts.{layouts_length}
 use Rattle.middle_form.specs.Scoped as scoped
-use Rattle.scope_placement.specs.Placed.{placed_function}
+use Rattle.scope_placement.specs.Placed.{placed_function, whole}
 use Rattle.scope_placement.proofs.Disciplined.{few}
+use Rattle.guard_hoisting.specs.Hoisted.{hoisted_function}
+use Rattle.guard_hoisting.proofs.Aimed.{keeps_the_places}
 use Rattle.codegen.specs.Generated.{blocks, blocks_with, facts_of, function_of}
 use Rattle.c0_well_formed.specs.Images.{image_of_tree}
 use Rattle.scope_verifier_laws.specs.Numbers.{is_result_kind, names_layout}
-use Rattle.c0_well_formed.specs.Laws.{ImagesAreConsistent, IsConsistent, IsConsistentFunction, NamesNumbers}
+use Rattle.c0_well_formed.specs.Laws.{ImagesAreConsistent, IsConsistent, IsConsistentFunction, NamesNumbers, TellsNumber}
+use Rattle.c0_well_formed.proofs.Functions.{lowered_ok}
 use Rattle.c0_well_formed.proofs.Images.{images_ok}
+use Rattle.c0_well_formed.proofs.Near.{Near, whole_near}
+use Rattle.c0_well_formed.proofs.Told.{blocks_told, facts_told}
+use Rattle.c0_well_formed.proofs.Tests.{both_true}
 use Rattle.c0_well_formed.proofs.Ordered.{in_order}
 use Rattle.c0_well_formed.proofs.Numbers.{CodeNames, function_names}
 use Rattle.c0_well_formed.proofs.ScopedNumbers.{blocks_names, whole_names}
+use Rattle.c0_well_formed.proofs.HoistedNumbers.{few_scopes, hoisted_names}
 use Rattle.c0_well_formed.proofs.CellKinds.{Each, IsCellKind, all_sound, each_all, each_append, each_as, kind_good, kind_named, number_named, singles_good, structs_good}
 
 module _ (structs : List (List Ty)) (singles : List Kind) (texts : List (List ℕ)) (functions : List Function) (main : ℕ) (checks : Bool) where
@@ -177,9 +187,11 @@ module _ (structs : List (List Ty)) (singles : List Kind) (texts : List (List �
   abbrev code : Function → f.Function
   code h = l.function_code structs singles texts functions main checks h
 
-  function_consistent : (h : Function) → CodeNames (code h).body → IsConsistentFunction count (function_of (placed_function (code h)))
-  function_consistent h names =
-      let with_scopes : scoped.Function = placed_function (code h) in
+  function_consistent : (h : Function) → CodeNames (code h).body → Near (whole (code h).body) → IsConsistentFunction count (function_of (hoisted_function (placed_function (code h))))
+  function_consistent h names near =
+      let placed : scoped.Function = placed_function (code h) in
+      let with_scopes : scoped.Function = hoisted_function placed in
+      let aims : Near with_scopes.body = keeps_the_places (λ r off disp. nat_lt disp 4294967296) placed.kinds placed.body near in
       let before = conditions_kinds (checked checks h.preconditions.items) in
       let inside = body_kinds h.body.items in
       let behind = conditions_kinds (checked checks h.postconditions.items) in
@@ -192,14 +204,25 @@ module _ (structs : List (List Ty)) (singles : List Kind) (texts : List (List �
             (each_append Named (map kind_at h.locals.items) (kind_at h.result ∷ rest) (locals_named h.locals.items) (here h.result, named)));
         parameters = each_all (IsCellKind count) _ (first_good h.parameters.items (map kind_at h.locals.items ++ (kind_at h.result ∷ rest)));
         result = result_good (type_of h.result);
-        scopes = few (code h).body [] (omega arith);
+        scopes = few_scopes placed (few (code h).body [] (omega arith));
         numbers = each_all (λ (b : image.Block). All NamesNumbers b.code) (blocks_with (facts_of with_scopes) (blocks with_scopes))
-            (blocks_named (facts_of with_scopes) (blocks with_scopes) (blocks_names with_scopes (whole_names (code h).body names)));
+            (blocks_named (facts_of with_scopes) (blocks with_scopes) (blocks_names with_scopes (hoisted_names placed.kinds placed.body (whole_names (code h).body names)) aims));
+        told = each_all (λ (b : image.Block). All TellsNumber b.facts) (blocks_with (facts_of with_scopes) (blocks with_scopes))
+            (blocks_told (facts_of with_scopes) (blocks with_scopes) (facts_told with_scopes aims));
       }
 
-  functions_consistent : (fs : List Function) → Each (λ h. CodeNames (code h).body) fs → Each (IsConsistentFunction count) (map function_of (map placed_function (map code fs)))
-  functions_consistent [] names = tt
-  functions_consistent (h ∷ rest) names = (function_consistent h names.0, functions_consistent rest names.1)
+  -- the code of a function that fits
+  fitting_near : (P : f.Program) → list_all is_few P.head.layouts ≡ true → (g : f.Function) → function_fits P g ≡ true → Near (whole g.body)
+  fitting_near P few g h =
+      let inside = both_true (nat_lt g.parameters (suc (length g.kinds))) (code_fits P g.kinds 0 g.body && result_fits g) h in
+      whole_near P few g.kinds g.body (both_true (code_fits P g.kinds 0 g.body) (result_fits g) inside.1).0
+
+  functions_consistent : (P : f.Program) → list_all is_few P.head.layouts ≡ true → (fs : List Function) → all_fit P (map code fs) ≡ true → Each (λ h. CodeNames (code h).body) fs
+      → Each (IsConsistentFunction count) (map function_of (map hoisted_function (map placed_function (map code fs))))
+  functions_consistent P few [] fit names = tt
+  functions_consistent P few (h ∷ rest) fit names =
+      let q = both_true (function_fits P (code h)) (all_fit P (map code rest)) fit in
+      (function_consistent h names.0 (fitting_near P few (code h) q.0), functions_consistent P few rest q.1 names.1)
 
 -- ---- layouts and texts
 
@@ -220,6 +243,14 @@ each_text : (texts : List (List ℕ)) → ((i : ℕ) (text : List ℕ) → slice
 each_text [] h = tt
 each_text (x ∷ rest) h = (h 0 x refl, each_text rest (λ i text e. h (suc i) text e))
 
+-- no layout of an image has 2^32 cells, where none of its lists has 2^32 items
+few_cells : (C : image.Image) → has_few_items C ≡ true → list_all is_few C.head.layouts ≡ true
+few_cells C h =
+    let texts = both_true (is_few C.head.texts) _ h in
+    let each_text = both_true (list_all is_few C.head.texts) _ texts.1 in
+    let layouts = both_true (is_few C.head.layouts) _ each_text.1 in
+    (both_true (list_all is_few C.head.layouts) _ layouts.1).0
+
 -- ---- functions in the order of the code
 
 each_function : (Q : Function → Type 0) (texts : List (List ℕ)) (fs : List Function) → ((i : ℕ) (h : Function) → slice_get (map (typed_function texts) fs) i ≡ Some (typed_function texts h) → Q h) → Each Q fs
@@ -228,6 +259,7 @@ each_function Q texts (x ∷ rest) go = (go 0 x refl, each_function Q texts rest
 
 pub images_consistent : ImagesAreConsistent
 images_consistent checks typed fp few =
+    let P : f.Program = lowered (singles_of typed) checks typed in
     let structs = (program_of typed).structs in
     let singles = singles_of typed in
     let count = layouts_count structs singles in
@@ -242,7 +274,8 @@ images_consistent checks typed fp few =
           (each_as (Each (IsCellKind (suc (length structs + length singles)))) (All (IsCellKind (suc (length structs + length singles)))) (each_all (IsCellKind (suc (length structs + length singles)))) (layouts_of structs singles) (layouts_good structs singles sound)));
       functions = subst (λ i. All (IsConsistentFunction i) (image_of_tree checks typed).functions) (sym count)
           (each_all (IsConsistentFunction (suc (length structs + length singles))) (image_of_tree checks typed).functions
-          (functions_consistent structs singles (texts_of typed) typed.functions.items typed.main checks (with_main_first typed.main typed.functions.items)
+          (functions_consistent structs singles (texts_of typed) typed.functions.items typed.main checks P (few_cells (image_of_tree checks typed) few) (with_main_first typed.main typed.functions.items)
+          (both_true (main_fits P.functions) (all_fit P P.functions) (lowered_ok checks typed fp)).1
           (in_order (λ h. CodeNames (l.function_code structs singles (texts_of typed) typed.functions.items typed.main checks h).body) typed.main typed.functions.items
           (each_function (λ h. CodeNames (l.function_code structs singles (texts_of typed) typed.functions.items typed.main checks h).body) (texts_of typed) typed.functions.items
           (λ i h e. function_names typed singles checks h (fp.functions i (typed_function (texts_of typed) h) e))))));

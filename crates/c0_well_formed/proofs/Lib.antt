@@ -12,7 +12,10 @@ mod GuardedFunctions
 mod Images
 mod CellKinds
 mod Numbers
+mod Near
+mod Told
 mod ScopedNumbers
+mod HoistedNumbers
 mod Consistent
 mod Accepted
 mod Ordered

@@ -1,38 +1,26 @@
 -- The numbers that the instructions of an image name are those that its code names.
 use Rattle.std.proofs.Common.{ℕ, suc, ◌+◌, Bool, true, false, cond, List, [], ◌∷◌, ◌++◌, Option, Some, None}
+use Rattle.std.proofs.lemmas.Bool.{ltb-true}
 use Rattle.code_form.specs.declared.form.Kind.{Kind}
 use Rattle.code_form.specs.Form as image
 use Rattle.code_form.specs.Form.{Instruction, Simple}
 use Rattle.code_form.specs.Code.{needs_shut}
 use Rattle.middle_form.specs.Form as f
 use Rattle.middle_form.specs.Scoped as s
+use Rattle.middle_form.specs.Scoped.{plain}
 use Rattle.scope_placement.specs.Placed.{Open, in_order, leaves, leaves_from, open_behind, placed, whole}
 use Rattle.codegen.specs.Generated as g
 use Rattle.codegen.specs.Generated.{blocks, extra, first, last}
-use Rattle.c0_well_formed.specs.Laws.{NamesNumber, NamesNumbers}
+use Rattle.c0_well_formed.specs.Laws.{NamesNumbers}
 use Rattle.c0_well_formed.proofs.CellKinds.{Each, each_append}
 use Rattle.c0_well_formed.proofs.Numbers.{CodeNames}
+use Rattle.c0_well_formed.proofs.Near.{Near}
 
 -- ---- code with scopes
 
 -- each simple instruction of the code names such numbers
 abbrev pub ScopedNames : s.Code → Type 0
-ScopedNames (s.Do x) = NamesNumber x
-ScopedNames (s.Then a b) = ScopedNames a × ScopedNames b
-ScopedNames (s.Choose r a b) = ScopedNames a × ScopedNames b
-ScopedNames (s.Loop test r body) = ScopedNames test × ScopedNames body
-ScopedNames (s.Block a) = ScopedNames a
-ScopedNames s.Nothing = Unit {0}
-ScopedNames (s.Load to z r off disp) = Unit {0}
-ScopedNames (s.Store z r off disp from) = Unit {0}
-ScopedNames (s.LoadBy to z r off disp) = Unit {0}
-ScopedNames (s.StoreBy z r off disp from) = Unit {0}
-ScopedNames (s.Aim z r off disp) = Unit {0}
-ScopedNames (s.Leave z) = Unit {0}
-ScopedNames (s.Loose z) = Unit {0}
-ScopedNames (s.Call to i args) = Unit {0}
-ScopedNames (s.Fail a) = Unit {0}
-ScopedNames (s.Exit i) = Unit {0}
+ScopedNames a = CodeNames (plain a)
 
 ordered_names : (cs : List s.Code) → Each ScopedNames cs → ScopedNames (in_order cs)
 ordered_names [] h = tt
@@ -72,57 +60,57 @@ whole_names a h = closed_names a (placed_names a [] h)
 
 -- ---- the image
 
-first_names : (a : s.Code) (b : ℕ) (next : List Instruction) (exits : List ℕ) → ScopedNames a → Each NamesNumbers next → Each NamesNumbers (first a b next exits)
-first_names s.Nothing b next exits h k = k
-first_names (s.Do x) b next exits h k = (h, k)
-first_names (s.Load to z r off disp) b next exits h k = (tt, (tt, k))
-first_names (s.Store z r off disp from) b next exits h k = (tt, (tt, k))
-first_names (s.LoadBy to z r off disp) b next exits h k = (tt, k)
-first_names (s.StoreBy z r off disp from) b next exits h k = (tt, k)
-first_names (s.Aim z r off disp) b next exits h k = (tt, k)
-first_names (s.Leave z) b next exits h k = (tt, k)
-first_names (s.Loose z) b next exits h k = k
-first_names (s.Call to i args) b next exits h k = (tt, k)
-first_names (s.Fail a) b next exits h k = (tt, tt)
-first_names (s.Then a d) b next exits h k = first_names a (b + g.count d) (first d b next exits) exits h.0 (first_names d b next exits h.1 k)
-first_names (s.Choose r a d) b next exits h k = (tt, tt)
-first_names (s.Loop test r body) b next exits h k = (tt, tt)
-first_names (s.Block a) b next exits h k = first_names a (suc b) (image.Jump b ∷ []) (b ∷ exits) h (tt, tt)
-first_names (s.Exit i) b next exits h k = (tt, tt)
+first_names : (a : s.Code) (b : ℕ) (next : List Instruction) (exits : List ℕ) → ScopedNames a → Near a → Each NamesNumbers next → Each NamesNumbers (first a b next exits)
+first_names s.Nothing b next exits h n k = k
+first_names (s.Do x) b next exits h n k = (h, k)
+first_names (s.Load to z r off disp) b next exits h n k = (ltb-true disp 4294967296 n, (tt, k))
+first_names (s.Store z r off disp from) b next exits h n k = (ltb-true disp 4294967296 n, (tt, k))
+first_names (s.LoadBy to z r off disp) b next exits h n k = (tt, k)
+first_names (s.StoreBy z r off disp from) b next exits h n k = (tt, k)
+first_names (s.Aim z r off disp) b next exits h n k = (ltb-true disp 4294967296 n, k)
+first_names (s.Leave z) b next exits h n k = (tt, k)
+first_names (s.Loose z) b next exits h n k = k
+first_names (s.Call to i args) b next exits h n k = (tt, k)
+first_names (s.Fail a) b next exits h n k = (tt, tt)
+first_names (s.Then a d) b next exits h n k = first_names a (b + g.count d) (first d b next exits) exits h.0 n.0 (first_names d b next exits h.1 n.1 k)
+first_names (s.Choose r a d) b next exits h n k = (tt, tt)
+first_names (s.Loop test r body) b next exits h n k = (tt, tt)
+first_names (s.Block a) b next exits h n k = first_names a (suc b) (image.Jump b ∷ []) (b ∷ exits) h n (tt, tt)
+first_names (s.Exit i) b next exits h n k = (tt, tt)
 
-extra_names : (a : s.Code) (b : ℕ) (next : List Instruction) (exits : List ℕ) → ScopedNames a → Each NamesNumbers next → Each (Each NamesNumbers) (extra a b next exits)
-extra_names s.Nothing b next exits h k = tt
-extra_names (s.Do x) b next exits h k = tt
-extra_names (s.Load to z r off disp) b next exits h k = tt
-extra_names (s.Store z r off disp from) b next exits h k = tt
-extra_names (s.LoadBy to z r off disp) b next exits h k = tt
-extra_names (s.StoreBy z r off disp from) b next exits h k = tt
-extra_names (s.Aim z r off disp) b next exits h k = tt
-extra_names (s.Leave z) b next exits h k = tt
-extra_names (s.Loose z) b next exits h k = tt
-extra_names (s.Call to i args) b next exits h k = tt
-extra_names (s.Fail a) b next exits h k = tt
-extra_names (s.Then a d) b next exits h k =
-    each_append (Each NamesNumbers) (extra d b next exits) (extra a (b + g.count d) (first d b next exits) exits) (extra_names d b next exits h.1 k) (extra_names a (b + g.count d) (first d b next exits) exits h.0 (first_names d b next exits h.1 k))
-extra_names (s.Choose r a d) b next exits h k = (
+extra_names : (a : s.Code) (b : ℕ) (next : List Instruction) (exits : List ℕ) → ScopedNames a → Near a → Each NamesNumbers next → Each (Each NamesNumbers) (extra a b next exits)
+extra_names s.Nothing b next exits h n k = tt
+extra_names (s.Do x) b next exits h n k = tt
+extra_names (s.Load to z r off disp) b next exits h n k = tt
+extra_names (s.Store z r off disp from) b next exits h n k = tt
+extra_names (s.LoadBy to z r off disp) b next exits h n k = tt
+extra_names (s.StoreBy z r off disp from) b next exits h n k = tt
+extra_names (s.Aim z r off disp) b next exits h n k = tt
+extra_names (s.Leave z) b next exits h n k = tt
+extra_names (s.Loose z) b next exits h n k = tt
+extra_names (s.Call to i args) b next exits h n k = tt
+extra_names (s.Fail a) b next exits h n k = tt
+extra_names (s.Then a d) b next exits h n k =
+    each_append (Each NamesNumbers) (extra d b next exits) (extra a (b + g.count d) (first d b next exits) exits) (extra_names d b next exits h.1 n.1 k) (extra_names a (b + g.count d) (first d b next exits) exits h.0 n.0 (first_names d b next exits h.1 n.1 k))
+extra_names (s.Choose r a d) b next exits h n k = (
   k,
-  each_append (Each NamesNumbers) (extra a (suc b) (image.Jump b ∷ []) exits) _ (extra_names a (suc b) (image.Jump b ∷ []) exits h.0 (tt, tt)) (
-    first_names a (suc b) (image.Jump b ∷ []) exits h.0 (tt, tt),
-    each_append (Each NamesNumbers) (extra d (suc (suc b + g.count a)) (image.Jump b ∷ []) exits) _ (extra_names d (suc (suc b + g.count a)) (image.Jump b ∷ []) exits h.1 (tt, tt)) (first_names d (suc (suc b + g.count a)) (image.Jump b ∷ []) exits h.1 (tt, tt), tt),
+  each_append (Each NamesNumbers) (extra a (suc b) (image.Jump b ∷ []) exits) _ (extra_names a (suc b) (image.Jump b ∷ []) exits h.0 n.0 (tt, tt)) (
+    first_names a (suc b) (image.Jump b ∷ []) exits h.0 n.0 (tt, tt),
+    each_append (Each NamesNumbers) (extra d (suc (suc b + g.count a)) (image.Jump b ∷ []) exits) _ (extra_names d (suc (suc b + g.count a)) (image.Jump b ∷ []) exits h.1 n.1 (tt, tt)) (first_names d (suc (suc b + g.count a)) (image.Jump b ∷ []) exits h.1 n.1 (tt, tt), tt),
   ),
 )
-extra_names (s.Loop test r body) b next exits h k = (
-  first_names test (suc (suc (suc b) + g.count body)) (image.Branch r (suc (suc b) + g.count body) (suc b) ∷ []) (suc b ∷ exits) h.0 (tt, tt),
+extra_names (s.Loop test r body) b next exits h n k = (
+  first_names test (suc (suc (suc b) + g.count body)) (image.Branch r (suc (suc b) + g.count body) (suc b) ∷ []) (suc b ∷ exits) h.0 n.0 (tt, tt),
   (
     k,
-    each_append (Each NamesNumbers) (extra body (suc (suc b)) (image.Jump b ∷ []) (suc b ∷ exits)) _ (extra_names body (suc (suc b)) (image.Jump b ∷ []) (suc b ∷ exits) h.1 (tt, tt)) (
-      first_names body (suc (suc b)) (image.Jump b ∷ []) (suc b ∷ exits) h.1 (tt, tt),
-      extra_names test (suc (suc (suc b) + g.count body)) (image.Branch r (suc (suc b) + g.count body) (suc b) ∷ []) (suc b ∷ exits) h.0 (tt, tt),
+    each_append (Each NamesNumbers) (extra body (suc (suc b)) (image.Jump b ∷ []) (suc b ∷ exits)) _ (extra_names body (suc (suc b)) (image.Jump b ∷ []) (suc b ∷ exits) h.1 n.1 (tt, tt)) (
+      first_names body (suc (suc b)) (image.Jump b ∷ []) (suc b ∷ exits) h.1 n.1 (tt, tt),
+      extra_names test (suc (suc (suc b) + g.count body)) (image.Branch r (suc (suc b) + g.count body) (suc b) ∷ []) (suc b ∷ exits) h.0 n.0 (tt, tt),
     ),
   ),
 )
-extra_names (s.Block a) b next exits h k = (k, extra_names a (suc b) (image.Jump b ∷ []) (b ∷ exits) h (tt, tt))
-extra_names (s.Exit i) b next exits h k = tt
+extra_names (s.Block a) b next exits h n k = (k, extra_names a (suc b) (image.Jump b ∷ []) (b ∷ exits) h n (tt, tt))
+extra_names (s.Exit i) b next exits h n k = tt
 
 last_names : (x : s.Function) → Each NamesNumbers (last x)
 last_names x = by x.result
@@ -131,5 +119,5 @@ last_names x = by x.result
     by None = (tt, tt)
     by (Some k) = (tt, tt)
 
-pub blocks_names : (x : s.Function) → ScopedNames x.body → Each (Each NamesNumbers) (blocks x)
-blocks_names x h = (first_names x.body 1 (last x) [] h (last_names x), extra_names x.body 1 (last x) [] h (last_names x))
+pub blocks_names : (x : s.Function) → ScopedNames x.body → Near x.body → Each (Each NamesNumbers) (blocks x)
+blocks_names x h n = (first_names x.body 1 (last x) [] h n (last_names x), extra_names x.body 1 (last x) [] h n (last_names x))

@@ -5,8 +5,9 @@ use Rattle.code_form.specs.Form.{Image}
 use Rattle.lower_tables.specs.Gathered.{singles_of}
 use Rattle.lower.specs.Lowered.{lowered}
 use Rattle.scope_placement.specs.Placed.{placed_program}
+use Rattle.guard_hoisting.specs.Hoisted.{hoisted_program}
 use Rattle.codegen.specs.Generated.{generated}
 
--- the image of a typed tree, with its contracts checked or not: that of its structured code with scopes placed
+-- the image of a typed tree, with its contracts checked or not: that of its structured code with scopes placed, and with those of its loops opened before them
 abbrev pub image_of_tree : Bool → Typed → Image
-image_of_tree checks typed = generated (placed_program (lowered (singles_of typed) checks typed))
+image_of_tree checks typed = generated (hoisted_program (placed_program (lowered (singles_of typed) checks typed)))

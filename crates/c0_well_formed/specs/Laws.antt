@@ -4,11 +4,13 @@ use Rattle.std.specs.Int.{w32}
 use Rattle.c0_typed.specs.Typing.{FitsProgram}
 use Rattle.c0_typed.specs.Views.{program_of}
 use Rattle.c0_typed.specs.declared.tree.Typed.{Typed}
+use Rattle.code_form.specs.declared.form.Fact.{Fact}
+use Rattle.code_form.specs.declared.form.Fact.TheVariants as fact
 use Rattle.code_form.specs.declared.form.Kind.{Kind}
 use Rattle.code_form.specs.declared.form.Operation.{Operation}
 use Rattle.code_form.specs.declared.form.Operation.TheVariants as op
 use Rattle.code_form.specs.Counts.{has_few_items}
-use Rattle.code_form.specs.Form.{Simple, Instruction, Block, Function, Image}
+use Rattle.code_form.specs.Form.{Simple, Aim, Instruction, Block, Function, Image}
 use Rattle.middle_form.specs.WellFormed.{is_well_formed}
 use Rattle.lower_tables.specs.Gathered.{singles_of}
 use Rattle.lower.specs.Lowered.{lowered}
@@ -37,19 +39,26 @@ NamesNumber (op.CharOf d c) = c < 128
 NamesNumber (op.Prefetch r off disp) = disp < 4294967296
 NamesNumber _ = Unit {0}
 
--- the same of any instruction
+-- the same of any instruction, and of the displacement that it aims a scope at
 abbrev pub NamesNumbers : Instruction → Type 0
 NamesNumbers (Simple o) = NamesNumber o
+NamesNumbers (Aim s r off disp) = disp < 4294967296
 NamesNumbers _ = Unit {0}
 
--- the kinds of a function's registers name one of so many layouts; those of its parameters and of its result are kinds of values; it has at most four scopes,
--- and its instructions name numbers of 32 bits and characters below 128
+-- the displacement at which a scope is aimed is one of 32 bits, where an entry fact tells of one
+abbrev pub TellsNumber : Fact → Type 0
+TellsNumber (fact.Aimed s r off disp) = disp < 4294967296
+TellsNumber _ = Unit {0}
+
+-- the kinds of a function's registers name one of so many layouts; those of its parameters and of its result are kinds of values; it has at most four scopes;
+-- its instructions name numbers of 32 bits and characters below 128, and its entry facts tell of displacements of 32 bits
 pub record IsConsistentFunction (count : ℕ) (f : Function) : Type 0 where
   pub kinds : All (λ k. names_layout count k ≡ true) f.kinds
   pub parameters : All (λ k. is_cell_kind count k ≡ true) (take f.parameters f.kinds)
   pub result : is_result_kind count f.result ≡ true
   pub scopes : f.scopes ≤ 4
   pub numbers : All (λ (b : Block). All NamesNumbers b.code) f.blocks
+  pub told : All (λ (b : Block). All TellsNumber b.facts) f.blocks
 
 -- No list has 2^32 items; each kind names a layout that is there, and no cell of a layout is an offset; each byte of a text is below 128; entry facts
 -- name registers and scopes that are there

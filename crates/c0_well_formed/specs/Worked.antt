@@ -6,7 +6,7 @@ use Rattle.code_form.specs.declared.form.Fact.{Fact}
 use Rattle.code_form.specs.declared.form.Fact.TheVariants as fact
 use Rattle.code_form.specs.declared.form.Operation.{Operation}
 use Rattle.code_form.specs.declared.form.Operation.TheVariants as op
-use Rattle.code_form.specs.Form.{Image, Return, Simple}
+use Rattle.code_form.specs.Form.{Image, Aim, Leave, Return, Simple}
 
 -- an image of one function, which does one thing and returns its first register, with these facts at its entry
 abbrev pub with_facts : List (List ℕ) → List (List Kind) → ℕ → List Kind → ℕ → Operation → List Fact → Image
@@ -58,6 +58,23 @@ large_number = with_one [] [] 0 (kind.Int ∷ []) 0 (op.Const 0 (pos 2147483648)
 -- a displacement of 33 bits
 abbrev pub large_displacement : Image
 large_displacement = with_one [] ((kind.Int ∷ []) ∷ []) 0 (kind.Int ∷ kind.Ptr 0 ∷ []) 0 (op.Prefetch 1 None 4294967296)
+
+-- a scope is aimed 2^32 cells behind a pointer, and left: no cell is read there, so that the verifier does not ask for one
+abbrev pub far_aim : Image
+far_aim = record {
+  head = record { texts = []; layouts = (kind.Int ∷ []) ∷ [] };
+  functions = record {
+    result = Some kind.Int;
+    parameters = 0;
+    kinds = kind.Int ∷ kind.Ptr 0 ∷ [];
+    scopes = 1;
+    blocks = record { facts = fact.Shut 0 ∷ []; code = Aim 0 1 None 4294967296 ∷ Leave 0 ∷ Return 0 ∷ [] } ∷ [];
+  } ∷ [];
+}
+
+-- a fact of a scope that is aimed so far
+abbrev pub far_fact : Image
+far_fact = with_facts [] ((kind.Int ∷ []) ∷ []) 0 (kind.Int ∷ kind.Ptr 0 ∷ []) 1 (op.Const 0 (pos 7)) (fact.Aimed 0 1 None 4294967296 ∷ [])
 
 -- a fact of a scope that is not there
 abbrev pub missing_scope : Image

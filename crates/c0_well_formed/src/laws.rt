@@ -1,7 +1,7 @@
 //! Functions that compute nothing, and whose contracts are the laws.
 
 ghost use Rattle.c0_well_formed.specs.Laws.{ImagesAreConsistent, ImagesAreVerified, ImagesHaveNoFault, IsConsistent, LoweredIsGuarded, LoweredIsWellFormed};
-ghost use Rattle.c0_well_formed.specs.Worked.{consistent_image, five_scopes, large_byte, large_character, large_displacement, large_number, missing_scope, offset_as_parameter, offset_in_layout, with_texts, without_layout};
+ghost use Rattle.c0_well_formed.specs.Worked.{consistent_image, far_aim, far_fact, five_scopes, large_byte, large_character, large_displacement, large_number, missing_scope, offset_as_parameter, offset_in_layout, with_texts, without_layout};
 ghost use Rattle.std.specs.Prelude.{◌^◌, ◌≤◌, ℕ};
 
 use scope_verifier_laws::verified_is_accepted;
@@ -25,7 +25,7 @@ pub fn images_are_verified()
 {}
 
 /// In the image of a well-typed program, where no list of it has 2^32 items, each kind names a layout that is there, offsets stand in registers alone, no
-/// function has more than four scopes, numbers are of 32 bits, characters and texts are ASCII, and entry facts name what is there.
+/// function has more than four scopes, numbers and displacements are of 32 bits, characters and texts are ASCII, and entry facts name what is there.
 pub fn images_are_consistent()
     ensures { ImagesAreConsistent }
 {}
@@ -49,5 +49,7 @@ pub fn worked_images()
     ensures character { IsConsistent large_character → ⊥ }
     ensures number { IsConsistent large_number → ⊥ }
     ensures displacement { IsConsistent large_displacement → ⊥ }
+    ensures aim { IsConsistent far_aim → ⊥ }
+    ensures told { IsConsistent far_fact → ⊥ }
     ensures fact { IsConsistent missing_scope → ⊥ }
 {}

@@ -49,5 +49,11 @@ returns-clause-number c h = let z = (h.functions 0 some (omega arith)).numbers 0
 pub returns-clause-displacement : goal.returns-clause-displacement
 returns-clause-displacement c h = let z : 4294967296 < 4294967296 = (h.functions 0 some (omega arith)).numbers 0 one (omega arith) 0 ReturnVoid (omega arith) in omega arith
 
+pub returns-clause-aim : goal.returns-clause-aim
+returns-clause-aim c h = let z : 4294967296 < 4294967296 = (h.functions 0 some (omega arith)).numbers 0 one (omega arith) 0 ReturnVoid (omega arith) in omega arith
+
+pub returns-clause-told : goal.returns-clause-told
+returns-clause-told c h = let z : 4294967296 < 4294967296 = (h.functions 0 some (omega arith)).told 0 one (omega arith) 0 (fact.Shut 0) (omega arith) in omega arith
+
 pub returns-clause-fact : goal.returns-clause-fact
 returns-clause-fact c h = let z : 1 < 1 = h.facts 0 some (omega arith) 0 one (omega arith) 0 (fact.Shut 0) (omega arith) in omega arith
