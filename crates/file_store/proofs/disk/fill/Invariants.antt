@@ -1,0 +1,8 @@
+use Rattle.std.proofs.Common.{◌-◌, ◌≤◌, length}
+use Rattle.file_store.proofs.disk.fill.Given as goal
+
+abbrev pub invariant-fill : goal.invariant-fill
+invariant-fill g l = l.count ≤ length l.bytes
+
+abbrev pub decreases-fill : goal.decreases-fill
+decreases-fill g l = length l.initial.bytes - l.count
