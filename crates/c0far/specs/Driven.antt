@@ -17,7 +17,7 @@ use Rattle.image_bytes.specs.Bytes.{image_bytes}
 use Rattle.image_bytes.specs.Encodable.{IsImage}
 use Rattle.image_listing.specs.Listing.{listing}
 use Rattle.image_reader.specs.Reading.{reads}
-use Rattle.image_run.specs.Executed.{IsExecuted}
+use Rattle.image_run.specs.Executed.{IsExecuted, IsExecutedOver}
 use Rattle.instruction_table.specs.FaultNumbers.{fault_line as image_line}
 use Rattle.instruction_table.specs.declared.fault.ImageFault.{ImageFault}
 use Rattle.scope_verifier_laws.specs.Faults.{fault_of}
@@ -198,18 +198,23 @@ pub record HasMeant (checks : Bool) (turns : ℕ) (held : Known) (out err : Writ
 abbrev pub Means : Text → Bool → ℕ → Known → Writes → Writes → ℕ → Type 0
 Means file checks turns held out err result = HasMeant checks turns held out err result ⊎ (HasFailed file held out err result ⊎ (IsUnread file held out err result ⊎ LacksMemory out err result))
 
--- the code of the file ran, that of a text with contracts checked or not: what it printed and its end are shown
-pub record HasRun (file : Text) (checks : Bool) (held : Known) (out err : Writes) (result : ℕ) : Type 0 where
+-- the image ran so: over a store in memory, or over one in files of a folder, of which nothing is told where the folder is not honest
+abbrev pub RanOver : Type 0 → Option Text → Image → Ended → Type 0
+RanOver honest None image ended = IsExecuted image ended
+RanOver honest (Some store) image ended = honest → IsExecutedOver ⊥ image ended
+
+-- the code of the file ran over a store, that of a text with contracts checked or not: what it printed and its end are shown
+pub record HasRun (honest : Type 0) (file : Text) (checks : Bool) (store : Option Text) (held : Known) (out err : Writes) (result : ℕ) : Type 0 where
   pub image : Image
   pub ended : Ended
   pub code : HoldsCode file checks held image
-  pub executed : IsExecuted image ended
+  pub executed : RanOver honest store image ended
   pub shown : Says out (shown_end ended) (run_status ended.run) result
   pub quiet : IsQuiet err
 
--- the command `run` of this file, which holds this
-abbrev pub Runs : Text → Bool → Known → Writes → Writes → ℕ → Type 0
-Runs file checks held out err result = HasRun file checks held out err result ⊎ HasNoCode file held out err result
+-- the command `run` of this file, which holds this, over a store in memory or in a folder, where folders are honest or not
+abbrev pub Runs : Type 0 → Text → Bool → Option Text → Known → Writes → Writes → ℕ → Type 0
+Runs honest file checks store held out err result = HasRun honest file checks store held out err result ⊎ HasNoCode file held out err result
 
 -- all files but this one hold what they held
 pub record KeepsOthers (target : Text) (held now : Text → Known) : Type 0 where
@@ -219,13 +224,13 @@ pub record KeepsOthers (target : Text) (held now : Text → Known) : Type 0 wher
 abbrev pub KeepsFiles : (held now : Text → Known) → Type 0
 KeepsFiles held now = (name : Text) → now name ≡ held name
 
--- the command, where files held this and hold that now: `build` alone may write a file, the one that it names
-abbrev pub Does : (held now : Text → Known) → Command → Writes → Writes → ℕ → Type 0
-Does held now (shell.Build checks target file) out err result = Builds file checks target (held file) (held target) (now target) out err result × KeepsOthers target held now
-Does held now (Check file) out err result = Checks file (held file) out err result × KeepsFiles held now
-Does held now (shell.Lists file) out err result = Lists file (held file) out err result × KeepsFiles held now
-Does held now (Mean checks turns file) out err result = Means file checks turns (held file) out err result × KeepsFiles held now
-Does held now (Run checks file) out err result = Runs file checks (held file) out err result × KeepsFiles held now
+-- the command, where files held this and hold that now, and folders are honest or not: `build` alone may write a file, the one that it names
+abbrev pub Does : Type 0 → (held now : Text → Known) → Command → Writes → Writes → ℕ → Type 0
+Does honest held now (shell.Build checks target file) out err result = Builds file checks target (held file) (held target) (now target) out err result × KeepsOthers target held now
+Does honest held now (Check file) out err result = Checks file (held file) out err result × KeepsFiles held now
+Does honest held now (shell.Lists file) out err result = Lists file (held file) out err result × KeepsFiles held now
+Does honest held now (Mean checks turns file) out err result = Means file checks turns (held file) out err result × KeepsFiles held now
+Does honest held now (Run checks store file) out err result = Runs honest file checks store (held file) out err result × KeepsFiles held now
 
 -- the words are no command: it is told what is refused, and a page of help is shown
 pub record IsUsage (words : List Text) (out err : Writes) (result : ℕ) : Type 0 where
@@ -233,7 +238,7 @@ pub record IsUsage (words : List Text) (out err : Writes) (result : ℕ) : Type 
   pub shown : Says err (help_text words) 2 result
   pub quiet : IsQuiet out
 
--- what the words ask for was done, where files held this and hold that now
-abbrev pub IsDriven : (held now : Text → Known) → List Text → Writes → Writes → ℕ → Type 0
-IsDriven held now words out err result =
-    ((command : Command) × Names words command × Does held now command out err result) ⊎ (KeepsFiles held now × (IsUsage words out err result ⊎ LacksMemory out err result))
+-- what the words ask for was done, where files held this and hold that now, and folders are honest or not
+abbrev pub IsDriven : Type 0 → (held now : Text → Known) → List Text → Writes → Writes → ℕ → Type 0
+IsDriven honest held now words out err result =
+    ((command : Command) × Names words command × Does honest held now command out err result) ⊎ (KeepsFiles held now × (IsUsage words out err result ⊎ LacksMemory out err result))

@@ -1,7 +1,8 @@
 //! The commands, over files and two streams.
-ghost use Rattle.std.specs.Prelude.{◌≡◌, ◌++◌, ℕ, List, codes, map};
+ghost use Rattle.std.specs.Prelude.{◌≡◌, ◌++◌, ℕ, IfOk, List, codes, map, option_map};
+ghost use Rattle.code_form.specs.Form.{image_of};
 ghost use Rattle.command_line.specs.Help.{help_text};
-ghost use Rattle.c0far.specs.Driven.{Checks, ChecksImage, ChecksText, IsDriven, Runs, newline, shown_end};
+ghost use Rattle.c0far.specs.Driven.{Checks, ChecksImage, ChecksText, IsDriven, RanOver, Runs, newline, shown_end};
 ghost use Rattle.c0far.specs.FileTexts.{HasText, Known};
 ghost use Rattle.c0far.specs.Statuses.{run_status};
 ghost use Rattle.c0far.specs.Streams.{Says, writes};
@@ -21,8 +22,10 @@ use cells::{Ended, Run, Stop};
 use command_line::help::{complaint, page};
 use command_line::line::line;
 use command_line::words::{Line, Usage};
-use image_run::execute;
-use std::alloc::Global;
+use file_store::FileStores;
+use image_run::{execute, execute_over};
+use scope_verifier::Verified;
+use std::alloc::{AllocError, Global};
 use std::sync::Wait;
 use std::thread::Threads;
 
@@ -65,24 +68,50 @@ fn say_end<O: Stream>(out: &mut O, ended: &Ended) -> u8
     after(writeln!(out, "{run}"), status)
 }
 
+/// How the code of a file is run: with contracts checked or not, over a store in memory or in the folder of this name.
+#[derive(Clone, Copy)]
+struct Asked<'a> {
+    checks: bool,
+    store: Option<&'a str>,
+}
+
+/// Runs this image over a store in memory or in the folder of this name.
+fn run_image<W: Wait, F: Files>(
+    alloc: Global,
+    rt: &W,
+    verified: &Verified,
+    store: Option<&str>,
+    files: &F,
+) -> Result<Ended, AllocError>
+    ensures { IfOk result (λ e. RanOver F.Place.honest (option_map (λ s. s.now) store) (image_of verified.now.image) e) }
+{
+    match store {
+        None => execute(alloc, rt, verified),
+        Some(name) => {
+            let folder = files.folder(alloc, name)?;
+            execute_over(alloc, rt, verified, FileStores::new(folder))
+        }
+    }
+}
+
 /// Runs the code of a file.
 fn run<W: Wait, F: Files, O: Stream, E: Stream>(
     alloc: Global,
     rt: &W,
-    checks: bool,
+    asked: Asked<'_>,
     file: &str,
     files: &mut F,
     out: &mut O,
     err: &mut E,
 ) -> u8
     ensures files { (name : List ℕ) → F.holds files.new name ≡ F.holds files.old name }
-    ensures done { Runs file.now checks (F.holds files.old file.now) (writes O.contents O.failures out.old out.new) (writes E.contents E.failures err.old err.new) result }
+    ensures done { Runs F.Place.honest file.now asked.checks (option_map (λ s. s.now) asked.store) (F.holds files.old file.now) (writes O.contents O.failures out.old out.new) (writes E.contents E.failures err.old err.new) result }
 {
-    let verified = match code_of(alloc, checks, file, files, err) {
+    let verified = match code_of(alloc, asked.checks, file, files, err) {
         Ok(verified) => verified,
         Err(status) => return status,
     };
-    match execute(alloc, rt, &verified) {
+    match run_image(alloc, rt, &verified, asked.store, files) {
         Ok(ended) => say_end(out, &ended),
         Err(_refused) => say_memory(err),
     }
@@ -169,7 +198,7 @@ pub fn drive<W: Wait + Threads, F: Files, O: Stream, E: Stream>(
     out: &mut O,
     err: &mut E,
 ) -> u8
-    ensures { IsDriven (F.holds files.old) (F.holds files.new) (map (λ w. w.now) words.now) (writes O.contents O.failures out.old out.new) (writes E.contents E.failures err.old err.new) result }
+    ensures { IsDriven F.Place.honest (F.holds files.old) (F.holds files.new) (map (λ w. w.now) words.now) (writes O.contents O.failures out.old out.new) (writes E.contents E.failures err.old err.new) result }
 {
     match line(alloc, words) {
         Ok(
@@ -188,7 +217,13 @@ pub fn drive<W: Wait + Threads, F: Files, O: Stream, E: Stream>(
                 file,
             },
         ) => mean(alloc, rt, Bound { checks, turns }, file, files, out, err),
-        Ok(Line::Run { checks, file }) => run(alloc, rt, checks, file, files, out, err),
+        Ok(
+            Line::Run {
+                checks,
+                store,
+                file,
+            },
+        ) => run(alloc, rt, Asked { checks, store }, file, files, out, err),
         Err(Usage::Refused) => say_help(err, words),
         Err(Usage::OutOfMemory) => say_memory(err),
     }

@@ -1,7 +1,10 @@
 //! The files that a command works on.
-ghost use Rattle.std.specs.Prelude.{◌≡◌, ℕ, IfErr, IfOk, List, [], None, OnOk, Option};
+ghost use Rattle.std.specs.Prelude.{◌≡◌, ℕ, IfErr, IfOk, List, [], ◌∷◌, ◌++◌, None, OnOk, Option, string_bytes};
+ghost use Rattle.std.specs.List.{list_any};
+ghost use Rattle.std.specs.Str.{bytes_eq};
 ghost use Rattle.c0far.specs.FileTexts.{HasText, IsMissing};
 
+use file_store::{DiskFolder, Folder, MemFolder};
 use std::alloc::{AllocError, Global};
 use std::collections::BTreeMap;
 use std::rt::Files as SystemFiles;
@@ -19,8 +22,10 @@ pub enum FileError {
     OutOfMemory = 2,
 }
 
-/// Files by their names.
+/// Files by their names, and folders for stores.
 pub trait Files {
+    type Place: Folder + Clone + Send;
+
     // What the file of a name holds, where it is known.
     ghost holds: { Self → List ℕ → Option (Option (List ℕ)) } = { λ _ _. None };
 
@@ -35,6 +40,9 @@ pub trait Files {
         ensures text { OnOk result (HasText (holds self.new name.now) bytes.now) }
         ensures failed { IfErr result (λ _. holds self.new name.now ≡ holds self.old name.now) }
         ensures others { (n : List ℕ) → (n ≡ name.now → ⊥) → holds self.new n ≡ holds self.old n };
+
+    /// The folder of this name, for a store. Where none is there, each write and each read of a file in it fails.
+    fn folder(&self, alloc: Global, name: &str) -> Result<Self::Place, AllocError>;
 }
 
 /// The files of the folder in which the program works.
@@ -77,7 +85,9 @@ fn write_whole<R: SystemFiles + AllocGlobal>(
     fs::rename(rt, fresh, name)
 }
 
-impl<'a, R: SystemFiles + AllocGlobal> Files for FolderFiles<'a, R> {
+impl<'a, R: SystemFiles + AllocGlobal + Sync> Files for FolderFiles<'a, R> {
+    type Place = DiskFolder<'a, R>;
+
     fn read(&mut self, _alloc: Global, name: &str) -> Result<Vec<u8>, FileError> {
         fs::read(self.rt, name).map_err(refusal)
     }
@@ -96,26 +106,57 @@ impl<'a, R: SystemFiles + AllocGlobal> Files for FolderFiles<'a, R> {
             }
         }
     }
+
+    fn folder(&self, alloc: Global, name: &str) -> Result<DiskFolder<'a, R>, AllocError> {
+        DiskFolder::new(alloc, self.rt, name)
+    }
 }
 
-/// Files in memory.
+/// Files in memory, and the names of folders that are there.
 #[derive(Drop)]
 pub struct MemFiles {
     files: BTreeMap<String, Vec<u8>>,
+    folders: Vec<String>,
 }
 
 impl MemFiles {
-    /// No files.
+    /// No files and no folders.
     pub fn new(alloc: Global) -> MemFiles
-        ensures { result.files.entries ≡ [] }
+        ensures files { result.files.entries ≡ [] }
+        ensures folders { result.folders.items ≡ [] }
     {
         MemFiles {
             files: BTreeMap::new(alloc),
+            folders: Vec::new(alloc),
         }
+    }
+
+    /// One folder more. `OutOfMemory` where a growth is refused, which changes nothing.
+    pub fn add_folder(&mut self, alloc: Global, name: &str) -> Result<(), FileError>
+        ensures files { self.new.files ≡ self.old.files }
+        ensures added { IfOk result (λ _. (added : String) × (string_bytes added ≡ name.now) × (self.new.folders.items ≡ self.old.folders.items ++ added ∷ [])) }
+        ensures refused { IfErr result (λ why. (why ≡ FileError.OutOfMemory) × (self.new.folders.items ≡ self.old.folders.items)) }
+    {
+        let Ok(added) = String::from_str(alloc, name) else {
+            return Err(FileError::OutOfMemory);
+        };
+        match self.folders.push(added) {
+            Ok(()) => Ok(()),
+            Err(_refused) => Err(FileError::OutOfMemory),
+        }
+    }
+
+    // Whether there is a folder of this name.
+    fn has_folder(&self, name: &str) -> bool
+        ensures { result ≡ list_any (λ folder. bytes_eq (string_bytes folder) name.now) self.now.folders.items }
+    {
+        self.folders.iter().any(|folder| folder.as_str() == name)
     }
 }
 
 impl Files for MemFiles {
+    type Place = MemFolder;
+
     ghost use Rattle.c0far.specs.MemTexts.{held_in};
 
     ghost holds = { λ m name. held_in m.files.entries name };
@@ -137,6 +178,16 @@ impl Files for MemFiles {
         match self.files.insert(key, copy) {
             Ok(_before) => Ok(()),
             Err(_refused) => Err(FileError::OutOfMemory),
+        }
+    }
+
+    fn folder(&self, _alloc: Global, name: &str) -> Result<MemFolder, AllocError>
+        ensures { IfOk result (λ place. place.there ≡ list_any (λ folder. bytes_eq (string_bytes folder) name.now) self.now.folders.items) }
+    {
+        if self.has_folder(name) {
+            Ok(MemFolder::new())
+        } else {
+            Ok(MemFolder::missing())
         }
     }
 }

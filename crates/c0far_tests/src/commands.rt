@@ -111,6 +111,11 @@ impl Bench {
         Ok(())
     }
 
+    /// A folder of this name, for stores.
+    pub(crate) fn add_folder(&mut self, name: &str) -> io::Result<()> {
+        self.files.add_folder(self.alloc, name).map_err(refusal)
+    }
+
     /// One write to the standard output of the next command fails, after so many others.
     pub(crate) fn fail_out(&mut self, after: u8) {
         self.failing_out = Some(after);

@@ -3,6 +3,7 @@
 //! A row is a line of such a file:
 //! - `= NAME` begins the text of a file in memory, which is the lines behind it, up to the next row;
 //! - `* N BYTES`, in a text, stands for `N` times these bytes, with no newline behind it;
+//! - `! folder NAME` makes a folder in memory, for stores;
 //! - `! out N` and `! err N` have one write of that stream of the next command fail, after `N` others;
 //! - `$ WORDS` does the command line of these words, with one blank between two of them;
 //! - `? WORDS` does the same, and tells only the first line that is written to each stream.
@@ -30,6 +31,7 @@ fn go_through<R: Threads + Wait, O: Write>(
         match Row::of(line) {
             Row::File(name) => bench.begin(name)?,
             Row::Repeated(count, text) => bench.add_often(count, text)?,
+            Row::Folder(name) => bench.add_folder(name)?,
             Row::FailingOut(after) => bench.fail_out(after),
             Row::FailingErr(after) => bench.fail_err(after),
             Row::Command(words) => bench.command(rt, words, false, out)?,

@@ -9,6 +9,8 @@ pub enum Row<'a> {
     File(&'a str),
     /// A part of a text: so many times these bytes.
     Repeated(usize, &'a [u8]),
+    /// A folder of this name.
+    Folder(&'a str),
     /// After so many writes of the next command to its standard output, one fails.
     FailingOut(u8),
     /// The same of its standard error.
@@ -52,6 +54,9 @@ impl<'a> Row<'a> {
         }
         if let Some((count, bytes)) = repeated(line) {
             return Row::Repeated(count, bytes);
+        }
+        if let Some(name) = behind(line, b"! folder ") {
+            return Row::Folder(name);
         }
         if let Some(Ok(after)) = behind(line, b"! out ").map(|number| number.parse()) {
             return Row::FailingOut(after);

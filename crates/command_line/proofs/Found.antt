@@ -15,7 +15,7 @@ use Rattle.clap.specs.declared.error.Error.{Error}
 use Rattle.clap.specs.declared.parser.matches.ArgMatches.{ArgMatches}
 use Rattle.clap.specs.declared.parser.matches.ArgMatches.TheViews.{out-ArgMatches, out-SubCommand}
 use Rattle.clap.specs.declared.parser.matches.SubCommand.{SubCommand}
-use Rattle.command_line.specs.Shell.{Build, Command, Mean, build_command, command_in, has_checks, mean_command, named_command, number_in, shell}
+use Rattle.command_line.specs.Shell.{Build, Command, Mean, Run, build_command, command_in, has_checks, mean_command, named_command, number_in, run_command, shell}
 use Rattle.clap.specs.declared.parser.matches.Found.{Found}
 use Rattle.clap.specs.declared.parser.matches.MatchedArg.{MatchedArg}
 
@@ -53,6 +53,10 @@ run_is f o n file e told =
 -- what was found of the file to write tells the writing of an image
 pub build_is : (f : Found) (o : Option Text) (file : Text) → o ≡ first_value f (codes "out") → option_map (λ out. Build (has_checks (rows_of f)) out file) o ≡ build_command (rows_of f) file
 build_is f o file e = ap (option_map (λ out. Build (has_checks (rows_of f)) out file)) (e ∙ sym (first_is f (codes "out")))
+
+-- what was found of the folder tells the run
+pub ran_is : (f : Found) (b : Bool) (o : Option Text) (file : Text) → b ≡ has_checks (rows_of f) → o ≡ first_value f (codes "store") → Run b o file ≡ run_command (rows_of f) file
+ran_is f b o file checked told = (λ i. Run (checked i) ((told ∙ sym (first_is f (codes "store"))) i) file)
 
 -- a pair by its parts
 pair_is : (o : Option (Text × List Row)) (n : Text) (rows : List Row) → Some n ≡ option_map (λ (p : Text × List Row). p.0) o → Some rows ≡ option_map (λ (p : Text × List Row). p.1) o → o ≡ Some (n, rows)

@@ -42,7 +42,7 @@ page_named name =
 abbrev pub is_option : Text → Text → Bool
 is_option name word =
     cond (bytes_eq name (codes "build")) (bytes_eq word (codes "-d") || starts_with (λ a b. a == b) word (codes "-o"))
-    (cond (bytes_eq name (codes "mean")) (bytes_eq word (codes "-d") || starts_with (λ a b. a == b) word (codes "--turns")) (bytes_eq name (codes "run") && bytes_eq word (codes "-d")))
+    (cond (bytes_eq name (codes "mean")) (bytes_eq word (codes "-d") || starts_with (λ a b. a == b) word (codes "--turns")) (bytes_eq name (codes "run") && (bytes_eq word (codes "-d") || starts_with (λ a b. a == b) word (codes "--store"))))
 
 -- the word begins as an option does, and is none of the command of this name
 abbrev pub is_stray : Text → Text → Bool

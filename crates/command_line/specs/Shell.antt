@@ -28,6 +28,10 @@ turns_rule = record (new_rule (codes "turns")) { long = Some (codes "turns"); re
 abbrev pub out_rule : Rule
 out_rule = record (new_rule (codes "out")) { short = Some 111; required = true; action = Some Set }
 
+-- --store DIR
+abbrev pub store_rule : Rule
+store_rule = record (new_rule (codes "store")) { long = Some (codes "store"); action = Some Set }
+
 -- build [-d] -o OUT FILE
 abbrev pub build_shape : Shape
 build_shape = (with_rule (with_rule (with_rule (new_app (codes "build")) checks_rule) out_rule) file_rule).top
@@ -40,9 +44,9 @@ file_shape name = (with_rule (new_app name) file_rule).top
 abbrev pub mean_shape : Shape
 mean_shape = (with_rule (with_rule (with_rule (new_app (codes "mean")) checks_rule) turns_rule) file_rule).top
 
--- run [-d] FILE
+-- run [-d] [--store DIR] FILE
 abbrev pub run_shape : Shape
-run_shape = (with_rule (with_rule (new_app (codes "run")) checks_rule) file_rule).top
+run_shape = (with_rule (with_rule (with_rule (new_app (codes "run")) checks_rule) store_rule) file_rule).top
 
 -- c0far, which wants a command
 abbrev pub top_shape : Shape
@@ -57,13 +61,14 @@ shell =
 abbrev pub IsLocal : Built → Type 0
 IsLocal c = (out-Command c).has_globals ≡ false
 
--- a command, with its file; `build`, `mean` and `run` with whether contracts are checked, `build` with the file that it writes, `mean` with its turns
+-- a command, with its file; `build`, `mean` and `run` with whether contracts are checked, `build` with the file that it writes, `mean` with its turns,
+-- `run` with the folder of its store, where it has one
 pub data Command : Type 0 where
   Build : Bool → (out file : Text) → Command
   Check : Text → Command
   Lists : Text → Command
   Mean : Bool → ℕ → Text → Command
-  Run : Bool → Text → Command
+  Run : Bool → (store : Option Text) → Text → Command
 
 -- these are digits, one or more, and their number has at most 64 bits
 abbrev pub is_number : Text → Bool
@@ -89,6 +94,10 @@ mean_command rows file = option_map (λ turns. Mean (has_checks rows) turns file
 abbrev pub build_command : List Row → Text → Option Command
 build_command rows file = option_map (λ out. Build (has_checks rows) out file) (first_of (codes "out") rows)
 
+-- the run of this file, over a store in the folder of the rows, where there is one
+abbrev pub run_command : List Row → Text → Command
+run_command rows file = Run (has_checks rows) (first_of (codes "store") rows) file
+
 -- the command of this name, with the other rows and with this file
 abbrev pub named_command : Text → List Row → Text → Option Command
 named_command name rows file =
@@ -96,7 +105,7 @@ named_command name rows file =
     (cond (bytes_eq name (codes "check")) (Some (Check file))
     (cond (bytes_eq name (codes "list")) (Some (Lists file))
     (cond (bytes_eq name (codes "mean")) (mean_command rows file)
-    (cond (bytes_eq name (codes "run")) (Some (Run (has_checks rows) file)) None))))
+    (cond (bytes_eq name (codes "run")) (Some (run_command rows file)) None))))
 
 -- the command that clap found, with its rows
 abbrev pub command_in : Option (Text × List Row) → Option Command
@@ -109,7 +118,7 @@ command_of (line.Build checks out file) = Build checks out.now file.now
 command_of (line.Check file) = Check file.now
 command_of (line.List file) = Lists file.now
 command_of (line.Mean checks turns file) = Mean checks turns file.now
-command_of (line.Run checks file) = Run checks file.now
+command_of (line.Run checks store file) = Run checks (option_map (λ s. s.now) store) file.now
 
 -- clap finds no fault in the words, and they are this command, as it reads them
 abbrev pub Names : List Text → Command → Type 0

@@ -13,7 +13,7 @@ commands:
   check FILE                  tells whether a text is a program, and where not
   list FILE                   prints the instructions that the text is compiled to
   mean [-d] --turns N FILE    runs the text's program plainly, for at most N turns
-  run [-d] FILE               compiles the text, and runs it over a store
+  run [-d] [--store DIR] FILE compiles the text, and runs it over a store
   help [COMMAND]              shows this page, or that of a command
 
 A FILE whose name ends in .c0i is an image, as build writes it: check tells whether
@@ -21,7 +21,7 @@ it may be run, list and run take it as it is. To mean each FILE is a text.
 
 status: 0 where a text is accepted, or a program ended with a result or was cut;
   1 where it stopped otherwise; 2 where a text, an image, a file or the words are
-  refused, or a write failed; 3 where memory or objects ran out
+  refused, or a write failed; 3 where memory or objects ran out, or a store failed
 
 docs/LANGUAGE.md tells what is accepted, docs/LIMITS.md the limits";
 
@@ -86,18 +86,21 @@ status: 0 where it ended with a result, or was cut; 1 where it stopped otherwise
 docs/LANGUAGE.md tells what is accepted, docs/LIMITS.md how deep calls nest";
 
 /// The page of `run`.
-pub const RUN_PAGE: &str = "usage: c0far run [-d] FILE
+pub const RUN_PAGE: &str = "usage: c0far run [-d] [--store DIR] FILE
 
 Compiles the text in FILE and runs its program, whose objects move between local
 memory and a store; an image in FILE is run as it is. When it has ended it prints its output and then how it ended:
 `result: N`, `assertion failed`, `error: TEXT`, `null fault`, `bounds fault`,
-`length fault`, `arithmetic fault`, `out of memory`, or `no objects`.
+`length fault`, `arithmetic fault`, `out of memory`, `no objects`, or `store failed`.
 
 options:
-  -d    checks contracts while it runs; not for an image
+  -d             checks contracts while it runs; not for an image
+  --store DIR    the store is in files of the folder DIR, and not in memory; it
+                 writes over files there whose names are numbers
 
 status: 0 where it ended with a result; 1 where it stopped otherwise; 2 where the
-  text or the image is refused, or cannot be read; 3 where memory or objects ran out
+  text or the image is refused, or cannot be read; 3 where memory or objects ran
+  out, or the store failed
 
 docs/LIMITS.md tells how many objects there are, docs/LANGUAGE.md what is accepted";
 
@@ -163,7 +166,7 @@ fn has_option(name: &str, word: &str) -> bool
     match name {
         "build" => word == "-d" || begins(word, "-o"),
         "mean" => word == "-d" || begins(word, "--turns"),
-        "run" => word == "-d",
+        "run" => word == "-d" || begins(word, "--store"),
         _ => false,
     }
 }

@@ -1,7 +1,7 @@
 //! From words to a command.
 ghost use Rattle.std.specs.Prelude.{◌≡◌, [], IfErr, IfOk, List, ℕ, map, option_map, true};
 ghost use Rattle.clap.specs.Words.{app_of, found_of, kind_of, rows_of, subcommand_rows_of};
-ghost use Rattle.command_line.specs.Shell.{Command as Asked, IsLocal, Names, build_command, build_shape, command_in, command_of, file_shape, has_checks, is_signed, mean_command, mean_shape, named_command, number_in, run_shape, shell};
+ghost use Rattle.command_line.specs.Shell.{Command as Asked, IsLocal, Names, build_command, build_shape, command_in, command_of, file_shape, has_checks, is_signed, mean_command, mean_shape, named_command, number_in, run_command, run_shape, shell};
 
 use crate::words::{Line, Usage};
 use clap::error::ErrorKind;
@@ -61,7 +61,7 @@ fn mean<'a>(alloc: Global) -> Result<Command<'a>, AllocError>
         .arg(file)
 }
 
-/// The run, with its option and its file.
+/// The run, with its options and its file.
 fn run<'a>(alloc: Global) -> Result<Command<'a>, AllocError>
     ensures shape { IfOk result (λ c. app_of c ≡ record { top = run_shape; subs = [] }) }
     ensures local { IfOk result IsLocal }
@@ -69,10 +69,16 @@ fn run<'a>(alloc: Global) -> Result<Command<'a>, AllocError>
     let checks = Arg::new(alloc, "checks")
         .short('d')
         .action(ArgAction::SetTrue);
+    let store = Arg::new(alloc, "store")
+        .long("store")
+        .action(ArgAction::Set);
     let file = Arg::new(alloc, "file")
         .required(true)
         .action(ArgAction::Set);
-    Command::new(alloc, "run").arg(checks)?.arg(file)
+    Command::new(alloc, "run")
+        .arg(checks)?
+        .arg(store)?
+        .arg(file)
 }
 
 /// The commands that there are.
@@ -161,6 +167,17 @@ fn written<'a>(matches: &ArgMatches<'a>, file: &'a str) -> Option<Line<'a>>
     Some(Line::Build { checks, out, file })
 }
 
+/// The run of this file, with the options that clap found.
+fn ran<'a>(matches: &ArgMatches<'a>, file: &'a str) -> Line<'a>
+    ensures { command_of result ≡ run_command (rows_of (found_of matches.now)) file.now }
+{
+    Line::Run {
+        checks: checks(matches),
+        store: matches.get_str("store"),
+        file,
+    }
+}
+
 /// The command of this name, with this file and what else clap found.
 fn named<'a>(name: &str, matches: &ArgMatches<'a>, file: &'a str) -> Option<Line<'a>>
     ensures { option_map command_of result ≡ named_command name.now (rows_of (found_of matches.now)) file.now }
@@ -170,10 +187,7 @@ fn named<'a>(name: &str, matches: &ArgMatches<'a>, file: &'a str) -> Option<Line
         "check" => Some(Line::Check { file }),
         "list" => Some(Line::List { file }),
         "mean" => plain_run(matches, file),
-        "run" => Some(Line::Run {
-            checks: checks(matches),
-            file,
-        }),
+        "run" => Some(ran(matches, file)),
         _ => None,
     }
 }

@@ -24,9 +24,10 @@ pub enum Line<'a> {
         turns: u64,
         file: &'a str,
     },
-    /// Runs an image, or the program of a text, with contracts checked or not.
+    /// Runs an image, or the program of a text, with contracts checked or not, over a store in memory or in the folder `store`.
     Run {
         checks: bool,
+        store: Option<&'a str>,
         file: &'a str,
     },
 }

@@ -1,5 +1,5 @@
 -- The end of a run.
-use Rattle.std.proofs.Common.{◌≡◌, ◌≢◌, None, refl, ◌<◌, ◌≤◌, ◌+◌, ℕ, List, [], ◌∷◌, ◌++◌, length, get_or, sym, ap, ◌∙◌, subst, arith}
+use Rattle.std.proofs.Common.{◌≡◌, None, refl, ◌<◌, ◌≤◌, ◌+◌, ℕ, List, [], ◌∷◌, ◌++◌, length, get_or, sym, ap, ◌∙◌, subst, arith}
 use Rattle.std.proofs.lemmas.List.{length-append}
 use Rattle.std.proofs.Math.Seq.{get_or-append_seam}
 use Rattle.std.specs.declared.vec.Vec.{Vec}
@@ -14,7 +14,7 @@ use Rattle.code_form.specs.Code.{Core, allocations_of, code, output_of, sizes, s
 use Rattle.code_form.specs.Placed.{next_object, pieces}
 use Rattle.remote_store.specs.Kept.{piece_cells}
 use Rattle.executor.specs.State.{Caused, HasRoom as HasRoomFor, IsAt, State, cells_in}
-use Rattle.image_run.specs.Executed.{EndsAs, IsExecuted, IsOver, WantsFor, objects_of}
+use Rattle.image_run.specs.Executed.{EndsAs, IsExecutedOver, IsOver, WantsFor, objects_of}
 
 -- what holds of all elements holds of the last
 pub last_of_all : {X : Type 0} (P : X → Type 0) (xs front : List X) (x : X) → xs ≡ front ++ x ∷ [] → ((k : ℕ) (d : X) → k < length xs → P (get_or xs k d)) → P x
@@ -29,7 +29,7 @@ from_zero n base [] = omega arith
 from_zero n base (c ∷ older) = let rest = from_zero n base older in omega arith
 
 -- why a session with 65,536 objects wants something
-wants_for : (reliable : Type 0) (before : ℕ) (t : State) (w : Want) → w ≢ StoreFailed → t.view.sizes.cells ≡ piece_cells → t.view.high ≡ t.view.low + 65536 → Caused reliable before t w → WantsFor t.image t.core w
+wants_for : (reliable : Type 0) (before : ℕ) (t : State) (w : Want) → (w ≡ StoreFailed → reliable → ⊥) → t.view.sizes.cells ≡ piece_cells → t.view.high ≡ t.view.low + 65536 → Caused reliable before t w → WantsFor reliable t.image t.core w
 wants_for reliable before t NoObjects other size share c =
     let p : ℕ = t.view.sizes.cells in
     let from : next_object p t.view.low (cells_in t) ≡ t.view.low + next_object p 0 (cells_in t) = from_zero p t.view.low (cells_in t) in
@@ -46,24 +46,24 @@ wants_for reliable before t OutOfMemory other size share c =
           let less : next_object p 0 (cells_in t) + pieces p n ≤ 65536 = omega arith in
           subst (λ q. next_object q 0 (cells_in t) + pieces q n ≤ 65536) size less,
     )
-wants_for reliable before t StoreFailed other size share c = absurd (other refl)
+wants_for reliable before t StoreFailed other size share c = other refl
 
-ends_as : (reliable : Type 0) (before : ℕ) (t : State) (r : Run) → r ≢ Wanted StoreFailed → t.view.sizes.cells ≡ piece_cells → t.view.high ≡ t.view.low + 65536 → IsOver reliable before t r → EndsAs t.image t.core r
+ends_as : (reliable : Type 0) (before : ℕ) (t : State) (r : Run) → (r ≡ Wanted StoreFailed → reliable → ⊥) → t.view.sizes.cells ≡ piece_cells → t.view.high ≡ t.view.low + 65536 → IsOver reliable before t r → EndsAs reliable t.image t.core r
 ends_as reliable before t Running other size share over = over
 ends_as reliable before t (Stopped x) other size share over = over
 ends_as reliable before t (Wanted w) other size share over = (over.0, wants_for reliable before t w (λ e. other (ap Wanted e)) size share over.1)
 
 -- what a session came to is what the code's run came to
-pub executed : (reliable : Type 0) (before : ℕ) (C : Image) (t : State) (out : Vec ℕ Global) (r : Run) (n : ℕ) → t.image ≡ C → t.view.sizes.cells ≡ piece_cells → t.view.high ≡ t.view.low + 65536 → IsAt t → out.items ≡ output_of t.core → n ≡ t.completed → IsOver reliable before t r → r ≢ Wanted StoreFailed
-    → IsExecuted C (record { output = out; run = r; completed = n })
+pub executed : (reliable : Type 0) (before : ℕ) (C : Image) (t : State) (out : Vec ℕ Global) (r : Run) (n : ℕ) → t.image ≡ C → t.view.sizes.cells ≡ piece_cells → t.view.high ≡ t.view.low + 65536 → IsAt t → out.items ≡ output_of t.core → n ≡ t.completed → IsOver reliable before t r → (r ≡ Wanted StoreFailed → reliable → ⊥)
+    → IsExecutedOver reliable C (record { output = out; run = r; completed = n })
 executed reliable before C t out r n image size share at printed count over other =
     let reached : t.core ≡ (code_run (code C) n).0 = at.core ∙ ap (λ D. (code_run (code D) t.completed).0) image ∙ ap (λ k. (code_run (code C) k).0) (sym count) in
     let p : ℕ = t.view.sizes.cells in
     let from : next_object p t.view.low (cells_in t) ≡ t.view.low + next_object p 0 (cells_in t) = from_zero p t.view.low (cells_in t) in
     let fits : next_object p t.view.low (cells_in t) ≤ t.view.high = at.fits in
     let less : next_object p 0 (cells_in t) ≤ 65536 = omega arith in
-    let OfImage : Image → Type 0 = λ D. EndsAs D t.core r in
-    let OfCore : Core → Type 0 = λ c. EndsAs C c r in
+    let OfImage : Image → Type 0 = λ D. EndsAs reliable D t.core r in
+    let OfCore : Core → Type 0 = λ c. EndsAs reliable C c r in
     record {
       going = λ k less. ap (λ D. stop_of (code_run (code D) k).0) (sym image) ∙ at.going k (subst (λ j. k < j) count less);
       few = subst (λ (c : Core). objects_of (sizes (allocations_of c)) ≤ 65536) reached (subst (λ q. next_object q 0 (cells_in t) ≤ 65536) size less);

@@ -1,17 +1,17 @@
-//! A run of an image over a store in memory.
+//! A run of an image over a store.
 ghost use Rattle.std.specs.Prelude.{◌≢◌, ◌+◌, ◌<◌, ◌≤◌, ◌^◌, IfOk};
 ghost use Rattle.cells.specs.declared.ending.Run.TheVariants.{Wanted};
 ghost use Rattle.cells.specs.declared.ending.Want.TheVariants.{StoreFailed};
 ghost use Rattle.code_form.specs.Code.{Covered, most_scopes};
 ghost use Rattle.code_form.specs.Form.{image_of};
 ghost use Rattle.executor.specs.State.{IsAt, IsGoing, SameProgram};
-ghost use Rattle.image_run.specs.Executed.{HasRunOn, IsExecuted, IsOver};
+ghost use Rattle.image_run.specs.Executed.{HasRunOn, IsExecuted, IsExecutedOver, IsOver};
 
 use cells::{Ended, Run};
 use code_form::Image;
 use executor::Session;
 use object_lock::ObjectTable;
-use remote_store::{Config, FarHeap, RawStore};
+use remote_store::{Config, FarHeap, RawStore, Stores};
 use scope_verifier::Verified;
 use scope_verifier_laws::accepted_is_verified;
 use std::alloc::{AllocError, Global};
@@ -20,7 +20,7 @@ use std::sync::Wait;
 /// How many frames a run has.
 const FRAMES: u32 = 64;
 
-/// How many objects a run has. Those that don't fit in the frames stand in the store in memory.
+/// How many objects a run has. Those that don't fit in the frames stand in the store.
 const OBJECTS: u32 = 65_536;
 
 /// How many instructions are run at once.
@@ -60,17 +60,22 @@ fn run_to_end<S: RawStore, W: Wait>(rt: &W, session: &mut Session<'_, S>) -> Run
     unreachable!()
 }
 
-/// Runs the covered image until it has stopped or wants something.
-fn run_covered<W: Wait>(alloc: Global, rt: &W, image: &Image) -> Result<Ended, AllocError>
+/// Runs the covered image over these stores until it has stopped or wants something.
+fn run_covered<W: Wait, M: Stores + Drop>(
+    alloc: Global,
+    rt: &W,
+    image: &Image,
+    stores: M,
+) -> Result<Ended, AllocError>
     requires { Covered (image_of image.now) }
-    ensures { IfOk result (λ e. IsExecuted (image_of image.now) e) }
+    ensures { M.S.honest → IfOk result (λ e. IsExecutedOver M.S.reliable (image_of image.now) e) }
 {
     let config = Config {
         frames: FRAMES,
         objects: OBJECTS,
         evacuators: 0,
         fetchers: 0,
-        stores: FarHeap,
+        stores,
     };
     let Ok((table, mut owners, _movers)) = ObjectTable::new(alloc, 1, &config) else {
         return Err(AllocError);
@@ -90,11 +95,24 @@ fn run_covered<W: Wait>(alloc: Global, rt: &W, image: &Image) -> Result<Ended, A
     })
 }
 
+/// Runs the verified image until it has stopped or wants something, over stores that `stores` makes. Over an honest store output and end are
+/// those of the code's run. `Err` where a growth for the table, the session or the output was refused, or a store could not be made.
+pub fn execute_over<W: Wait, M: Stores + Drop>(
+    alloc: Global,
+    rt: &W,
+    verified: &Verified,
+    stores: M,
+) -> Result<Ended, AllocError>
+    ensures { M.S.honest → IfOk result (λ e. IsExecutedOver M.S.reliable (image_of verified.now.image) e) }
+{
+    accepted_is_verified();
+    run_covered(alloc, rt, verified.image(), stores)
+}
+
 /// Runs the verified image until it has stopped or wants something, over a store in memory. `Err` where a growth for the table, the session or
 /// the output was refused.
 pub fn execute<W: Wait>(alloc: Global, rt: &W, verified: &Verified) -> Result<Ended, AllocError>
     ensures { IfOk result (λ e. IsExecuted (image_of verified.now.image) e) }
 {
-    accepted_is_verified();
-    run_covered(alloc, rt, verified.image())
+    execute_over(alloc, rt, verified, FarHeap)
 }

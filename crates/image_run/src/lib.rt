@@ -3,4 +3,4 @@
 
 mod execution;
 
-pub use execution::execute;
+pub use execution::{execute, execute_over};

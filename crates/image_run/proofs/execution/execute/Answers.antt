@@ -1,5 +1,4 @@
-use Rattle.code_form.specs.Form.{image_of}
 use Rattle.image_run.proofs.execution.execute.Goals as goal
 
-pub run_covered-requires : goal.run_covered-requires
-run_covered-requires g c = c.accepted_is_verified.ensures.covered (image_of c.image.result.now) c.image.ensures.accepted
+pub returns : goal.returns
+returns g c = c.execute_over.ensures tt

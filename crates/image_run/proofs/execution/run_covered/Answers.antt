@@ -20,7 +20,7 @@ new-requires-2-clause-fresh g c κs =
     fresh.0
 
 pub returns : goal.returns
-returns g c =
+returns g c = λ honest.
     let copied : c.in_ok-output.output.items ≡ c.output.result.now = search rules in
     let seat : IsFreshOwner c.in-Ok.table 65536 c.in-Some.seat = last_of_all (λ s. IsFreshOwner c.in-Ok.table 65536 s) c.in-Ok.owners.items c.pop.new.self.items c.in-Some.seat c.in-Some.ensures.items c.in-Ok.ensures.made.2 in
     let begins = c.in-Ok-new.ensures.begins in
@@ -31,4 +31,4 @@ returns g c =
     let share = high ∙ (seat.2 ∙ ap (λ l. l + 65536) (sym low)) in
     let cells = ap (λ (v : View). v.sizes.cells) same.3 ∙ (ap (λ (s : State). s.view.sizes.cells) begins ∙ (ap (λ (z : Sizes). z.cells) seat.0.0.1 ∙ seat.0.0.4.2)) in
     let cover = subst Covered (sym (ap (λ (s : State). s.image) begins)) c.requires in
-    executed (Unit {0}) _ (form.image_of c.args.image.now) c.run_to_end-run.new.session c.in_ok-output.output c.run_to_end-run.result c.completed.result image cells share (c.run_to_end-run.ensures.at tt) (copied ∙ c.output.ensures) c.completed.ensures c.run_to_end-run.ensures.over (c.run_to_end-run.ensures.covered tt tt cover)
+    executed _ _ (form.image_of c.args.image.now) c.run_to_end-run.new.session c.in_ok-output.output c.run_to_end-run.result c.completed.result image cells share (c.run_to_end-run.ensures.at honest) (copied ∙ c.output.ensures) c.completed.ensures c.run_to_end-run.ensures.over (λ failed reliable. c.run_to_end-run.ensures.covered honest reliable cover failed)
