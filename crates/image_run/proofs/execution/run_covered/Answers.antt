@@ -9,13 +9,13 @@ use Rattle.image_run.proofs.Ending.{executed, last_of_all}
 use Rattle.image_run.proofs.execution.run_covered.Goals as goal
 
 pub new-requires-2-clause-own : goal.new-requires-2-clause-own
-new-requires-2-clause-own g c κs =
+new-requires-2-clause-own g c κs lives =
     let fresh : IsFreshOwner c.in-Ok.table 65536 c.in-Some.seat = last_of_all (λ s. IsFreshOwner c.in-Ok.table 65536 s) c.in-Ok.owners.items c.pop.new.self.items c.in-Some.seat c.in-Some.ensures.items c.in-Ok.ensures.made.2 in
     let high : c.in-Some.seat.view.high ≡ c.in-Some.seat.view.low + 65536 = fresh.2 in
     subst (λ h. c.in-Some.seat.view.low ≤ h) (sym high) (le-add_right c.in-Some.seat.view.low 65536)
 
 pub new-requires-2-clause-fresh : goal.new-requires-2-clause-fresh
-new-requires-2-clause-fresh g c κs =
+new-requires-2-clause-fresh g c κs lives =
     let fresh : IsFreshOwner c.in-Ok.table 65536 c.in-Some.seat = last_of_all (λ s. IsFreshOwner c.in-Ok.table 65536 s) c.in-Ok.owners.items c.pop.new.self.items c.in-Some.seat c.in-Some.ensures.items c.in-Ok.ensures.made.2 in
     fresh.0
 
