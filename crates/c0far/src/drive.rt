@@ -83,7 +83,7 @@ fn run_image<W: Wait, F: Files>(
     store: Option<&str>,
     files: &F,
 ) -> Result<Ended, AllocError>
-    ensures { IfOk result (λ e. RanOver F.Place.honest (option_map (λ s. s.now) store) (image_of verified.now.image) e) }
+    ensures { IfOk result (λ e. RanOver F.Place.honest (option_map (λ s. s.now) store.entry) (image_of verified.now.image) e) }
 {
     match store {
         None => execute(alloc, rt, verified),
@@ -105,7 +105,7 @@ fn run<W: Wait, F: Files, O: Stream, E: Stream>(
     err: &mut E,
 ) -> u8
     ensures files { (name : List ℕ) → F.holds files.new name ≡ F.holds files.old name }
-    ensures done { Runs F.Place.honest file.now asked.checks (option_map (λ s. s.now) asked.store) (F.holds files.old file.now) (writes O.contents O.failures out.old out.new) (writes E.contents E.failures err.old err.new) result }
+    ensures done { Runs F.Place.honest file.now asked.entry.checks (option_map (λ s. s.now) asked.entry.store) (F.holds files.old file.now) (writes O.contents O.failures out.old out.new) (writes E.contents E.failures err.old err.new) result }
 {
     let verified = match code_of(alloc, asked.checks, file, files, err) {
         Ok(verified) => verified,

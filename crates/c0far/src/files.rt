@@ -1,5 +1,5 @@
 //! The files that a command works on.
-ghost use Rattle.std.specs.Prelude.{◌≡◌, ℕ, IfErr, IfOk, List, [], ◌∷◌, ◌++◌, None, OnOk, Option, string_bytes};
+ghost use Rattle.std.specs.Prelude.{◌≡◌, ℕ, IfErr, IfOk, List, MatchResult, [], ◌∷◌, ◌++◌, None, OnOk, Option, string_bytes};
 ghost use Rattle.std.specs.List.{list_any};
 ghost use Rattle.std.specs.Str.{bytes_eq};
 ghost use Rattle.c0far.specs.FileTexts.{HasText, IsMissing};
@@ -131,19 +131,13 @@ impl MemFiles {
         }
     }
 
-    /// One folder more. `OutOfMemory` where a growth is refused, which changes nothing.
-    pub fn add_folder(&mut self, alloc: Global, name: &str) -> Result<(), FileError>
+    /// One folder more, of this name. `Err` where a growth is refused, which changes nothing.
+    pub fn add_folder(&mut self, name: String) -> Result<(), AllocError>
         ensures files { self.new.files ≡ self.old.files }
-        ensures added { IfOk result (λ _. (added : String) × (string_bytes added ≡ name.now) × (self.new.folders.items ≡ self.old.folders.items ++ added ∷ [])) }
-        ensures refused { IfErr result (λ why. (why ≡ FileError.OutOfMemory) × (self.new.folders.items ≡ self.old.folders.items)) }
+        ensures folders { MatchResult result (λ _. self.new.folders.items ≡ self.old.folders.items ++ name ∷ []) (λ _. self.new.folders.items ≡ self.old.folders.items) }
     {
-        let Ok(added) = String::from_str(alloc, name) else {
-            return Err(FileError::OutOfMemory);
-        };
-        match self.folders.push(added) {
-            Ok(()) => Ok(()),
-            Err(_refused) => Err(FileError::OutOfMemory),
-        }
+        self.folders.push(name)?;
+        Ok(())
     }
 
     // Whether there is a folder of this name.

@@ -113,7 +113,9 @@ impl Bench {
 
     /// A folder of this name, for stores.
     pub(crate) fn add_folder(&mut self, name: &str) -> io::Result<()> {
-        self.files.add_folder(self.alloc, name).map_err(refusal)
+        let name = String::from_str(self.alloc, name)?;
+        self.files.add_folder(name)?;
+        Ok(())
     }
 
     /// One write to the standard output of the next command fails, after so many others.
