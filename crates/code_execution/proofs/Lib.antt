@@ -6,6 +6,7 @@ mod Framing
 mod Grounds
 mod Growth
 mod Plain
+mod Marks
 mod Reading
-mod Scopes
+mod Stale
 mod Within

@@ -80,7 +80,7 @@ fn make_stale(scopes: &mut [Scope], register: u32)
 }
 
 /// Makes each scope from number `first` on stale whose aim is by this register.
-#[inline(always)]
+#[inline(never)]
 pub(crate) fn make_stale_from(scopes: &mut [Scope], first: usize, register: u32)
     requires { first ≤ length scopes.old }
     ensures own { map scope_of (drop first scopes.new) ≡ map (written register) (map scope_of (drop first scopes.old)) }
@@ -117,6 +117,7 @@ pub(crate) fn put(registers: &mut [u64], first: usize, to: u32, value: u64)
 }
 
 /// Whether all scopes are shut.
+#[inline(always)]
 pub(crate) fn are_shut(scopes: &[Scope]) -> bool
     ensures { result ≡ all_shut (map scope_of scopes.now) }
 {

@@ -58,6 +58,7 @@ impl<'a> Model for Execution<'a> {
 
 impl<'a> Decision<'a> {
     /// What it touches, where so many calls wait.
+    #[inline(always)]
     fn touch(self, allocations: &Allocations, waiting: usize) -> Touch
         ensures { (f : Frame) (st : List Frame) (o : List ℕ) → length st ≡ waiting → result ≡ touch_of (decided f st allocations.now o self.entry) }
     {
@@ -96,6 +97,8 @@ impl<'a> Decision<'a> {
 impl<'a> Status<'a> {
     /// Does what was decided, where that is no allocation; a load's value is given. `Err` where memory is refused: then nothing is
     /// changed.
+    #[inline(never)]
+    #[cold]
     fn follow(
         &mut self,
         alloc: Global,
@@ -136,6 +139,7 @@ impl<'a> Status<'a> {
     }
 
     /// Does what a simple instruction is to do, where that is no allocation. `Err` where memory is refused: then nothing is changed.
+    #[inline(never)]
     fn obey(
         &mut self,
         alloc: Global,
@@ -176,6 +180,7 @@ impl<'a> Status<'a> {
 }
 
 /// `main` and its first block.
+#[inline(never)]
 fn first_block(image: &Image) -> Option<(&Function, &Block)>
     ensures { MatchOption result
         (begins (slice_get (image_of image.now).functions 0) ≡ Stuck [] [])
@@ -187,6 +192,7 @@ fn first_block(image: &Image) -> Option<(&Function, &Block)>
 }
 
 /// Where a run begins. `Err` where memory is refused.
+#[inline(never)]
 fn begin<'a>(alloc: Global, image: &'a Image) -> Result<Status<'a>, AllocError>
     ensures { IfOk result (λ s. core_of s [] [] ≡ begins (slice_get (image_of image.now).functions 0)) }
 {
@@ -198,6 +204,7 @@ fn begin<'a>(alloc: Global, image: &'a Image) -> Result<Status<'a>, AllocError>
 
 impl<'a> Execution<'a> {
     /// What the next instruction touches.
+    #[inline(always)]
     pub fn next(&self) -> Touch
         ensures value { result ≡ touch_of (effect self.now.image self.now.core) }
         ensures within { IsWithin (most_scopes self.now.image.functions) self.now.core result }
@@ -214,6 +221,8 @@ impl<'a> Execution<'a> {
 
     /// Does the next instruction, which is no allocation; `loaded` is what the cell holds that it loads, if it loads one. `Err`
     /// where memory is refused for what is printed, or for a call: then nothing is changed.
+    #[inline(never)]
+    #[cold]
     pub fn proceed(&mut self, loaded: u64) -> Result<(), AllocError>
         requires { cells_asked (touch_of (effect self.old.image self.old.core)) ≡ None }
         ensures { MatchResult result
@@ -231,6 +240,7 @@ impl<'a> Execution<'a> {
     /// Does instructions one after the other, each decided once, as long as they touch nothing and find no scope open that must be shut, at
     /// most `limit`, and tells how many. It ends before an instruction that touches something or finds such a scope, one that stops the
     /// program or is stuck, and one to which memory is refused: of that one nothing is done.
+    #[inline(always)]
     pub fn run_plain(&mut self, limit: u64) -> u64
         ensures within { result ≤ limit }
         ensures ran { self.new ≡ record self.old { core = plain_run self.old.image result self.old.core } }
@@ -253,6 +263,7 @@ impl<'a> Execution<'a> {
     }
 
     /// Does the next instruction, which uses a scope or tells a cell; `loaded` is what the cell holds that it loads, if it loads one.
+    #[inline(always)]
     pub fn complete(&mut self, loaded: u64)
         requires { is_simple (touch_of (effect self.old.image self.old.core)) ≡ true }
         ensures { self.new ≡ record self.old { core = resumed (effect self.old.image self.old.core) self.old.core loaded } }
@@ -284,6 +295,8 @@ impl<'a> Execution<'a> {
 
     /// How the next instruction stops the program. `Err` where memory is refused for the text of an
     /// error.
+    #[inline(never)]
+    #[cold]
     pub fn stop_ahead(&self, alloc: Global) -> Result<Option<Stop>, AllocError>
         requires { touch_of (effect self.now.image self.now.core) ≡ Ends }
         ensures { MatchResult result
@@ -301,6 +314,7 @@ impl<'a> Execution<'a> {
     }
 
     /// Whether the next instruction needs all scopes shut and one is open.
+    #[inline(always)]
     pub fn is_blocked(&self) -> bool
         ensures { result ≡ is_blocked_in self.now.core }
     {
@@ -312,6 +326,7 @@ impl<'a> Execution<'a> {
 
     /// Does the next instruction, which is an allocation; the number of the new one is that of the allocations. `Err` where memory
     /// is refused: then nothing is changed.
+    #[inline(never)]
     pub fn allocate(&mut self) -> Result<(), AllocError>
         requires { cells_asked (touch_of (effect self.old.image self.old.core)) ≢ None }
         ensures { MatchResult result

@@ -8,5 +8,6 @@ mod execution;
 mod fitting;
 mod halt;
 mod places;
+mod scopes;
 
 pub use execution::Execution;

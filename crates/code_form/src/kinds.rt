@@ -6,6 +6,7 @@ ghost use Rattle.std.specs.Prelude.{◌≡◌, ◌&&◌, MatchOption, None, Some
 use crate::form::{Image, Kind, Relation};
 
 /// The kind of a register.
+#[inline(always)]
 pub fn kind_at(kinds: &[Kind], register: u32) -> Option<Kind>
     ensures { result ≡ slice_get kinds.now register }
 {
@@ -13,6 +14,7 @@ pub fn kind_at(kinds: &[Kind], register: u32) -> Option<Kind>
 }
 
 /// Whether two kinds are the same.
+#[inline(always)]
 fn is_same(a: Kind, b: Kind) -> bool
     ensures { result ≡ same_kind a b }
 {
@@ -28,6 +30,7 @@ fn is_same(a: Kind, b: Kind) -> bool
 }
 
 /// Whether the register is there and has this kind.
+#[inline(always)]
 pub fn has_kind(kinds: &[Kind], register: u32, kind: Kind) -> bool
     ensures { result ≡ has kinds.now register kind }
 {
@@ -55,6 +58,7 @@ pub fn has_pointer(kinds: &[Kind], register: u32) -> bool
 }
 
 /// Whether the register is there and is a pointer or an array.
+#[inline(always)]
 pub fn has_reference(kinds: &[Kind], register: u32) -> bool
     ensures { result ≡ on_kind is_reference (slice_get kinds.now register) }
 {
@@ -62,6 +66,7 @@ pub fn has_reference(kinds: &[Kind], register: u32) -> bool
 }
 
 /// Whether the second register is an array and the first an offset of its elements.
+#[inline(always)]
 pub fn has_array_of(kinds: &[Kind], offset: u32, register: u32) -> bool
     ensures { result ≡ is_array_of (slice_get kinds.now offset) (slice_get kinds.now register) }
 {
@@ -73,6 +78,7 @@ pub fn has_array_of(kinds: &[Kind], offset: u32, register: u32) -> bool
 }
 
 /// Whether the register is there and is an array.
+#[inline(always)]
 pub fn has_array(kinds: &[Kind], register: u32) -> bool
     ensures { result ≡ on_kind is_array (slice_get kinds.now register) }
 {
@@ -115,6 +121,7 @@ pub fn can_compare(kinds: &[Kind], relation: Relation, left: u32, right: u32) ->
 }
 
 /// Whether a scope can be aimed in what the register refers to, with or without an offset.
+#[inline(always)]
 pub fn is_place(kinds: &[Kind], register: u32, offset: Option<u32>) -> bool
     ensures { result ≡ place_fits kinds.now register offset }
 {
@@ -125,6 +132,7 @@ pub fn is_place(kinds: &[Kind], register: u32, offset: Option<u32>) -> bool
 }
 
 /// The layout of what a reference of this kind refers to.
+#[inline(always)]
 fn layout(kind: Kind) -> Option<u32>
     ensures { result ≡ layout_of kind }
 {
@@ -135,6 +143,7 @@ fn layout(kind: Kind) -> Option<u32>
 }
 
 /// The kind of the cell `displacement` of what the register refers to, or of its elements.
+#[inline(always)]
 pub fn kind_of_cell(image: &Image, kinds: &[Kind], register: u32, displacement: u32) -> Option<Kind>
     ensures { result ≡ cell_kind (image_of image.now).head kinds.now register displacement }
 {

@@ -33,6 +33,7 @@ impl Allocations {
     }
 
     /// The number of the newest allocation; 0 where there is none.
+    #[inline(always)]
     pub fn count(&self) -> u64
         ensures { result ≡ length self.now }
     {
@@ -40,6 +41,7 @@ impl Allocations {
     }
 
     /// How many cells the allocation of this number has; 0 where there is none.
+    #[inline(always)]
     pub fn cells(&self, reference: u64) -> u64
         ensures { result ≡ cells_of (sizes self.now) reference }
     {
@@ -53,6 +55,7 @@ impl Allocations {
     }
 
     /// How many elements the allocation of this number has; 0 where there is none.
+    #[inline(always)]
     pub fn length(&self, reference: u64) -> u64
         ensures { result ≡ length_of self.now reference }
     {
@@ -66,6 +69,7 @@ impl Allocations {
     }
 
     /// The cell `displacement` cells behind `start` in the allocation of this number, if it has it.
+    #[inline(always)]
     pub fn cell(&self, reference: u64, start: u64, displacement: u32) -> Option<Cell>
         ensures { result ≡ cell_option (wanted self.now reference (start + displacement)) }
     {

@@ -71,6 +71,8 @@ fn value_fits(image: &Image, kinds: &[Kind], operation: &Operation) -> bool
 }
 
 /// Whether the kinds of a simple instruction fit.
+#[inline(never)]
+#[cold]
 pub fn operation_fits(image: &Image, kinds: &[Kind], operation: &Operation) -> bool
     ensures { result ≡ op_fits (image_of image.now).head kinds.now operation.now }
 {

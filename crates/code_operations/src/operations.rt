@@ -42,6 +42,7 @@ pub struct Operands<'a, 'r> {
 impl<'a> Command<'a> {
     /// What it touches.
     #[tactic(auto, using(crate::proofs::Placing::cell_back))]
+    #[inline(always)]
     pub fn touch(self) -> Touch
         ensures { (is : List Instruction) (f : Frame) (st : List Frame) (al : List Allocation) (o : List ℕ) → result ≡ touch_of (after (did_of self.entry) is f st al o) }
     {
@@ -150,6 +151,8 @@ impl<'a, 'r> Operands<'a, 'r> {
     }
 
     /// What a simple instruction is to do whose operands fit, and which does more than to write a register, or stops the program.
+    #[inline(never)]
+    #[cold]
     fn does_more(&self, operation: &Operation) -> Command<'a>
         requires small { are_small (image_of self.now.image.now).head.layouts ≡ true }
         requires more { only_writes (done_by self.now operation.now) ≡ false }
@@ -179,6 +182,7 @@ impl<'a, 'r> Operands<'a, 'r> {
     }
 
     /// What a simple instruction is to do whose operands fit.
+    #[inline(always)]
     fn does(&self, operation: &Operation) -> Command<'a>
         requires { are_small (image_of self.now.image.now).head.layouts ≡ true }
         ensures { did_of result ≡ done_by self.now operation.now }

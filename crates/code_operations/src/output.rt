@@ -31,6 +31,7 @@ impl<'a> Printed<'a> {
     }
 
     /// Puts it behind the output. Where memory is refused nothing is changed.
+    #[inline(never)]
     pub fn print(self, alloc: Global, output: &mut Vec<u8>) -> Result<(), AllocError>
         ensures { MatchResult result (λ _. output.new.items ≡ output.old.items ++ bytes_of self.entry) (λ _. output.new.items ≡ output.old.items) }
     {

@@ -6,6 +6,7 @@ ghost use Rattle.std.specs.Prelude.{◌≡◌, MatchOption, None, Some, slice_in
 use code_form::{Image, Relation};
 
 /// What a register holds; 0 where there is none.
+#[inline(always)]
 pub fn value_in(registers: &[u64], register: u32) -> u64
     ensures { result ≡ slice_index registers.now register }
 {
@@ -16,6 +17,7 @@ pub fn value_in(registers: &[u64], register: u32) -> u64
 }
 
 /// The offset that a register holds; 0 where none is named.
+#[inline(always)]
 pub fn offset_in(registers: &[u64], offset: Option<u32>) -> u64
     ensures { result ≡ offset_of registers.now offset }
 {
@@ -26,6 +28,7 @@ pub fn offset_in(registers: &[u64], offset: Option<u32>) -> u64
 }
 
 /// The number in a cell: its lowest 32 bits.
+#[inline(always)]
 pub fn number(cell: u64) -> i32
     ensures { result ≡ int_of cell }
 {
@@ -33,6 +36,7 @@ pub fn number(cell: u64) -> i32
 }
 
 /// The cell of a number: the number modulo 2^32.
+#[inline(always)]
 pub(crate) fn cell_of(number: i32) -> u64
     ensures { result ≡ of_int number }
 {
@@ -40,6 +44,7 @@ pub(crate) fn cell_of(number: i32) -> u64
 }
 
 /// The cell of a truth value.
+#[inline(always)]
 pub(crate) fn cell_of_truth(value: bool) -> u64
     ensures { result ≡ of_bool value }
 {
@@ -47,6 +52,7 @@ pub(crate) fn cell_of_truth(value: bool) -> u64
 }
 
 /// The number, where it is not below 0.
+#[inline(always)]
 pub(crate) fn natural_of(number: i32) -> Option<u32>
     ensures { result ≡ natural number }
 {
@@ -58,6 +64,7 @@ pub(crate) fn natural_of(number: i32) -> Option<u32>
 }
 
 /// Whether a comparison of two cells holds.
+#[inline(always)]
 pub(crate) fn holds(relation: Relation, left: u64, right: u64) -> bool
     ensures { result ≡ compares relation left right }
 {

@@ -6,7 +6,7 @@ use Rattle.std.proofs.lemmas.List.{get_or-set_same, get_or-set_other, length-set
 use Rattle.pointer_word.specs.Hands.{Note, blank, closed, opened}
 use Rattle.object_lock.specs.Seats.{Owns, Sizes, View, note, with_note}
 use Rattle.executor.specs.declared.hold.Hold.{Hold}
-use Rattle.executor.specs.Taken.{IsQuiet}
+use Rattle.object_moves.specs.Taken.{IsQuiet}
 use Rattle.executor.specs.State.{State, cells_in, hold_at}
 use Rattle.executor.specs.Keeping.{Changes, Holds, IsHeld, IsHolding, IsPlaced, a_hold, one, shut_at}
 use Rattle.executor.proofs.Counts.{one_is, one_not, one_le, two_le, count-set}

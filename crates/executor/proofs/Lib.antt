@@ -1,14 +1,10 @@
-mod Copying
 mod Counts
-mod Filling
 mod Holding
 mod Laws
-mod Looking
 mod Missing
 mod Opening
 mod Places
 mod Plainly
 mod Running
-mod Taking
 mod Ways
 mod Writing

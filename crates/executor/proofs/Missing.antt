@@ -5,7 +5,7 @@ use Rattle.std.proofs.lemmas.List.{length-set}
 use Rattle.pointer_word.specs.Hands.{Note, blank, closed, opened}
 use Rattle.object_lock.specs.Seats.{Owns, Sizes, View, note, with_note}
 use Rattle.executor.specs.declared.hold.Hold.{Hold}
-use Rattle.executor.specs.Taken.{Refused}
+use Rattle.object_moves.specs.Taken.{Refused}
 use Rattle.executor.specs.State.{State, cells_in, hold_at}
 use Rattle.executor.specs.Keeping.{Changes, Fails, Holds, HoldsObject, IsHeld, IsHolding, IsPlaced, Misses}
 use Rattle.executor.proofs.Holding.{changes_open, changes_trans, held_along, holding_open, note_set, owned_here, stored_note}

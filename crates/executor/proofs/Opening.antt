@@ -18,7 +18,7 @@ use Rattle.object_lock.specs.Fresh.{IsFresh}
 use Rattle.object_lock.specs.SeatViews.{SeatView, TableView}
 use Rattle.object_lock.specs.Seats.{View}
 use Rattle.executor.specs.declared.hold.Hold.{Hold}
-use Rattle.executor.specs.Taken.{Refused}
+use Rattle.object_moves.specs.Taken.{Refused}
 use Rattle.executor.specs.State.{AllShut, IsAt, IsGoing, IsHalted, Matches, Ran, State, begin, hold_at}
 use Rattle.executor.specs.Keeping.{IsBlank, IsHolding, IsNext, IsRun, IsSafe, IsSession, count_of}
 use Rattle.executor.proofs.Laws.{Ended, Laws, ended}

@@ -16,9 +16,9 @@ use Rattle.std.proofs.Math.Nat.{mod-lt}
 use Rattle.object_lock.specs.Seats.{Owns, View, note, with_note}
 use Rattle.executor.specs.declared.hold.Hold.{Hold}
 use Rattle.executor.specs.State.{AllShut, Matches, State, cells_in, hold_at, latest_in, next_touch, object_of}
-use Rattle.executor.specs.Taken.{seat_of}
+use Rattle.object_moves.specs.Taken.{seat_of}
 use Rattle.executor.specs.Keeping.{Changes, Closes, HasWriter, IsHolding, IsNext, IsPlaced, IsSafe, Moves, a_hold, extended, finished, shut, shut_at, written}
-use Rattle.executor.proofs.Filling.{seen_else, seen_here}
+use Rattle.object_moves.proofs.Filling.{seen_else, seen_here}
 use Rattle.executor.proofs.Holding.{owned_here}
 use Rattle.executor.proofs.Laws.{Does, Laws, does}
 use Rattle.executor.proofs.Writing.{holding_written}

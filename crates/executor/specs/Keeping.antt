@@ -18,7 +18,7 @@ use Rattle.pointer_word.specs.Hands.{added, blank, closed, writable}
 use Rattle.remote_store.specs.Kept.{piece_cells}
 use Rattle.object_lock.specs.Seats.{Owns, View, note, with_note}
 use Rattle.executor.specs.declared.hold.Hold.{Hold}
-use Rattle.executor.specs.Taken.{GivesUp, IsQuiet, Refused, Takes, seat_of}
+use Rattle.object_moves.specs.Taken.{GivesUp, IsQuiet, Refused, Takes, seat_of}
 use Rattle.executor.specs.State.{AllShut, Caused, IsAt, IsGoing, SameProgram, ScopesHold, State, cells_in, hold_at, latest_in, next_touch, object_of}
 
 -- allocations in pieces of `size` cells, the newest first, take their objects one behind the other, from low on; next is the object behind them

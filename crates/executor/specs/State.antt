@@ -17,7 +17,7 @@ use Rattle.code_form.specs.declared.touch.Touch.TheVariants as touch
 use Rattle.pointer_word.specs.Hands.{latest_of}
 use Rattle.object_lock.specs.Seats.{View, note}
 use Rattle.executor.specs.declared.hold.Hold.{Hold}
-use Rattle.executor.specs.Taken.{Refused, seat_of}
+use Rattle.object_moves.specs.Taken.{Refused, seat_of}
 
 -- A session: its image, where its program is, what each scope holds, the first object of each allocation, the newest first, the next
 -- object, what its seat knows, how many calls were refused through its port modulo 2^64, how many instructions were completed, and what it

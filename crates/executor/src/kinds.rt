@@ -15,6 +15,7 @@ use std::sync::Wait;
 
 impl<'a, S: RawStore> Program<'a, S> {
     /// The place of a cell in its piece.
+    #[inline(always)]
     fn place(&self, cell: Cell) -> usize
         requires { IsHolding self.now }
         ensures { result ≡ cell.index % self.now.view.sizes.cells }
@@ -23,6 +24,7 @@ impl<'a, S: RawStore> Program<'a, S> {
     }
 
     /// How many pieces this many cells are.
+    #[inline(always)]
     fn pieces(&self, cells: u64) -> u64
         requires { IsHolding self.now }
         ensures { result ≡ pieces_of self.now.view.sizes.cells cells }
@@ -31,6 +33,7 @@ impl<'a, S: RawStore> Program<'a, S> {
     }
 
     /// Completes an instruction that touches nothing. `Err` where memory is refused: then nothing is changed.
+    #[inline(never)]
     pub(crate) fn complete_plain(&mut self) -> Result<(), AllocError>
         requires safe { IsSafe self.old }
         requires next { IsNext Plain self.old }
@@ -46,6 +49,7 @@ impl<'a, S: RawStore> Program<'a, S> {
     }
 
     /// Completes an instruction that tells a cell: nothing is fetched for it.
+    #[inline(always)]
     fn hints(&mut self, wanted: Option<Cell>)
         requires safe { IsSafe self.old }
         requires next { IsNext (Hints wanted) self.old }
@@ -58,6 +62,7 @@ impl<'a, S: RawStore> Program<'a, S> {
     }
 
     /// False where the store failed.
+    #[inline(always)]
     fn aims<R: Wait>(&mut self, rt: &R, scope: usize, wanted: Option<Cell>) -> bool
         requires safe { IsSafe self.old }
         requires next { IsNext (Aims scope wanted) self.old }
@@ -73,6 +78,7 @@ impl<'a, S: RawStore> Program<'a, S> {
         }
     }
 
+    #[inline(always)]
     fn leaves(&mut self, scope: usize)
         requires safe { IsSafe self.old }
         requires next { IsNext (Leaves scope) self.old }
@@ -85,6 +91,7 @@ impl<'a, S: RawStore> Program<'a, S> {
         self.finish(0);
     }
 
+    #[inline(always)]
     fn loads(&mut self, scope: usize, cell: Cell)
         requires safe { IsSafe self.old }
         requires next { IsNext (Loads scope cell) self.old }
@@ -99,6 +106,7 @@ impl<'a, S: RawStore> Program<'a, S> {
         self.finish(value);
     }
 
+    #[inline(always)]
     fn stores(&mut self, scope: usize, cell: Cell, value: u64)
         requires safe { IsSafe self.old }
         requires next { IsNext (Stores scope cell value) self.old }
@@ -115,6 +123,7 @@ impl<'a, S: RawStore> Program<'a, S> {
     }
 
     /// Completes an instruction that stops the program.
+    #[inline(never)]
     pub(crate) fn ends(&mut self)
         requires safe { IsSafe self.old }
         requires next { IsNext Ends self.old }
@@ -128,6 +137,7 @@ impl<'a, S: RawStore> Program<'a, S> {
     }
 
     /// Completes an allocation, or tells what it wants.
+    #[inline(never)]
     pub(crate) fn allocs(&mut self, cells: u64) -> Option<Want>
         requires safe { IsSafe self.old }
         requires next { IsNext (Allocs cells) self.old }
@@ -146,6 +156,7 @@ impl<'a, S: RawStore> Program<'a, S> {
     }
 
     /// Completes an instruction that uses a scope, or tells a cell. False where the store failed.
+    #[inline(always)]
     pub(crate) fn make<R: Wait>(&mut self, rt: &R, touch: Touch) -> bool
         requires safe { IsSafe self.old }
         requires next { IsNext touch self.old }

@@ -1,11 +1,9 @@
 //! Programs that run over far memory: each a session at one seat of a table of objects.
 #![tactic(auto)]
 
-mod bring;
 mod hold;
 mod kinds;
 mod program;
-mod room;
 mod run;
 mod session;
 

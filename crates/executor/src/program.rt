@@ -9,18 +9,18 @@ ghost use Rattle.code_form.specs.declared.touch.Touch.TheVariants.{Allocs, Ends,
 ghost use Rattle.cells.specs.Stops.{stop_of as stop_read};
 ghost use Rattle.executor.specs.Keeping.{Changes, Closes, Fails, HasWriter, Holds, HoldsObject, IsHolding, cleared, count_of, extended, finished, first_of, has_object, is_simple, Misses, ran_on, shut, shut_at, wants, written};
 ghost use Rattle.executor.specs.State.{AllShut, Matches, State, begin, hold_at, latest_in, next_touch, object_of};
-ghost use Rattle.executor.specs.Taken.{IsQuiet};
+ghost use Rattle.object_moves.specs.Taken.{IsQuiet};
 ghost use Rattle.object_lock.specs.SeatViews.{IsSeat};
 ghost use Rattle.object_lock.specs.Seats.{Owns, note};
 ghost use Rattle.remote_store.specs.Kept.{piece_cells};
 ghost use Rattle.std.specs.Prelude.{◌≡◌, ◌≢◌, ◌+◌, ◌-◌, ◌/◌, ◌<◌, ◌≤◌, ◌^◌, ℕ, IfOk, MatchBool, MatchResult, None, Some, length, option_map, slice_index, true};
 
-use crate::bring::take;
 use crate::hold::Hold;
 use cells::{Stop, Want};
 use code_execution::Execution;
 use code_form::{Cell, Image, Touch, heap_laws};
 use object_lock::{ObjectTable, OwnerSeat};
+use object_moves::take;
 use remote_store::{PIECE_CELLS, RawStore};
 use std::alloc::{AllocError, Global};
 use std::marker::Model;
@@ -81,6 +81,7 @@ impl<'a, S: RawStore> Program<'a, S> {
         })
     }
 
+    #[inline(always)]
     pub(crate) fn completed(&self) -> u64
         ensures { result ≡ self.now.completed }
     {
@@ -110,12 +111,14 @@ impl<'a, S: RawStore> Program<'a, S> {
         self.execution.stop_ahead(self.alloc)
     }
 
+    #[inline(always)]
     pub(crate) fn want(&self) -> Option<Want>
         ensures { result ≡ self.now.want }
     {
         self.want
     }
 
+    #[inline(always)]
     pub(crate) fn is_blocked(&self) -> bool
         ensures { result ≡ is_blocked_in self.now.core }
     {
@@ -123,6 +126,7 @@ impl<'a, S: RawStore> Program<'a, S> {
     }
 
     /// What the next instruction touches.
+    #[inline(always)]
     pub(crate) fn touch(&self) -> Touch
         ensures value { result ≡ next_touch self.now }
         ensures within { IsWithin (most_scopes self.now.image.functions) self.now.core result }
@@ -131,12 +135,14 @@ impl<'a, S: RawStore> Program<'a, S> {
     }
 
     /// The end of the program's own objects.
+    #[inline(always)]
     pub(crate) fn end(&self) -> u64
         ensures { result ≡ self.now.view.high }
     {
         self.owner.high() as u64
     }
 
+    #[inline(always)]
     pub(crate) fn next(&self) -> u64
         ensures { result ≡ self.now.next }
     {
@@ -144,6 +150,7 @@ impl<'a, S: RawStore> Program<'a, S> {
     }
 
     /// What the scope holds.
+    #[inline(always)]
     pub(crate) fn hold(&self, scope: usize) -> Option<Hold>
         requires { scope < length self.now.holds }
         ensures { result ≡ hold_at self.now.holds scope }
@@ -151,6 +158,7 @@ impl<'a, S: RawStore> Program<'a, S> {
         self.holds[scope]
     }
 
+    #[inline(always)]
     fn close_hold(&mut self, scope: usize, hold: Hold)
         requires scope { scope < length self.old.holds }
         requires hold { Owns self.old.view hold.object × (0 < (note self.old.view hold.object).count) }
@@ -181,6 +189,7 @@ impl<'a, S: RawStore> Program<'a, S> {
         }
     }
 
+    #[inline(always)]
     fn clear_hold(&mut self, scope: usize, hold: Hold)
         requires scope { scope < length self.old.holds }
         requires hold { Owns self.old.view hold.object × (0 < (note self.old.view hold.object).count) }
@@ -194,6 +203,7 @@ impl<'a, S: RawStore> Program<'a, S> {
         });
     }
 
+    #[inline(always)]
     pub(crate) fn store_cell(&mut self, hold: Hold, index: usize, value: u64)
         requires low { (hold.frame < self.old.view.sizes.frames) × (index < self.old.view.sizes.cells) }
         requires hold { Owns self.old.view hold.object × ((note self.old.view hold.object).frame ≡ Some hold.frame) × ((note self.old.view hold.object).writing ≡ true) }
@@ -204,6 +214,7 @@ impl<'a, S: RawStore> Program<'a, S> {
         self.table.store(owner, object, frame, index, value);
     }
 
+    #[inline(always)]
     pub(crate) fn load_cell(&mut self, hold: Hold, index: usize) -> u64
         requires low { (hold.frame < self.old.view.sizes.frames) × (index < self.old.view.sizes.cells) }
         requires hold { Owns self.old.view hold.object × ((note self.old.view hold.object).frame ≡ Some hold.frame) }
@@ -215,6 +226,7 @@ impl<'a, S: RawStore> Program<'a, S> {
     }
 
     /// Does what is left of the next instruction, which uses a scope or tells a cell.
+    #[inline(always)]
     pub(crate) fn finish(&mut self, loaded: u64)
         requires next { is_simple (next_touch self.old) ≡ true }
         requires room { self.old.completed + 1 < 2 ^ 64 }
@@ -249,6 +261,7 @@ impl<'a, S: RawStore> Program<'a, S> {
 
     /// Does instructions one after the other, as long as they touch nothing and find no scope open that must be shut, at most `limit`, and
     /// tells how many.
+    #[inline(always)]
     pub(crate) fn proceed_plainly(&mut self, limit: u64) -> u64
         requires room { self.old.completed + limit < 2 ^ 64 }
         ensures within { result ≤ limit }
@@ -262,6 +275,7 @@ impl<'a, S: RawStore> Program<'a, S> {
 
     /// Does the next instruction, which is an allocation of this many pieces. `Err` where memory is refused: then nothing is
     /// changed.
+    #[inline(never)]
     pub(crate) fn extend(&mut self, cells: u64, many: u64) -> Result<(), AllocError>
         requires next { next_touch self.old ≡ Allocs cells }
         requires room { self.old.completed + 1 < 2 ^ 64 }
@@ -286,6 +300,7 @@ impl<'a, S: RawStore> Program<'a, S> {
     }
 
     /// Closes what the scope holds.
+    #[inline(always)]
     pub(crate) fn shut(&mut self, scope: usize)
         requires holding { IsHolding self.old }
         requires scope { scope < length self.old.holds }
@@ -299,6 +314,7 @@ impl<'a, S: RawStore> Program<'a, S> {
     }
 
     /// How many scopes hold the object.
+    #[inline(always)]
     fn count(&self, object: usize) -> u64
         requires four { length self.now.holds ≡ 4 }
         ensures { result ≡ count_of object self.now.holds }
@@ -307,6 +323,7 @@ impl<'a, S: RawStore> Program<'a, S> {
     }
 
     /// The first object of the allocation of this number.
+    #[inline(always)]
     fn first(&self, reference: u64) -> u64
         requires { (0 < reference) × (reference ≤ length self.now.firsts) }
         ensures { result ≡ first_of self.now.firsts reference }
@@ -315,6 +332,7 @@ impl<'a, S: RawStore> Program<'a, S> {
     }
 
     /// The object of a cell.
+    #[inline(always)]
     fn object_at(&self, cell: Cell) -> usize
         requires holding { IsHolding self.now }
         requires cell { IsCell self.now.core cell }
@@ -325,6 +343,7 @@ impl<'a, S: RawStore> Program<'a, S> {
         (self.first(cell.reference) + cell.index / PIECE_CELLS as u64) as usize
     }
 
+    #[inline(always)]
     fn has(&self, scope: usize, object: usize) -> bool
         requires { scope < length self.now.holds }
         ensures { result ≡ has_object (hold_at self.now.holds scope) object }
@@ -333,6 +352,7 @@ impl<'a, S: RawStore> Program<'a, S> {
     }
 
     /// Makes the scope, which held nothing, hold the object. False where the store failed.
+    #[inline(never)]
     fn reopen<R: Wait>(&mut self, rt: &R, scope: usize, object: usize) -> bool
         requires holding { IsHolding self.old }
         requires scope { scope < length self.old.holds }
@@ -346,6 +366,7 @@ impl<'a, S: RawStore> Program<'a, S> {
     }
 
     /// Makes the scope hold the piece of the cell. False where the store failed.
+    #[inline(always)]
     fn seize<R: Wait>(&mut self, rt: &R, scope: usize, cell: Cell) -> bool
         requires holding { IsHolding self.old }
         requires scope { scope < length self.old.holds }
@@ -363,6 +384,7 @@ impl<'a, S: RawStore> Program<'a, S> {
     }
 
     /// Makes the scope hold the piece of the cell, or nothing. False where the store failed.
+    #[inline(always)]
     pub(crate) fn hold_wanted<R: Wait>(
         &mut self,
         rt: &R,
@@ -385,6 +407,7 @@ impl<'a, S: RawStore> Program<'a, S> {
     }
 
     /// Makes the scope's hold one for writing.
+    #[inline(always)]
     pub(crate) fn make_writable(&mut self, scope: usize, hold: Hold)
         requires holding { IsHolding self.old }
         requires scope { scope < length self.old.holds }
@@ -399,6 +422,7 @@ impl<'a, S: RawStore> Program<'a, S> {
     }
 
     /// What the scope holds, where it holds something.
+    #[inline(always)]
     pub(crate) fn held(&self, scope: usize) -> Hold
         requires scope { scope < length self.now.holds }
         requires held { hold_at self.now.holds scope ≢ None }
@@ -411,6 +435,7 @@ impl<'a, S: RawStore> Program<'a, S> {
     }
 
     /// Closes what every scope holds.
+    #[inline(never)]
     pub(crate) fn close_all(&mut self)
         requires holding { IsHolding self.old }
         ensures holding { IsHolding self.new }
@@ -430,6 +455,7 @@ impl<'a, S: RawStore> Program<'a, S> {
 }
 
 /// How many of these holds are of the object.
+#[inline(always)]
 fn count_in(holds: &[Option<Hold>], object: usize) -> u64
     requires { length holds.now < 2 ^ 32 }
     ensures { result ≡ count_of object holds.now }
@@ -444,6 +470,7 @@ fn count_in(holds: &[Option<Hold>], object: usize) -> u64
 }
 
 /// Whether there is a hold, and it is of the object.
+#[inline(always)]
 fn is_of(hold: &Option<Hold>, object: usize) -> bool
     ensures { result ≡ has_object hold.now object }
 {

@@ -6,7 +6,7 @@ ghost use Rattle.code_form.specs.Code.{Covered, most_scopes, output_of, stop_of}
 ghost use Rattle.code_form.specs.Form.{image_of};
 ghost use Rattle.executor.specs.Keeping.{IsSession};
 ghost use Rattle.executor.specs.State.{AllShut, IsAt, IsGoing, IsUntold, Ran, ScopesHold, State, begin};
-ghost use Rattle.executor.specs.Taken.{IsQuiet, Refused};
+ghost use Rattle.object_moves.specs.Taken.{IsQuiet, Refused};
 ghost use Rattle.object_lock.specs.Fresh.{IsFresh};
 ghost use Rattle.std.specs.Prelude.{◌≡◌, ◌≢◌, ◌⊎◌, ◌+◌, ◌<◌, ◌≤◌, ◌^◌, IfOk, MatchResult, Some};
 

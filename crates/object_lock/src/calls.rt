@@ -16,6 +16,7 @@ use remote_store::RawStore;
 
 impl<S: RawStore> ObjectTable<S> {
     /// Opens a hold of the object, of which there may be four, and tells where the object is.
+    #[inline(always)]
     pub fn open(&self, owner: &mut OwnerSeat<S>, obj: usize) -> Held
         requires table { IsSeat self.now owner.old }
         requires hold { Owns owner.old.view obj × ((note owner.old.view obj).count < 4) }
@@ -27,6 +28,7 @@ impl<S: RawStore> ObjectTable<S> {
     }
 
     /// Closes one hold of the object. With the last one goes what was told of its frame, and the right to write.
+    #[inline(always)]
     pub fn close(&self, owner: &mut OwnerSeat<S>, obj: usize)
         requires table { IsSeat self.now owner.old }
         requires hold { Owns owner.old.view obj × (0 < (note owner.old.view obj).count) }
@@ -38,6 +40,7 @@ impl<S: RawStore> ObjectTable<S> {
     }
 
     /// Makes a hold of the object one for writing, where its frame was told: a mover that has marked the object can't commit.
+    #[inline(always)]
     pub fn begin_write(&self, owner: &mut OwnerSeat<S>, obj: usize)
         requires table { IsSeat self.now owner.old }
         requires hold { Owns owner.old.view obj × (0 < (note owner.old.view obj).count) }
@@ -49,6 +52,7 @@ impl<S: RawStore> ObjectTable<S> {
     }
 
     /// The object's cell `i`, in the frame where it was told to be: what was stored there last, where the store is honest.
+    #[inline(always)]
     pub fn load(&self, owner: &mut OwnerSeat<S>, obj: usize, frame: usize, i: usize) -> u64
         requires table { IsSeat self.now owner.old }
         requires low { (frame < self.now.sizes.frames) × (i < self.now.sizes.cells) }
@@ -61,6 +65,7 @@ impl<S: RawStore> ObjectTable<S> {
     }
 
     /// Stores `v` in the object's cell `i`, in the frame where it was told to be. The hold is one for writing.
+    #[inline(always)]
     pub fn store(&self, owner: &mut OwnerSeat<S>, obj: usize, frame: usize, i: usize, v: u64)
         requires table { IsSeat self.now owner.old }
         requires low { (frame < self.now.sizes.frames) × (i < self.now.sizes.cells) }

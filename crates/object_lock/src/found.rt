@@ -7,6 +7,7 @@ use crate::answers::{Begin, Held};
 use pointer_word::{Word, WordState};
 
 /// Where the object is.
+#[inline(always)]
 pub(crate) fn held_of(bits: u64) -> Held
     ensures { Field bits (λ w. result ≡ held w.place) }
 {

@@ -1,5 +1,5 @@
 use Rattle.std.proofs.Common.{arith}
-use Rattle.code_execution.proofs.Scopes.{written_more}
+use Rattle.code_execution.proofs.Stale.{written_more}
 use Rattle.code_execution.proofs.aims.make_stale.Goals as goal
 
 pub loop-number-preserved : goal.loop-number-preserved

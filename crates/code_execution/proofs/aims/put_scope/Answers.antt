@@ -1,4 +1,4 @@
-use Rattle.code_execution.proofs.Scopes.{put_in}
+use Rattle.code_execution.proofs.Stale.{put_in}
 use Rattle.code_execution.proofs.aims.put_scope.Goals as goal
 
 pub returns-then-number-scopes-clause-own : goal.returns-then-number-scopes-clause-own

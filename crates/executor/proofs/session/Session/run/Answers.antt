@@ -4,7 +4,7 @@ use Rattle.cells.specs.declared.ending.Want.TheVariants.{OutOfMemory, StoreFaile
 use Rattle.code_form.specs.Code.{Covered, stop_of}
 use Rattle.code_form.specs.Growth.{has_text}
 use Rattle.executor.specs.State.{IsGoing, Ran, State}
-use Rattle.executor.specs.Taken.{Refused}
+use Rattle.object_moves.specs.Taken.{Refused}
 use Rattle.executor.proofs.Laws.{Laws}
 use Rattle.executor.proofs.Opening.{never_failed, stopped_shut}
 use Rattle.executor.proofs.Running.{HeapLaws}

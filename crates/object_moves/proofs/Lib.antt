@@ -1,0 +1,4 @@
+mod Copying
+pub mod Filling
+mod Looking
+mod Taking

@@ -1,0 +1,189 @@
+//! How an owner takes a hold of an object, which it brings into a frame where it is away.
+ghost use Rattle.std.specs.Prelude.{◌≡◌, ◌<◌, None, IfOk, IfSome, MatchResult};
+ghost use Rattle.object_lock.specs.SeatViews.{IsSeat};
+ghost use Rattle.object_lock.specs.Seats.{Owns, note};
+ghost use Rattle.object_moves.specs.Taken.{AreTaken, BringsOr, Claims, ClaimsOne, ClaimsOr, FetchesOr, HandOnly, HasOnly, IsQuiet, Refused, StillBrings, TakesOr};
+
+use crate::arrival::bring_into;
+use crate::room::make_room;
+use crate::search::find_frame;
+use object_lock::{Begin, Held, ObjectTable, OwnerSeat};
+use remote_store::{Failed, RawStore};
+use std::sync::Wait;
+
+/// Claims the frame, which was freed just now, for the object that is being brought in, unless somebody else claims it first.
+fn claim_freed<S: RawStore>(
+    table: &ObjectTable<S>,
+    owner: &mut OwnerSeat<S>,
+    obj: usize,
+    freed: Option<usize>,
+) -> Option<usize>
+    requires table { IsSeat table.now owner.old }
+    requires low { obj < table.now.sizes.objects }
+    requires freed { IfSome freed (λ frame. frame < table.now.sizes.frames) }
+    requires hands { HasOnly obj owner.old.view }
+    ensures table { IsSeat table.now owner.new }
+    ensures told { ClaimsOne owner.old owner.new result }
+{
+    let Some(frame) = freed else {
+        return None;
+    };
+    if table.try_claim(owner, frame, obj) {
+        Some(frame)
+    } else {
+        None
+    }
+}
+
+/// Claims a frame for the object that is being brought in: one that is free, or that another object is moved out of. `None` where each
+/// frame was looked at, none was free, and none was freed that nobody else claimed. `Err` where the store failed.
+fn claim_once<S: RawStore>(
+    table: &ObjectTable<S>,
+    owner: &mut OwnerSeat<S>,
+    obj: usize,
+    from: usize,
+) -> Result<Option<usize>, Failed>
+    requires table { IsSeat table.now owner.old }
+    requires own { Owns owner.old.view obj }
+    requires hands { HasOnly obj owner.old.view }
+    ensures table { IsSeat table.now owner.new }
+    ensures told { MatchResult result (λ claimed. ClaimsOr owner.old owner.new claimed)
+        (λ _. HandOnly owner.old owner.new × StillBrings owner.old.view.hand owner.new.view.hand × Refused S.reliable owner.old.refusals owner.new.refusals) }
+    ensures looked { IfOk result (λ claimed. claimed ≡ None → AreTaken S.honest 0 table.now.sizes.frames owner.old.view) }
+{
+    if let Some(frame) = find_frame(table, owner, obj, from) {
+        return Ok(Some(frame));
+    }
+    match make_room(table, owner, obj) {
+        Ok(freed) => Ok(claim_freed(table, owner, obj, freed)),
+        Err(failed) => Err(failed),
+    }
+}
+
+/// Claims a frame for the object that is being brought in: one that is free, or that another object is moved out of. Waits
+/// until there is one. Looks for it from frame `from` on, which is the one behind it then. `Err` where the store failed.
+fn claim<R: Wait, S: RawStore>(
+    rt: &R,
+    table: &ObjectTable<S>,
+    owner: &mut OwnerSeat<S>,
+    obj: usize,
+    from: &mut usize,
+) -> Result<usize, Failed>
+    requires table { IsSeat table.now owner.old }
+    requires own { Owns owner.old.view obj }
+    requires hands { HasOnly obj owner.old.view }
+    ensures table { IsSeat table.now owner.new }
+    ensures told { MatchResult result (λ frame. Claims owner.old owner.new frame)
+        (λ _. HandOnly owner.old owner.new × StillBrings owner.old.view.hand owner.new.view.hand × Refused S.reliable owner.old.refusals owner.new.refusals) }
+{
+    for _ in rt.forever() {
+        match claim_once(table, owner, obj, *from) {
+            Ok(Some(frame)) => {
+                *from = frame + 1;
+                return Ok(frame);
+            }
+            Ok(None) => (),
+            Err(failed) => return Err(failed),
+        }
+    }
+    unreachable!()
+}
+
+/// Brings the object in that was begun; the frame that it is in then. `None` where the store failed: then it is given up.
+fn bring<R: Wait, S: RawStore>(
+    rt: &R,
+    table: &ObjectTable<S>,
+    owner: &mut OwnerSeat<S>,
+    obj: usize,
+    from: &mut usize,
+) -> Option<usize>
+    requires table { IsSeat table.now owner.old }
+    requires hold { Owns owner.old.view obj × (0 < (note owner.old.view obj).count) }
+    requires hands { HasOnly obj owner.old.view }
+    ensures table { IsSeat table.now owner.new }
+    ensures told { BringsOr S.reliable obj owner.old owner.new result }
+{
+    let Ok(frame) = claim(rt, table, owner, obj, from) else {
+        table.retreat(owner, obj);
+        return None;
+    };
+    if bring_into(table, owner, obj, frame) {
+        Some(frame)
+    } else {
+        None
+    }
+}
+
+/// Waits until the object is in a frame, and brings it in where nobody else does. `None` where the store failed.
+fn fetch<R: Wait, S: RawStore>(
+    rt: &R,
+    table: &ObjectTable<S>,
+    owner: &mut OwnerSeat<S>,
+    obj: usize,
+    count: u64,
+    from: &mut usize,
+) -> Option<usize>
+    requires table { IsSeat table.now owner.old }
+    requires hold { Owns owner.old.view obj × (0 < count) × (count ≡ (note owner.old.view obj).count) × (count < 5) }
+    requires quiet { IsQuiet owner.old.view }
+    ensures table { IsSeat table.now owner.new }
+    ensures told { BringsOr S.reliable obj owner.old owner.new result }
+{
+    for _ in rt.forever() {
+        match table.try_begin(owner, obj, count) {
+            Begin::Taken => return bring(rt, table, owner, obj, from),
+            Begin::Here(frame) => return Some(frame),
+            Begin::Busy => (),
+        }
+    }
+    unreachable!()
+}
+
+/// Waits until the object, of which a hold was just opened, is in a frame. `None` where the store failed: then the hold is closed
+/// again.
+fn fetch_or_close<R: Wait, S: RawStore>(
+    rt: &R,
+    table: &ObjectTable<S>,
+    owner: &mut OwnerSeat<S>,
+    obj: usize,
+    count: u64,
+    from: &mut usize,
+) -> Option<usize>
+    requires table { IsSeat table.now owner.old }
+    requires hold { Owns owner.old.view obj × (0 < count) × (count ≡ (note owner.old.view obj).count) × (count < 5) }
+    requires quiet { IsQuiet owner.old.view }
+    ensures table { IsSeat table.now owner.new }
+    ensures told { FetchesOr S.reliable obj owner.old owner.new result }
+{
+    let fetched = fetch(rt, table, owner, obj, count, from);
+    match fetched {
+        Some(frame) => Some(frame),
+        None => {
+            table.close(owner, obj);
+            None
+        }
+    }
+}
+
+/// Opens a hold of the object, of which there are `count` more, and tells the frame where it is. `None` where the store failed:
+/// then no hold more is open.
+pub fn take<R: Wait, S: RawStore>(
+    rt: &R,
+    table: &ObjectTable<S>,
+    owner: &mut OwnerSeat<S>,
+    obj: usize,
+    count: u64,
+    from: &mut usize,
+) -> Option<usize>
+    requires table { IsSeat table.now owner.old }
+    requires hold { Owns owner.old.view obj × (count < 4) × (count ≡ (note owner.old.view obj).count) }
+    requires quiet { IsQuiet owner.old.view }
+    ensures table { IsSeat table.now owner.new }
+    ensures told { TakesOr S.reliable obj owner.old owner.new result }
+{
+    match table.open(owner, obj) {
+        Held::Here(frame) => Some(frame),
+        Held::Away => fetch_or_close(rt, table, owner, obj, count + 1, from),
+        Held::Coming => fetch_or_close(rt, table, owner, obj, count + 1, from),
+    }
+}

@@ -1,0 +1,119 @@
+//! How an object is moved out of a frame, and room made for another.
+ghost use Rattle.std.specs.Prelude.{◌≡◌, ◌<◌, ℕ, None, Some, IfOk, IfSome, MatchResult, length};
+ghost use Rattle.object_lock.specs.SeatViews.{IsSeat};
+ghost use Rattle.object_lock.specs.Seats.{Owns};
+ghost use Rattle.object_lock.specs.Telling.{HasPut};
+ghost use Rattle.object_moves.specs.Moving.{LetsGo, MovesAway};
+ghost use Rattle.object_moves.specs.Taken.{CopiesOnly, HandOnly, HasOnly, MovesOut, Refused, StillBrings};
+ghost use Rattle.pointer_word.specs.Ordered.{IsCopied};
+
+use crate::moved::Moved;
+use object_lock::{MoverSeat, ObjectTable, OwnerSeat};
+use remote_store::{Failed, PIECE_CELLS, RawStore};
+
+/// Copies the cells of the frame, in which the mover has marked the object.
+fn copy<S: RawStore>(
+    table: &ObjectTable<S>,
+    mover: &mut MoverSeat<S>,
+    obj: usize,
+    frame: usize,
+    words: &mut [u64],
+)
+    requires table { IsSeat table.now mover.old }
+    requires low { frame < table.now.sizes.frames }
+    requires hands { MovesOut obj frame mover.old.view.hand }
+    requires words { length words.old ≡ table.now.sizes.cells }
+    ensures table { IsSeat table.now mover.new }
+    ensures same { CopiesOnly mover.old mover.new }
+    ensures length { length words.new ≡ table.now.sizes.cells }
+    ensures copied { IsCopied mover.new.view.hand words.new table.now.sizes.cells }
+{
+    // For the proof alone: the clauses speak of the object that is moved out.
+    let _ = obj;
+    for i in 0..words.len() {
+        words[i] = table.copy_word(mover, frame, i);
+    }
+}
+
+/// Lets the object go whose cells were put into its berth: it leaves the frame, which is free then, or stays where it has changed
+/// since it was marked. Whether it has left.
+fn let_go<S: RawStore>(
+    table: &ObjectTable<S>,
+    mover: &mut MoverSeat<S>,
+    obj: usize,
+    frame: usize,
+) -> Moved
+    requires table { IsSeat table.now mover.old }
+    requires low { (obj < table.now.sizes.objects) × (frame < table.now.sizes.frames) }
+    requires hands { MovesOut obj frame mover.old.view.hand }
+    requires put { HasPut S.content table.now.sizes.cells obj mover.old }
+    ensures table { IsSeat table.now mover.new }
+    ensures told { LetsGo mover.old mover.new result }
+{
+    if table.try_commit(mover, obj) {
+        table.release(mover, frame);
+        Moved::Left
+    } else {
+        table.abort(mover, obj);
+        Moved::Stayed
+    }
+}
+
+/// Moves the object, which the mover has marked in the frame, out of it: copies its cells, puts them into its berth, and lets it go.
+/// `Left`: the object is in its berth, and the frame is free. `Stayed`: it was used since it was marked, and stays in the frame. `Failed`: the store
+/// refused the put, and it stays. Then the mover has in hand only what it is bringing in, if anything.
+pub fn move_out<S: RawStore>(
+    table: &ObjectTable<S>,
+    mover: &mut MoverSeat<S>,
+    obj: usize,
+    frame: usize,
+) -> Moved
+    requires table { IsSeat table.now mover.old }
+    requires low { (obj < table.now.sizes.objects) × (frame < table.now.sizes.frames) }
+    requires hands { MovesOut obj frame mover.old.view.hand }
+    ensures table { IsSeat table.now mover.new }
+    ensures told { MovesAway S.reliable mover.old mover.new result }
+{
+    let mut words = [0; PIECE_CELLS];
+    copy(table, mover, obj, frame, &mut words);
+    match mover.put(obj, &words) {
+        Ok(()) => let_go(table, mover, obj, frame),
+        Err(Failed) => {
+            table.abort(mover, obj);
+            Moved::Failed
+        }
+    }
+}
+
+/// Looks once at each frame, and moves out the first object there that it can mark: the frame that it has left. `Err` where the store
+/// failed.
+pub(crate) fn make_room<S: RawStore>(
+    table: &ObjectTable<S>,
+    owner: &mut OwnerSeat<S>,
+    obj: usize,
+) -> Result<Option<usize>, Failed>
+    requires table { IsSeat table.now owner.old }
+    requires own { Owns owner.old.view obj }
+    requires hands { HasOnly obj owner.old.view }
+    ensures table { IsSeat table.now owner.new }
+    ensures same { HandOnly owner.old owner.new }
+    ensures brings { StillBrings owner.old.view.hand owner.new.view.hand }
+    ensures low { IfOk result (λ freed. IfSome freed (λ frame. frame < table.now.sizes.frames)) }
+    ensures told { MatchResult result (λ _. owner.new.refusals ≡ owner.old.refusals) (λ _. Refused S.reliable owner.old.refusals owner.new.refusals) }
+{
+    // For the proof alone: the clauses speak of the object that is being brought in.
+    let _ = obj;
+    for frame in 0..table.frames() {
+        let Some(victim) = table.look(owner, frame) else {
+            return Ok(None);
+        };
+        if table.try_mark(owner, victim, frame) {
+            return match move_out(table, owner, victim, frame) {
+                Moved::Left => Ok(Some(frame)),
+                Moved::Stayed => Ok(None),
+                Moved::Failed => Err(Failed),
+            };
+        }
+    }
+    Ok(None)
+}

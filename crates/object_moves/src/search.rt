@@ -1,0 +1,75 @@
+//! The search for a frame that is free.
+ghost use Rattle.std.specs.Prelude.{◌≡◌, ◌≢◌, ◌<◌, ◌≤◌, None, false};
+ghost use Rattle.object_lock.specs.Plays.{IsLook};
+ghost use Rattle.object_lock.specs.SeatViews.{IsSeat};
+ghost use Rattle.object_lock.specs.Telling.{Claimed};
+ghost use Rattle.object_moves.specs.Taken.{AreTaken, ClaimsOne, HasOnly};
+
+use object_lock::{MoverSeat, ObjectTable};
+use remote_store::RawStore;
+
+/// Claims the frame for the object that is being brought in, where a look at it finds it free, and nobody else claims it first.
+fn try_frame<S: RawStore>(
+    table: &ObjectTable<S>,
+    mover: &mut MoverSeat<S>,
+    obj: usize,
+    frame: usize,
+) -> bool
+    requires table { IsSeat table.now mover.old }
+    requires low { (obj < table.now.sizes.objects) × (frame < table.now.sizes.frames) }
+    requires hands { HasOnly obj mover.old.view }
+    ensures table { IsSeat table.now mover.new }
+    ensures told { Claimed frame mover.old mover.new result }
+    ensures looked { result ≡ false → IsLook S.honest mover.old.view (λ x. x.frame frame ≢ 0) }
+{
+    match table.look(mover, frame) {
+        Some(_object) => false,
+        None => table.try_claim(mover, frame, obj),
+    }
+}
+
+/// Looks once at each frame from `low` to below `high`, and claims the first that is free for the object that is being brought in.
+fn find_between<S: RawStore>(
+    table: &ObjectTable<S>,
+    mover: &mut MoverSeat<S>,
+    obj: usize,
+    low: usize,
+    high: usize,
+) -> Option<usize>
+    requires table { IsSeat table.now mover.old }
+    requires range { high ≤ table.now.sizes.frames }
+    requires low { obj < table.now.sizes.objects }
+    requires hands { HasOnly obj mover.old.view }
+    ensures table { IsSeat table.now mover.new }
+    ensures told { ClaimsOne mover.old mover.new result }
+    ensures looked { result ≡ None → AreTaken S.honest low high mover.old.view }
+{
+    for frame in low..high {
+        if try_frame(table, mover, obj, frame) {
+            return Some(frame);
+        }
+    }
+    None
+}
+
+/// Looks once at each frame, from the one of this number on, and claims the first that is free for the object that is being brought in.
+pub fn find_frame<S: RawStore>(
+    table: &ObjectTable<S>,
+    mover: &mut MoverSeat<S>,
+    obj: usize,
+    from: usize,
+) -> Option<usize>
+    requires table { IsSeat table.now mover.old }
+    requires low { obj < table.now.sizes.objects }
+    requires hands { HasOnly obj mover.old.view }
+    ensures table { IsSeat table.now mover.new }
+    ensures told { ClaimsOne mover.old mover.new result }
+    ensures looked { result ≡ None → AreTaken S.honest 0 table.now.sizes.frames mover.old.view }
+{
+    let count = table.frames();
+    let start = if from < count { from } else { 0 };
+    match find_between(table, mover, obj, start, count) {
+        Some(frame) => Some(frame),
+        None => find_between(table, mover, obj, 0, start),
+    }
+}
