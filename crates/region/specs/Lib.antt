@@ -1,3 +1,4 @@
 pub mod Admission
 pub mod Faults
+pub mod Finding
 pub mod Regions

@@ -2,32 +2,42 @@
 ghost use Rattle.object_lock.specs.Fresh.{AreNumbered, IsFreshMover, IsFreshOwner, sizes_of};
 ghost use Rattle.object_lock.specs.Kept.{slot_has, slot_keeps};
 ghost use Rattle.object_lock.specs.NewTable.{BeginsAway};
+ghost use Rattle.object_lock.specs.SeatViews.{IsSeat};
+ghost use Rattle.object_moves.specs.Taken.{AreTaken, ClaimsOne, HasOnly};
 ghost use Rattle.region.specs.Admission.{IsAdmitted, IsRefused};
+ghost use Rattle.region.specs.Finding.{frame_found};
 ghost use Rattle.region.specs.declared.fault.AdmitFault.TheVariants.{OutOfMemory};
 ghost use Rattle.std.specs.List.{All};
-ghost use Rattle.std.specs.Prelude.{◌≡◌, ◌⊎◌, ◌+◌, ◌/◌, ◌<◌, ◌++◌, IfErr, IfOk, Some, length, slice_get, suc};
+ghost use Rattle.std.specs.Prelude.{◌≡◌, ◌⊎◌, ◌+◌, ◌*◌, ◌/◌, ◌<◌, ◌≤◌, ◌++◌, IfErr, IfOk, None, Some, length, slice_get, suc};
 
 use crate::admission::fits;
 use crate::fault::AdmitFault;
+use crate::found::Found;
 use object_lock::{MoverSeat, ObjectTable, OwnerSeat};
+use object_moves::find_frame;
 use remote_store::{Config, RawStore, Stores};
 use scope_verifier::Verified;
 use std::alloc::Global;
 use std::marker::Model;
 
-/// A table of objects, and the programs that share it.
+/// A table of objects, the programs that share it, and how many fetchers serve them.
 #[derive(Drop)]
 pub struct Region<S: RawStore> {
     table: ObjectTable<S>,
     programs: Vec<Verified>,
+    objects: u32,
+    fetchers: u32,
 }
 
 impl<S: RawStore> Model for Region<S> {
     ghost use Rattle.region.specs.Regions.{RegionView};
+    ghost use Rattle.std.specs.Prelude.{◌≤◌, length};
 
     ghost Value = { RegionView };
 
-    ghost view = { λ r. record { table = r.table; programs = r.programs.items } };
+    ghost view = { λ r. record { table = r.table; programs = r.programs.items; objects = r.objects; fetchers = r.fetchers } };
+
+    ghost invariant = { λ r. (r.objects ≤ r.table.sizes.objects) × (length r.programs.items ≤ 256) × (r.fetchers ≤ 64) };
 }
 
 impl<S: RawStore> Region<S> {
@@ -40,9 +50,26 @@ impl<S: RawStore> Region<S> {
 
     /// How many programs there are.
     pub fn programs(&self) -> usize
-        ensures { result ≡ length self.now.programs }
+        ensures programs { result ≡ length self.now.programs }
+        ensures within { result ≤ 256 }
     {
         self.programs.len()
+    }
+
+    /// How many objects the programs have, which are the first of the table.
+    pub fn objects(&self) -> usize
+        ensures objects { result ≡ self.now.objects }
+        ensures within { result ≤ self.now.table.sizes.objects }
+    {
+        self.objects as usize
+    }
+
+    /// How many fetchers there are.
+    pub fn fetchers(&self) -> usize
+        ensures fetchers { result ≡ self.now.fetchers }
+        ensures within { result ≤ 64 }
+    {
+        self.fetchers as usize
     }
 
     /// The image of the program of this number, counted from 0.
@@ -51,6 +78,22 @@ impl<S: RawStore> Region<S> {
         ensures { slice_get self.now.programs program ≡ Some result.now }
     {
         &self.programs[program]
+    }
+
+    /// Looks once at each frame, and claims the first that is free for the object that the mover is bringing in. `None` where each frame was looked at,
+    /// and was not free then, or was claimed by another: then the seat is as it was.
+    pub fn find_frame(&self, mover: &mut MoverSeat<S>, obj: usize) -> Found
+        requires table { IsSeat self.now.table mover.old }
+        requires low { obj < self.now.table.sizes.objects }
+        requires hands { HasOnly obj mover.old.view }
+        ensures table { IsSeat self.now.table mover.new }
+        ensures told { ClaimsOne mover.old mover.new (frame_found result) }
+        ensures looked { frame_found result ≡ None → AreTaken S.honest 0 self.now.table.sizes.frames mover.old.view }
+    {
+        match find_frame(&self.table, mover, obj, 0) {
+            Some(frame) => Found::Claimed(frame),
+            None => Found::None,
+        }
     }
 }
 
@@ -64,14 +107,24 @@ pub fn admit<S: RawStore, M: Stores<S = S> + Drop>(
 ) -> Result<(Region<S>, Vec<OwnerSeat<S>>, Vec<MoverSeat<S>>), AdmitFault>
     ensures admitted { IfOk result (λ t. IsAdmitted programs.items config.frames config.objects config.evacuators config.fetchers) }
     ensures region { IfOk result (λ t. (t.0.programs ≡ programs.items) × (t.0.table.sizes ≡ sizes_of config.objects config.frames)) }
+    ensures numbers { IfOk result (λ t. (t.0.objects ≡ config.objects / length programs.items * length programs.items) × (t.0.fetchers ≡ config.fetchers)) }
     ensures owners { IfOk result (λ t. AreNumbered 1 (length programs.items) t.1.items × All (IsFreshOwner t.0.table (config.objects / length programs.items)) t.1.items) }
     ensures movers { IfOk result (λ t. AreNumbered (suc (length programs.items)) (config.evacuators + config.fetchers) t.2.items × All (IsFreshMover t.0.table) t.2.items) }
     ensures away { IfOk result (λ t. BeginsAway (slot_keeps S.content) slot_has S.honest t.0.table.sizes (t.1.items ++ t.2.items)) }
     ensures refused { IfErr result (λ fault. (fault ≡ OutOfMemory) ⊎ IsRefused programs.items config.frames config.objects config.evacuators config.fetchers fault) }
 {
     fits(&programs, &config)?;
-    match ObjectTable::new(alloc, programs.len() as u32, &config) {
-        Ok((table, owners, movers)) => Ok((Region { table, programs }, owners, movers)),
+    let count = programs.len() as u32;
+    match ObjectTable::new(alloc, count, &config) {
+        Ok((table, owners, movers)) => {
+            let region = Region {
+                table,
+                programs,
+                objects: config.objects / count * count,
+                fetchers: config.fetchers,
+            };
+            Ok((region, owners, movers))
+        }
         Err(_want) => Err(AdmitFault::OutOfMemory),
     }
 }

@@ -1,4 +1,4 @@
-use Rattle.std.proofs.Common.{◌≡◌, ℕ, ◌+◌, ◌*◌, ◌<◌, ◌≤◌, arith, length, refl}
+use Rattle.std.proofs.Common.{◌≡◌, ◌*◌, ◌<◌, ◌≤◌, arith, length, refl}
 use Rattle.object_lock.specs.Fresh.{IsWithinLimits}
 use Rattle.region.specs.Admission.{image_at, needed}
 use Rattle.world_semantics.specs.Enough.{scopes_below}

@@ -8,5 +8,5 @@ pub returns-in-Ok-clause-owners : goal.returns-in-Ok-clause-owners
 returns-in-Ok-clause-owners g c =
     let made = c.in-Ok.ensures.made in
     let Seated : ℕ → Type 0 = λ n. AreNumbered 1 n c.in-Ok.owners.items × All (IsFreshOwner c.in-Ok.table (c.args.config.objects / n)) c.in-Ok.owners.items in
-    let same : c.len.result ≡ length c.args.programs.items = c.len.ensures ∙ (sym c.deref.ensures.len ∙ ap (λ (l : List Verified). length l) c.deref.ensures.value) in
+    let same : c.len-count.result ≡ length c.args.programs.items = c.len-count.ensures ∙ (sym c.deref.ensures.len ∙ ap (λ (l : List Verified). length l) c.deref.ensures.value) in
     subst Seated same (made.1, made.2)
