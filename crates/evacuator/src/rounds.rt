@@ -1,0 +1,82 @@
+//! Rounds of an evacuator.
+ghost use Rattle.std.specs.Prelude.{◌≡◌, ◌<◌, ◌≤◌, min};
+ghost use Rattle.evacuator.specs.Rounds.{Evacuates, IsPassed, Passes, marks_of};
+ghost use Rattle.object_lock.specs.SeatViews.{IsSeat};
+ghost use Rattle.pointer_word.specs.Asked.{HasNothing};
+
+use crate::counts::Round;
+use object_lock::{MoverSeat, ObjectTable};
+use object_moves::move_out;
+use region::Region;
+use remote_store::RawStore;
+
+/// Looks at the frame, and moves the object out that it names, where that can be marked there.
+fn visit<S: RawStore>(table: &ObjectTable<S>, seat: &mut MoverSeat<S>, frame: usize) -> Round
+    requires table { IsSeat table.now seat.old }
+    requires low { frame < table.now.sizes.frames }
+    requires empty { HasNothing seat.old.view.hand }
+    ensures table { IsSeat table.now seat.new }
+    ensures told { Evacuates seat.old seat.new result }
+    ensures once { marks_of result ≤ 1 }
+    ensures passed { marks_of result ≡ 0 → (seat.new ≡ seat.old) × IsPassed S.honest seat.old.view frame }
+    ensures sure { S.reliable → result.failed ≡ 0 }
+{
+    // For the proof alone: the count of refusals is one of 64 bits.
+    let _ = seat.refusals();
+    let Some(obj) = table.look(seat, frame) else {
+        return Round::none();
+    };
+    if !table.try_mark(seat, obj, frame) {
+        return Round::none();
+    }
+    Round::of(move_out(table, seat, obj, frame))
+}
+
+/// Looks once at each of at most `budget` frames, from frame `from` on, or from frame 0 on where there is no such frame; behind the last comes frame 0. Each
+/// object that it can mark in such a frame it moves out, or gives up: then the object was used meanwhile, or the store refused the put.
+/// The mover's hands are empty before and after. It never waits.
+pub fn round_from<S: RawStore>(
+    region: &Region<S>,
+    seat: &mut MoverSeat<S>,
+    from: usize,
+    budget: u32,
+) -> Round
+    requires table { IsSeat region.now.table seat.old }
+    requires empty { HasNothing seat.old.view.hand }
+    ensures table { IsSeat region.now.table seat.new }
+    ensures empty { HasNothing seat.new.view.hand }
+    ensures told { Evacuates seat.old seat.new result }
+    ensures within { marks_of result ≤ budget }
+    ensures still { marks_of result ≡ 0 → seat.new ≡ seat.old }
+    ensures passed { marks_of result ≡ 0 → from < region.now.table.sizes.frames → Passes S.honest from (min budget region.now.table.sizes.frames) region.now.table.sizes.frames seat.old.view }
+    ensures sure { S.reliable → result.failed ≡ 0 }
+{
+    // For the proof alone: the count of refusals is one of 64 bits.
+    let _ = seat.refusals();
+    let table = region.table();
+    let frames = table.frames();
+    let start = if from < frames { from } else { 0 };
+    let visits = frames.min(budget as usize);
+    let mut round = Round::none();
+    for i in 0..visits {
+        let frame = (start + i) % frames;
+        round = round.and(visit(table, seat, frame));
+    }
+    round
+}
+
+/// The round from frame 0 on: looks once at each of the first `budget` frames, or at each where there are fewer. A mover that is to come to all frames with a
+/// small budget takes `round_from`, and begins where its last round ended.
+pub fn round<S: RawStore>(region: &Region<S>, seat: &mut MoverSeat<S>, budget: u32) -> Round
+    requires table { IsSeat region.now.table seat.old }
+    requires empty { HasNothing seat.old.view.hand }
+    ensures table { IsSeat region.now.table seat.new }
+    ensures empty { HasNothing seat.new.view.hand }
+    ensures told { Evacuates seat.old seat.new result }
+    ensures within { marks_of result ≤ budget }
+    ensures still { marks_of result ≡ 0 → seat.new ≡ seat.old }
+    ensures passed { marks_of result ≡ 0 → Passes S.honest 0 (min budget region.now.table.sizes.frames) region.now.table.sizes.frames seat.old.view }
+    ensures sure { S.reliable → result.failed ≡ 0 }
+{
+    round_from(region, seat, 0, budget)
+}
