@@ -1,0 +1,41 @@
+//! Plays scenarios of hints and fetchers, and prints what each came to. What must be printed is written by hand.
+#![tactic(auto)]
+
+mod frames;
+mod moves;
+mod owners;
+mod queues;
+mod regions;
+mod scenario;
+
+use crate::queues::{cross_threads, fill_queue};
+use crate::scenario::{Scenario, Story, play};
+use remote_store::{FarHeap, FaultPlan, FaultStores};
+use std::alloc::Global;
+use std::io;
+use std::io::Write;
+use std::sync::Wait;
+
+/// What comes of hints of an object that is moved out, where the first get fails. `None` where memory runs out.
+fn fail_once<R: Wait>(rt: &R, alloc: Global) -> Option<Story> {
+    // The first call of the store is the put.
+    let stores = FaultStores::new(alloc, FarHeap, FaultPlan::Only(2)).ok()?;
+    play(rt, alloc, Scenario::MovedOut, stores)
+}
+
+fn main(rt: HostRuntime) -> io::Result<()> {
+    let alloc = rt.alloc();
+    let mut out = io::writer(&rt);
+    writeln!(out, "a queue of hints: {:?}", fill_queue(&rt, alloc))?;
+    writeln!(
+        out,
+        "a hint of another thread: {:?}",
+        cross_threads(&rt, alloc)
+    )?;
+    let moved_out = play(&rt, alloc, Scenario::MovedOut, FarHeap);
+    writeln!(out, "a store that does not fail: {moved_out:?}")?;
+    let failed = fail_once(&rt, alloc);
+    writeln!(out, "a store that fails the first get: {failed:?}")?;
+    let no_frame = play(&rt, alloc, Scenario::NoFrame, FarHeap);
+    writeln!(out, "two frames: {no_frame:?}")
+}

@@ -1,0 +1,79 @@
+//! A region of one program.
+ghost use Rattle.object_lock.specs.Fresh.{IsFresh};
+ghost use Rattle.std.specs.List.{All};
+ghost use Rattle.std.specs.Prelude.{IfSome};
+
+use code_form::{Block, Function, Image, Instruction, Kind, Operation};
+use object_lock::{MoverSeat, OwnerSeat};
+use region::{Region, admit};
+use remote_store::{Config, RawStore, Stores};
+use scope_verifier::{Verified, verify};
+use std::alloc::{AllocError, Global};
+
+/// The function of a program that ends at once.
+fn function(alloc: Global) -> Result<Function, AllocError> {
+    let code = vec![in alloc;
+        Instruction::Simple(Operation::Const { to: 0, value: 0 }),
+        Instruction::Return { from: 0 },
+    ]?;
+    let block = Block {
+        facts: Vec::new(alloc),
+        code,
+    };
+    Ok(Function {
+        result: Some(Kind::Int),
+        parameters: 0,
+        kinds: vec![in alloc; Kind::Int]?,
+        scopes: 0,
+        blocks: vec![in alloc; block]?,
+    })
+}
+
+/// The only program. `None` where memory runs out.
+fn programs(alloc: Global) -> Option<Vec<Verified>> {
+    let function = function(alloc).ok()?;
+    let image = Image {
+        texts: Vec::new(alloc),
+        layouts: Vec::new(alloc),
+        functions: vec![in alloc; function].ok()?,
+    };
+    let program = verify(alloc, image).ok()?;
+    vec![in alloc; program].ok()
+}
+
+/// A region of two frames, and of a program with three objects; the program's seat, and those of an evacuator and a fetcher. `None` where
+/// memory runs out, or the store can't be made.
+pub(crate) fn region<M: Stores + Drop>(
+    alloc: Global,
+    stores: M,
+) -> Option<(Region<M::S>, Vec<OwnerSeat<M::S>>, Vec<MoverSeat<M::S>>)>
+    ensures owners { IfSome result (λ t. All (IsFresh t.0.table) t.1.items) }
+    ensures movers { IfSome result (λ t. All (IsFresh t.0.table) t.2.items) }
+{
+    let programs = programs(alloc)?;
+    let config = Config {
+        frames: 2,
+        objects: 3,
+        evacuators: 1,
+        fetchers: 1,
+        stores,
+    };
+    match admit(alloc, programs, config) {
+        Ok((region, owners, movers)) => Some((region, owners, movers)),
+        Err(_fault) => None,
+    }
+}
+
+/// The last of these seats of the region, where there is one.
+pub(crate) fn last_seat<S: RawStore>(
+    region: &Region<S>,
+    seats: &mut Vec<MoverSeat<S>>,
+) -> Option<MoverSeat<S>>
+    requires { All (IsFresh region.now.table) seats.old.items }
+    ensures seat { IfSome result (IsFresh region.now.table) }
+    ensures rest { All (IsFresh region.now.table) seats.new.items }
+{
+    // For the proof alone: the clauses speak of the region.
+    let _ = region;
+    seats.pop()
+}
