@@ -1,21 +1,24 @@
 -- What clap found, read as the words' meaning.
 use Rattle.std.proofs.Common.{◌≡◌, ◌∙◌, Bool, true, false, List, [], ◌∷◌, Option, Some, None, map, find, refl, sym, ap, ap₂, subst, inl, inr, ◌||◌, ℕ}
-use Rattle.std.specs.Prelude.{Box, codes, option_map, option_and_then, slice_get}
+use Rattle.std.specs.Prelude.{Box, IfErr, IfOk, MatchResult, Result, Ok, Err, codes, option_map, option_and_then, slice_get}
 use Rattle.std.specs.Option.{option_map_or}
 use Rattle.std.specs.Box.{box_value}
 use Rattle.std.specs.Str.{bytes_eq}
 use Rattle.std.specs.Borrow.{Bor}
-use Rattle.clap.specs.Walk.{Row, Text, first_of, row_of, rows_of}
+use Rattle.clap.specs.Walk.{Row, Text, all_of, first_of, row_of, rows_of}
 use Rattle.clap.specs.Words.{HasKind, Kinds, fault_of, is_simple_and_free, kind_of}
 use Rattle.clap.specs.Facts.{Entry}
-use Rattle.clap.specs.Matches.{first_value, found_of, subcommand_name_of}
+use Rattle.clap.specs.Matches.{first_value, found_of, matched_of, raw_values, subcommand_name_of}
 use Rattle.clap.specs.Simple.{App, HasMatchesOf, is_simple, subcommand_of, subcommand_rows, subcommand_rows_of}
 use Rattle.clap.specs.declared.error.kind.ErrorKind.TheVariants.{OutOfMemory}
 use Rattle.clap.specs.declared.error.Error.{Error}
 use Rattle.clap.specs.declared.parser.matches.ArgMatches.{ArgMatches}
 use Rattle.clap.specs.declared.parser.matches.ArgMatches.TheViews.{out-ArgMatches, out-SubCommand}
 use Rattle.clap.specs.declared.parser.matches.SubCommand.{SubCommand}
-use Rattle.command_line.specs.Shell.{Build, Command, Mean, Run, build_command, command_in, has_checks, mean_command, named_command, number_in, run_command, shell}
+use Rattle.command_line.specs.declared.words.Line.{Line}
+use Rattle.command_line.specs.declared.words.Usage.{Usage}
+use Rattle.command_line.specs.declared.words.Usage.TheVariants as usage
+use Rattle.command_line.specs.Shell.{Build, Command, Names, command_of, Mean, Memory, Replay, Replayed, Run, build_command, command_in, has_checks, mean_command, memory_in, named_command, number_in, number_or, replay_command, replayed_in, run_command, shell, short_option}
 use Rattle.clap.specs.declared.parser.matches.Found.{Found}
 use Rattle.clap.specs.declared.parser.matches.MatchedArg.{MatchedArg}
 
@@ -54,9 +57,78 @@ run_is f o n file e told =
 pub build_is : (f : Found) (o : Option Text) (file : Text) → o ≡ first_value f (codes "out") → option_map (λ out. Build (has_checks (rows_of f)) out file) o ≡ build_command (rows_of f) file
 build_is f o file e = ap (option_map (λ out. Build (has_checks (rows_of f)) out file)) (e ∙ sym (first_is f (codes "out")))
 
--- what was found of the folder tells the run
-pub ran_is : (f : Found) (b : Bool) (o : Option Text) (file : Text) → b ≡ has_checks (rows_of f) → o ≡ first_value f (codes "store") → Run b o file ≡ run_command (rows_of f) file
-ran_is f b o file checked told = (λ i. Run (checked i) ((told ∙ sym (first_is f (codes "store"))) i) file)
+-- what was found of an option tells its number, or the default
+pub option_is : (f : Found) (id : Text) (read : Text → Option ℕ) (default : ℕ) (o : Option Text) → o ≡ first_value f id → number_or read default o ≡ number_or read default (first_of id (rows_of f))
+option_is f id read default o told = ap (number_or read default) (told ∙ sym (first_is f id))
+
+-- what was found of the file tells the command
+pub file_is : (f : Found) (name : Text) (o : Option Text) → o ≡ first_value f (codes "file")
+    → option_and_then (named_command name (rows_of f)) o ≡ option_and_then (named_command name (rows_of f)) (first_of (codes "file") (rows_of f))
+file_is f name o told = ap (option_and_then (named_command name (rows_of f))) (told ∙ sym (first_is f (codes "file")))
+
+-- a memory
+abbrev over : (frames objects from : ℕ) → Option Text → Memory
+over frames objects from store = record { frames = frames; objects = objects; store = store; fail_from = from }
+
+-- what was found of its options tells the memory
+pub memory_is : (f : Found) (frames objects from : ℕ) (o : Option Text) → Some frames ≡ short_option (codes "frames") 64 (rows_of f) → Some objects ≡ short_option (codes "objects") 65536 (rows_of f)
+    → Some from ≡ number_or number_in 0 (first_of (codes "fail-from") (rows_of f)) → o ≡ first_value f (codes "store") → Some (over frames objects from o) ≡ memory_in (rows_of f)
+memory_is f frames objects from o of_frames of_objects of_from told =
+    let rows : List Row = rows_of f in
+    let store : Option Text = first_of (codes "store") rows in
+    let calls : Option ℕ = number_or number_in 0 (first_of (codes "fail-from") rows) in
+    let many : Option ℕ = short_option (codes "objects") 65536 rows in
+    ap (λ (s : Option Text). Some (over frames objects from s)) (told ∙ sym (first_is f (codes "store")))
+    ∙ ap (option_map (λ k. over frames objects k store)) of_from
+    ∙ ap (option_and_then (λ n. option_map (λ k. over frames n k store) calls)) of_objects
+    ∙ ap (option_and_then (λ m. option_and_then (λ n. option_map (λ k. over m n k store) calls) many)) of_frames
+
+-- what was found of the memory tells the run
+pub ran_is : (f : Found) (b : Bool) (memory : Memory) (file : Text) → b ≡ has_checks (rows_of f) → Some memory ≡ memory_in (rows_of f) → Some (Run b memory file) ≡ run_command (rows_of f) file
+ran_is f b memory file checked told = ap (λ (x : Bool). Some (Run x memory file)) checked ∙ ap (option_map (λ m. Run (has_checks (rows_of f)) m file)) told
+
+-- a replay
+abbrev pub by : Bool → Memory → (evacuators fetchers : ℕ) → (schedule : Text) → Replayed
+by checks memory evacuators fetchers schedule = record { checks = checks; memory = memory; evacuators = evacuators; fetchers = fetchers; schedule = schedule }
+
+-- what was found of its options tells the replay
+pub replayed_is : (f : Found) (memory : Memory) (evacuators fetchers : ℕ) (o : Option Text) → Some memory ≡ memory_in (rows_of f) → Some evacuators ≡ short_option (codes "evacuators") 1 (rows_of f)
+    → Some fetchers ≡ short_option (codes "fetchers") 1 (rows_of f) → o ≡ first_value f (codes "schedule")
+    → option_map (λ s. by (has_checks (rows_of f)) memory evacuators fetchers s) o ≡ replayed_in (rows_of f)
+replayed_is f memory evacuators fetchers o of_memory of_evacuators of_fetchers told =
+    let rows : List Row = rows_of f in
+    let checks : Bool = has_checks rows in
+    let lines : Option Text = first_of (codes "schedule") rows in
+    let ahead : Option ℕ = short_option (codes "fetchers") 1 rows in
+    let out : Option ℕ = short_option (codes "evacuators") 1 rows in
+    ap (option_map (λ s. by checks memory evacuators fetchers s)) (told ∙ sym (first_is f (codes "schedule")))
+    ∙ ap (option_and_then (λ q. option_map (λ s. by checks memory evacuators q s) lines)) of_fetchers
+    ∙ ap (option_and_then (λ e. option_and_then (λ q. option_map (λ s. by checks memory e q s) lines) ahead)) of_evacuators
+    ∙ ap (option_and_then (λ m. option_and_then (λ e. option_and_then (λ q. option_map (λ s. by checks m e q s) lines) ahead) out)) of_memory
+
+-- all values of an id among entries
+abbrev values_in : List Entry → Text → Option (List Text)
+values_in es id = option_map raw_values (option_map (λ (e : Entry). e.1) (find (λ (e : Entry). bytes_eq e.0.now id) es))
+
+values_are : (id : Text) (es : List Entry) → all_of id (map row_of es) ≡ values_in es id
+values_are id [] = refl
+values_are id (e ∷ es) = go (bytes_eq e.0.now id) refl (values_are id es)
+  where
+    go : (b : Bool) → bytes_eq e.0.now id ≡ b → all_of id (map row_of es) ≡ values_in es id → all_of id (map row_of (e ∷ es)) ≡ values_in (e ∷ es) id
+    go true same rest = rw same refl
+    go false other rest = rw other rest
+
+-- the rows tell all values
+pub all_are : (f : Found) (id : Text) → all_of id (rows_of f) ≡ option_map raw_values (matched_of f id)
+all_are f id = values_are id f.entries.items
+
+-- what was found of the files tells the replay of them
+pub replay_is : (f : Found) (asked : Replayed) (o : Option (List Text)) → Some asked ≡ replayed_in (rows_of f) → o ≡ option_map raw_values (matched_of f (codes "file"))
+    → option_map (λ files. Replay asked files) o ≡ replay_command (rows_of f)
+replay_is f asked o of_asked told =
+    let files : Option (List Text) = all_of (codes "file") (rows_of f) in
+    ap (option_map (λ fs. Replay asked fs)) (told ∙ sym (all_are f (codes "file")))
+    ∙ ap (option_and_then (λ a. option_map (λ fs. Replay a fs) files)) of_asked
 
 -- a pair by its parts
 pair_is : (o : Option (Text × List Row)) (n : Text) (rows : List Row) → Some n ≡ option_map (λ (p : Text × List Row). p.0) o → Some rows ≡ option_map (λ (p : Text × List Row). p.1) o → o ≡ Some (n, rows)
@@ -81,10 +153,8 @@ none_found m e = go (subcommand_rows_of m) (e ∙ name_is m)
 
 -- a command was found, with or without its file
 pub command_found : (m inner : ArgMatches) (name : Text) → Some name ≡ subcommand_name_of m → Some (rows_of (found_of inner)) ≡ option_map (λ (p : Text × List Row). p.1) (subcommand_rows_of m)
-    → command_in (subcommand_rows_of m) ≡ option_and_then (named_command name (rows_of (found_of inner))) (first_value (found_of inner) (codes "file"))
-command_found m inner name e f =
-    ap command_in (pair_is (subcommand_rows_of m) name (rows_of (found_of inner)) (e ∙ name_is m) f)
-    ∙ ap (option_and_then (named_command name (rows_of (found_of inner)))) (first_is (found_of inner) (codes "file"))
+    → command_in (subcommand_rows_of m) ≡ command_in (Some (name, rows_of (found_of inner)))
+command_found m inner name e f = ap command_in (pair_is (subcommand_rows_of m) name (rows_of (found_of inner)) (e ∙ name_is m) f)
 
 -- one more argument that is not global
 pub still_local : (new old arg : Bool) → new ≡ (old || arg) → old ≡ false → arg ≡ false → new ≡ false
@@ -120,3 +190,17 @@ rows_are a words m same has = (has (ap is_simple same ∙ shell_simple)).1 ∙ a
 -- nothing is not something
 pub none_some : {x : Command} → None ≡ Some x → ⊥
 none_some e = cc e
+
+-- what clap found is a command, which the words are then
+pub names_of : (words : List Text) (m : ArgMatches) (r : Result Line Usage) → fault_of shell words ≡ [] → subcommand_rows_of m ≡ subcommand_of shell words
+    → MatchResult r (λ l. Some (command_of l) ≡ command_in (subcommand_rows_of m)) (λ u. u ≡ usage.Refused → None ≡ command_in (subcommand_rows_of m)) → IfOk r (λ l. Names words (command_of l))
+names_of words m (Ok l) sound rows told = (sound, ap command_in (sym rows) ∙ sym told)
+names_of words m (Err u) sound rows told = tt
+
+-- where there is none, the words are refused only for want of memory, if they are a command
+pub names_none : (words : List Text) (m : ArgMatches) (r : Result Line Usage) → subcommand_rows_of m ≡ subcommand_of shell words
+    → MatchResult r (λ l. Some (command_of l) ≡ command_in (subcommand_rows_of m)) (λ u. u ≡ usage.Refused → None ≡ command_in (subcommand_rows_of m))
+    → IfErr r (λ u. (command : Command) → Names words command → u ≡ usage.OutOfMemory)
+names_none words m (Ok l) rows told = tt
+names_none words m (Err usage.OutOfMemory) rows told = λ command named. refl
+names_none words m (Err usage.Refused) rows told = λ command named. absurd (none_some (told refl ∙ (ap command_in rows ∙ named.1)))

@@ -5,7 +5,7 @@ use Rattle.std.specs.Str.{bytes_eq}
 use Rattle.clap.specs.Words.{Text}
 use Rattle.command_line.specs.declared.complaint.Complaint.{Complaint}
 use Rattle.command_line.specs.declared.complaint.Complaint.TheVariants as c
-use Rattle.command_line.specs.declared.help.TheConstants.{PAGE, BUILD_PAGE, CHECK_PAGE, LIST_PAGE, MEAN_PAGE, RUN_PAGE}
+use Rattle.command_line.specs.declared.help.TheConstants.{PAGE, BUILD_PAGE, CHECK_PAGE, LIST_PAGE, MEAN_PAGE, REPLAY_PAGE, RUN_PAGE}
 
 -- the end of a line
 abbrev pub newline : List ℕ
@@ -22,7 +22,7 @@ ask_help (w ∷ ws) = asks_help w || ask_help ws
 
 -- the word names a command
 abbrev pub is_command : Text → Bool
-is_command word = bytes_eq word (codes "build") || (bytes_eq word (codes "check") || (bytes_eq word (codes "list") || (bytes_eq word (codes "mean") || bytes_eq word (codes "run"))))
+is_command word = bytes_eq word (codes "build") || (bytes_eq word (codes "check") || (bytes_eq word (codes "list") || (bytes_eq word (codes "mean") || (bytes_eq word (codes "replay") || bytes_eq word (codes "run")))))
 
 -- the first of the words that names a command; none is the empty text
 abbrev pub topic : List Text → Text
@@ -36,13 +36,27 @@ page_named name =
     (cond (bytes_eq name (codes "check")) CHECK_PAGE.now
     (cond (bytes_eq name (codes "list")) LIST_PAGE.now
     (cond (bytes_eq name (codes "mean")) MEAN_PAGE.now
-    (cond (bytes_eq name (codes "run")) RUN_PAGE.now PAGE.now))))
+    (cond (bytes_eq name (codes "replay")) REPLAY_PAGE.now
+    (cond (bytes_eq name (codes "run")) RUN_PAGE.now PAGE.now)))))
+
+-- the word begins so
+abbrev pub begins : Text → Text → Bool
+begins word start = starts_with (λ a b. a == b) word start
+
+-- the word begins an option of a command's memory
+abbrev pub is_memory_option : Text → Bool
+is_memory_option word = begins word (codes "--frames") || (begins word (codes "--objects") || (begins word (codes "--store") || begins word (codes "--fail-from")))
+
+-- the word begins an option of `replay`, but for `-d`
+abbrev pub is_replay_option : Text → Bool
+is_replay_option word = is_memory_option word || (begins word (codes "--evacuators") || (begins word (codes "--fetchers") || begins word (codes "--schedule")))
 
 -- the command of this name has the option that the word begins
 abbrev pub is_option : Text → Text → Bool
 is_option name word =
-    cond (bytes_eq name (codes "build")) (bytes_eq word (codes "-d") || starts_with (λ a b. a == b) word (codes "-o"))
-    (cond (bytes_eq name (codes "mean")) (bytes_eq word (codes "-d") || starts_with (λ a b. a == b) word (codes "--turns")) (bytes_eq name (codes "run") && (bytes_eq word (codes "-d") || starts_with (λ a b. a == b) word (codes "--store"))))
+    cond (bytes_eq name (codes "build")) (bytes_eq word (codes "-d") || begins word (codes "-o"))
+    (cond (bytes_eq name (codes "mean")) (bytes_eq word (codes "-d") || begins word (codes "--turns"))
+    (cond (bytes_eq name (codes "replay")) (bytes_eq word (codes "-d") || is_replay_option word) (bytes_eq name (codes "run") && (bytes_eq word (codes "-d") || is_memory_option word))))
 
 -- the word begins as an option does, and is none of the command of this name
 abbrev pub is_stray : Text → Text → Bool

@@ -1,14 +1,16 @@
 -- The command line: what clap is told of it, and what words mean.
-use Rattle.std.specs.Prelude.{◌≡◌, ℕ, ◌^◌, ◌==◌, nat_lt, Bool, true, false, ◌&&◌, List, [], length, Option, Some, None, codes, cond, option_and_then, option_map, slice_get}
+use Rattle.std.specs.Prelude.{◌≡◌, ℕ, ◌^◌, ◌==◌, nat_lt, Bool, true, false, ◌&&◌, List, [], length, map, Option, Some, None, codes, cond, option_and_then, option_map, slice_get}
 use Rattle.std.specs.Char.{digit_value}
 use Rattle.std.specs.List.{list_all}
 use Rattle.std.specs.Option.{option_map_or}
 use Rattle.std.specs.Str.{bytes_eq}
 use Rattle.std.specs.Str.Parse.{digits_value}
-use Rattle.clap.specs.Words.{App, Row, Rule, Shape, Text, fault_of, first_of, new_app, new_rule, subcommand_of, with_rule, with_subcommand}
-use Rattle.clap.specs.declared.builder.ArgAction.TheVariants.{Set, SetTrue}
+use Rattle.clap.specs.Words.{App, Row, Rule, Shape, Text, all_of, fault_of, first_of, new_app, new_rule, subcommand_of, with_rule, with_subcommand}
+use Rattle.clap.specs.declared.builder.ArgAction.TheVariants.{Append, Set, SetTrue}
 use Rattle.clap.specs.declared.builder.command.Command.{Command as Built}
 use Rattle.clap.specs.declared.builder.command.Command.TheViews.{out-Command}
+use Rattle.command_line.specs.declared.words.Memory.{Memory as Written}
+use Rattle.command_line.specs.declared.words.Replay.{Replay as Asked}
 use Rattle.command_line.specs.declared.words.Line.{Line}
 use Rattle.command_line.specs.declared.words.Line.TheVariants as line
 
@@ -28,9 +30,22 @@ turns_rule = record (new_rule (codes "turns")) { long = Some (codes "turns"); re
 abbrev pub out_rule : Rule
 out_rule = record (new_rule (codes "out")) { short = Some 111; required = true; action = Some Set }
 
--- --store DIR
-abbrev pub store_rule : Rule
-store_rule = record (new_rule (codes "store")) { long = Some (codes "store"); action = Some Set }
+-- an option of this name with a value, which may be left out
+abbrev pub option_rule : Text → Rule
+option_rule name = record (new_rule name) { long = Some name; action = Some Set }
+
+-- --schedule S
+abbrev pub schedule_rule : Rule
+schedule_rule = record (option_rule (codes "schedule")) { required = true }
+
+-- FILE..., one or more
+abbrev pub files_rule : Rule
+files_rule = record (new_rule (codes "file")) { required = true; action = Some Append }
+
+-- [--frames F] [--objects N] [--store DIR] [--fail-from K]
+abbrev pub with_memory : App → App
+with_memory a =
+    with_rule (with_rule (with_rule (with_rule a (option_rule (codes "frames"))) (option_rule (codes "objects"))) (option_rule (codes "store"))) (option_rule (codes "fail-from"))
 
 -- build [-d] -o OUT FILE
 abbrev pub build_shape : Shape
@@ -44,9 +59,14 @@ file_shape name = (with_rule (new_app name) file_rule).top
 abbrev pub mean_shape : Shape
 mean_shape = (with_rule (with_rule (with_rule (new_app (codes "mean")) checks_rule) turns_rule) file_rule).top
 
--- run [-d] [--store DIR] FILE
+-- run [-d] [--frames F] [--objects N] [--store DIR] [--fail-from K] FILE
 abbrev pub run_shape : Shape
-run_shape = (with_rule (with_rule (with_rule (new_app (codes "run")) checks_rule) store_rule) file_rule).top
+run_shape = (with_rule (with_memory (with_rule (new_app (codes "run")) checks_rule)) file_rule).top
+
+-- replay [-d] [--frames F] [--objects N] [--store DIR] [--fail-from K] [--evacuators E] [--fetchers Q] --schedule S FILE...
+abbrev pub replay_shape : Shape
+replay_shape =
+    (with_rule (with_rule (with_rule (with_rule (with_memory (with_rule (new_app (codes "replay")) checks_rule)) (option_rule (codes "evacuators"))) (option_rule (codes "fetchers"))) schedule_rule) files_rule).top
 
 -- c0far, which wants a command
 abbrev pub top_shape : Shape
@@ -55,20 +75,36 @@ top_shape = record (new_app (codes "c0far")).top { subcommand_required = true }
 -- the program with its commands
 unfoldable pub shell : App
 shell =
-    with_subcommand (with_subcommand (with_subcommand (with_subcommand (with_subcommand (record { top = top_shape; subs = [] }) build_shape) (file_shape (codes "check"))) (file_shape (codes "list"))) mean_shape) run_shape
+    with_subcommand (with_subcommand (with_subcommand (with_subcommand (with_subcommand (with_subcommand (record { top = top_shape; subs = [] }) build_shape) (file_shape (codes "check"))) (file_shape (codes "list"))) mean_shape) replay_shape) run_shape
 
 -- what clap builds for a command has no argument that is the commands' below it too
 abbrev pub IsLocal : Built → Type 0
 IsLocal c = (out-Command c).has_globals ≡ false
 
+-- what programs run over: frames, objects, the folder of the store, where it is in one, and the number of the store's first call that fails, or 0
+pub record Memory : Type 0 where
+  pub frames : ℕ
+  pub objects : ℕ
+  pub store : Option Text
+  pub fail_from : ℕ
+
+-- how programs are replayed
+pub record Replayed : Type 0 where
+  pub checks : Bool
+  pub memory : Memory
+  pub evacuators : ℕ
+  pub fetchers : ℕ
+  pub schedule : Text
+
 -- a command, with its file; `build`, `mean` and `run` with whether contracts are checked, `build` with the file that it writes, `mean` with its turns,
--- `run` with the folder of its store, where it has one
+-- `run` with its memory; `replay` with one file or more
 pub data Command : Type 0 where
   Build : Bool → (out file : Text) → Command
   Check : Text → Command
   Lists : Text → Command
   Mean : Bool → ℕ → Text → Command
-  Run : Bool → (store : Option Text) → Text → Command
+  Replay : Replayed → List Text → Command
+  Run : Bool → Memory → Text → Command
 
 -- these are digits, one or more, and their number has at most 64 bits
 abbrev pub is_number : Text → Bool
@@ -82,6 +118,19 @@ is_signed text = option_map_or (λ byte. byte == 43) (slice_get text 0) false
 abbrev pub number_in : Text → Option ℕ
 number_in text = cond (is_number text) (Some (digits_value 10 text)) None
 
+-- ... where it is below 2^32
+abbrev pub short_number_in : Text → Option ℕ
+short_number_in text = option_and_then (λ n. cond (nat_lt n (2 ^ 32)) (Some n) None) (number_in text)
+
+-- the number of an option, as it is read, or this where the option is left out
+abbrev pub number_or : (Text → Option ℕ) → ℕ → Option Text → Option ℕ
+number_or read default None = Some default
+number_or read default (Some text) = read text
+
+-- the number of this option among the rows, which is below 2^32
+abbrev pub short_option : Text → ℕ → List Row → Option ℕ
+short_option name default rows = number_or short_number_in default (first_of name rows)
+
 -- whether contracts are checked
 abbrev pub has_checks : List Row → Bool
 has_checks rows = option_map_or (λ text. bytes_eq text (codes "true")) (first_of (codes "checks") rows) false
@@ -94,9 +143,25 @@ mean_command rows file = option_map (λ turns. Mean (has_checks rows) turns file
 abbrev pub build_command : List Row → Text → Option Command
 build_command rows file = option_map (λ out. Build (has_checks rows) out file) (first_of (codes "out") rows)
 
--- the run of this file, over a store in the folder of the rows, where there is one
-abbrev pub run_command : List Row → Text → Command
-run_command rows file = Run (has_checks rows) (first_of (codes "store") rows) file
+-- the memory of the rows: 64 frames and 65,536 objects where they tell no other number, and no failing call
+abbrev pub memory_in : List Row → Option Memory
+memory_in rows =
+    option_and_then (λ f. option_and_then (λ n. option_map (λ k. record { frames = f; objects = n; store = first_of (codes "store") rows; fail_from = k })
+    (number_or number_in 0 (first_of (codes "fail-from") rows))) (short_option (codes "objects") 65536 rows)) (short_option (codes "frames") 64 rows)
+
+-- the run of this file, over the memory of the rows
+abbrev pub run_command : List Row → Text → Option Command
+run_command rows file = option_map (λ memory. Run (has_checks rows) memory file) (memory_in rows)
+
+-- how the rows say that programs are replayed: with one evacuator and one fetcher where they tell no other number
+abbrev pub replayed_in : List Row → Option Replayed
+replayed_in rows =
+    option_and_then (λ m. option_and_then (λ e. option_and_then (λ q. option_map (λ s. record { checks = has_checks rows; memory = m; evacuators = e; fetchers = q; schedule = s })
+    (first_of (codes "schedule") rows)) (short_option (codes "fetchers") 1 rows)) (short_option (codes "evacuators") 1 rows)) (memory_in rows)
+
+-- the replay of the files of the rows
+abbrev pub replay_command : List Row → Option Command
+replay_command rows = option_and_then (λ asked. option_map (λ files. Replay asked files) (all_of (codes "file") rows)) (replayed_in rows)
 
 -- the command of this name, with the other rows and with this file
 abbrev pub named_command : Text → List Row → Text → Option Command
@@ -105,12 +170,20 @@ named_command name rows file =
     (cond (bytes_eq name (codes "check")) (Some (Check file))
     (cond (bytes_eq name (codes "list")) (Some (Lists file))
     (cond (bytes_eq name (codes "mean")) (mean_command rows file)
-    (cond (bytes_eq name (codes "run")) (Some (run_command rows file)) None))))
+    (cond (bytes_eq name (codes "run")) (run_command rows file) None))))
 
 -- the command that clap found, with its rows
 abbrev pub command_in : Option (Text × List Row) → Option Command
 command_in None = None
-command_in (Some p) = option_and_then (named_command p.0 p.1) (first_of (codes "file") p.1)
+command_in (Some p) = cond (bytes_eq p.0 (codes "replay")) (replay_command p.1) (option_and_then (named_command p.0 p.1) (first_of (codes "file") p.1))
+
+-- a memory as code has it
+abbrev pub memory_of : Written → Memory
+memory_of m = record { frames = m.frames; objects = m.objects; store = option_map (λ s. s.now) m.store; fail_from = m.fail_from }
+
+-- a replay as code has it
+abbrev pub replayed_of : Asked → Replayed
+replayed_of r = record { checks = r.checks; memory = memory_of r.memory; evacuators = r.evacuators; fetchers = r.fetchers; schedule = r.schedule.now }
 
 -- a command as code has it
 abbrev pub command_of : Line → Command
@@ -118,7 +191,8 @@ command_of (line.Build checks out file) = Build checks out.now file.now
 command_of (line.Check file) = Check file.now
 command_of (line.List file) = Lists file.now
 command_of (line.Mean checks turns file) = Mean checks turns file.now
-command_of (line.Run checks store file) = Run checks (option_map (λ s. s.now) store) file.now
+command_of (line.Replay asked files) = Replay (replayed_of asked) (map (λ f. f.now) files.items)
+command_of (line.Run checks memory file) = Run checks (memory_of memory) file.now
 
 -- clap finds no fault in the words, and they are this command, as it reads them
 abbrev pub Names : List Text → Command → Type 0

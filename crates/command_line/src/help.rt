@@ -1,7 +1,7 @@
 //! What is told of words that are no command line: what is refused, and a page of help.
 ghost use Rattle.std.specs.Prelude.{◌≡◌, ◌==◌, map, option_map};
 ghost use Rattle.std.specs.List.{starts_with};
-ghost use Rattle.command_line.specs.Help.{asks_help, behind, complaint_of, complaint_text, ask_help as asked_in, is_command, is_option, is_stray, page_named, page_of, stray, topic};
+ghost use Rattle.command_line.specs.Help.{asks_help, behind, complaint_of, complaint_text, ask_help as asked_in, is_command, is_memory_option, is_option, is_replay_option, is_stray, page_named, page_of, stray, topic};
 
 use crate::complaint::Complaint;
 
@@ -13,15 +13,17 @@ commands:
   check FILE                  tells whether a text is a program, and where not
   list FILE                   prints the instructions that the text is compiled to
   mean [-d] --turns N FILE    runs the text's program plainly, for at most N turns
-  run [-d] [--store DIR] FILE compiles the text, and runs it over a store
+  replay --schedule S FILE..  does the steps of programs and movers that S lists
+  run [-d] FILE               compiles the text, and runs it over a store
   help [COMMAND]              shows this page, or that of a command
 
 A FILE whose name ends in .c0i is an image, as build writes it: check tells whether
-it may be run, list and run take it as it is. To mean each FILE is a text.
+it may be run, list, replay and run take it as it is. To mean each FILE is a text.
 
 status: 0 where a text is accepted, or a program ended with a result or was cut;
-  1 where it stopped otherwise; 2 where a text, an image, a file or the words are
-  refused, or a write failed; 3 where memory or objects ran out, or a store failed
+  1 where it stopped otherwise; 2 where a text, an image, a schedule, a file or the
+  words are refused, there are too few frames or too many of anything, or a write
+  failed; 3 where memory or objects ran out, or a store failed
 
 docs/LANGUAGE.md tells what is accepted, docs/LIMITS.md the limits";
 
@@ -86,7 +88,8 @@ status: 0 where it ended with a result, or was cut; 1 where it stopped otherwise
 docs/LANGUAGE.md tells what is accepted, docs/LIMITS.md how deep calls nest";
 
 /// The page of `run`.
-pub const RUN_PAGE: &str = "usage: c0far run [-d] [--store DIR] FILE
+pub const RUN_PAGE: &str = "usage: c0far run [-d] [--frames F] [--objects N] [--store DIR]
+                 [--fail-from K] FILE
 
 Compiles the text in FILE and runs its program, whose objects move between local
 memory and a store; an image in FILE is run as it is. When it has ended it prints its output and then how it ended:
@@ -95,14 +98,45 @@ memory and a store; an image in FILE is run as it is. When it has ended it print
 
 options:
   -d             checks contracts while it runs; not for an image
+  --frames F     local memory has F frames of 64 cells (64), at most 1,048,576
+  --objects N    there are N objects of at most 64 cells (65536), at most 16,777,216
   --store DIR    the store is in files of the folder DIR, and not in memory; it
                  writes over files there whose names are numbers
+  --fail-from K  each call of the store fails from call K on; none where K is 0 (0)
 
 status: 0 where it ended with a result; 1 where it stopped otherwise; 2 where the
-  text or the image is refused, or cannot be read; 3 where memory or objects ran
-  out, or the store failed
+  text or the image is refused, or cannot be read, or there are too few frames or
+  too many of anything; 3 where memory or objects ran out, or the store failed
 
 docs/LIMITS.md tells how many objects there are, docs/LANGUAGE.md what is accepted";
+
+/// The page of `replay`.
+pub const REPLAY_PAGE: &str = "usage: c0far replay [-d] [--frames F] [--objects N] [--store DIR]
+                    [--fail-from K] [--evacuators E] [--fetchers Q]
+                    --schedule S FILE..
+
+Compiles the text in each FILE, or takes the image there, and does the steps that
+the file S lists, one a line, for programs that share local memory and its movers.
+Then it prints of each program its output and how it ended, as run does, or
+`running`; where there are several, behind a line `program K:`.
+
+options:
+  -d              checks contracts while programs run; not for an image
+  --frames F      local memory has F frames of 64 cells (64), at most 1,048,576
+  --objects N     there are N objects of at most 64 cells (65536), at most
+                  16,777,216, and each program has an equal share of them
+  --store DIR     the store is in files of the folder DIR, and not in memory
+  --fail-from K   each call of the store fails from call K on; none where K is 0 (0)
+  --evacuators E  E movers bring objects out of frames (1), at most 64
+  --fetchers Q    Q movers bring objects into frames (1), at most 64
+  --schedule S    the steps
+
+status: 0 where each program ended with a result, or runs; 1 where one stopped
+  otherwise; 2 where a text, an image or a line of the schedule is refused, a file
+  cannot be read, or there are too few frames or too many of anything; 3 where
+  memory or objects ran out, or the store failed
+
+docs/SCHEDULES.md tells what a line may say";
 
 /// Whether the word asks for help.
 fn asks(word: &str) -> bool
@@ -125,7 +159,12 @@ fn ask(words: &[&str]) -> bool
 fn is_name(word: &str) -> bool
     ensures { result ≡ is_command word.now }
 {
-    word == "build" || word == "check" || word == "list" || word == "mean" || word == "run"
+    word == "build"
+        || word == "check"
+        || word == "list"
+        || word == "mean"
+        || word == "replay"
+        || word == "run"
 }
 
 /// The first of the words that names a command. None is the empty text.
@@ -147,6 +186,7 @@ fn named_page(name: &str) -> &'static str
         "check" => CHECK_PAGE,
         "list" => LIST_PAGE,
         "mean" => MEAN_PAGE,
+        "replay" => REPLAY_PAGE,
         "run" => RUN_PAGE,
         _ => PAGE,
     }
@@ -159,6 +199,26 @@ fn begins(word: &str, start: &str) -> bool
     word.starts_with(start)
 }
 
+/// Whether the word begins an option of a command's memory.
+fn is_of_memory(word: &str) -> bool
+    ensures { result ≡ is_memory_option word.now }
+{
+    begins(word, "--frames")
+        || begins(word, "--objects")
+        || begins(word, "--store")
+        || begins(word, "--fail-from")
+}
+
+/// Whether the word begins an option of `replay`, but for `-d`.
+fn is_of_replay(word: &str) -> bool
+    ensures { result ≡ is_replay_option word.now }
+{
+    is_of_memory(word)
+        || begins(word, "--evacuators")
+        || begins(word, "--fetchers")
+        || begins(word, "--schedule")
+}
+
 /// Whether the command of this name has the option that the word begins.
 fn has_option(name: &str, word: &str) -> bool
     ensures { result ≡ is_option name.now word.now }
@@ -166,7 +226,8 @@ fn has_option(name: &str, word: &str) -> bool
     match name {
         "build" => word == "-d" || begins(word, "-o"),
         "mean" => word == "-d" || begins(word, "--turns"),
-        "run" => word == "-d" || begins(word, "--store"),
+        "replay" => word == "-d" || is_of_replay(word),
+        "run" => word == "-d" || is_of_memory(word),
         _ => false,
     }
 }

@@ -1,9 +1,9 @@
 //! From words to a command.
-ghost use Rattle.std.specs.Prelude.{◌≡◌, [], IfErr, IfOk, List, ℕ, map, option_map, true};
-ghost use Rattle.clap.specs.Words.{app_of, found_of, kind_of, rows_of, subcommand_rows_of};
-ghost use Rattle.command_line.specs.Shell.{Command as Asked, IsLocal, Names, build_command, build_shape, command_in, command_of, file_shape, has_checks, is_signed, mean_command, mean_shape, named_command, number_in, run_command, run_shape, shell};
+ghost use Rattle.std.specs.Prelude.{◌≡◌, [], codes, false, IfErr, IfOk, List, MatchResult, None, Some, ℕ, map, option_and_then, option_map, true};
+ghost use Rattle.clap.specs.Words.{all_of, app_of, first_of, found_of, kind_of, rows_of, rule_of, subcommand_rows_of};
+ghost use Rattle.command_line.specs.Shell.{Command as Asked, IsLocal, Names, build_command, build_shape, checks_rule, command_in, command_of, file_rule, file_shape, has_checks, is_signed, mean_command, mean_shape, memory_in, memory_of, named_command, number_in, number_or, option_rule, replay_command, replay_shape, replayed_in, replayed_of, run_command, run_shape, shell, short_number_in, short_option, with_memory};
 
-use crate::words::{Line, Usage};
+use crate::words::{Line, Memory, Replay, Usage};
 use clap::error::ErrorKind;
 use clap::{Arg, ArgAction, ArgMatches, Command, Error};
 use std::alloc::{AllocError, Global};
@@ -61,6 +61,26 @@ fn mean<'a>(alloc: Global) -> Result<Command<'a>, AllocError>
         .arg(file)
 }
 
+/// An option of this name with a value, which may be left out.
+fn option<'a>(alloc: Global, name: &'a str) -> Arg<'a>
+    ensures rule { rule_of result ≡ option_rule name.now }
+    ensures own { result.global ≡ false }
+{
+    Arg::new(alloc, name).long(name).action(ArgAction::Set)
+}
+
+/// A command with the options of its memory.
+fn over_memory<'a>(alloc: Global, command: Command<'a>) -> Result<Command<'a>, AllocError>
+    ensures shape { IfOk result (λ c. app_of c ≡ with_memory (app_of command.entry)) }
+    ensures local { IsLocal command.entry → IfOk result IsLocal }
+{
+    command
+        .arg(option(alloc, "frames"))?
+        .arg(option(alloc, "objects"))?
+        .arg(option(alloc, "store"))?
+        .arg(option(alloc, "fail-from"))
+}
+
 /// The run, with its options and its file.
 fn run<'a>(alloc: Global) -> Result<Command<'a>, AllocError>
     ensures shape { IfOk result (λ c. app_of c ≡ record { top = run_shape; subs = [] }) }
@@ -69,16 +89,30 @@ fn run<'a>(alloc: Global) -> Result<Command<'a>, AllocError>
     let checks = Arg::new(alloc, "checks")
         .short('d')
         .action(ArgAction::SetTrue);
-    let store = Arg::new(alloc, "store")
-        .long("store")
-        .action(ArgAction::Set);
     let file = Arg::new(alloc, "file")
         .required(true)
         .action(ArgAction::Set);
-    Command::new(alloc, "run")
-        .arg(checks)?
-        .arg(store)?
-        .arg(file)
+    let command = Command::new(alloc, "run").arg(checks)?;
+    over_memory(alloc, command)?.arg(file)
+}
+
+/// The replay of a schedule, with its options and its files.
+fn replay<'a>(alloc: Global) -> Result<Command<'a>, AllocError>
+    ensures shape { IfOk result (λ c. app_of c ≡ record { top = replay_shape; subs = [] }) }
+    ensures local { IfOk result IsLocal }
+{
+    let checks = Arg::new(alloc, "checks")
+        .short('d')
+        .action(ArgAction::SetTrue);
+    let files = Arg::new(alloc, "file")
+        .required(true)
+        .action(ArgAction::Append);
+    let command = Command::new(alloc, "replay").arg(checks)?;
+    over_memory(alloc, command)?
+        .arg(option(alloc, "evacuators"))?
+        .arg(option(alloc, "fetchers"))?
+        .arg(option(alloc, "schedule").required(true))?
+        .arg(files)
 }
 
 /// The commands that there are.
@@ -89,6 +123,7 @@ fn command<'a>(alloc: Global) -> Result<Command<'a>, AllocError>
     let check = of_a_file(alloc, "check")?;
     let list = of_a_file(alloc, "list")?;
     let mean = mean(alloc)?;
+    let replay = replay(alloc)?;
     let run = run(alloc)?;
     Command::new(alloc, "c0far")
         .subcommand_required(true)
@@ -96,6 +131,7 @@ fn command<'a>(alloc: Global) -> Result<Command<'a>, AllocError>
         .subcommand(check)?
         .subcommand(list)?
         .subcommand(mean)?
+        .subcommand(replay)?
         .subcommand(run)
 }
 
@@ -126,6 +162,57 @@ fn number(text: &str) -> Option<u64>
         return None;
     }
     text.parse().ok()
+}
+
+/// The number that the text writes in digits. None where there is a sign or no digit, or it has more than 32 bits.
+fn short_number(text: &str) -> Option<u32>
+    ensures { result ≡ short_number_in text.now }
+{
+    match number(text) {
+        Some(number) => u32::try_from(number).ok(),
+        None => None,
+    }
+}
+
+/// The number of this option, or else this one. None where it is no number of 32 bits.
+fn short_option(matches: &ArgMatches<'_>, name: &str, default: u32) -> Option<u32>
+    ensures { result ≡ short_option name.now default (rows_of (found_of matches.now)) }
+{
+    match matches.get_str(name) {
+        Some(text) => short_number(text),
+        None => Some(default),
+    }
+}
+
+/// The number of the store's first call that fails, or 0. None where it is no number.
+fn fail_from(matches: &ArgMatches<'_>) -> Option<u64>
+    ensures { result ≡ number_or number_in 0 (first_of (codes "fail-from") (rows_of (found_of matches.now))) }
+{
+    match matches.get_str("fail-from") {
+        Some(text) => number(text),
+        None => Some(0),
+    }
+}
+
+/// The memory that the options tell.
+fn memory<'a>(matches: &ArgMatches<'a>) -> Option<Memory<'a>>
+    ensures { option_map memory_of result ≡ memory_in (rows_of (found_of matches.now)) }
+{
+    let Some(frames) = short_option(matches, "frames", 64) else {
+        return None;
+    };
+    let Some(objects) = short_option(matches, "objects", 65_536) else {
+        return None;
+    };
+    let Some(fail_from) = fail_from(matches) else {
+        return None;
+    };
+    Some(Memory {
+        frames,
+        objects,
+        store: matches.get_str("store"),
+        fail_from,
+    })
 }
 
 /// Whether contracts are to be checked.
@@ -168,13 +255,61 @@ fn written<'a>(matches: &ArgMatches<'a>, file: &'a str) -> Option<Line<'a>>
 }
 
 /// The run of this file, with the options that clap found.
-fn ran<'a>(matches: &ArgMatches<'a>, file: &'a str) -> Line<'a>
-    ensures { command_of result ≡ run_command (rows_of (found_of matches.now)) file.now }
+fn ran<'a>(matches: &ArgMatches<'a>, file: &'a str) -> Option<Line<'a>>
+    ensures { option_map command_of result ≡ run_command (rows_of (found_of matches.now)) file.now }
 {
-    Line::Run {
-        checks: checks(matches),
-        store: matches.get_str("store"),
+    let Some(memory) = memory(matches) else {
+        return None;
+    };
+    let checks = checks(matches);
+    Some(Line::Run {
+        checks,
+        memory,
         file,
+    })
+}
+
+/// How programs are replayed, by the options that clap found.
+fn replayed<'a>(matches: &ArgMatches<'a>) -> Option<Replay<'a>>
+    ensures { option_map replayed_of result ≡ replayed_in (rows_of (found_of matches.now)) }
+{
+    let Some(memory) = memory(matches) else {
+        return None;
+    };
+    let Some(evacuators) = short_option(matches, "evacuators", 1) else {
+        return None;
+    };
+    let Some(fetchers) = short_option(matches, "fetchers", 1) else {
+        return None;
+    };
+    let Some(schedule) = matches.get_str("schedule") else {
+        return None;
+    };
+    let checks = checks(matches);
+    Some(Replay {
+        checks,
+        memory,
+        evacuators,
+        fetchers,
+        schedule,
+    })
+}
+
+/// The replay of the files that clap found. `Refused` where a number is none, `OutOfMemory` where a growth was refused.
+fn replays<'a>(alloc: Global, matches: &ArgMatches<'a>) -> Result<Line<'a>, Usage>
+    ensures { MatchResult result (λ l. Some (command_of l) ≡ replay_command (rows_of (found_of matches.now)))
+        (λ u. u ≡ Usage.Refused → None ≡ replay_command (rows_of (found_of matches.now))) }
+{
+    let Some(asked) = replayed(matches) else {
+        return Err(Usage::Refused);
+    };
+    let Some(named) = matches.get_strs("file") else {
+        return Err(Usage::Refused);
+    };
+    let mut files = Vec::new(alloc);
+    match files.extend_from_slice(named) {
+        Ok(()) => Ok(Line::Replay { asked, files }),
+        Err(_refused) => Err(Usage::OutOfMemory),
     }
 }
 
@@ -187,21 +322,37 @@ fn named<'a>(name: &str, matches: &ArgMatches<'a>, file: &'a str) -> Option<Line
         "check" => Some(Line::Check { file }),
         "list" => Some(Line::List { file }),
         "mean" => plain_run(matches, file),
-        "run" => Some(ran(matches, file)),
+        "run" => ran(matches, file),
         _ => None,
     }
 }
 
-/// The command that clap found, with its file.
-fn found<'a>(matches: &ArgMatches<'a>) -> Option<Line<'a>>
-    ensures { option_map command_of result ≡ command_in (subcommand_rows_of matches.now) }
+/// The command of this name, with the file that clap found and what else.
+fn of_file<'a>(name: &str, matches: &ArgMatches<'a>) -> Result<Line<'a>, Usage>
+    ensures { MatchResult result (λ l. Some (command_of l) ≡ option_and_then (named_command name.now (rows_of (found_of matches.now))) (first_of (codes "file") (rows_of (found_of matches.now))))
+        (λ u. None ≡ option_and_then (named_command name.now (rows_of (found_of matches.now))) (first_of (codes "file") (rows_of (found_of matches.now)))) }
+{
+    let Some(file) = matches.get_str("file") else {
+        return Err(Usage::Refused);
+    };
+    match named(name, matches, file) {
+        Some(line) => Ok(line),
+        None => Err(Usage::Refused),
+    }
+}
+
+/// The command that clap found, with its file or files. `Refused` where there is none, `OutOfMemory` where a growth was refused.
+fn found<'a>(alloc: Global, matches: &ArgMatches<'a>) -> Result<Line<'a>, Usage>
+    ensures { MatchResult result (λ l. Some (command_of l) ≡ command_in (subcommand_rows_of matches.now))
+        (λ u. u ≡ Usage.Refused → None ≡ command_in (subcommand_rows_of matches.now)) }
 {
     let Some((name, inner)) = matches.subcommand() else {
-        return None;
+        return Err(Usage::Refused);
     };
-    match inner.get_str("file") {
-        Some(file) => named(name, inner, file),
-        None => None,
+    if name == "replay" {
+        replays(alloc, inner)
+    } else {
+        of_file(name, inner)
     }
 }
 
@@ -219,8 +370,5 @@ pub fn line<'a>(alloc: Global, words: &'a [&'a str]) -> Result<Line<'a>, Usage>
         Ok(matches) => matches,
         Err(error) => return Err(refusal(error)),
     };
-    match found(&matches) {
-        Some(line) => Ok(line),
-        None => Err(Usage::Refused),
-    }
+    found(alloc, &matches)
 }

@@ -1,8 +1,28 @@
 //! What a command line asks for.
 use thiserror::Error;
 
-/// A command, with its files and options.
+/// What programs run over: frames of local memory, and objects, which stand in a store where they are in no frame. The store is in memory, or in
+/// files of the folder `store`. Of its calls, counted from 1 over all of a system, those from the number `fail_from` on fail; none does where it is 0.
 #[derive(Clone, Copy, Debug, PartialEq, Eq)]
+pub struct Memory<'a> {
+    pub frames: u32,
+    pub objects: u32,
+    pub store: Option<&'a str>,
+    pub fail_from: u64,
+}
+
+/// How programs are replayed: with contracts checked or not, over this memory, with so many evacuators and fetchers, by the schedule of this file.
+#[derive(Clone, Copy, Debug, PartialEq, Eq)]
+pub struct Replay<'a> {
+    pub checks: bool,
+    pub memory: Memory<'a>,
+    pub evacuators: u32,
+    pub fetchers: u32,
+    pub schedule: &'a str,
+}
+
+/// A command, with its files and options.
+#[derive(Debug, Drop)]
 pub enum Line<'a> {
     /// Writes the image of a text, with contracts checked or not, into the file `out`.
     Build {
@@ -24,10 +44,15 @@ pub enum Line<'a> {
         turns: u64,
         file: &'a str,
     },
-    /// Runs an image, or the program of a text, with contracts checked or not, over a store in memory or in the folder `store`.
+    /// Replays a schedule of the programs of these files, each an image or a text.
+    Replay {
+        asked: Replay<'a>,
+        files: Vec<&'a str>,
+    },
+    /// Runs an image, or the program of a text, with contracts checked or not, over this memory.
     Run {
         checks: bool,
-        store: Option<&'a str>,
+        memory: Memory<'a>,
         file: &'a str,
     },
 }

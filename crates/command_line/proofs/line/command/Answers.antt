@@ -12,4 +12,5 @@ returns c =
     let second = c.in_ok-subcommand-2.ensures.shape c.in_ok-check.ensures.local ∙ ap₂ with_subcommand first (ap (λ (a : App). a.top) c.in_ok-check.ensures.shape) in
     let third = c.in_ok-subcommand-3.ensures.shape c.in_ok-list.ensures.local ∙ ap₂ with_subcommand second (ap (λ (a : App). a.top) c.in_ok-list.ensures.shape) in
     let fourth = c.in_ok-subcommand-4.ensures.shape c.in_ok-mean.ensures.local ∙ ap₂ with_subcommand third (ap (λ (a : App). a.top) c.in_ok-mean.ensures.shape) in
-    IfOk-weaker c.subcommand-5.result _ _ (λ r h. h.shape c.in_ok-run.ensures.local ∙ ap₂ with_subcommand fourth (ap (λ (a : App). a.top) c.in_ok-run.ensures.shape)) c.subcommand-5.ensures
+    let fifth = c.in_ok-subcommand-5.ensures.shape c.in_ok-replay.ensures.local ∙ ap₂ with_subcommand fourth (ap (λ (a : App). a.top) c.in_ok-replay.ensures.shape) in
+    IfOk-weaker c.subcommand-6.result _ _ (λ r h. h.shape c.in_ok-run.ensures.local ∙ ap₂ with_subcommand fifth (ap (λ (a : App). a.top) c.in_ok-run.ensures.shape)) c.subcommand-6.ensures
