@@ -37,7 +37,7 @@ fn runs_so<R: Wait>(
     let Some(read) = read_again(alloc, compiled.image()) else {
         return Ok(false);
     };
-    let ended = execute(alloc, rt, &read)?;
+    let ended = execute(alloc, rt, read)?;
     let same_end = match &ended.run {
         Run::Stopped(other) => other == stop,
         Run::Running | Run::Wanted(_) => false,

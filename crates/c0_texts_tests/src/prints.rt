@@ -31,7 +31,7 @@ fn reads_back(alloc: Global, text: &[u8]) -> Result<bool, Fault> {
 fn ended<R: Wait>(alloc: Global, rt: &R, text: &[u8]) -> Result<Option<Ended>, Fault> {
     let compiled = compile(alloc, text, true)?;
     match read_again(alloc, compiled.image()) {
-        Some(read) => Ok(Some(execute(alloc, rt, &read)?)),
+        Some(read) => Ok(Some(execute(alloc, rt, read)?)),
         None => Ok(None),
     }
 }

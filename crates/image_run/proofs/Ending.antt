@@ -28,45 +28,45 @@ from_zero : (n base : ℕ) (cells : List ℕ) → next_object n base cells ≡ b
 from_zero n base [] = omega arith
 from_zero n base (c ∷ older) = let rest = from_zero n base older in omega arith
 
--- why a session with 65,536 objects wants something
-wants_for : (reliable : Type 0) (before : ℕ) (t : State) (w : Want) → (w ≡ StoreFailed → reliable → ⊥) → t.view.sizes.cells ≡ piece_cells → t.view.high ≡ t.view.low + 65536 → Caused reliable before t w → WantsFor reliable t.image t.core w
-wants_for reliable before t NoObjects other size share c =
+-- why a session with so many objects wants something
+wants_for : (reliable : Type 0) (objects before : ℕ) (t : State) (w : Want) → (w ≡ StoreFailed → reliable → ⊥) → t.view.sizes.cells ≡ piece_cells → t.view.high ≡ t.view.low + objects → Caused reliable before t w → WantsFor reliable objects t.image t.core w
+wants_for reliable objects before t NoObjects other size share c =
     let p : ℕ = t.view.sizes.cells in
     let from : next_object p t.view.low (cells_in t) ≡ t.view.low + next_object p 0 (cells_in t) = from_zero p t.view.low (cells_in t) in
     let n : ℕ = c.1.0 in
     let full : t.view.high < next_object p t.view.low (cells_in t) + pieces p n = c.1.2 in
-    let more : 65536 < next_object p 0 (cells_in t) + pieces p n = omega arith in
-    (n, c.1.1, subst (λ q. 65536 < next_object q 0 (cells_in t) + pieces q n) size more)
-wants_for reliable before t OutOfMemory other size share c =
+    let more : objects < next_object p 0 (cells_in t) + pieces p n = omega arith in
+    (n, c.1.1, subst (λ q. objects < next_object q 0 (cells_in t) + pieces q n) size more)
+wants_for reliable objects before t OutOfMemory other size share c =
     let p : ℕ = t.view.sizes.cells in
     let from : next_object p t.view.low (cells_in t) ≡ t.view.low + next_object p 0 (cells_in t) = from_zero p t.view.low (cells_in t) in (
       c.1,
       λ n next.
           let room : next_object p t.view.low (cells_in t) + pieces p n ≤ t.view.high = subst (HasRoomFor t) next c.2 in
-          let less : next_object p 0 (cells_in t) + pieces p n ≤ 65536 = omega arith in
-          subst (λ q. next_object q 0 (cells_in t) + pieces q n ≤ 65536) size less,
+          let less : next_object p 0 (cells_in t) + pieces p n ≤ objects = omega arith in
+          subst (λ q. next_object q 0 (cells_in t) + pieces q n ≤ objects) size less,
     )
-wants_for reliable before t StoreFailed other size share c = other refl
+wants_for reliable objects before t StoreFailed other size share c = other refl
 
-ends_as : (reliable : Type 0) (before : ℕ) (t : State) (r : Run) → (r ≡ Wanted StoreFailed → reliable → ⊥) → t.view.sizes.cells ≡ piece_cells → t.view.high ≡ t.view.low + 65536 → IsOver reliable before t r → EndsAs reliable t.image t.core r
-ends_as reliable before t Running other size share over = over
-ends_as reliable before t (Stopped x) other size share over = over
-ends_as reliable before t (Wanted w) other size share over = (over.0, wants_for reliable before t w (λ e. other (ap Wanted e)) size share over.1)
+ends_as : (reliable : Type 0) (objects before : ℕ) (t : State) (r : Run) → (r ≡ Wanted StoreFailed → reliable → ⊥) → t.view.sizes.cells ≡ piece_cells → t.view.high ≡ t.view.low + objects → IsOver reliable before t r → EndsAs reliable objects t.image t.core r
+ends_as reliable objects before t Running other size share over = over
+ends_as reliable objects before t (Stopped x) other size share over = over
+ends_as reliable objects before t (Wanted w) other size share over = (over.0, wants_for reliable objects before t w (λ e. other (ap Wanted e)) size share over.1)
 
 -- what a session came to is what the code's run came to
-pub executed : (reliable : Type 0) (before : ℕ) (C : Image) (t : State) (out : Vec ℕ Global) (r : Run) (n : ℕ) → t.image ≡ C → t.view.sizes.cells ≡ piece_cells → t.view.high ≡ t.view.low + 65536 → IsAt t → out.items ≡ output_of t.core → n ≡ t.completed → IsOver reliable before t r → (r ≡ Wanted StoreFailed → reliable → ⊥)
-    → IsExecutedOver reliable C (record { output = out; run = r; completed = n })
-executed reliable before C t out r n image size share at printed count over other =
+pub executed : (reliable : Type 0) (objects before : ℕ) (C : Image) (t : State) (out : Vec ℕ Global) (r : Run) (n : ℕ) → t.image ≡ C → t.view.sizes.cells ≡ piece_cells → t.view.high ≡ t.view.low + objects → IsAt t → out.items ≡ output_of t.core → n ≡ t.completed → IsOver reliable before t r → (r ≡ Wanted StoreFailed → reliable → ⊥)
+    → IsExecutedOver reliable objects C (record { output = out; run = r; completed = n })
+executed reliable objects before C t out r n image size share at printed count over other =
     let reached : t.core ≡ (code_run (code C) n).0 = at.core ∙ ap (λ D. (code_run (code D) t.completed).0) image ∙ ap (λ k. (code_run (code C) k).0) (sym count) in
     let p : ℕ = t.view.sizes.cells in
     let from : next_object p t.view.low (cells_in t) ≡ t.view.low + next_object p 0 (cells_in t) = from_zero p t.view.low (cells_in t) in
     let fits : next_object p t.view.low (cells_in t) ≤ t.view.high = at.fits in
-    let less : next_object p 0 (cells_in t) ≤ 65536 = omega arith in
-    let OfImage : Image → Type 0 = λ D. EndsAs reliable D t.core r in
-    let OfCore : Core → Type 0 = λ c. EndsAs reliable C c r in
+    let less : next_object p 0 (cells_in t) ≤ objects = omega arith in
+    let OfImage : Image → Type 0 = λ D. EndsAs reliable objects D t.core r in
+    let OfCore : Core → Type 0 = λ c. EndsAs reliable objects C c r in
     record {
       going = λ k less. ap (λ D. stop_of (code_run (code D) k).0) (sym image) ∙ at.going k (subst (λ j. k < j) count less);
-      few = subst (λ (c : Core). objects_of (sizes (allocations_of c)) ≤ 65536) reached (subst (λ q. next_object q 0 (cells_in t) ≤ 65536) size less);
+      few = subst (λ (c : Core). objects_of (sizes (allocations_of c)) ≤ objects) reached (subst (λ q. next_object q 0 (cells_in t) ≤ objects) size less);
       output = printed ∙ ap output_of reached;
-      ends = subst OfCore reached (subst OfImage image (ends_as reliable before t r other size share over));
+      ends = subst OfCore reached (subst OfImage image (ends_as reliable objects before t r other size share over));
     }

@@ -24,23 +24,23 @@ AllocatesNext C c n = touch_of (effect C c) ≡ Allocs n
 abbrev pub objects_of : List ℕ → ℕ
 objects_of cells = next_object piece_cells 0 cells
 
--- an allocation that is next takes no more than 65,536 objects in all
-abbrev pub HasRoom : Image → Core → Type 0
-HasRoom C c = (n : ℕ) → AllocatesNext C c n → objects_of (sizes (allocations_of c)) + pieces piece_cells n ≤ 65536
+-- an allocation that is next takes no more objects in all than there are
+abbrev pub HasRoom : ℕ → Image → Core → Type 0
+HasRoom objects C c = (n : ℕ) → AllocatesNext C c n → objects_of (sizes (allocations_of c)) + pieces piece_cells n ≤ objects
 
--- why a program wants something: its next instruction is an allocation, which would take more than 65,536 objects in all; or memory
+-- why a program wants something: its next instruction is an allocation, which would take more objects in all than there are; or memory
 -- may have to grow for its next instruction, which takes no more objects than there are, and a growth was refused; or the store, which
 -- is not reliable, failed
-abbrev pub WantsFor : Type 0 → Image → Core → Want → Type 0
-WantsFor reliable C c NoObjects = (n : ℕ) × AllocatesNext C c n × (65536 < objects_of (sizes (allocations_of c)) + pieces piece_cells n)
-WantsFor reliable C c OutOfMemory = (may_grow (touch_of (effect C c)) (rest_of c) ≡ true) × HasRoom C c
-WantsFor reliable C c StoreFailed = reliable → ⊥
+abbrev pub WantsFor : Type 0 → ℕ → Image → Core → Want → Type 0
+WantsFor reliable objects C c NoObjects = (n : ℕ) × AllocatesNext C c n × (objects < objects_of (sizes (allocations_of c)) + pieces piece_cells n)
+WantsFor reliable objects C c OutOfMemory = (may_grow (touch_of (effect C c)) (rest_of c) ≡ true) × HasRoom objects C c
+WantsFor reliable objects C c StoreFailed = reliable → ⊥
 
 -- the program has stopped so, or has not stopped and wants this
-abbrev pub EndsAs : Type 0 → Image → Core → Run → Type 0
-EndsAs reliable C c Running = ⊥
-EndsAs reliable C c (Stopped x) = stop_of c ≡ Some (stop_read x)
-EndsAs reliable C c (Wanted w) = (stop_of c ≡ None) × WantsFor reliable C c w
+abbrev pub EndsAs : Type 0 → ℕ → Image → Core → Run → Type 0
+EndsAs reliable objects C c Running = ⊥
+EndsAs reliable objects C c (Stopped x) = stop_of c ≡ Some (stop_read x)
+EndsAs reliable objects C c (Wanted w) = (stop_of c ≡ None) × WantsFor reliable objects C c w
 
 -- a session at its end, of which so many calls had been refused at its beginning: its program has stopped so, or wants this for a cause
 abbrev pub IsOver : Type 0 → ℕ → State → Run → Type 0
@@ -54,14 +54,14 @@ HasRunOn reliable n s t Running = (t.completed ≡ s.completed + n) × IsGoing t
 HasRunOn reliable n s t (Stopped x) = IsOver reliable s.refusals t (Stopped x)
 HasRunOn reliable n s t (Wanted w) = IsOver reliable s.refusals t (Wanted w)
 
--- What was printed, and how the program ended, over a store that is reliable or not, are those of the code's run after the instructions that were
--- completed, before each of which it had not stopped, and which took no more than 65,536 objects
-pub record IsExecutedOver (reliable : Type 0) (C : Image) (e : Ended) : Type 0 where
+-- What was printed, and how the program ended, over so many objects and a store that is reliable or not, are those of the code's run after the instructions
+-- that were completed, before each of which it had not stopped, and which took no more objects than there are
+pub record IsExecutedOver (reliable : Type 0) (objects : ℕ) (C : Image) (e : Ended) : Type 0 where
   pub going : (n : ℕ) → n < e.completed → stop_of (code_run (code C) n).0 ≡ None
-  pub few : objects_of (sizes (allocations_of (code_run (code C) e.completed).0)) ≤ 65536
+  pub few : objects_of (sizes (allocations_of (code_run (code C) e.completed).0)) ≤ objects
   pub output : e.output.items ≡ output_of (code_run (code C) e.completed).0
-  pub ends : EndsAs reliable C (code_run (code C) e.completed).0 e.run
+  pub ends : EndsAs reliable objects C (code_run (code C) e.completed).0 e.run
 
 -- the same over a reliable store
-abbrev pub IsExecuted : Image → Ended → Type 0
-IsExecuted C e = IsExecutedOver (Unit {0}) C e
+abbrev pub IsExecuted : ℕ → Image → Ended → Type 0
+IsExecuted objects C e = IsExecutedOver (Unit {0}) objects C e

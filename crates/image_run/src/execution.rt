@@ -1,27 +1,30 @@
 //! A run of an image over a store.
-ghost use Rattle.std.specs.Prelude.{◌≢◌, ◌+◌, ◌<◌, ◌≤◌, ◌^◌, IfOk};
+ghost use Rattle.std.specs.Prelude.{◌≡◌, ◌≢◌, ◌⊎◌, ◌∷◌, [], ◌+◌, ◌<◌, ◌≤◌, ◌^◌, IfErr, IfOk, length};
 ghost use Rattle.cells.specs.declared.ending.Run.TheVariants.{Wanted};
 ghost use Rattle.cells.specs.declared.ending.Want.TheVariants.{StoreFailed};
 ghost use Rattle.code_form.specs.Code.{Covered, most_scopes};
 ghost use Rattle.code_form.specs.Form.{image_of};
 ghost use Rattle.executor.specs.State.{IsAt, IsGoing, SameProgram};
 ghost use Rattle.image_run.specs.Executed.{HasRunOn, IsExecuted, IsExecutedOver, IsOver};
+ghost use Rattle.object_lock.specs.Fresh.{IsFreshOwner, sizes_of};
+ghost use Rattle.region.specs.Admission.{IsRefused, image_at};
+ghost use Rattle.remote_store.specs.Kept.{piece_cells};
 
 use cells::{Ended, Run};
-use code_form::Image;
 use executor::Session;
-use object_lock::ObjectTable;
+use object_lock::OwnerSeat;
+use region::{AdmitFault, Region, admit};
 use remote_store::{Config, FarHeap, RawStore, Stores};
 use scope_verifier::Verified;
 use scope_verifier_laws::accepted_is_verified;
 use std::alloc::{AllocError, Global};
 use std::sync::Wait;
 
-/// How many frames a run has.
-const FRAMES: u32 = 64;
+/// How many frames a run has where nothing else is asked for.
+pub const FRAMES: u32 = 64;
 
-/// How many objects a run has. Those that don't fit in the frames stand in the store.
-const OBJECTS: u32 = 65_536;
+/// How many objects a run has where nothing else is asked for. Those that don't fit in the frames stand in the store.
+pub const OBJECTS: u32 = 65_536;
 
 /// How many instructions are run at once.
 const QUANTUM: u64 = 1_000_000;
@@ -60,30 +63,22 @@ fn run_to_end<S: RawStore, W: Wait>(rt: &W, session: &mut Session<'_, S>) -> Run
     unreachable!()
 }
 
-/// Runs the covered image over these stores until it has stopped or wants something.
-fn run_covered<W: Wait, M: Stores + Drop>(
+/// Runs the program of a region, which has one, at its seat, until it has stopped or wants something.
+fn run_in<W: Wait, S: RawStore>(
     alloc: Global,
     rt: &W,
-    image: &Image,
-    stores: M,
+    region: &Region<S>,
+    seat: OwnerSeat<S>,
 ) -> Result<Ended, AllocError>
-    requires { Covered (image_of image.now) }
-    ensures { M.S.honest → IfOk result (λ e. IsExecutedOver M.S.reliable (image_of image.now) e) }
+    requires one { 0 < length region.now.programs }
+    requires fresh { IsFreshOwner region.now.table region.now.table.sizes.objects seat }
+    requires frames { most_scopes (image_at region.now.programs 0).functions ≤ region.now.table.sizes.frames }
+    requires cells { region.now.table.sizes.cells ≡ piece_cells }
+    ensures { S.honest → IfOk result (λ e. IsExecutedOver S.reliable region.now.table.sizes.objects (image_at region.now.programs 0) e) }
 {
-    let config = Config {
-        frames: FRAMES,
-        objects: OBJECTS,
-        evacuators: 0,
-        fetchers: 0,
-        stores,
-    };
-    let Ok((table, mut owners, _movers)) = ObjectTable::new(alloc, 1, &config) else {
-        return Err(AllocError);
-    };
-    let Some(seat) = owners.pop() else {
-        unreachable!()
-    };
-    let Ok(mut session) = Session::new(alloc, &table, image, seat) else {
+    accepted_is_verified();
+    let image = region.image(0).image();
+    let Ok(mut session) = Session::new(alloc, region.table(), image, seat) else {
         return Err(AllocError);
     };
     let run = run_to_end(rt, &mut session);
@@ -95,24 +90,67 @@ fn run_covered<W: Wait, M: Stores + Drop>(
     })
 }
 
-/// Runs the verified image until it has stopped or wants something, over stores that `stores` makes. Over an honest store output and end are
-/// those of the code's run. `Err` where a growth for the table, the session or the output was refused, or a store could not be made.
+/// A region with no evacuators and no fetchers for this program, and its seat.
+fn admit_one<M: Stores + Drop>(
+    alloc: Global,
+    verified: Verified,
+    frames: u32,
+    objects: u32,
+    stores: M,
+) -> Result<(Region<M::S>, OwnerSeat<M::S>), AdmitFault>
+    ensures programs { IfOk result (λ t. t.0.programs ≡ verified ∷ []) }
+    ensures sizes { IfOk result (λ t. t.0.table.sizes ≡ sizes_of objects frames) }
+    ensures fresh { IfOk result (λ t. IsFreshOwner t.0.table objects t.1) }
+    ensures frames { IfOk result (λ t. most_scopes (image_of verified.image).functions ≤ frames) }
+    ensures refused { IfErr result (λ fault. (fault ≡ AdmitFault.OutOfMemory) ⊎ IsRefused (verified ∷ []) frames objects 0 0 fault) }
+{
+    let mut programs = Vec::new(alloc);
+    if programs.push(verified).is_err() {
+        return Err(AdmitFault::OutOfMemory);
+    }
+    let config = Config {
+        frames,
+        objects,
+        evacuators: 0,
+        fetchers: 0,
+        stores,
+    };
+    let (region, mut owners, _movers) = admit(alloc, programs, config)?;
+    match owners.pop() {
+        Some(seat) => Ok((region, seat)),
+        None => unreachable!(),
+    }
+}
+
+/// Runs the verified image until it has stopped or wants something, over so many frames and objects and over stores that `stores` makes. Over an
+/// honest store output and end are those of the code's run. The faults are those of `admit`, of one program alone: `TooMany` where the frames or the
+/// objects are none or beyond their limit, `TooSmall` where the frames are fewer than the program may need at once. `OutOfMemory` where a growth for
+/// the table, the session or the output was refused, or a store could not be made.
 pub fn execute_over<W: Wait, M: Stores + Drop>(
     alloc: Global,
     rt: &W,
-    verified: &Verified,
+    verified: Verified,
+    frames: u32,
+    objects: u32,
     stores: M,
-) -> Result<Ended, AllocError>
-    ensures { M.S.honest → IfOk result (λ e. IsExecutedOver M.S.reliable (image_of verified.now.image) e) }
+) -> Result<Ended, AdmitFault>
+    ensures ended { M.S.honest → IfOk result (λ e. IsExecutedOver M.S.reliable objects (image_of verified.image) e) }
+    ensures refused { IfErr result (λ fault. (fault ≡ AdmitFault.OutOfMemory) ⊎ IsRefused (verified ∷ []) frames objects 0 0 fault) }
 {
-    accepted_is_verified();
-    run_covered(alloc, rt, verified.image(), stores)
+    let (region, seat) = admit_one(alloc, verified, frames, objects, stores)?;
+    match run_in(alloc, rt, &region, seat) {
+        Ok(ended) => Ok(ended),
+        Err(_refused) => Err(AdmitFault::OutOfMemory),
+    }
 }
 
-/// Runs the verified image until it has stopped or wants something, over a store in memory. `Err` where a growth for the table, the session or
-/// the output was refused.
-pub fn execute<W: Wait>(alloc: Global, rt: &W, verified: &Verified) -> Result<Ended, AllocError>
-    ensures { IfOk result (λ e. IsExecuted (image_of verified.now.image) e) }
+/// Runs the verified image until it has stopped or wants something, over 64 frames, 65,536 objects and a store in memory. `Err` where a growth for
+/// the table, the session or the output was refused.
+pub fn execute<W: Wait>(alloc: Global, rt: &W, verified: Verified) -> Result<Ended, AllocError>
+    ensures { IfOk result (λ e. IsExecuted 65536 (image_of verified.image) e) }
 {
-    execute_over(alloc, rt, verified, FarHeap)
+    match execute_over(alloc, rt, verified, FRAMES, OBJECTS, FarHeap) {
+        Ok(ended) => Ok(ended),
+        Err(_refused) => Err(AllocError),
+    }
 }

@@ -3,4 +3,4 @@
 
 mod execution;
 
-pub use execution::{execute, execute_over};
+pub use execution::{FRAMES, OBJECTS, execute, execute_over};
