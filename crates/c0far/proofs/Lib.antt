@@ -1,3 +1,5 @@
+pub mod Codes
 pub mod Memory
 pub mod Moved
 pub mod NoCode
+pub mod Ran

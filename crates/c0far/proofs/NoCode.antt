@@ -1,7 +1,8 @@
 -- What is done of a file by its name.
 use Rattle.std.proofs.Common.{◌≡◌, ℕ, Bool, true, false, inl, inr, subst}
 use Rattle.std.specs.Prelude.{◌⊎◌, List}
-use Rattle.c0far.specs.Driven.{Checks, ChecksImage, ChecksText, HasFailed, HasNoCode, IsUnfit, LacksMemory}
+use Rattle.c0far.specs.Driven.{Checks, ChecksImage, ChecksText}
+use Rattle.c0far.specs.NoCode.{HasFailed, HasNoCode, IsUnfit, LacksMemory}
 use Rattle.c0far.specs.FileCode.{names_image}
 use Rattle.c0far.specs.FileTexts.{Known}
 use Rattle.c0far.specs.Streams.{Writes}

@@ -3,5 +3,9 @@ pub mod FileCode
 pub mod FileTexts
 pub mod MeantLines
 pub mod MemTexts
+pub mod NoCode
+pub mod Replays
+pub mod Runs
+pub mod Shown
 pub mod Statuses
 pub mod Streams

@@ -1,10 +1,12 @@
 //! The code of a file: the image of a text, or an image as it stands, each of them verified.
-ghost use Rattle.std.specs.Prelude.{◌≡◌, ◌⊎◌, ◌++◌, ℕ, List, IfErr, IfOk, codes};
+ghost use Rattle.std.specs.Prelude.{◌≡◌, ◌⊎◌, ◌++◌, ℕ, List, IfErr, IfOk, codes, map};
 ghost use Rattle.c0_image.specs.Compiled.{IsCompiled};
 ghost use Rattle.code_verification.specs.Verified.{IsVerified};
 ghost use Rattle.image_bytes.specs.Encodable.{IsImage};
 ghost use Rattle.code_form.specs.Form.{image_of};
-ghost use Rattle.c0far.specs.Driven.{HasFailed, HasNoCode, IsUnfit, LacksMemory, newline};
+ghost use Rattle.c0far.specs.NoCode.{HasFailed, HasNoCode, IsUnfit, LacksMemory};
+ghost use Rattle.c0far.specs.Replays.{AreCodes, LacksCode};
+ghost use Rattle.c0far.specs.Shown.{newline};
 ghost use Rattle.c0far.specs.FileCode.{HoldsCode, names_image};
 ghost use Rattle.c0far.specs.FileTexts.{HasText, Known};
 ghost use Rattle.c0far.specs.Streams.{IsQuiet, Says, Writes, writes};
@@ -116,4 +118,28 @@ pub fn code_of<F: Files, E: Stream>(
         Err(FileError::Cannot) => Err(say_unread(err, file)),
         Err(FileError::OutOfMemory) => Err(say_memory(err)),
     }
+}
+
+/// The codes of files, in their order, or the status behind what was said of the first that has none, or of want of memory.
+pub fn codes_of<F: Files, E: Stream>(
+    alloc: Global,
+    checks: bool,
+    names: &[&str],
+    files: &mut F,
+    err: &mut E,
+) -> Result<Vec<Verified>, u8>
+    ensures files { (name : List ℕ) → F.holds files.new name ≡ F.holds files.old name }
+    ensures codes { IfOk result (λ v. AreCodes checks (F.holds files.old) (map (λ n. n.now) names.now) v.items) }
+    ensures quiet { IfOk result (λ v. IsQuiet (writes E.contents E.failures err.old err.new)) }
+    ensures refused { IfErr result (λ status. (out : Writes) → IsQuiet out → LacksCode checks (F.holds files.old) (map (λ n. n.now) names.now) out (writes E.contents E.failures err.old err.new) status
+        ⊎ LacksMemory out (writes E.contents E.failures err.old err.new) status) }
+{
+    let mut programs = Vec::new(alloc);
+    for name in names {
+        let verified = code_of(alloc, checks, name, files, err)?;
+        if programs.push(verified).is_err() {
+            return Err(say_memory(err));
+        }
+    }
+    Ok(programs)
 }

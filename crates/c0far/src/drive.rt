@@ -1,31 +1,26 @@
 //! The commands, over files and two streams.
-ghost use Rattle.std.specs.Prelude.{◌≡◌, ◌++◌, ℕ, IfOk, List, codes, map, option_map};
-ghost use Rattle.code_form.specs.Form.{image_of};
+ghost use Rattle.std.specs.Prelude.{◌≡◌, ◌++◌, ℕ, List, codes, map};
 ghost use Rattle.command_line.specs.Help.{help_text};
-ghost use Rattle.c0far.specs.Driven.{Checks, ChecksImage, ChecksText, IsDriven, RanOver, Runs, newline, shown_end};
+ghost use Rattle.c0far.specs.Driven.{Checks, ChecksImage, ChecksText, IsDriven};
 ghost use Rattle.c0far.specs.FileTexts.{HasText, Known};
-ghost use Rattle.c0far.specs.Statuses.{run_status};
+ghost use Rattle.c0far.specs.Shown.{newline};
 ghost use Rattle.c0far.specs.Streams.{Says, writes};
 
 use crate::code::{code_of, is_image_name};
 use crate::files::{FileError, Files};
 use crate::images::{build, list};
 use crate::plain::{Bound, mean};
-use crate::say::{
-    REFUSED, STOPPED, WANTED, after, say_memory, say_refused, say_unread, write_output,
-};
+use crate::replays::replay;
+use crate::runs::{Asked, run};
+use crate::say::{REFUSED, after, say_memory, say_refused, say_unread};
 use crate::stream::Stream;
 use c0_front::check_text;
 use c0_source::fault::FaultKind;
 use c0_syntax::level::Level;
-use cells::{Ended, Run, Stop};
 use command_line::help::{complaint, page};
 use command_line::line::line;
 use command_line::words::{Line, Usage};
-use file_store::FileStores;
-use image_run::{execute, execute_over};
-use scope_verifier::Verified;
-use std::alloc::{AllocError, Global};
+use std::alloc::Global;
 use std::sync::Wait;
 use std::thread::Threads;
 
@@ -43,78 +38,6 @@ pub fn say_help<E: Stream>(err: &mut E, words: &[&str]) -> u8
     let complaint = complaint(words);
     let page = page(words);
     after(writeln!(err, "{complaint}{page}"), REFUSED)
-}
-
-/// The status of a run that has ended so.
-fn status_of(run: &Run) -> u8
-    ensures { result ≡ run_status run.now }
-{
-    match run {
-        Run::Wanted(_) => WANTED,
-        Run::Stopped(Stop::Ended(_)) | Run::Running => 0,
-        Run::Stopped(_) => STOPPED,
-    }
-}
-
-/// Says what a program printed and how it ended: a newline stands between them where the output doesn't end in one.
-fn say_end<O: Stream>(out: &mut O, ended: &Ended) -> u8
-    ensures { Says (writes O.contents O.failures out.old out.new) (shown_end ended.now) (run_status ended.now.run) result }
-{
-    let status = status_of(&ended.run);
-    if write_output(out, &ended.output).is_err() {
-        return REFUSED;
-    }
-    let run = &ended.run;
-    after(writeln!(out, "{run}"), status)
-}
-
-/// How the code of a file is run: with contracts checked or not, over a store in memory or in the folder of this name.
-#[derive(Clone, Copy)]
-struct Asked<'a> {
-    checks: bool,
-    store: Option<&'a str>,
-}
-
-/// Runs this image over a store in memory or in the folder of this name.
-fn run_image<W: Wait, F: Files>(
-    alloc: Global,
-    rt: &W,
-    verified: &Verified,
-    store: Option<&str>,
-    files: &F,
-) -> Result<Ended, AllocError>
-    ensures { IfOk result (λ e. RanOver F.Place.honest (option_map (λ s. s.now) store.entry) (image_of verified.now.image) e) }
-{
-    match store {
-        None => execute(alloc, rt, verified),
-        Some(name) => {
-            let folder = files.folder(alloc, name)?;
-            execute_over(alloc, rt, verified, FileStores::new(folder))
-        }
-    }
-}
-
-/// Runs the code of a file.
-fn run<W: Wait, F: Files, O: Stream, E: Stream>(
-    alloc: Global,
-    rt: &W,
-    asked: Asked<'_>,
-    file: &str,
-    files: &mut F,
-    out: &mut O,
-    err: &mut E,
-) -> u8
-    ensures files { (name : List ℕ) → F.holds files.new name ≡ F.holds files.old name }
-    ensures done { Runs F.Place.honest file.now asked.entry.checks (option_map (λ s. s.now) asked.entry.store) (F.holds files.old file.now) (writes O.contents O.failures out.old out.new) (writes E.contents E.failures err.old err.new) result }
-{
-    let verified = match code_of(alloc, asked.checks, file, files, err) {
-        Ok(verified) => verified,
-        Err(status) => return status,
-    };
-    match run_image(alloc, rt, &verified, asked.store, files) {
-        Ok(ended) => say_end(out, &ended),
-        Err(_refused) => say_memory(err),
-    }
 }
 
 /// Tells whether a text, which stands in this file, keeps the static rules.
@@ -218,12 +141,18 @@ pub fn drive<W: Wait + Threads, F: Files, O: Stream, E: Stream>(
             },
         ) => mean(alloc, rt, Bound { checks, turns }, file, files, out, err),
         Ok(
+            Line::Replay {
+                asked,
+                files: names,
+            },
+        ) => { replay(alloc, asked, &names, files, out, err) }
+        Ok(
             Line::Run {
                 checks,
-                store,
+                memory,
                 file,
             },
-        ) => run(alloc, rt, Asked { checks, store }, file, files, out, err),
+        ) => run(alloc, rt, Asked { checks, memory }, file, files, out, err),
         Err(Usage::Refused) => say_help(err, words),
         Err(Usage::OutOfMemory) => say_memory(err),
     }

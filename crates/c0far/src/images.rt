@@ -1,6 +1,7 @@
 //! The commands `list` and `build`: the code of a file, shown and written.
 ghost use Rattle.std.specs.Prelude.{◌≡◌, ◌++◌, ℕ, List, codes, string_bytes};
-ghost use Rattle.c0far.specs.Driven.{Builds, KeepsOthers, Lists, newline};
+ghost use Rattle.c0far.specs.Driven.{Builds, KeepsOthers, Lists};
+ghost use Rattle.c0far.specs.Shown.{newline};
 ghost use Rattle.c0far.specs.Streams.{Says, writes};
 
 use crate::code::code_of;

@@ -6,6 +6,8 @@ pub mod drive;
 pub mod files;
 mod images;
 mod plain;
+mod replays;
+mod runs;
 pub mod say;
 pub mod stream;
 

@@ -1,7 +1,8 @@
 //! The command `mean`: what the program of a text means within some turns.
 ghost use Rattle.std.specs.Prelude.{◌≡◌, ℕ, List};
 ghost use Rattle.c0_meaning.specs.Run.{ended_of, meant_of};
-ghost use Rattle.c0far.specs.Driven.{Means, shown_meaning};
+ghost use Rattle.c0far.specs.Driven.{Means};
+ghost use Rattle.c0far.specs.Shown.{shown_meaning};
 ghost use Rattle.c0far.specs.FileTexts.{HasText, Known};
 ghost use Rattle.c0far.specs.Statuses.{ended_status};
 ghost use Rattle.c0far.specs.Streams.{Says, writes};

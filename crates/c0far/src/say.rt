@@ -1,15 +1,20 @@
 //! What commands say on their two streams, with the exit status.
-ghost use Rattle.std.specs.Prelude.{◌≡◌, ◌++◌, ℕ, [], MatchResult, codes, cond, false};
+ghost use Rattle.std.specs.Prelude.{◌≡◌, ◌++◌, ◌+◌, ◌<◌, ◌^◌, ℕ, [], MatchResult, codes, cond, false, length};
 ghost use Rattle.c0_front.specs.Texts.{IsRefusedText, IsTypedAs};
 ghost use Rattle.c0_source.specs.declared.fault.FaultKind.TheVariants.{OutOfMemory};
 ghost use Rattle.c0_typed.specs.Trees as y;
-ghost use Rattle.c0far.specs.Driven.{HasFailed, StandsAt, is_open, newline, shown_fault};
+ghost use Rattle.c0far.specs.NoCode.{HasFailed};
+ghost use Rattle.c0far.specs.Runs.{SaysFault};
+ghost use Rattle.c0far.specs.Shown.{StandsAt, ends_status, is_open, newline, shown_end, shown_ends, shown_fault, shown_from, shown_program};
+ghost use Rattle.c0far.specs.Statuses.{run_status};
 ghost use Rattle.c0far.specs.FileTexts.{HasText, Known};
 ghost use Rattle.c0far.specs.Streams.{IsQuiet, IsWritten, Says, Writes, writes};
 
 use crate::stream::{Failed, Stream};
 use c0_source::fault::Fault;
 use c0_source::position::{Position, line_column};
+use cells::{Ended, Run, Stop};
+use region::AdmitFault;
 
 /// Some program has stopped otherwise than by a result.
 pub const STOPPED: u8 = 1;
@@ -89,4 +94,95 @@ pub fn write_output<O: Stream>(out: &mut O, output: &[u8]) -> Result<(), Failed>
         return Ok(());
     }
     writeln!(out)
+}
+
+/// Says why programs are not admitted.
+pub fn say_admission<E: Stream>(err: &mut E, fault: AdmitFault) -> u8
+    ensures { SaysFault fault (writes E.contents E.failures err.old err.new) result }
+{
+    match fault {
+        AdmitFault::OutOfMemory => say_memory(err),
+        AdmitFault::TooSmall { .. } | AdmitFault::TooMany => after(
+            writeln!(err, "{fault}"),
+            REFUSED,
+        ),
+    }
+}
+
+/// The status of a run that has ended so.
+fn status_of(run: &Run) -> u8
+    ensures { result ≡ run_status run.now }
+{
+    match run {
+        Run::Wanted(_) => WANTED,
+        Run::Stopped(Stop::Ended(_)) | Run::Running => 0,
+        Run::Stopped(_) => STOPPED,
+    }
+}
+
+/// The status of programs that have ended so: the greatest of theirs.
+fn status_of_all(ends: &[Ended]) -> u8
+    ensures { result ≡ ends_status ends.now }
+{
+    match ends {
+        [] => 0,
+        [ended, rest @ ..] => status_of(&ended.run).max(status_of_all(rest)),
+    }
+}
+
+/// Writes what a program printed and how it ended: a newline stands between them where the output doesn't end in one.
+fn write_end<O: Stream>(out: &mut O, ended: &Ended) -> Result<(), Failed>
+    ensures { IsWritten (writes O.contents O.failures out.old out.new) (shown_end ended.now) result }
+{
+    write_output(out, &ended.output)?;
+    let run = &ended.run;
+    writeln!(out, "{run}")
+}
+
+/// Writes the same of a program of several, behind its number.
+fn write_program<O: Stream>(out: &mut O, number: u64, ended: &Ended) -> Result<(), Failed>
+    ensures { IsWritten (writes O.contents O.failures out.old out.new) (shown_program number ended.now) result }
+{
+    writeln!(out, "program {number}:")?;
+    write_end(out, ended)
+}
+
+/// Writes the same of several programs, whose numbers are those from this one on.
+fn write_from<O: Stream>(out: &mut O, number: u64, ends: &[Ended]) -> Result<(), Failed>
+    requires { number + length ends.now < 2 ^ 64 }
+    ensures { IsWritten (writes O.contents O.failures out.old out.new) (shown_from number ends.now) result }
+{
+    match ends {
+        [] => Ok(()),
+        [ended, rest @ ..] => {
+            write_program(out, number, ended)?;
+            write_from(out, number + 1, rest)
+        }
+    }
+}
+
+/// Writes the ends of programs: that of one alone without a number.
+fn write_ends<O: Stream>(out: &mut O, ends: &[Ended]) -> Result<(), Failed>
+    ensures { IsWritten (writes O.contents O.failures out.old out.new) (shown_ends ends.now) result }
+{
+    match ends {
+        [ended] => write_end(out, ended),
+        _ => write_from(out, 0, ends),
+    }
+}
+
+/// Says what a program printed and how it ended.
+pub fn say_end<O: Stream>(out: &mut O, ended: &Ended) -> u8
+    ensures { Says (writes O.contents O.failures out.old out.new) (shown_end ended.now) (run_status ended.now.run) result }
+{
+    let status = status_of(&ended.run);
+    after(write_end(out, ended), status)
+}
+
+/// Says what each program printed and how it ended.
+pub fn say_ends<O: Stream>(out: &mut O, ends: &[Ended]) -> u8
+    ensures { Says (writes O.contents O.failures out.old out.new) (shown_ends ends.now) (ends_status ends.now) result }
+{
+    let status = status_of_all(ends);
+    after(write_ends(out, ends), status)
 }

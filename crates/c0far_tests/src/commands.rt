@@ -111,6 +111,14 @@ impl Bench {
         Ok(())
     }
 
+    /// So many times this line in the text.
+    pub(crate) fn add_lines(&mut self, count: usize, line: &[u8]) -> io::Result<()> {
+        for _ in 0..count {
+            self.add_line(line)?;
+        }
+        Ok(())
+    }
+
     /// A folder of this name, for stores.
     pub(crate) fn add_folder(&mut self, name: &str) -> io::Result<()> {
         let name = String::from_str(self.alloc, name)?;

@@ -3,6 +3,7 @@
 //! A row is a line of such a file:
 //! - `= NAME` begins the text of a file in memory, which is the lines behind it, up to the next row;
 //! - `* N BYTES`, in a text, stands for `N` times these bytes, with no newline behind it;
+//! - `+ N LINE`, in a text, stands for `N` lines like this one;
 //! - `! folder NAME` makes a folder in memory, for stores;
 //! - `! out N` and `! err N` have one write of that stream of the next command fail, after `N` others;
 //! - `$ WORDS` does the command line of these words, with one blank between two of them;
@@ -31,6 +32,7 @@ fn go_through<R: Threads + Wait, O: Write>(
         match Row::of(line) {
             Row::File(name) => bench.begin(name)?,
             Row::Repeated(count, text) => bench.add_often(count, text)?,
+            Row::Lines(count, line) => bench.add_lines(count, line)?,
             Row::Folder(name) => bench.add_folder(name)?,
             Row::FailingOut(after) => bench.fail_out(after),
             Row::FailingErr(after) => bench.fail_err(after),

@@ -9,6 +9,8 @@ pub enum Row<'a> {
     File(&'a str),
     /// A part of a text: so many times these bytes.
     Repeated(usize, &'a [u8]),
+    /// A part of a text: so many times this line.
+    Lines(usize, &'a [u8]),
     /// A folder of this name.
     Folder(&'a str),
     /// After so many writes of the next command to its standard output, one fails.
@@ -31,9 +33,8 @@ fn behind<'a>(line: &'a [u8], mark: &[u8]) -> Option<&'a str> {
     }
 }
 
-/// The number and the bytes of a line `* N BYTES`.
-fn repeated(line: &[u8]) -> Option<(usize, &[u8])> {
-    let mark: &[u8] = b"* ";
+/// The number and the bytes of a line that is this mark, a number, a blank and bytes.
+fn repeated<'a>(line: &'a [u8], mark: &[u8]) -> Option<(usize, &'a [u8])> {
     let rest = line.strip_prefix(mark)?;
     let end = rest.iter().position(|byte| *byte == b' ')?;
     let number = from_utf8(rest.get(..end)?).ok()?;
@@ -52,8 +53,11 @@ impl<'a> Row<'a> {
         if let Some(words) = behind(line, b"? ") {
             return Row::Refused(words);
         }
-        if let Some((count, bytes)) = repeated(line) {
+        if let Some((count, bytes)) = repeated(line, b"* ") {
             return Row::Repeated(count, bytes);
+        }
+        if let Some((count, text)) = repeated(line, b"+ ") {
+            return Row::Lines(count, text);
         }
         if let Some(name) = behind(line, b"! folder ") {
             return Row::Folder(name);

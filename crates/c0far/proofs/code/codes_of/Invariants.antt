@@ -1,0 +1,12 @@
+use Rattle.std.proofs.Common.{◌≡◌, ℕ, List, map, take}
+use Rattle.c0far.specs.Replays.{AreCodes}
+use Rattle.c0far.specs.Streams.{IsQuiet, writes}
+use Rattle.c0far.proofs.code.codes_of.Given as goal
+
+-- files hold what they held, nothing was said, and the codes are those of the files so far
+abbrev pub invariant-loop-name : goal.invariant-loop-name
+invariant-loop-name g l = record {
+  files : (name : List ℕ) → g.F.Files.holds l.files name ≡ g.F.Files.holds l.initial.files name;
+  quiet : IsQuiet (writes g.E.Stream.contents g.E.Stream.failures l.initial.err l.err);
+  codes : AreCodes l.checks (g.F.Files.holds l.initial.files) (map (λ n. n.now) (take l.name-index l.names)) l.programs.items;
+}

@@ -1,0 +1,78 @@
+-- What is told of files that have no code.
+use Rattle.std.specs.Prelude.{◌≡◌, ◌⊎◌, ℕ, true, false, List, ◌++◌, Err, Some, codes}
+use Rattle.c0_source.specs.declared.fault.Fault.{Fault}
+use Rattle.c0_source.specs.declared.fault.FaultKind.TheVariants as f
+use Rattle.c0_typed.specs.Trees as y
+use Rattle.c0_front.specs.Texts.{IsTypedAs}
+use Rattle.c0_front.specs.Texts as Unchecked
+use Rattle.code_form.specs.Form.{Image}
+use Rattle.clap.specs.Words.{Text}
+use Rattle.image_bytes.specs.Encodable.{IsImage}
+use Rattle.image_reader.specs.Reading.{reads}
+use Rattle.instruction_table.specs.FaultNumbers.{fault_line as image_line}
+use Rattle.instruction_table.specs.declared.fault.ImageFault.{ImageFault}
+use Rattle.scope_verifier_laws.specs.Faults.{fault_of}
+use Rattle.scope_verifier_laws.specs.FaultNumbers.{fault_line as verify_line}
+use Rattle.scope_verifier_laws.specs.declared.fault.VerifyFault.{VerifyFault}
+use Rattle.c0far.specs.FileCode.{names_image}
+use Rattle.c0far.specs.FileTexts.{HasText, IsMissing, Known}
+use Rattle.c0far.specs.Shown.{StandsAt, newline, shown_fault}
+use Rattle.c0far.specs.Streams.{IsQuiet, Says, Writes}
+
+-- the file was not read
+pub record IsUnread (file : Text) (held : Known) (out err : Writes) (result : ℕ) : Type 0 where
+  pub missing : IsMissing held
+  pub shown : Says err (file ++ (codes ": cannot be read" ++ newline)) 2 result
+  pub quiet : IsQuiet out
+
+-- a growth was refused before anything ran to its end
+pub record LacksMemory (out err : Writes) (result : ℕ) : Type 0 where
+  pub shown : Says err (codes "out of memory" ++ newline) 3 result
+  pub quiet : IsQuiet out
+
+-- the file's text is the text of no well-typed program: the fault of the first stage that finds one is shown, and where it stands;
+-- want of memory is no such fault
+pub record HasFailed (file : Text) (held : Known) (out err : Writes) (result : ℕ) : Type 0 where
+  pub text : List ℕ
+  pub read : HasText held text
+  pub none : (typed : y.Program) → IsTypedAs false text typed → ⊥
+  pub fault : Fault
+  pub cause : Unchecked.IsRefusedText false text fault
+  pub other : fault.kind ≡ f.OutOfMemory → ⊥
+  pub line : ℕ
+  pub column : ℕ
+  pub place : StandsAt text fault.span.start line column
+  pub shown : Says err (shown_fault file line column fault) 2 result
+  pub quiet : IsQuiet out
+
+-- the file's bytes are no image: the first thing that is wrong with them is shown
+pub record HasImageFault (file : Text) (held : Known) (out err : Writes) (result : ℕ) : Type 0 where
+  pub bytes : List ℕ
+  pub read : HasText held bytes
+  pub fault : ImageFault
+  pub cause : reads bytes ≡ Err fault
+  pub shown : Says err (file ++ (codes ": " ++ (image_line fault ++ newline))) 2 result
+  pub quiet : IsQuiet out
+
+-- the file's image may not be run: its first fault is shown
+pub record HasVerifyFault (file : Text) (held : Known) (out err : Writes) (result : ℕ) : Type 0 where
+  pub bytes : List ℕ
+  pub read : HasText held bytes
+  pub image : Image
+  pub is : IsImage bytes image
+  pub fault : VerifyFault
+  pub cause : fault_of image ≡ Some fault
+  pub shown : Says err (file ++ (codes ": " ++ (verify_line fault ++ newline))) 2 result
+  pub quiet : IsQuiet out
+
+-- the file's image is refused
+abbrev pub IsUnfit : Text → Known → Writes → Writes → ℕ → Type 0
+IsUnfit file held out err result = HasImageFault file held out err result ⊎ HasVerifyFault file held out err result
+
+-- the file's code is refused: an image, or a text
+abbrev pub IsRefused : Text → Known → Writes → Writes → ℕ → Type 0
+IsRefused file held out err result = elim (names_image file) as (λ b. Type 0) [ true ↦ IsUnfit file held out err result | false ↦ HasFailed file held out err result ]
+
+-- there is no code of the file: it is refused, or was not read, or memory was wanted
+abbrev pub HasNoCode : Text → Known → Writes → Writes → ℕ → Type 0
+HasNoCode file held out err result = IsRefused file held out err result ⊎ (IsUnread file held out err result ⊎ LacksMemory out err result)

@@ -1,0 +1,61 @@
+-- What is shown.
+use Rattle.std.specs.Prelude.{◌≡◌, ℕ, suc, ◌+◌, ◌-◌, ◌==◌, max, min, Bool, true, false, not, List, [], ◌∷◌, ◌++◌, length, take, count_by, Option, Some, None, slice_get, codes, cond, decimal}
+use Rattle.cells.specs.declared.ending.Ended.{Ended}
+use Rattle.cells.specs.Lines.{run_line}
+use Rattle.cells.specs.Outcomes.{Meant}
+use Rattle.c0_source.specs.declared.fault.Fault.{Fault}
+use Rattle.c0_source.specs.FaultLines.{fault_line}
+use Rattle.c0_source.specs.Lines.{BeginsLine}
+use Rattle.clap.specs.Words.{Text}
+use Rattle.c0far.specs.MeantLines.{last_line}
+use Rattle.c0far.specs.Statuses.{run_status}
+
+-- the end of a line
+abbrev pub newline : List ℕ
+newline = 10 ∷ []
+
+-- the last byte is there, and is no newline
+abbrev pub is_open_at : Option ℕ → Bool
+is_open_at None = false
+is_open_at (Some byte) = not (byte == 10)
+
+-- these bytes end in an unfinished line
+abbrev pub is_open : List ℕ → Bool
+is_open bytes = is_open_at (slice_get bytes (length bytes - 1))
+
+-- what a program printed, with its last line finished, and then the line of its end
+abbrev pub shown_end : Ended → List ℕ
+shown_end e = e.output.items ++ (cond (is_open e.output.items) newline [] ++ (run_line e.run ++ newline))
+
+-- the end of program number k, of several
+abbrev pub shown_program : ℕ → Ended → List ℕ
+shown_program k e = codes "program " ++ (decimal k ++ (codes ":" ++ (newline ++ shown_end e)))
+
+-- those of several programs, from number k on
+abbrev pub shown_from : ℕ → List Ended → List ℕ
+shown_from k [] = []
+shown_from k (e ∷ es) = shown_program k e ++ shown_from (suc k) es
+
+-- the ends of programs: that of one alone without a number
+abbrev pub shown_ends : List Ended → List ℕ
+shown_ends [] = []
+shown_ends (e ∷ []) = shown_end e
+shown_ends (e ∷ (f ∷ es)) = shown_from 0 (e ∷ (f ∷ es))
+
+-- the status of programs that have ended so: that of a want before that of a stop otherwise than by a result, and that before 0
+abbrev pub ends_status : List Ended → ℕ
+ends_status [] = 0
+ends_status (e ∷ es) = max (run_status e.run) (ends_status es)
+
+-- what a program printed within its turns, with its last line finished, and then the line of its stop, or that it was cut
+abbrev pub shown_meaning : Meant → List ℕ
+shown_meaning m = m.output ++ (cond (is_open m.output) newline [] ++ (last_line m.stop ++ newline))
+
+-- the line of a fault in a file: FILE:LINE:COLUMN: fault NUMBER NAME
+abbrev pub shown_fault : Text → ℕ → ℕ → Fault → List ℕ
+shown_fault file line column fault = file ++ (codes ":" ++ (decimal line ++ (codes ":" ++ (decimal column ++ (codes ": " ++ (fault_line fault ++ newline))))))
+
+-- a place in a text stands in this line, at this column, both counted from 1
+abbrev pub StandsAt : List ℕ → ℕ → ℕ → ℕ → Type 0
+StandsAt text at line column = (line ≡ count_by (λ b. b == 10) (take at text) + 1)
+    × ((start : ℕ) × BeginsLine text (min at (length text)) start × (column ≡ min at (length text) - start + 1))
