@@ -1,12 +1,13 @@
 //! What is proved of each program beside whatever others.
 #![tactic(auto)]
 
+ghost use Rattle.c0far_headline.specs.Admitted.{AdmittedHeadline, ReplayedHeadline};
 ghost use Rattle.c0far_headline.specs.Headline.{Headline};
 
 use c0_image::one_image;
 use c0_typed::more_turns;
 use code_form::run_laws;
-use world_semantics::{programs_follow, wants};
+use world_semantics::{enough_frames, programs_follow, wants};
 
 /// Whatever events programs and evacuators make in whichever order, over an honest store: of every text that is accepted, a program
 /// that runs its image has printed a beginning of what the text means; where it has stopped, the text means just that output
@@ -20,4 +21,19 @@ pub fn headline()
     run_laws();
     programs_follow();
     wants();
+}
+
+/// The same of programs that are admitted, in whose world a frame is free, or can be freed, wherever one of them seeks a frame.
+pub fn headline_of_admitted()
+    ensures { AdmittedHeadline }
+{
+    headline();
+    enough_frames();
+}
+
+/// The same of the ends that the replay of a schedule tells of programs that are admitted.
+pub fn headline_of_replays()
+    ensures { ReplayedHeadline }
+{
+    headline_of_admitted();
 }
