@@ -10,7 +10,10 @@ use std::alloc::{AllocError, Global};
 use std::fmt::Write;
 
 /// The verified images of these. None where one is refused.
-fn verified(alloc: Global, images: Vec<Image>) -> Result<Option<Vec<Verified>>, AllocError> {
+pub(crate) fn verified(
+    alloc: Global,
+    images: Vec<Image>,
+) -> Result<Option<Vec<Verified>>, AllocError> {
     let mut programs = Vec::new(alloc);
     for image in images {
         let Ok(program) = verify(alloc, image) else {

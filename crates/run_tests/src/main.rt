@@ -10,13 +10,19 @@
 //! - `schedule`: images run in one world, by lines that stand behind how often each comes; what `replay` answers is told;
 //! - `steps`: the same step by step: behind each line the word of object 0 and its first cell are told, and how many of its steps were taken, unless
 //!   all were. In place of a number may stand `A..B`: the row holds for each number of these, whose first is `A` and whose last is `B`.
+//! - `random`: images run in one world, by steps that a generator chooses by each of `seeds`, until each program has ended; what `World::ended` tells of each
+//!   program is told behind each seed;
 //! - `admission`: how many frames the verified images may need at once is told, and whether they are admitted, or why not.
+//! - `rounds`: two programs are admitted, and each brings its first object in, and closes its hold of it unless `held` stands there; `budgets` has the budget of
+//!   each round of an evacuator: what it came to is told, with how many frames are free then.
 //!
 //! A row names its `image`, or each of its images, and its numbers: `frames`, `objects`, `evacuators`, `fetchers`. `fails at N` has the call of this number of the
 //! store fail alone, `fails from N` each one from there on.
 #![tactic(auto)]
 
 mod admissions;
+mod random;
+mod rounds;
 mod schedules;
 mod sessions;
 mod setting;
@@ -40,7 +46,9 @@ enum Asked {
     Session,
     Schedule,
     Steps,
+    Random,
     Admission,
+    Rounds,
 }
 
 /// What the rows of a file are.
@@ -59,7 +67,9 @@ impl Kind {
             "session" => Some(Kind::Runs(Asked::Session)),
             "schedule" => Some(Kind::Runs(Asked::Schedule)),
             "steps" => Some(Kind::Runs(Asked::Steps)),
+            "random" => Some(Kind::Runs(Asked::Random)),
             "admission" => Some(Kind::Runs(Asked::Admission)),
+            "rounds" => Some(Kind::Runs(Asked::Rounds)),
             _ => None,
         }
     }
@@ -81,7 +91,9 @@ fn tell_run<R: Wait>(
         Asked::Session => sessions::tell(rt, alloc, shelf, &setting),
         Asked::Schedule => schedules::tell(alloc, shelf, &setting),
         Asked::Steps => steps::tell(alloc, shelf, &setting),
+        Asked::Random => random::tell(alloc, shelf, &setting),
         Asked::Admission => admissions::tell(alloc, shelf, &setting),
+        Asked::Rounds => rounds::tell(rt, alloc, shelf, &setting),
     }
 }
 

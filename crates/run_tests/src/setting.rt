@@ -25,6 +25,7 @@ pub struct Setting<'a> {
     evacuators: u32,
     fetchers: u32,
     plan: FaultPlan,
+    pub(crate) held: bool,
     pub(crate) numbers: Vec<u64>,
     pub(crate) lines: Vec<Repeated<'a>>,
 }
@@ -65,7 +66,7 @@ fn line_of<'a>(word: &str, line: &'a str) -> Option<Repeated<'a>> {
 }
 
 impl<'a> Setting<'a> {
-    /// One frame, one object, no evacuator and no fetcher, and a store that does not fail.
+    /// One frame, one object, no evacuator and no fetcher, a store that does not fail, and no hold that stays open.
     fn new(alloc: Global) -> Setting<'a> {
         Setting {
             names: Vec::new(alloc),
@@ -74,6 +75,7 @@ impl<'a> Setting<'a> {
             evacuators: 0,
             fetchers: 0,
             plan: FaultPlan::Never,
+            held: false,
             numbers: Vec::new(alloc),
             lines: Vec::new(alloc),
         }
@@ -102,7 +104,11 @@ impl<'a> Setting<'a> {
             "objects" => Ok(set(&mut self.objects, rest)),
             "evacuators" => Ok(set(&mut self.evacuators, rest)),
             "fetchers" => Ok(set(&mut self.fetchers, rest)),
-            "loads" | "runs" => self.add_numbers(rest),
+            "loads" | "runs" | "seeds" | "budgets" => self.add_numbers(rest),
+            "held" => {
+                self.held = true;
+                Ok(true)
+            }
             "fails" => match plan(rest) {
                 Some(plan) => {
                     self.plan = plan;

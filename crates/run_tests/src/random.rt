@@ -1,0 +1,154 @@
+//! Schedules that a generator makes.
+ghost use Rattle.std.specs.Prelude.{◌<◌, ◌≤◌, length};
+
+use crate::schedules::put_ended;
+use crate::setting::Setting;
+use crate::shelf::Shelf;
+use cells::Run;
+use code_form::Image;
+use remote_store::{FarHeap, FaultStore, RawStore};
+use std::alloc::{AllocError, Global};
+use std::fmt::Write;
+use world::{Actor, Choice, World};
+
+/// How many steps are tried before the ends of programs are looked at.
+const STEPS: u32 = 1_000;
+
+/// How often so many steps are tried, at most.
+const MOST_TRIALS: u32 = 5_000;
+
+/// Numbers that follow from a seed other than 0, by shifts and exclusive or.
+#[derive(Drop)]
+struct Generator {
+    state: u64,
+}
+
+impl Generator {
+    /// A number below this one, or 0.
+    fn below(&mut self, bound: u32) -> u32 {
+        self.state ^= self.state << 13;
+        self.state ^= self.state >> 7;
+        self.state ^= self.state << 17;
+        (self.state % u64::from(bound.max(1))) as u32
+    }
+}
+
+/// How many of each there are in a world.
+#[derive(Clone, Copy)]
+struct Numbers {
+    programs: u32,
+    evacuators: u32,
+    fetchers: u32,
+    frames: u32,
+    objects: u32,
+}
+
+impl Numbers {
+    /// An actor: a program as often as a mover.
+    fn actor(self, generator: &mut Generator) -> Actor {
+        match generator.below(4) {
+            0 => Actor::Evacuator(generator.below(self.evacuators)),
+            1 => Actor::Fetcher(generator.below(self.fetchers)),
+            _ => Actor::Program(generator.below(self.programs)),
+        }
+    }
+
+    /// A choice: what is next as often as a verb.
+    fn choice(self, generator: &mut Generator) -> Choice {
+        let object = generator.below(self.objects);
+        let frame = generator.below(self.frames);
+        match generator.below(8) {
+            0 => Choice::Look(frame),
+            1 => Choice::Claim(frame),
+            2 => Choice::Mark(object, frame),
+            3 => Choice::Begin(object),
+            _ => Choice::Next,
+        }
+    }
+}
+
+/// Tries steps of the generator's choice; those that are not enabled change nothing.
+fn try_steps<S: RawStore>(world: &mut World<'_, S>, numbers: Numbers, generator: &mut Generator) {
+    for _ in 0..STEPS {
+        let actor = numbers.actor(generator);
+        let choice = numbers.choice(generator);
+        world.step(actor, choice);
+    }
+}
+
+/// Whether each program has stopped, or wants something.
+fn have_ended<S: RawStore>(alloc: Global, world: &World<'_, S>) -> Result<bool, AllocError> {
+    for program in 0..world.programs() {
+        if let Run::Running = world.ended(alloc, program)?.run {
+            return Ok(false);
+        }
+    }
+    Ok(true)
+}
+
+/// Tries steps until each program has ended, and no longer than it may take.
+fn go_on<S: RawStore>(
+    alloc: Global,
+    world: &mut World<'_, S>,
+    numbers: Numbers,
+    generator: &mut Generator,
+) -> Result<(), AllocError> {
+    for _ in 0..MOST_TRIALS {
+        if have_ended(alloc, world)? {
+            return Ok(());
+        }
+        try_steps(world, numbers, generator);
+    }
+    Ok(())
+}
+
+/// The ends of the programs, behind the steps that the generator chooses by this seed.
+fn put_seed(
+    alloc: Global,
+    text: &mut String,
+    images: &[Image],
+    setting: &Setting<'_>,
+    seed: u64,
+) -> Result<(), AllocError>
+    requires { (0 < length images.now) × (length images.now ≤ 256) }
+{
+    let Some(config) = setting.config(alloc) else {
+        return text.push_str("numbers out of range\n");
+    };
+    let Ok(mut world) = World::<FaultStore<FarHeap>>::new(alloc, images, &config) else {
+        return Err(AllocError);
+    };
+    let numbers = Numbers {
+        programs: images.len() as u32,
+        evacuators: config.evacuators,
+        fetchers: config.fetchers,
+        frames: config.frames,
+        objects: config.objects,
+    };
+    let mut generator = Generator { state: seed };
+    go_on(alloc, &mut world, numbers, &mut generator)?;
+    for program in 0..world.programs() {
+        put_ended(text, program, &world.ended(alloc, program)?)?;
+    }
+    Ok(())
+}
+
+/// What is told of a row: for each of its seeds the ends of its programs.
+pub(crate) fn tell(
+    alloc: Global,
+    shelf: &Shelf,
+    setting: &Setting<'_>,
+) -> Result<String, AllocError> {
+    let Some(images) = setting.images(alloc, shelf)? else {
+        return String::from_str(alloc, "no such image");
+    };
+    if images.is_empty() || images.len() > 256 {
+        return String::from_str(alloc, "no image, or too many");
+    }
+    let mut told = String::new(alloc);
+    for seed in &setting.numbers {
+        writeln!(told, "seed {seed}")?;
+        put_seed(alloc, &mut told, &images, setting, *seed)?;
+    }
+    Ok(told)
+}
