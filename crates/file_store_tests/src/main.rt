@@ -1,0 +1,43 @@
+//! Goes through the files of rows that the words name, and prints each row and what came of it.
+//!
+//! A row that begins with `=` begins a test, over two ways to one new folder:
+//! - `= port memory` and `= port missing`: puts and gets of an object's cells, over a folder in memory that is there, or is not;
+//! - `= port disk NAME`: the same over a folder on the disk, in which a file of this name lies from before, of as many bytes as a row has, each of them 9;
+//! - `= store foreign N`: writes and reads of a row's words, over two folders whose reads give so many bytes, and of which each write fails;
+//! - `= store planned N`: the same over a folder in memory, where call `N` of the store fails by plan;
+//! - `= folder missing` and `= folder disk NAME`: writes and reads of a row's bytes, in such a folder itself.
+//!
+//! The rows behind it use the words that the test holds, and one of the ways:
+//! - `fill WORD` makes each of the words this one, `set AT WORD` the word there, and `show AT` tells the word there;
+//! - `put OBJECT` writes the words, and `get OBJECT` reads words in their place; each tells how it ended, and what the way has counted, as `counts` does;
+//! - `other` goes on with the other way;
+//! - `file NAME COUNT BYTE` makes so many bytes, each of them this one, the whole of a file of the folder on the disk;
+//! - `byte NAME AT` tells the byte there in a file of the folder on the disk, and how many bytes the file has;
+//! - `remove` removes the folder on the disk.
+//!
+//! A row that is none of these is printed alone.
+#![tactic(auto)]
+
+mod disk;
+mod foreign;
+mod play;
+mod rows;
+mod tests;
+mod ways;
+
+use crate::disk::Disk;
+use crate::tests::go_through;
+use std::{env, fs, io, process};
+
+fn main(rt: HostRuntime) -> io::Result<()> {
+    let number = process::id(rt.process());
+    let name = format!(in rt.alloc(); "file-store-tests-{number}")?;
+    let disk = Disk::new(&rt, env::temp_dir(&rt)?.join(rt.alloc(), name.as_str())?);
+    let words: Vec<String> = env::args(&rt)?.collect(rt.alloc())?;
+    let mut out = io::writer(&rt);
+    for name in words.iter().skip(1) {
+        let text = fs::read_to_string(&rt, name.as_str())?;
+        go_through(&disk, text.as_str(), &mut out)?;
+    }
+    Ok(())
+}

@@ -1,0 +1,89 @@
+//! Reading a row.
+
+/// What a test goes over.
+#[derive(Clone, Copy)]
+pub(crate) enum Over<'a> {
+    /// Ports to a folder in memory that is there.
+    PortsOfMemory,
+    /// Ports to a folder in memory that is not there.
+    PortsOfMissing,
+    /// Ports to a folder on the disk, with an old file of this name.
+    PortsOfDisk(&'a str),
+    /// Stores in a folder whose reads give so many bytes.
+    StoresOfForeign(usize),
+    /// Stores, of which the call of this number fails.
+    PlannedStores(u64),
+    /// A folder in memory that is not there.
+    MissingFolder,
+    /// A folder on the disk, with an old file of this name.
+    DiskFolder(&'a str),
+}
+
+impl<'a> Over<'a> {
+    /// What the row that begins a test says, behind its `=`.
+    pub(crate) fn of(words: &[&'a str]) -> Option<Over<'a>> {
+        match words {
+            ["port", "memory"] => Some(Over::PortsOfMemory),
+            ["port", "missing"] => Some(Over::PortsOfMissing),
+            ["port", "disk", name] => Some(Over::PortsOfDisk(name)),
+            ["store", "foreign", count] => Some(Over::StoresOfForeign(count.parse().ok()?)),
+            ["store", "planned", number] => Some(Over::PlannedStores(number.parse().ok()?)),
+            ["folder", "missing"] => Some(Over::MissingFolder),
+            ["folder", "disk", name] => Some(Over::DiskFolder(name)),
+            _ => None,
+        }
+    }
+}
+
+/// What a row does.
+#[derive(Clone, Copy)]
+pub(crate) enum Row<'a> {
+    /// Each of the words becomes this one.
+    Fill(u64),
+    /// The word there becomes this one.
+    Set(usize, u64),
+    /// The word there is told.
+    Show(usize),
+    /// The words are written, for this object.
+    Put(usize),
+    /// Words are read in place of the words, for this object.
+    Get(usize),
+    /// What the way has counted is told.
+    Counts,
+    /// The other way is taken.
+    Other,
+    /// A file of this name gets so many bytes, each of them the last number.
+    File(&'a str, usize, u8),
+    /// The byte there in the file of this name is told.
+    Byte(&'a str, usize),
+    /// The folder on the disk is removed.
+    Remove,
+    /// Nothing.
+    Nothing,
+}
+
+/// What the row of these words does, if it is one.
+fn known<'a>(words: &[&'a str]) -> Option<Row<'a>> {
+    match words {
+        ["fill", word] => Some(Row::Fill(word.parse().ok()?)),
+        ["set", at, word] => Some(Row::Set(at.parse().ok()?, word.parse().ok()?)),
+        ["show", at] => Some(Row::Show(at.parse().ok()?)),
+        ["put", object] => Some(Row::Put(object.parse().ok()?)),
+        ["get", object] => Some(Row::Get(object.parse().ok()?)),
+        ["counts"] => Some(Row::Counts),
+        ["other"] => Some(Row::Other),
+        ["file", name, count, byte] => {
+            Some(Row::File(name, count.parse().ok()?, byte.parse().ok()?))
+        }
+        ["byte", name, at] => Some(Row::Byte(name, at.parse().ok()?)),
+        ["remove"] => Some(Row::Remove),
+        _ => None,
+    }
+}
+
+impl<'a> Row<'a> {
+    /// What the row of these words does.
+    pub(crate) fn of(words: &[&'a str]) -> Row<'a> {
+        known(words).unwrap_or(Row::Nothing)
+    }
+}

@@ -1,0 +1,230 @@
+//! Ways to write words and to read them, one for each level.
+
+use crate::foreign::Foreign;
+use byteorder::{ByteOrder, LittleEndian};
+use cells::Want;
+use file_store::{
+    DiskFolder, FileStore, Folder, MemFolder, ROW_BYTES, get_from_file, put_into_file,
+};
+use remote_store::{Berth, Failed, FaultStore, PIECE_CELLS, Port, ROW_WORDS, RawStore, Refusal};
+use std::alloc::Global;
+use std::fmt;
+
+/// What a way has counted.
+#[derive(Clone, Copy)]
+pub(crate) enum Counts {
+    /// The version of the berth, how many puts and gets were refused, and how many calls of the store failed.
+    Port(u64, u64, u64),
+    /// How many calls failed.
+    Store(u64),
+    /// How many calls failed, and how many bytes the last read gave.
+    Folder(u64, usize),
+}
+
+impl fmt::Display for Counts {
+    fn fmt<W: fmt::Write>(&self, f: &mut fmt::Formatter<W>) -> fmt::Result {
+        match self {
+            Counts::Port(version, refusals, failures) => write!(
+                f,
+                "version {version}, refusals {refusals}, failures {failures}"
+            ),
+            Counts::Store(failures) => write!(f, "failures {failures}"),
+            Counts::Folder(failures, count) => write!(f, "failures {failures}, bytes {count}"),
+        }
+    }
+}
+
+/// A way to a place for words.
+pub(crate) trait Way: Drop {
+    /// Writes the words, at a port as those of this object.
+    fn put(&mut self, object: usize, words: &[u64; ROW_WORDS]) -> Result<(), Failed>;
+
+    /// Reads words, at a port those of this object.
+    fn get(&mut self, object: usize, words: &mut [u64; ROW_WORDS]) -> Result<(), Refusal>;
+
+    /// What it has counted.
+    fn counts(&self) -> Counts;
+}
+
+/// A berth in files, and a port to them.
+#[derive(Drop)]
+pub(crate) struct PortWay<D: Folder> {
+    port: Port<FileStore<D>>,
+    berth: Berth<D::File>,
+}
+
+impl<D: Folder> PortWay<D> {
+    /// A berth in a new file of this store.
+    pub(crate) fn new(alloc: Global, store: FileStore<D>) -> Result<PortWay<D>, Want> {
+        let cell = store.cell(alloc)?;
+        Ok(PortWay {
+            port: Port::new(store),
+            berth: Berth::new(cell),
+        })
+    }
+}
+
+/// The methods of `Way`, which the checker doesn't cover in an `impl` of a trait for every folder.
+impl<D: Folder> PortWay<D> {
+    fn put_cells(&mut self, object: usize, words: &[u64; ROW_WORDS]) -> Result<(), Failed> {
+        put_into_file(
+            &mut self.berth,
+            &mut self.port,
+            object,
+            &words[..PIECE_CELLS],
+        )
+    }
+
+    // Nothing is asked of a berth into which nothing was put.
+    fn get_cells(&mut self, object: usize, words: &mut [u64; ROW_WORDS]) -> Result<(), Refusal> {
+        if self.berth.version == 0 {
+            return Err(Refusal::Wrong);
+        }
+        get_from_file(
+            &self.berth,
+            &mut self.port,
+            object,
+            &mut words[..PIECE_CELLS],
+        )
+    }
+
+    fn counted(&self) -> Counts {
+        Counts::Port(
+            self.berth.version,
+            self.port.refusals(),
+            self.port.store().failures(),
+        )
+    }
+}
+
+impl Way for PortWay<MemFolder> {
+    fn put(&mut self, object: usize, words: &[u64; ROW_WORDS]) -> Result<(), Failed> {
+        self.put_cells(object, words)
+    }
+
+    fn get(&mut self, object: usize, words: &mut [u64; ROW_WORDS]) -> Result<(), Refusal> {
+        self.get_cells(object, words)
+    }
+
+    fn counts(&self) -> Counts {
+        self.counted()
+    }
+}
+
+impl<'a> Way for PortWay<DiskFolder<'a, HostRuntime>> {
+    fn put(&mut self, object: usize, words: &[u64; ROW_WORDS]) -> Result<(), Failed> {
+        self.put_cells(object, words)
+    }
+
+    fn get(&mut self, object: usize, words: &mut [u64; ROW_WORDS]) -> Result<(), Refusal> {
+        self.get_cells(object, words)
+    }
+
+    fn counts(&self) -> Counts {
+        self.counted()
+    }
+}
+
+/// A store or a folder that tells how many of its calls failed.
+pub(crate) trait Counted {
+    /// How many calls failed.
+    fn failed_calls(&self) -> u64;
+}
+
+impl Counted for FileStore<Foreign> {
+    fn failed_calls(&self) -> u64 {
+        self.failures()
+    }
+}
+
+impl Counted for FaultStore<FileStore<MemFolder>> {
+    fn failed_calls(&self) -> u64 {
+        self.failures()
+    }
+}
+
+/// A store, and a cell of it.
+#[derive(Drop)]
+pub(crate) struct StoreWay<S: RawStore + Counted> {
+    store: S,
+    cell: S::Cell,
+}
+
+impl<S: RawStore + Counted> StoreWay<S> {
+    /// A new cell of this store.
+    pub(crate) fn new(alloc: Global, store: S) -> Result<StoreWay<S>, Want> {
+        let cell = store.cell(alloc)?;
+        Ok(StoreWay { store, cell })
+    }
+}
+
+impl<S: RawStore + Counted> Way for StoreWay<S> {
+    fn put(&mut self, _object: usize, words: &[u64; ROW_WORDS]) -> Result<(), Failed> {
+        self.store.write(&mut self.cell, words)
+    }
+
+    fn get(&mut self, _object: usize, words: &mut [u64; ROW_WORDS]) -> Result<(), Refusal> {
+        match self.store.read(&self.cell, words) {
+            Ok(()) => Ok(()),
+            Err(Failed) => Err(Refusal::Failed),
+        }
+    }
+
+    fn counts(&self) -> Counts {
+        Counts::Store(self.store.failed_calls())
+    }
+}
+
+impl Counted for MemFolder {
+    fn failed_calls(&self) -> u64 {
+        self.failures()
+    }
+}
+
+impl<'a> Counted for DiskFolder<'a, HostRuntime> {
+    fn failed_calls(&self) -> u64 {
+        self.failures()
+    }
+}
+
+/// A folder, and a file of it.
+#[derive(Drop)]
+pub(crate) struct FolderWay<D: Folder + Counted> {
+    folder: D,
+    file: D::File,
+    given: usize,
+}
+
+impl<D: Folder + Counted> FolderWay<D> {
+    /// A new file of this folder.
+    pub(crate) fn new(alloc: Global, folder: D) -> Result<FolderWay<D>, Want> {
+        let file = folder.make(alloc)?;
+        Ok(FolderWay {
+            folder,
+            file,
+            given: 0,
+        })
+    }
+}
+
+impl<D: Folder + Counted> Way for FolderWay<D> {
+    fn put(&mut self, _object: usize, words: &[u64; ROW_WORDS]) -> Result<(), Failed> {
+        let mut bytes = [0; ROW_BYTES];
+        LittleEndian::write_u64_into(words, &mut bytes);
+        self.folder.write(&mut self.file, &bytes)
+    }
+
+    fn get(&mut self, _object: usize, words: &mut [u64; ROW_WORDS]) -> Result<(), Refusal> {
+        let mut bytes = [0; ROW_BYTES];
+        let Ok(given) = self.folder.read(&self.file, &mut bytes) else {
+            return Err(Refusal::Failed);
+        };
+        self.given = given;
+        LittleEndian::read_u64_into(&bytes, words);
+        Ok(())
+    }
+
+    fn counts(&self) -> Counts {
+        Counts::Folder(self.folder.failed_calls(), self.given)
+    }
+}
