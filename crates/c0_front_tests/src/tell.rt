@@ -1,5 +1,6 @@
 //! What is told of a text.
 
+use crate::tables::{numbered, pointer};
 use c0_front::{check_text, read_text};
 use c0_lexer::lex::lex;
 use c0_source::fault::Fault;
@@ -28,6 +29,12 @@ pub enum Question {
     PrintAgain,
     /// Whether it is a well-typed program.
     Check,
+    /// Its typed tree.
+    Typed,
+    /// Of a line of names, and a line of names that are looked for: the number of each of these.
+    Numbers,
+    /// Of a line with the name of a type, which stands for `int`, and a line with a name: the type of pointers to what that one stands for.
+    Pointer,
 }
 
 impl Question {
@@ -42,6 +49,9 @@ impl Question {
             "print" => Some(Question::Print),
             "print-again" => Some(Question::PrintAgain),
             "check" => Some(Question::Check),
+            "typed" => Some(Question::Typed),
+            "numbers" => Some(Question::Numbers),
+            "pointer" => Some(Question::Pointer),
             _ => None,
         }
     }
@@ -91,6 +101,12 @@ fn printed_again(alloc: Global, text: &[u8]) -> Result<Vec<u8>, Fault> {
     }
 }
 
+/// The typed tree of a text.
+fn typed(alloc: Global, text: &[u8]) -> Result<Vec<u8>, Fault> {
+    let program = check_text(alloc, text, Level::C0)?;
+    Ok(format!(in alloc; "{program:?}")?.into_bytes())
+}
+
 /// What is told of a text that is accepted.
 fn accepted(alloc: Global) -> Result<Vec<u8>, Fault> {
     Ok(b"ok".to_vec(alloc)?)
@@ -116,6 +132,9 @@ fn answer(alloc: Global, question: Question, text: &[u8]) -> Result<Vec<u8>, Fau
             check_text(alloc, text, Level::C0)?;
             accepted(alloc)
         }
+        Question::Typed => typed(alloc, text),
+        Question::Numbers => numbered(alloc, text),
+        Question::Pointer => pointer(alloc, text),
     }
 }
 

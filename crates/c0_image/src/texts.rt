@@ -17,8 +17,9 @@ use c0_syntax::level::Level;
 use c0_well_formed::{images_are_accepted, images_are_consistent};
 use code_form::Image;
 use codegen::{generate, generated_keeps_the_meaning};
-use guard_hoisting::{hoist, hoisted_means_the_same};
+use guard_hoisting::{hoist, hoisted_is_scoped, hoisted_means_the_same};
 use lower::lower;
+use prefetch_pass::{prefetch, prefetched_means_the_same};
 use scope_placement::{place, placed_is_scoped, placed_means_the_same};
 use scope_verifier::{Verified, verify};
 use scope_verifier_laws::VerifyFault;
@@ -50,14 +51,17 @@ pub fn compile(alloc: Global, text: &[u8], checks: bool) -> Result<Verified, Fau
     elaborated();
     placed_is_scoped();
     placed_means_the_same();
+    hoisted_is_scoped();
     hoisted_means_the_same();
+    prefetched_means_the_same();
     generated_keeps_the_meaning();
     images_are_consistent();
     images_are_accepted();
     let typed = check_text(alloc, text, Level::C0)?;
     let middle = lower(alloc, &typed, checks)?;
     let placed = place(alloc, middle)?;
-    let scoped = hoist(alloc, placed)?;
+    let hoisted = hoist(alloc, placed)?;
+    let scoped = prefetch(alloc, hoisted)?;
     let image = generate(alloc, &scoped)?;
     Ok(verified(alloc, image)?)
 }

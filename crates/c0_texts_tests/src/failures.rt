@@ -5,9 +5,9 @@ ghost use Rattle.code_form.specs.Form.{image_of};
 use c0_image::compile;
 use cells::{Run, Want};
 use code_form::Image;
-use executor::Session;
 use object_lock::ObjectTable;
 use remote_store::{Config, FarHeap, FaultPlan, FaultStore, FaultStores};
+use session::Session;
 use std::alloc::Global;
 use std::io;
 use std::io::Write;
@@ -42,7 +42,7 @@ fn ran<R: Wait>(alloc: Global, rt: &R, image: &Image, plan: FaultPlan) -> Option
     let Some(seat) = owners.pop() else {
         return None;
     };
-    let Ok(mut session) = Session::new(alloc, &table, image, seat) else {
+    let Ok(mut session) = Session::over(alloc, &table, image, seat) else {
         return None;
     };
     let first = session.run(rt, LIMIT);

@@ -1,23 +1,31 @@
 //! Runs each text that the words name. It is run plainly, and what it means is told: the command, what the program prints, and how it ends; where it
 //! ends, the text is compiled too, its image is written, read again and run, and a line tells whether that printed the same and ended the same way. Before
 //! a name may stand `-d`, for contracts to be checked, and a number of turns in place of 5,000. Behind `-p` it is checked, its tree is printed and
-//! read back, and its image runs with its contracts checked; behind `-f` it runs once for each call of the store, which fails. The status is 1 where a
-//! text is refused, or something is not as it has to be.
+//! read back, and its image runs with its contracts checked; behind `-f` it runs once for each call of the store, which fails; behind `-h` it runs alone, and a fetcher looks for a hint
+//! then; behind `-m` it runs twice at
+//! once, and both meet with two movers; behind `-t` it is kept, and all that are kept run at once in the end, each of them twice. The status is 1 where a text is refused, or
+//! something is not as it has to be.
 #![tactic(auto)]
 
 mod again;
 mod failures;
+mod hinted;
 mod means;
 mod prints;
+mod runs;
+mod together;
 
 use crate::failures::fail_each_call;
+use crate::hinted::leave_hints;
 use crate::means::mean;
 use crate::prints::print_back;
+use crate::together::{Together, meet};
 use std::alloc::Global;
 use std::io::Write;
 use std::process::ExitCode;
 use std::sync::Wait;
 use std::thread::Threads;
+use std::time::Clock;
 use std::{env, fs, io};
 
 /// How a text is to be run.
@@ -26,6 +34,9 @@ enum Asked {
     Means { checks: bool, turns: u64 },
     Prints,
     Fails,
+    Hints,
+    Meets,
+    Joins,
 }
 
 impl Asked {
@@ -41,11 +52,16 @@ impl Asked {
     fn with(self, word: &str) -> Option<Asked> {
         let (old_checks, old_turns) = match self {
             Asked::Means { checks, turns } => (checks, turns),
-            Asked::Prints | Asked::Fails => (false, 5000),
+            Asked::Prints | Asked::Fails | Asked::Hints | Asked::Meets | Asked::Joins => (
+                false, 5000,
+            ),
         };
         match word {
             "-p" => Some(Asked::Prints),
             "-f" => Some(Asked::Fails),
+            "-h" => Some(Asked::Hints),
+            "-m" => Some(Asked::Meets),
+            "-t" => Some(Asked::Joins),
             "-d" => Some(Asked::Means {
                 checks: true,
                 turns: old_turns,
@@ -62,18 +78,22 @@ impl Asked {
 }
 
 /// Runs this text as it is asked, and tells of it. False where something is not as it has to be.
-fn tell<R: Threads + Wait, O: Write>(
+fn tell<R: Threads + Wait + Clock + Sync, O: Write>(
     alloc: Global,
     rt: &R,
     asked: Asked,
     name: &str,
     text: &[u8],
+    together: &mut Together,
     out: &mut O,
 ) -> io::Result<bool> {
     match asked {
         Asked::Means { checks, turns } => mean(alloc, rt, checks, turns, name, text, out),
         Asked::Prints => print_back(alloc, rt, name, text, out),
         Asked::Fails => fail_each_call(alloc, rt, name, text, out),
+        Asked::Hints => leave_hints(alloc, rt, name, text, out),
+        Asked::Meets => meet(alloc, rt, name, text, out),
+        Asked::Joins => Ok(together.add(name, text)?),
     }
 }
 
@@ -81,6 +101,7 @@ fn main(rt: HostRuntime) -> io::Result<ExitCode> {
     let words: Vec<String> = env::args(&rt)?.collect(rt.alloc())?;
     let mut out = io::writer(&rt);
     let mut asked = Asked::plainly();
+    let mut together = Together::new(rt.alloc());
     let mut status = 0;
     for word in words.iter().skip(1) {
         if let Some(more) = asked.with(word.as_str()) {
@@ -88,10 +109,14 @@ fn main(rt: HostRuntime) -> io::Result<ExitCode> {
             continue;
         }
         let text = fs::read(&rt, word.as_str())?;
-        if !tell(rt.alloc(), &rt, asked, word.as_str(), &text, &mut out)? {
+        let kept = &mut together;
+        if !tell(rt.alloc(), &rt, asked, word.as_str(), &text, kept, &mut out)? {
             status = 1;
         }
         asked = Asked::plainly();
+    }
+    if !together.run(&rt, &mut out)? {
+        status = 1;
     }
     Ok(ExitCode::from(status))
 }

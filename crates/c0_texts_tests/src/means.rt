@@ -1,16 +1,17 @@
 //! Texts whose plain meaning is told, and compared with the run of their image.
 use crate::again::read_again;
+use crate::runs::execute;
 use c0_image::compile;
 use c0_meaning::Meant;
 use c0_plain::mean_text;
 use c0_source::fault::Fault;
 use cells::{Run, Stop};
-use image_run::execute;
 use std::alloc::Global;
 use std::io;
 use std::io::Write;
 use std::sync::Wait;
 use std::thread::Threads;
+use std::time::Clock;
 
 /// Writes what a program printed, with its last line finished, and how it ended.
 fn tell<O: Write>(out: &mut O, meant: &Meant) -> io::Result<()> {
@@ -25,7 +26,7 @@ fn tell<O: Write>(out: &mut O, meant: &Meant) -> io::Result<()> {
 }
 
 /// Whether the compiled text, written and read again, prints this and stops so.
-fn runs_so<R: Wait>(
+fn runs_so<R: Threads + Wait + Clock + Sync>(
     alloc: Global,
     rt: &R,
     checks: bool,
@@ -46,7 +47,7 @@ fn runs_so<R: Wait>(
 }
 
 /// Runs the compiled text where its meaning has ended, and tells whether it does what the meaning says. False where it does not.
-fn compare<R: Wait, O: Write>(
+fn compare<R: Threads + Wait + Clock + Sync, O: Write>(
     alloc: Global,
     rt: &R,
     checks: bool,
@@ -74,7 +75,7 @@ fn compare<R: Wait, O: Write>(
 }
 
 /// Runs this text plainly, for so many turns, and tells what it means. False where it is refused, or the compiled text does something else.
-pub(crate) fn mean<R: Threads + Wait, O: Write>(
+pub(crate) fn mean<R: Threads + Wait + Clock + Sync, O: Write>(
     alloc: Global,
     rt: &R,
     checks: bool,

@@ -1,5 +1,6 @@
 //! Texts that are printed from their trees and read back, and run with their contracts checked.
 use crate::again::read_again;
+use crate::runs::execute;
 use c0_front::{check_text, read_text};
 use c0_image::compile;
 use c0_source::fault::Fault;
@@ -7,11 +8,12 @@ use c0_source::position::line_column;
 use c0_syntax::level::Level;
 use c0_syntax::print::print;
 use cells::Ended;
-use image_run::execute;
 use std::alloc::Global;
 use std::io;
 use std::io::Write;
 use std::sync::Wait;
+use std::thread::Threads;
+use std::time::Clock;
 
 /// The text, as its tree is printed.
 fn printed(alloc: Global, text: &[u8]) -> Result<String, Fault> {
@@ -28,7 +30,11 @@ fn reads_back(alloc: Global, text: &[u8]) -> Result<bool, Fault> {
 }
 
 /// The end of the text's program, with its contracts checked, as its image has it that was written and read again. None where that is another image.
-fn ended<R: Wait>(alloc: Global, rt: &R, text: &[u8]) -> Result<Option<Ended>, Fault> {
+fn ended<R: Threads + Wait + Clock + Sync>(
+    alloc: Global,
+    rt: &R,
+    text: &[u8],
+) -> Result<Option<Ended>, Fault> {
     let compiled = compile(alloc, text, true)?;
     match read_again(alloc, compiled.image()) {
         Some(read) => Ok(Some(execute(alloc, rt, read)?)),
@@ -52,7 +58,7 @@ fn tell_end<O: Write>(out: &mut O, ended: &Ended) -> io::Result<()> {
 }
 
 /// Checks, prints and runs this text. False where something is not as it has to be.
-pub(crate) fn print_back<R: Wait, O: Write>(
+pub(crate) fn print_back<R: Threads + Wait + Clock + Sync, O: Write>(
     alloc: Global,
     rt: &R,
     name: &str,

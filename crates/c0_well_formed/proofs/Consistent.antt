@@ -1,5 +1,5 @@
 -- The image of a well-typed program is consistent.
-use Rattle.std.proofs.Common.{◌≡◌, ℕ, zero, suc, ◌+◌, ◌<◌, ◌≤◌, Bool, true, false, cond, List, [], ◌∷◌, ◌++◌, length, map, take, Some, refl, sym, subst, arith}
+use Rattle.std.proofs.Common.{◌≡◌, ℕ, zero, suc, ◌+◌, ◌<◌, ◌≤◌, Bool, true, false, cond, List, [], ◌∷◌, ◌++◌, length, map, take, Option, Some, refl, sym, subst, arith}
 use Rattle.std.specs.Prelude.{◌&&◌, nat_lt, All, slice_get}
 use Rattle.std.specs.List.{list_all}
 use Rattle.std.proofs.lemmas.List.{length-append, length-map}
@@ -35,6 +35,9 @@ use Rattle.scope_placement.specs.Placed.{placed_function, whole}
 use Rattle.scope_placement.proofs.Disciplined.{few}
 use Rattle.guard_hoisting.specs.Hoisted.{hoisted_function}
 use Rattle.guard_hoisting.proofs.Aimed.{keeps_the_places}
+use Rattle.prefetch_pass.specs.Prefetched.{prefetched_function}
+use Rattle.prefetch_pass.specs.Raised.{offsets_with}
+use Rattle.prefetch_pass.proofs.Scopes as hints
 use Rattle.codegen.specs.Generated.{blocks, blocks_with, facts_of, function_of}
 use Rattle.c0_well_formed.specs.Images.{image_of_tree}
 use Rattle.scope_verifier_laws.specs.Numbers.{is_result_kind, names_layout}
@@ -48,6 +51,7 @@ use Rattle.c0_well_formed.proofs.Ordered.{in_order}
 use Rattle.c0_well_formed.proofs.Numbers.{CodeNames, function_names}
 use Rattle.c0_well_formed.proofs.ScopedNumbers.{blocks_names, whole_names}
 use Rattle.c0_well_formed.proofs.HoistedNumbers.{few_scopes, hoisted_names}
+use Rattle.c0_well_formed.proofs.HintedNumbers.{hinted_names}
 use Rattle.c0_well_formed.proofs.CellKinds.{Each, IsCellKind, all_sound, each_all, each_append, each_as, kind_good, kind_named, number_named, singles_good, structs_good}
 
 module _ (structs : List (List Ty)) (singles : List Kind) (texts : List (List ℕ)) (functions : List Function) (main : ℕ) (checks : Bool) where
@@ -187,11 +191,14 @@ module _ (structs : List (List Ty)) (singles : List Kind) (texts : List (List �
   abbrev code : Function → f.Function
   code h = l.function_code structs singles texts functions main checks h
 
-  function_consistent : (h : Function) → CodeNames (code h).body → Near (whole (code h).body) → IsConsistentFunction count (function_of (hoisted_function (placed_function (code h))))
+  function_consistent : (h : Function) → CodeNames (code h).body → Near (whole (code h).body) → IsConsistentFunction count (function_of (prefetched_function (hoisted_function (placed_function (code h)))))
   function_consistent h names near =
       let placed : scoped.Function = placed_function (code h) in
-      let with_scopes : scoped.Function = hoisted_function placed in
-      let aims : Near with_scopes.body = keeps_the_places (λ r off disp. nat_lt disp 4294967296) placed.kinds placed.body near in
+      let hoisted : scoped.Function = hoisted_function placed in
+      let with_scopes : scoped.Function = prefetched_function hoisted in
+      let offsets : List ℕ = offsets_with hoisted.body [] [] in
+      let in_range : ℕ → Option ℕ → ℕ → Bool = λ r off disp. nat_lt disp 4294967296 in
+      let aims : Near with_scopes.body = hints.keeps_the_places in_range offsets hoisted.body (keeps_the_places in_range placed.kinds placed.body near) in
       let before = conditions_kinds (checked checks h.preconditions.items) in
       let inside = body_kinds h.body.items in
       let behind = conditions_kinds (checked checks h.postconditions.items) in
@@ -206,7 +213,7 @@ module _ (structs : List (List Ty)) (singles : List Kind) (texts : List (List �
         result = result_good (type_of h.result);
         scopes = few_scopes placed (few (code h).body [] (omega arith));
         numbers = each_all (λ (b : image.Block). All NamesNumbers b.code) (blocks_with (facts_of with_scopes) (blocks with_scopes))
-            (blocks_named (facts_of with_scopes) (blocks with_scopes) (blocks_names with_scopes (hoisted_names placed.kinds placed.body (whole_names (code h).body names)) aims));
+            (blocks_named (facts_of with_scopes) (blocks with_scopes) (blocks_names with_scopes (hinted_names offsets hoisted.body (hoisted_names placed.kinds placed.body (whole_names (code h).body names))) aims));
         told = each_all (λ (b : image.Block). All TellsNumber b.facts) (blocks_with (facts_of with_scopes) (blocks with_scopes))
             (blocks_told (facts_of with_scopes) (blocks with_scopes) (facts_told with_scopes aims));
       }
@@ -218,7 +225,7 @@ module _ (structs : List (List Ty)) (singles : List Kind) (texts : List (List �
       whole_near P few g.kinds g.body (both_true (code_fits P g.kinds 0 g.body) (result_fits g) inside.1).0
 
   functions_consistent : (P : f.Program) → list_all is_few P.head.layouts ≡ true → (fs : List Function) → all_fit P (map code fs) ≡ true → Each (λ h. CodeNames (code h).body) fs
-      → Each (IsConsistentFunction count) (map function_of (map hoisted_function (map placed_function (map code fs))))
+      → Each (IsConsistentFunction count) (map function_of (map prefetched_function (map hoisted_function (map placed_function (map code fs)))))
   functions_consistent P few [] fit names = tt
   functions_consistent P few (h ∷ rest) fit names =
       let q = both_true (function_fits P (code h)) (all_fit P (map code rest)) fit in

@@ -10,6 +10,9 @@ use Rattle.scope_placement.proofs.Formed.{stays_guarded, stays_well_formed}
 use Rattle.guard_hoisting.specs.Hoisted.{hoisted_program}
 use Rattle.guard_hoisting.proofs.Hoists.{stays_scoped}
 use Rattle.guard_hoisting.proofs.Same as hoisting
+use Rattle.prefetch_pass.specs.Prefetched.{prefetched_program}
+use Rattle.prefetch_pass.proofs.Same as hints
+use Rattle.prefetch_pass.proofs.Scopes as hinting
 use Rattle.codegen.proofs.WellFormed.{verified}
 use Rattle.c0_well_formed.specs.Laws.{ImagesAreVerified}
 use Rattle.c0_well_formed.proofs.Functions.{lowered_ok}
@@ -19,7 +22,8 @@ pub images_ok : ImagesAreVerified
 images_ok checks typed fits =
     let code : Program = lowered (singles_of typed) checks typed in
     let with_scopes : scoped.Program = placed_program code in
-    verified (hoisted_program with_scopes)
-    (hoisting.stays_well_formed with_scopes ∙ (stays_well_formed code ∙ lowered_ok checks typed fits))
-    (hoisting.stays_guarded with_scopes ∙ (stays_guarded code ∙ lowered_guarded checks typed fits))
-    (stays_scoped with_scopes (always_scoped code))
+    let hoisted : scoped.Program = hoisted_program with_scopes in
+    verified (prefetched_program hoisted)
+    (hints.stays_well_formed hoisted ∙ (hoisting.stays_well_formed with_scopes ∙ (stays_well_formed code ∙ lowered_ok checks typed fits)))
+    (hints.stays_guarded hoisted ∙ (hoisting.stays_guarded with_scopes ∙ (stays_guarded code ∙ lowered_guarded checks typed fits)))
+    (hinting.stays_scoped hoisted (stays_scoped with_scopes (always_scoped code)))

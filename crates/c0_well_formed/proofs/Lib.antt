@@ -15,6 +15,7 @@ mod Numbers
 mod Near
 mod Told
 mod ScopedNumbers
+mod HintedNumbers
 mod HoistedNumbers
 mod Consistent
 mod Accepted

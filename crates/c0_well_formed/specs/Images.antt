@@ -6,8 +6,10 @@ use Rattle.lower_tables.specs.Gathered.{singles_of}
 use Rattle.lower.specs.Lowered.{lowered}
 use Rattle.scope_placement.specs.Placed.{placed_program}
 use Rattle.guard_hoisting.specs.Hoisted.{hoisted_program}
+use Rattle.prefetch_pass.specs.Prefetched.{prefetched_program}
 use Rattle.codegen.specs.Generated.{generated}
 
--- the image of a typed tree, with its contracts checked or not: that of its structured code with scopes placed, and with those of its loops opened before them
+-- the image of a typed tree, with its contracts checked or not: that of its structured code with scopes placed, with those of its loops opened before them,
+-- and with hints where a loop only raises an index
 abbrev pub image_of_tree : Bool → Typed → Image
-image_of_tree checks typed = generated (hoisted_program (placed_program (lowered (singles_of typed) checks typed)))
+image_of_tree checks typed = generated (prefetched_program (hoisted_program (placed_program (lowered (singles_of typed) checks typed))))

@@ -5,10 +5,10 @@ use Rattle.std.specs.Prelude.{◌⊎◌, Option}
 use Rattle.code_form.specs.Form.{image_of}
 use Rattle.command_line.specs.Shell.{Replayed}
 use Rattle.scope_verifier.specs.declared.acceptance.Verified.{Verified}
-use Rattle.c0far.specs.FileCode.{HoldsCode}
+use Rattle.c0far.specs.FileCode.{AreCodes, HoldsCode}
 use Rattle.c0far.specs.FileTexts.{Known}
-use Rattle.c0far.specs.NoCode.{HasNoCode, LacksMemory}
-use Rattle.c0far.specs.Replays.{AreCodes, LacksCode, Replays}
+use Rattle.c0far.specs.NoCode.{HasNoCode, LacksCode, LacksMemory}
+use Rattle.c0far.specs.Replays.{Replays}
 use Rattle.c0far.specs.Streams.{Held, IsQuiet, Says, Writes, writes}
 
 -- one file more

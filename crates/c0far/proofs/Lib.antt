@@ -3,3 +3,4 @@ pub mod Memory
 pub mod Moved
 pub mod NoCode
 pub mod Ran
+pub mod Replayed

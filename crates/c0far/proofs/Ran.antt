@@ -1,14 +1,19 @@
 -- Runs over the memory that is asked for.
-use Rattle.std.proofs.Common.{◌≡◌, ℕ, List, Option, Some, None, Result, Ok, Err, subst, sym}
+use Rattle.std.proofs.Common.{◌≡◌, ℕ, ◌/◌, List, [], ◌∷◌, Option, Some, None, Result, Ok, Err, length, subst}
+use Rattle.std.specs.List.{AllZip}
 use Rattle.std.specs.Prelude.{IfOk}
 use Rattle.cells.specs.declared.ending.Ended.{Ended}
 use Rattle.cells.specs.declared.ending.Run.{Run}
 use Rattle.cells.specs.declared.ending.Run.TheVariants.{Running, Stopped, Wanted}
 use Rattle.cells.specs.declared.ending.Want.TheVariants.{OutOfMemory, NoObjects, StoreFailed}
 use Rattle.code_form.specs.Code.{Core}
-use Rattle.code_form.specs.Form.{Image}
+use Rattle.code_form.specs.Form.{Image, image_of}
 use Rattle.command_line.specs.Shell.{Memory}
-use Rattle.image_run.specs.Executed.{EndsAs, IsExecutedOver}
+use Rattle.executor.specs.Ends.{AreEnds}
+use Rattle.program_run.specs.Executed.{EndsAs, IsExecutedOver}
+use Rattle.scope_verifier.specs.declared.acceptance.Verified.{Verified}
+use Rattle.std.specs.declared.vec.Vec.{Vec}
+use Rattle.std.specs.declared.alloc.Global.{Global}
 use Rattle.c0far.specs.Runs.{IsHonestIn, IsReliableIn, RanOver}
 
 ends_less : (r s : Type 0) (objects : ℕ) (C : Image) (c : Core) (x : Run) → (s → r) → EndsAs r objects C c x → EndsAs s objects C c x
@@ -22,14 +27,27 @@ ends_less r s objects C c (Wanted StoreFailed) less h = (h.0, λ reliable. h.1 (
 executed_less : (r s : Type 0) (objects : ℕ) (C : Image) (e : Ended) → (s → r) → IsExecutedOver r objects C e → IsExecutedOver s objects C e
 executed_less r s objects C e less h = record { going = h.going; few = h.few; output = h.output; ends = ends_less r s objects C _ e.run less h.ends }
 
+-- a store that is honest and reliable in fewer cases
+pub ends_fewer : (h r g s : Type 0) (objects : ℕ) (programs : List Verified) (ends : List Ended) → (g → h) → (g → s → r) → AreEnds h r objects programs ends → AreEnds g s objects programs ends
+ends_fewer h r g s objects [] [] fewer less all = tt
+ends_fewer h r g s objects [] (e ∷ es) fewer less all = absurd all
+ends_fewer h r g s objects (v ∷ vs) [] fewer less all = absurd all
+ends_fewer h r g s objects (v ∷ vs) (e ∷ es) fewer less all = (λ honest. executed_less r s objects (image_of v.image) e (less honest) (all.0 (fewer honest)), ends_fewer h r g s objects vs es fewer less all.1)
+
 -- a run over a store in memory
-pub ran_in_memory : {E : Type 0} (honest : Type 0) (m : Memory) (C : Image) (r : Result Ended E) → (Unit {0} → IfOk r (IsExecutedOver (Unit {0} × (m.fail_from ≡ 0)) m.objects C)) → IfOk r (RanOver honest m C)
-ran_in_memory honest m C (Ok e) ran = λ h. executed_less _ _ m.objects C e (λ reliable. (tt, reliable.1)) (ran tt)
-ran_in_memory honest m C (Err e) ran = tt
+pub ran_in_memory : {E : Type 0} (honest : Type 0) (m : Memory) (programs : List Verified) (r : Result (Vec Ended Global) E)
+    → IfOk r (λ v. AreEnds (Unit {0}) (Unit {0} × (m.fail_from ≡ 0)) (m.objects / length programs) programs v.items) → IfOk r (λ v. RanOver honest m programs v.items)
+ran_in_memory honest m programs (Ok v) ran = ends_fewer _ _ _ _ _ programs v.items (λ h. tt) (λ h reliable. (tt, reliable.1)) ran
+ran_in_memory honest m programs (Err e) ran = tt
 
 -- a run over a store in a folder
-pub ran_in_folder : {E : Type 0} (honest : Type 0) (m : Memory) (folder : List ℕ) (C : Image) (r : Result Ended E) → m.store ≡ Some folder → (honest → IfOk r (IsExecutedOver (⊥ × (m.fail_from ≡ 0)) m.objects C))
-    → IfOk r (RanOver honest m C)
-ran_in_folder honest m folder C (Ok e) is ran = λ h.
-    executed_less _ _ m.objects C e (λ reliable. absurd (let no : ⊥ = cc (reliable.0, is) in no)) (ran (subst (IsHonestIn honest) is h))
-ran_in_folder honest m folder C (Err e) is ran = tt
+pub ran_in_folder : {E : Type 0} (honest : Type 0) (m : Memory) (folder : List ℕ) (programs : List Verified) (r : Result (Vec Ended Global) E) → m.store ≡ Some folder
+    → IfOk r (λ v. AreEnds honest (⊥ × (m.fail_from ≡ 0)) (m.objects / length programs) programs v.items) → IfOk r (λ v. RanOver honest m programs v.items)
+ran_in_folder honest m folder programs (Ok v) is ran =
+    ends_fewer _ _ _ _ _ programs v.items (λ h. subst (IsHonestIn honest) is h) (λ h reliable. absurd (let no : ⊥ = cc (reliable.0, is) in no)) ran
+ran_in_folder honest m folder programs (Err e) is ran = tt
+
+-- ends over a store that is reliable in fewer cases
+pub ran_less : {E : Type 0} (h r s : Type 0) (objects : ℕ) (programs : List Verified) (x : Result (Vec Ended Global) E) → (s → r) → IfOk x (λ v. AreEnds h r objects programs v.items) → IfOk x (λ v. AreEnds h s objects programs v.items)
+ran_less h r s objects programs (Ok v) less ran = ends_fewer h r h s objects programs v.items (λ honest. honest) (λ honest. less) ran
+ran_less h r s objects programs (Err e) less ran = tt

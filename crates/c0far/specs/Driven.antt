@@ -108,7 +108,7 @@ Does honest held now (Check file) out err result = Checks file (held file) out e
 Does honest held now (shell.Lists file) out err result = Lists file (held file) out err result × KeepsFiles held now
 Does honest held now (Mean checks turns file) out err result = Means file checks turns (held file) out err result × KeepsFiles held now
 Does honest held now (Replay asked files) out err result = Replays honest asked files held out err result × KeepsFiles held now
-Does honest held now (Run checks memory file) out err result = Runs honest file checks memory (held file) out err result × KeepsFiles held now
+Does honest held now (Run asked files) out err result = Runs honest asked files held out err result × KeepsFiles held now
 
 -- the words are no command: it is told what is refused, and a page of help is shown
 pub record IsUsage (words : List Text) (out err : Writes) (result : ℕ) : Type 0 where

@@ -1,5 +1,5 @@
 -- What is told of files that have no code.
-use Rattle.std.specs.Prelude.{◌≡◌, ◌⊎◌, ℕ, true, false, List, ◌++◌, Err, Some, codes}
+use Rattle.std.specs.Prelude.{◌≡◌, ◌⊎◌, ℕ, Bool, true, false, List, ◌∷◌, ◌++◌, Err, Some, codes}
 use Rattle.c0_source.specs.declared.fault.Fault.{Fault}
 use Rattle.c0_source.specs.declared.fault.FaultKind.TheVariants as f
 use Rattle.c0_typed.specs.Trees as y
@@ -11,10 +11,11 @@ use Rattle.image_bytes.specs.Encodable.{IsImage}
 use Rattle.image_reader.specs.Reading.{reads}
 use Rattle.instruction_table.specs.FaultNumbers.{fault_line as image_line}
 use Rattle.instruction_table.specs.declared.fault.ImageFault.{ImageFault}
+use Rattle.scope_verifier.specs.declared.acceptance.Verified.{Verified}
 use Rattle.scope_verifier_laws.specs.Faults.{fault_of}
 use Rattle.scope_verifier_laws.specs.FaultNumbers.{fault_line as verify_line}
 use Rattle.scope_verifier_laws.specs.declared.fault.VerifyFault.{VerifyFault}
-use Rattle.c0far.specs.FileCode.{names_image}
+use Rattle.c0far.specs.FileCode.{AreCodes, names_image}
 use Rattle.c0far.specs.FileTexts.{HasText, IsMissing, Known}
 use Rattle.c0far.specs.Shown.{StandsAt, newline, shown_fault}
 use Rattle.c0far.specs.Streams.{IsQuiet, Says, Writes}
@@ -76,3 +77,13 @@ IsRefused file held out err result = elim (names_image file) as (λ b. Type 0) [
 -- there is no code of the file: it is refused, or was not read, or memory was wanted
 abbrev pub HasNoCode : Text → Known → Writes → Writes → ℕ → Type 0
 HasNoCode file held out err result = IsRefused file held out err result ⊎ (IsUnread file held out err result ⊎ LacksMemory out err result)
+
+-- there is no code of one of the files: the first of which that is so is told of
+pub record LacksCode (checks : Bool) (held : Text → Known) (files : List Text) (out err : Writes) (result : ℕ) : Type 0 where
+  pub before : List Text
+  pub file : Text
+  pub after : List Text
+  pub cut : files ≡ before ++ file ∷ after
+  pub programs : List Verified
+  pub codes : AreCodes checks held before programs
+  pub none : HasNoCode file (held file) out err result

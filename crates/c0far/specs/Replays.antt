@@ -1,7 +1,6 @@
 -- What `replay` does.
-use Rattle.std.specs.Prelude.{◌≡◌, ◌⊎◌, ℕ, Bool, List, [], ◌∷◌, ◌++◌, length, codes, decimal}
+use Rattle.std.specs.Prelude.{◌≡◌, ◌⊎◌, ℕ, List, ◌++◌, length, codes, decimal}
 use Rattle.cells.specs.declared.ending.Ended.{Ended}
-use Rattle.code_form.specs.Form.{image_of}
 use Rattle.clap.specs.Words.{Text}
 use Rattle.command_line.specs.Shell.{Replayed}
 use Rattle.region.specs.Admission.{IsAdmitted, IsRefused, image_at}
@@ -10,32 +9,15 @@ use Rattle.schedule_replay.specs.Replayed.{IsReplayed, StopsAt}
 use Rattle.scope_verifier.specs.declared.acceptance.Verified.{Verified}
 use Rattle.world.specs.Opened.{sizes_of}
 use Rattle.world_semantics.specs.Worlds.{Sizes}
-use Rattle.c0far.specs.FileCode.{HoldsCode}
+use Rattle.c0far.specs.FileCode.{AreCodes}
 use Rattle.c0far.specs.FileTexts.{HasText, Known}
-use Rattle.c0far.specs.NoCode.{HasNoCode, IsUnread, LacksMemory}
-use Rattle.c0far.specs.Runs.{IsHonestIn, SaysFault}
+use Rattle.c0far.specs.NoCode.{IsUnread, LacksCode, LacksMemory}
+use Rattle.c0far.specs.Runs.{IsHonestIn, IsReliableIn, SaysFault}
 use Rattle.c0far.specs.Shown.{ends_status, newline, shown_ends}
 use Rattle.c0far.specs.Streams.{IsQuiet, Says, Writes}
 
--- these programs are the codes of these files, those of texts with contracts checked or not
-abbrev pub AreCodes : Bool → (Text → Known) → List Text → List Verified → Type 0
-AreCodes checks held [] [] = Unit {0}
-AreCodes checks held [] (v ∷ vs) = ⊥
-AreCodes checks held (f ∷ fs) [] = ⊥
-AreCodes checks held (f ∷ fs) (v ∷ vs) = HoldsCode f checks (held f) (image_of v.image) × AreCodes checks held fs vs
-
--- there is no code of one of the files: the first of which that is so is told of
-pub record LacksCode (checks : Bool) (held : Text → Known) (files : List Text) (out err : Writes) (result : ℕ) : Type 0 where
-  pub before : List Text
-  pub file : Text
-  pub after : List Text
-  pub cut : files ≡ before ++ file ∷ after
-  pub programs : List Verified
-  pub codes : AreCodes checks held before programs
-  pub none : HasNoCode file (held file) out err result
-
--- in what follows the store is honest where h holds, this is asked for these files, and files hold this
-module _ (h : Type 0) (asked : Replayed) (files : List Text) (held : Text → Known) where
+-- in what follows the store is honest where h holds and never fails where r holds, this is asked for these files, and files hold this
+module _ (h r : Type 0) (asked : Replayed) (files : List Text) (held : Text → Known) where
   -- the sizes of the world of so many programs
   abbrev pub sizes : ℕ → Sizes
   sizes programs = sizes_of programs asked.memory.frames asked.memory.objects asked.evacuators asked.fetchers
@@ -61,7 +43,7 @@ module _ (h : Type 0) (asked : Replayed) (files : List Text) (held : Text → Kn
     pub lines : List ℕ
     pub read : HasText (held asked.schedule) lines
     pub ends : List Ended
-    pub replayed : IsReplayed h (sizes (length programs)) (image_at programs) lines ends
+    pub replayed : IsReplayed h r (sizes (length programs)) (image_at programs) lines ends
     pub shown : Says out (shown_ends ends) (ends_status ends) result
     pub quiet : IsQuiet err
 
@@ -72,7 +54,7 @@ module _ (h : Type 0) (asked : Replayed) (files : List Text) (held : Text → Kn
     pub lines : List ℕ
     pub read : HasText (held asked.schedule) lines
     pub line : ℕ
-    pub stops : StopsAt h (sizes (length programs)) (image_at programs) lines line
+    pub stops : StopsAt h r (sizes (length programs)) (image_at programs) lines line
     pub shown : Says err (codes "refused line " ++ (decimal line ++ newline)) 2 result
     pub quiet : IsQuiet out
 
@@ -84,6 +66,6 @@ module _ (h : Type 0) (asked : Replayed) (files : List Text) (held : Text → Kn
   abbrev pub ReplaysOver : Writes → Writes → ℕ → Type 0
   ReplaysOver out err result = ReplaysLines out err result ⊎ (LacksRoom out err result ⊎ IsUnread asked.schedule (held asked.schedule) out err result)
 
--- the command `replay` of these files, where files hold this and folders are honest or not
+-- the command `replay` of these files, where files hold this and folders are honest or not; the store in memory never fails, unless it is asked to
 abbrev pub Replays : Type 0 → Replayed → List Text → (Text → Known) → Writes → Writes → ℕ → Type 0
-Replays honest asked files held out err result = ReplaysOver (IsHonestIn honest asked.memory.store) asked files held out err result ⊎ LacksCode asked.checks held files out err result
+Replays honest asked files held out err result = ReplaysOver (IsHonestIn honest asked.memory.store) (IsReliableIn asked.memory) asked files held out err result ⊎ LacksCode asked.checks held files out err result

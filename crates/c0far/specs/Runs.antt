@@ -1,20 +1,18 @@
 -- What `run` does.
-use Rattle.std.specs.Prelude.{◌≡◌, ◌⊎◌, ℕ, Bool, List, [], ◌∷◌, ◌++◌, Option, Some, None, codes}
+use Rattle.std.specs.Prelude.{◌≡◌, ◌⊎◌, ℕ, ◌/◌, List, ◌++◌, Option, Some, None, codes, length}
 use Rattle.cells.specs.declared.ending.Ended.{Ended}
-use Rattle.code_form.specs.Form.{Image, image_of}
 use Rattle.clap.specs.Words.{Text}
-use Rattle.command_line.specs.Shell.{Memory}
-use Rattle.image_run.specs.Executed.{IsExecutedOver}
+use Rattle.command_line.specs.Shell.{Memory, Started}
+use Rattle.executor.specs.Ends.{AreEnds}
 use Rattle.region.specs.Admission.{IsRefused}
 use Rattle.region.specs.Faults.{fault_line as admit_line}
 use Rattle.region.specs.declared.fault.AdmitFault.{AdmitFault}
 use Rattle.region.specs.declared.fault.AdmitFault.TheVariants as admit
 use Rattle.scope_verifier.specs.declared.acceptance.Verified.{Verified}
-use Rattle.c0far.specs.FileCode.{HoldsCode}
+use Rattle.c0far.specs.FileCode.{AreCodes}
 use Rattle.c0far.specs.FileTexts.{Known}
-use Rattle.c0far.specs.NoCode.{HasNoCode}
-use Rattle.c0far.specs.Shown.{newline, shown_end}
-use Rattle.c0far.specs.Statuses.{run_status}
+use Rattle.c0far.specs.NoCode.{LacksCode, LacksMemory}
+use Rattle.c0far.specs.Shown.{ends_status, newline, shown_ends}
 use Rattle.c0far.specs.Streams.{IsQuiet, Says, Writes}
 
 -- the store, in memory or in this folder, is honest: one in memory always is, one in files where folders are
@@ -26,9 +24,9 @@ IsHonestIn honest (Some folder) = honest
 abbrev pub IsReliableIn : Memory → Type 0
 IsReliableIn memory = (memory.store ≡ None) × (memory.fail_from ≡ 0)
 
--- the image ran so over this memory; of a store that is not honest nothing is told
-abbrev pub RanOver : Type 0 → Memory → Image → Ended → Type 0
-RanOver honest memory image ended = IsHonestIn honest memory.store → IsExecutedOver (IsReliableIn memory) memory.objects image ended
+-- the programs ran so over this memory, of whose objects each had an equal share; of a store that is not honest nothing is told
+abbrev pub RanOver : Type 0 → Memory → List Verified → List Ended → Type 0
+RanOver honest memory programs ends = AreEnds (IsHonestIn honest memory.store) (IsReliableIn memory) (memory.objects / length programs) programs ends
 
 -- a fault of admission is shown
 abbrev pub SaysFault : AdmitFault → Writes → ℕ → Type 0
@@ -36,25 +34,26 @@ SaysFault (admit.TooSmall need have) err result = Says err (admit_line (admit.To
 SaysFault admit.TooMany err result = Says err (admit_line admit.TooMany ++ newline) 2 result
 SaysFault admit.OutOfMemory err result = Says err (codes "out of memory" ++ newline) 3 result
 
--- the code of the file ran over this memory, that of a text with contracts checked or not: what it printed and its end are shown
-pub record HasRun (honest : Type 0) (file : Text) (checks : Bool) (memory : Memory) (held : Known) (out err : Writes) (result : ℕ) : Type 0 where
-  pub image : Image
-  pub ended : Ended
-  pub code : HoldsCode file checks held image
-  pub executed : RanOver honest memory image ended
-  pub shown : Says out (shown_end ended) (run_status ended.run) result
-  pub quiet : IsQuiet err
+-- in what follows folders are honest where h holds, this is asked for these files, and files hold this
+module _ (h : Type 0) (asked : Started) (files : List Text) (held : Text → Known) where
+  -- the codes of the files ran side by side: of each is shown what it printed and how it ended
+  pub record HasRun (out err : Writes) (result : ℕ) : Type 0 where
+    pub programs : List Verified
+    pub codes : AreCodes asked.checks held files programs
+    pub ends : List Ended
+    pub executed : RanOver h asked.memory programs ends
+    pub shown : Says out (shown_ends ends) (ends_status ends) result
+    pub quiet : IsQuiet err
 
--- the program of the file is not admitted to this memory: it is told why; or memory was wanted
-pub record IsNotRun (file : Text) (checks : Bool) (memory : Memory) (held : Known) (out err : Writes) (result : ℕ) : Type 0 where
-  pub program : Verified
-  pub code : HoldsCode file checks held (image_of program.image)
-  pub fault : AdmitFault
-  pub cause : (fault ≡ admit.OutOfMemory) ⊎ IsRefused (program ∷ []) memory.frames memory.objects 0 0 fault
-  pub shown : SaysFault fault err result
-  pub quiet : IsQuiet out
+  -- the programs of the files are not admitted to this memory: it is told why; or memory was wanted
+  pub record IsNotRun (out err : Writes) (result : ℕ) : Type 0 where
+    pub programs : List Verified
+    pub codes : AreCodes asked.checks held files programs
+    pub fault : AdmitFault
+    pub cause : (fault ≡ admit.OutOfMemory) ⊎ IsRefused programs asked.memory.frames asked.memory.objects asked.evacuators asked.fetchers fault
+    pub shown : SaysFault fault err result
+    pub quiet : IsQuiet out
 
--- the command `run` of this file, which holds this, over this memory, where folders are honest or not
-abbrev pub Runs : Type 0 → Text → Bool → Memory → Known → Writes → Writes → ℕ → Type 0
-Runs honest file checks memory held out err result =
-    HasRun honest file checks memory held out err result ⊎ (IsNotRun file checks memory held out err result ⊎ HasNoCode file held out err result)
+  -- the command `run` of these files
+  abbrev pub Runs : Writes → Writes → ℕ → Type 0
+  Runs out err result = HasRun out err result ⊎ (IsNotRun out err result ⊎ (LacksCode asked.checks held files out err result ⊎ LacksMemory out err result))

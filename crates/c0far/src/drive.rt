@@ -11,7 +11,7 @@ use crate::files::{FileError, Files};
 use crate::images::{build, list};
 use crate::plain::{Bound, mean};
 use crate::replays::replay;
-use crate::runs::{Asked, run};
+use crate::runs::run;
 use crate::say::{REFUSED, after, say_memory, say_refused, say_unread};
 use crate::stream::Stream;
 use c0_front::check_text;
@@ -23,6 +23,7 @@ use command_line::words::{Line, Usage};
 use std::alloc::Global;
 use std::sync::Wait;
 use std::thread::Threads;
+use std::time::Clock;
 
 /// Says that a text keeps the static rules.
 fn say_ok<O: Stream>(out: &mut O) -> u8
@@ -113,7 +114,7 @@ fn check<F: Files, O: Stream, E: Stream>(
 /// Does the command that the words name, of which the first is the program's name, and gives the exit status: 3 where there
 /// was a want of memory, objects or store; else 2 where a text, a file or the words are refused, or a write failed;
 /// else 1 where the program stopped otherwise than by a result; else 0.
-pub fn drive<W: Wait + Threads, F: Files, O: Stream, E: Stream>(
+pub fn drive<W: Wait + Threads + Clock + Sync, F: Files, O: Stream, E: Stream>(
     alloc: Global,
     rt: &W,
     words: &[&str],
@@ -148,11 +149,10 @@ pub fn drive<W: Wait + Threads, F: Files, O: Stream, E: Stream>(
         ) => { replay(alloc, asked, &names, files, out, err) }
         Ok(
             Line::Run {
-                checks,
-                memory,
-                file,
+                asked,
+                files: names,
             },
-        ) => run(alloc, rt, Asked { checks, memory }, file, files, out, err),
+        ) => run(alloc, rt, asked, &names, files, out, err),
         Err(Usage::Refused) => say_help(err, words),
         Err(Usage::OutOfMemory) => say_memory(err),
     }

@@ -3,7 +3,8 @@ ghost use Rattle.std.specs.Prelude.{◌≡◌, ◌++◌, ℕ, List, codes, decim
 ghost use Rattle.command_line.specs.Shell.{replayed_of};
 ghost use Rattle.region.specs.Admission.{IsAdmitted};
 ghost use Rattle.c0far.specs.FileTexts.{HasText, Known};
-ghost use Rattle.c0far.specs.Replays.{Admits, AreCodes, Replays, ReplaysLines, ReplaysOver};
+ghost use Rattle.c0far.specs.FileCode.{AreCodes};
+ghost use Rattle.c0far.specs.Replays.{Admits, Replays, ReplaysLines, ReplaysOver};
 ghost use Rattle.c0far.specs.Shown.{newline};
 ghost use Rattle.c0far.specs.Streams.{Says, writes};
 
@@ -40,7 +41,7 @@ fn replay_lines<M: Stores + Drop, O: Stream, E: Stream>(
     requires numbers { (config.now.frames ≡ asked.memory.frames) × (config.now.objects ≡ asked.memory.objects) × (config.now.evacuators ≡ asked.evacuators) × (config.now.fetchers ≡ asked.fetchers) }
     requires admitted { IsAdmitted programs.items config.now.frames config.now.objects config.now.evacuators config.now.fetchers }
     ensures { (names : List (List ℕ)) (held : List ℕ → Known) → AreCodes asked.entry.checks held names programs.items → HasText (held asked.entry.schedule.now) lines.now
-        → ReplaysLines M.S.honest (replayed_of asked.entry) names held (writes O.contents O.failures out.old out.new) (writes E.contents E.failures err.old err.new) result }
+        → ReplaysLines M.S.honest M.S.reliable (replayed_of asked.entry) names held (writes O.contents O.failures out.old out.new) (writes E.contents E.failures err.old err.new) result }
 {
     // For the proof alone: the clauses speak of what was asked for.
     let _ = asked;
@@ -63,7 +64,7 @@ fn replay_with<M: Stores + Drop, F: Files, O: Stream, E: Stream>(
 ) -> u8
     ensures files { (name : List ℕ) → F.holds files.new name ≡ F.holds files.old name }
     ensures done { (names : List (List ℕ)) → AreCodes asked.entry.checks (F.holds files.old) names programs.items
-        → ReplaysOver M.S.honest (replayed_of asked.entry) names (F.holds files.old) (writes O.contents O.failures out.old out.new) (writes E.contents E.failures err.old err.new) result }
+        → ReplaysOver M.S.honest M.S.reliable (replayed_of asked.entry) names (F.holds files.old) (writes O.contents O.failures out.old out.new) (writes E.contents E.failures err.old err.new) result }
 {
     let config = Config {
         frames: asked.memory.frames,
@@ -94,7 +95,7 @@ fn replay_over<M: Stores + Drop, F: Files, O: Stream, E: Stream>(
 ) -> u8
     ensures files { (name : List ℕ) → F.holds files.new name ≡ F.holds files.old name }
     ensures done { (names : List (List ℕ)) → AreCodes asked.entry.checks (F.holds files.old) names programs.items
-        → ReplaysOver M.S.honest (replayed_of asked.entry) names (F.holds files.old) (writes O.contents O.failures out.old out.new) (writes E.contents E.failures err.old err.new) result }
+        → ReplaysOver M.S.honest (M.S.reliable × (asked.entry.memory.fail_from ≡ 0)) (replayed_of asked.entry) names (F.holds files.old) (writes O.contents O.failures out.old out.new) (writes E.contents E.failures err.old err.new) result }
 {
     if asked.memory.fail_from == 0 {
         return replay_with(alloc, asked, programs, stores, files, out, err);

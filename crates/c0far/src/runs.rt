@@ -1,92 +1,107 @@
-//! The command `run`: the code of a file, run over the memory that is asked for.
-ghost use Rattle.std.specs.Prelude.{◌≡◌, ◌⊎◌, ◌∷◌, [], ℕ, IfErr, IfOk, List};
-ghost use Rattle.code_form.specs.Form.{image_of};
-ghost use Rattle.command_line.specs.Shell.{memory_of};
-ghost use Rattle.image_run.specs.Executed.{IsExecutedOver};
+//! The command `run`: the codes of files, run side by side over the memory that is asked for.
+ghost use Rattle.std.specs.Prelude.{◌≡◌, ◌⊎◌, ◌/◌, ℕ, IfErr, IfOk, List, length, map};
+ghost use Rattle.command_line.specs.Shell.{memory_of, started_of};
+ghost use Rattle.executor.specs.Ends.{AreEnds};
 ghost use Rattle.region.specs.Admission.{IsRefused};
 ghost use Rattle.c0far.specs.Runs.{RanOver, Runs};
 ghost use Rattle.c0far.specs.Streams.{writes};
 
-use crate::code::code_of;
+use crate::code::codes_of;
 use crate::files::Files;
-use crate::say::{say_admission, say_end};
+use crate::say::{say_admission, say_ends};
 use crate::stream::Stream;
 use cells::Ended;
-use command_line::words::Memory;
+use command_line::words::Run;
+use executor::{OpenGate, run_all};
 use file_store::FileStores;
-use image_run::execute_over;
 use region::AdmitFault;
-use remote_store::{FarHeap, FaultPlan, FaultStores, Stores};
+use remote_store::{Config, FarHeap, FaultPlan, FaultStores, Stores};
 use scope_verifier::Verified;
 use std::alloc::Global;
 use std::sync::Wait;
+use std::thread::Threads;
+use std::time::Clock;
 
-/// How the code of a file is run: with contracts checked or not, over this memory.
-#[derive(Clone, Copy)]
-pub struct Asked<'a> {
-    pub checks: bool,
-    pub memory: Memory<'a>,
-}
-
-/// Runs this image over so many frames and objects and these stores, whose calls fail from the one on that is asked for.
-fn run_over<W: Wait, M: Stores + Drop>(
+/// Runs these programs over these stores.
+fn run_with<W: Wait + Threads + Clock + Sync, M: Stores + Drop>(
     alloc: Global,
     rt: &W,
-    verified: Verified,
-    memory: Memory<'_>,
+    programs: Vec<Verified>,
+    asked: Run<'_>,
     stores: M,
-) -> Result<Ended, AdmitFault>
-    ensures ended { M.S.honest → IfOk result (λ e. IsExecutedOver (M.S.reliable × (memory.entry.fail_from ≡ 0)) memory.entry.objects (image_of verified.image) e) }
-    ensures refused { IfErr result (λ fault. (fault ≡ AdmitFault.OutOfMemory) ⊎ IsRefused (verified ∷ []) memory.entry.frames memory.entry.objects 0 0 fault) }
+) -> Result<Vec<Ended>, AdmitFault>
+    ensures ended { IfOk result (λ v. AreEnds M.S.honest M.S.reliable (asked.entry.memory.objects / length programs.items) programs.items v.items) }
+    ensures refused { IfErr result (λ fault. (fault ≡ AdmitFault.OutOfMemory) ⊎ IsRefused programs.items asked.entry.memory.frames asked.entry.memory.objects asked.entry.evacuators asked.entry.fetchers fault) }
 {
-    if memory.fail_from == 0 {
-        return execute_over(alloc, rt, verified, memory.frames, memory.objects, stores);
+    let config = Config {
+        frames: asked.memory.frames,
+        objects: asked.memory.objects,
+        evacuators: asked.evacuators,
+        fetchers: asked.fetchers,
+        stores,
+    };
+    run_all(alloc, rt, programs, config, &OpenGate)
+}
+
+/// Runs these programs over these stores, whose calls fail from the one on that is asked for.
+fn run_over<W: Wait + Threads + Clock + Sync, M: Stores + Drop>(
+    alloc: Global,
+    rt: &W,
+    programs: Vec<Verified>,
+    asked: Run<'_>,
+    stores: M,
+) -> Result<Vec<Ended>, AdmitFault>
+    ensures ended { IfOk result (λ v. AreEnds M.S.honest (M.S.reliable × (asked.entry.memory.fail_from ≡ 0)) (asked.entry.memory.objects / length programs.items) programs.items v.items) }
+    ensures refused { IfErr result (λ fault. (fault ≡ AdmitFault.OutOfMemory) ⊎ IsRefused programs.items asked.entry.memory.frames asked.entry.memory.objects asked.entry.evacuators asked.entry.fetchers fault) }
+{
+    if asked.memory.fail_from == 0 {
+        return run_with(alloc, rt, programs, asked, stores);
     }
-    match FaultStores::new(alloc, stores, FaultPlan::From(memory.fail_from)) {
-        Ok(stores) => execute_over(alloc, rt, verified, memory.frames, memory.objects, stores),
+    match FaultStores::new(alloc, stores, FaultPlan::From(asked.memory.fail_from)) {
+        Ok(stores) => run_with(alloc, rt, programs, asked, stores),
         Err(_refused) => Err(AdmitFault::OutOfMemory),
     }
 }
 
-/// Runs this image over the memory that is asked for.
-fn run_image<W: Wait, F: Files>(
+/// Runs these programs over the memory that is asked for.
+fn run_programs<W: Wait + Threads + Clock + Sync, F: Files>(
     alloc: Global,
     rt: &W,
-    verified: Verified,
-    memory: Memory<'_>,
+    programs: Vec<Verified>,
+    asked: Run<'_>,
     files: &F,
-) -> Result<Ended, AdmitFault>
-    ensures ended { IfOk result (λ e. RanOver F.Place.honest (memory_of memory.entry) (image_of verified.image) e) }
-    ensures refused { IfErr result (λ fault. (fault ≡ AdmitFault.OutOfMemory) ⊎ IsRefused (verified ∷ []) memory.entry.frames memory.entry.objects 0 0 fault) }
+) -> Result<Vec<Ended>, AdmitFault>
+    ensures ended { IfOk result (λ v. RanOver F.Place.honest (memory_of asked.entry.memory) programs.items v.items) }
+    ensures refused { IfErr result (λ fault. (fault ≡ AdmitFault.OutOfMemory) ⊎ IsRefused programs.items asked.entry.memory.frames asked.entry.memory.objects asked.entry.evacuators asked.entry.fetchers fault) }
 {
-    match memory.store {
-        None => run_over(alloc, rt, verified, memory, FarHeap),
+    match asked.memory.store {
+        None => run_over(alloc, rt, programs, asked, FarHeap),
         Some(name) => match files.folder(alloc, name) {
-            Ok(folder) => run_over(alloc, rt, verified, memory, FileStores::new(folder)),
+            Ok(folder) => run_over(alloc, rt, programs, asked, FileStores::new(folder)),
             Err(_refused) => Err(AdmitFault::OutOfMemory),
         },
     }
 }
 
-/// Runs the code of a file.
-pub fn run<W: Wait, F: Files, O: Stream, E: Stream>(
+/// Runs the codes of these files side by side.
+pub fn run<W: Wait + Threads + Clock + Sync, F: Files, O: Stream, E: Stream>(
     alloc: Global,
     rt: &W,
-    asked: Asked<'_>,
-    file: &str,
+    asked: Run<'_>,
+    names: &[&str],
     files: &mut F,
     out: &mut O,
     err: &mut E,
 ) -> u8
     ensures files { (name : List ℕ) → F.holds files.new name ≡ F.holds files.old name }
-    ensures done { Runs F.Place.honest file.now asked.entry.checks (memory_of asked.entry.memory) (F.holds files.old file.now) (writes O.contents O.failures out.old out.new) (writes E.contents E.failures err.old err.new) result }
+    ensures done { Runs F.Place.honest (started_of asked.entry) (map (λ n. n.now) names.now) (F.holds files.old) (writes O.contents O.failures out.old out.new) (writes E.contents E.failures err.old err.new) result }
 {
-    let verified = match code_of(alloc, asked.checks, file, files, err) {
-        Ok(verified) => verified,
+    let programs = match codes_of(alloc, asked.checks, names, files, err) {
+        Ok(programs) => programs,
         Err(status) => return status,
     };
-    match run_image(alloc, rt, verified, asked.memory, files) {
-        Ok(ended) => say_end(out, &ended),
+    match run_programs(alloc, rt, programs, asked, files) {
+        Ok(ends) => say_ends(out, &ends),
         Err(fault) => say_admission(err, fault),
     }
 }

@@ -38,10 +38,10 @@ AdmittedHeadline = (programs : List Verified) (frames objects evacuators fetcher
     × ((text : List ℕ) (checks : Bool) (meant : Typed) (k : ℕ) → IsCompiled text checks (image_at programs k) → IsTypedAs false text meant
     → Promised meant checks (v.programs k) (λ want. HasCause (Unit {0}) z (image_at programs) k want (start (image_at programs)) events))
 
--- Of the ends that the replay of a schedule over an honest store told: each, of a program whose image a text was compiled to, is as promised of that text
+-- Of the ends that the replay of a schedule over an honest store, which may fail, told: each, of a program whose image a text was compiled to, is as promised of that text
 abbrev pub ReplayedHeadline : Type 0
 ReplayedHeadline = (programs : List Verified) (frames objects evacuators fetchers : ℕ) → IsAdmitted programs frames objects evacuators fetchers
     → (z : Sizes) → z ≡ sizes_of (length programs) frames objects evacuators fetchers → (schedule : List ℕ) (ends : List Ended)
-    → (told : IsReplayed (Unit {0}) z (image_at programs) schedule ends) → (k : ℕ) (e : Ended) → slice_get ends k ≡ Some e
+    → (told : IsReplayed (Unit {0}) ⊥ z (image_at programs) schedule ends) → (k : ℕ) (e : Ended) → slice_get ends k ≡ Some e
     → (text : List ℕ) (checks : Bool) (meant : Typed) → IsCompiled text checks (image_at programs k) → IsTypedAs false text meant
     → PromisedEnd meant checks e (λ want. HasCause (Unit {0}) z (image_at programs) k want (start (image_at programs)) told.events)

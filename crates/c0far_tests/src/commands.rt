@@ -8,6 +8,7 @@ use std::io;
 use std::io::Write;
 use std::sync::Wait;
 use std::thread::Threads;
+use std::time::Clock;
 
 /// A writer of which one write alone fails, after so many others, or none.
 #[derive(Drop)]
@@ -137,7 +138,7 @@ impl Bench {
     }
 
     /// Does the command line of these words, and tells its status and what it wrote, or the first lines of that.
-    pub(crate) fn command<R: Threads + Wait, O: Write>(
+    pub(crate) fn command<R: Threads + Wait + Clock + Sync, O: Write>(
         &mut self,
         rt: &R,
         words: &str,

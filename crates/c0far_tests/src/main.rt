@@ -19,10 +19,11 @@ use std::io::Write;
 use std::process::ExitCode;
 use std::sync::Wait;
 use std::thread::Threads;
+use std::time::Clock;
 use std::{env, fs, io};
 
 /// Does what each line of these rows says.
-fn go_through<R: Threads + Wait, O: Write>(
+fn go_through<R: Threads + Wait + Clock + Sync, O: Write>(
     rt: &R,
     bench: &mut Bench,
     rows: &[u8],

@@ -281,6 +281,13 @@ impl<'a> Execution<'a> {
         &self.output
     }
 
+    /// What was printed, where nothing more is executed.
+    pub fn into_output(self) -> Vec<u8>
+        ensures { result.items ≡ output_of self.entry.core }
+    {
+        self.output
+    }
+
     /// How the program has stopped, if it has. `Err` where memory is refused for the text of an error.
     pub fn stop(&self, alloc: Global) -> Result<Option<Stop>, AllocError>
         ensures { MatchResult result

@@ -18,7 +18,7 @@ use Rattle.clap.specs.declared.parser.matches.SubCommand.{SubCommand}
 use Rattle.command_line.specs.declared.words.Line.{Line}
 use Rattle.command_line.specs.declared.words.Usage.{Usage}
 use Rattle.command_line.specs.declared.words.Usage.TheVariants as usage
-use Rattle.command_line.specs.Shell.{Build, Command, Names, command_of, Mean, Memory, Replay, Replayed, Run, build_command, command_in, has_checks, mean_command, memory_in, named_command, number_in, number_or, replay_command, replayed_in, run_command, shell, short_option}
+use Rattle.command_line.specs.Shell.{Build, Command, Names, command_of, Mean, Memory, Replay, Replayed, Run, build_command, command_in, has_checks, Started, mean_command, memory_in, named_command, number_in, number_or, replay_command, replayed_in, run_command, shell, short_option, started_in}
 use Rattle.clap.specs.declared.parser.matches.Found.{Found}
 use Rattle.clap.specs.declared.parser.matches.MatchedArg.{MatchedArg}
 
@@ -83,9 +83,22 @@ memory_is f frames objects from o of_frames of_objects of_from told =
     ∙ ap (option_and_then (λ n. option_map (λ k. over frames n k store) calls)) of_objects
     ∙ ap (option_and_then (λ m. option_and_then (λ n. option_map (λ k. over m n k store) calls) many)) of_frames
 
--- what was found of the memory tells the run
-pub ran_is : (f : Found) (b : Bool) (memory : Memory) (file : Text) → b ≡ has_checks (rows_of f) → Some memory ≡ memory_in (rows_of f) → Some (Run b memory file) ≡ run_command (rows_of f) file
-ran_is f b memory file checked told = ap (λ (x : Bool). Some (Run x memory file)) checked ∙ ap (option_map (λ m. Run (has_checks (rows_of f)) m file)) told
+-- a run
+abbrev pub started : Bool → Memory → (evacuators fetchers : ℕ) → Started
+started checks memory evacuators fetchers = record { checks = checks; memory = memory; evacuators = evacuators; fetchers = fetchers }
+
+-- what was found of its options tells the run
+pub started_is : (f : Found) (b : Bool) (memory : Memory) (evacuators fetchers : ℕ) → b ≡ has_checks (rows_of f) → Some memory ≡ memory_in (rows_of f) → Some evacuators ≡ short_option (codes "evacuators") 1 (rows_of f)
+    → Some fetchers ≡ short_option (codes "fetchers") 1 (rows_of f) → Some (started b memory evacuators fetchers) ≡ started_in (rows_of f)
+started_is f b memory evacuators fetchers checked of_memory of_evacuators of_fetchers =
+    let rows : List Row = rows_of f in
+    let checks : Bool = has_checks rows in
+    let ahead : Option ℕ = short_option (codes "fetchers") 1 rows in
+    let out : Option ℕ = short_option (codes "evacuators") 1 rows in
+    ap (λ (x : Bool). Some (started x memory evacuators fetchers)) checked
+    ∙ ap (option_map (λ q. started checks memory evacuators q)) of_fetchers
+    ∙ ap (option_and_then (λ e. option_map (λ q. started checks memory e q) ahead)) of_evacuators
+    ∙ ap (option_and_then (λ m. option_and_then (λ e. option_map (λ q. started checks m e q) ahead) out)) of_memory
 
 -- a replay
 abbrev pub by : Bool → Memory → (evacuators fetchers : ℕ) → (schedule : Text) → Replayed
@@ -123,12 +136,20 @@ pub all_are : (f : Found) (id : Text) → all_of id (rows_of f) ≡ option_map r
 all_are f id = values_are id f.entries.items
 
 -- what was found of the files tells the replay of them
-pub replay_is : (f : Found) (asked : Replayed) (o : Option (List Text)) → Some asked ≡ replayed_in (rows_of f) → o ≡ option_map raw_values (matched_of f (codes "file"))
+pub replay_is : (f : Found) (asked : Replayed) (o : Option (List Text)) → Some asked ≡ replayed_in (rows_of f) → o ≡ all_of (codes "file") (rows_of f)
     → option_map (λ files. Replay asked files) o ≡ replay_command (rows_of f)
 replay_is f asked o of_asked told =
     let files : Option (List Text) = all_of (codes "file") (rows_of f) in
-    ap (option_map (λ fs. Replay asked fs)) (told ∙ sym (all_are f (codes "file")))
+    ap (option_map (λ fs. Replay asked fs)) told
     ∙ ap (option_and_then (λ a. option_map (λ fs. Replay a fs) files)) of_asked
+
+-- what was found of the files tells the run of them
+pub run_of_files : (f : Found) (asked : Started) (o : Option (List Text)) → Some asked ≡ started_in (rows_of f) → o ≡ all_of (codes "file") (rows_of f)
+    → option_map (λ files. Run asked files) o ≡ run_command (rows_of f)
+run_of_files f asked o of_asked told =
+    let files : Option (List Text) = all_of (codes "file") (rows_of f) in
+    ap (option_map (λ fs. Run asked fs)) told
+    ∙ ap (option_and_then (λ a. option_map (λ fs. Run a fs) files)) of_asked
 
 -- a pair by its parts
 pair_is : (o : Option (Text × List Row)) (n : Text) (rows : List Row) → Some n ≡ option_map (λ (p : Text × List Row). p.0) o → Some rows ≡ option_map (λ (p : Text × List Row). p.1) o → o ≡ Some (n, rows)

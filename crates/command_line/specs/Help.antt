@@ -47,16 +47,20 @@ begins word start = starts_with (λ a b. a == b) word start
 abbrev pub is_memory_option : Text → Bool
 is_memory_option word = begins word (codes "--frames") || (begins word (codes "--objects") || (begins word (codes "--store") || begins word (codes "--fail-from")))
 
+-- the word begins an option of `run`, but for `-d`
+abbrev pub is_run_option : Text → Bool
+is_run_option word = is_memory_option word || (begins word (codes "--evacuators") || begins word (codes "--fetchers"))
+
 -- the word begins an option of `replay`, but for `-d`
 abbrev pub is_replay_option : Text → Bool
-is_replay_option word = is_memory_option word || (begins word (codes "--evacuators") || (begins word (codes "--fetchers") || begins word (codes "--schedule")))
+is_replay_option word = is_run_option word || begins word (codes "--schedule")
 
 -- the command of this name has the option that the word begins
 abbrev pub is_option : Text → Text → Bool
 is_option name word =
     cond (bytes_eq name (codes "build")) (bytes_eq word (codes "-d") || begins word (codes "-o"))
     (cond (bytes_eq name (codes "mean")) (bytes_eq word (codes "-d") || begins word (codes "--turns"))
-    (cond (bytes_eq name (codes "replay")) (bytes_eq word (codes "-d") || is_replay_option word) (bytes_eq name (codes "run") && (bytes_eq word (codes "-d") || is_memory_option word))))
+    (cond (bytes_eq name (codes "replay")) (bytes_eq word (codes "-d") || is_replay_option word) (bytes_eq name (codes "run") && (bytes_eq word (codes "-d") || is_run_option word))))
 
 -- the word begins as an option does, and is none of the command of this name
 abbrev pub is_stray : Text → Text → Bool

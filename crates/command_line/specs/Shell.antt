@@ -11,6 +11,7 @@ use Rattle.clap.specs.declared.builder.command.Command.{Command as Built}
 use Rattle.clap.specs.declared.builder.command.Command.TheViews.{out-Command}
 use Rattle.command_line.specs.declared.words.Memory.{Memory as Written}
 use Rattle.command_line.specs.declared.words.Replay.{Replay as Asked}
+use Rattle.command_line.specs.declared.words.Run.{Run as AskedRun}
 use Rattle.command_line.specs.declared.words.Line.{Line}
 use Rattle.command_line.specs.declared.words.Line.TheVariants as line
 
@@ -59,9 +60,10 @@ file_shape name = (with_rule (new_app name) file_rule).top
 abbrev pub mean_shape : Shape
 mean_shape = (with_rule (with_rule (with_rule (new_app (codes "mean")) checks_rule) turns_rule) file_rule).top
 
--- run [-d] [--frames F] [--objects N] [--store DIR] [--fail-from K] FILE
+-- run [-d] [--frames F] [--objects N] [--store DIR] [--fail-from K] [--evacuators E] [--fetchers Q] FILE...
 abbrev pub run_shape : Shape
-run_shape = (with_rule (with_memory (with_rule (new_app (codes "run")) checks_rule)) file_rule).top
+run_shape =
+    (with_rule (with_rule (with_rule (with_memory (with_rule (new_app (codes "run")) checks_rule)) (option_rule (codes "evacuators"))) (option_rule (codes "fetchers"))) files_rule).top
 
 -- replay [-d] [--frames F] [--objects N] [--store DIR] [--fail-from K] [--evacuators E] [--fetchers Q] --schedule S FILE...
 abbrev pub replay_shape : Shape
@@ -88,6 +90,13 @@ pub record Memory : Type 0 where
   pub store : Option Text
   pub fail_from : ℕ
 
+-- how programs are run
+pub record Started : Type 0 where
+  pub checks : Bool
+  pub memory : Memory
+  pub evacuators : ℕ
+  pub fetchers : ℕ
+
 -- how programs are replayed
 pub record Replayed : Type 0 where
   pub checks : Bool
@@ -96,15 +105,15 @@ pub record Replayed : Type 0 where
   pub fetchers : ℕ
   pub schedule : Text
 
--- a command, with its file; `build`, `mean` and `run` with whether contracts are checked, `build` with the file that it writes, `mean` with its turns,
--- `run` with its memory; `replay` with one file or more
+-- a command, with its file; `build` and `mean` with whether contracts are checked, `build` with the file that it writes, `mean` with its turns;
+-- `replay` and `run` with one file or more
 pub data Command : Type 0 where
   Build : Bool → (out file : Text) → Command
   Check : Text → Command
   Lists : Text → Command
   Mean : Bool → ℕ → Text → Command
   Replay : Replayed → List Text → Command
-  Run : Bool → Memory → Text → Command
+  Run : Started → List Text → Command
 
 -- these are digits, one or more, and their number has at most 64 bits
 abbrev pub is_number : Text → Bool
@@ -149,9 +158,15 @@ memory_in rows =
     option_and_then (λ f. option_and_then (λ n. option_map (λ k. record { frames = f; objects = n; store = first_of (codes "store") rows; fail_from = k })
     (number_or number_in 0 (first_of (codes "fail-from") rows))) (short_option (codes "objects") 65536 rows)) (short_option (codes "frames") 64 rows)
 
--- the run of this file, over the memory of the rows
-abbrev pub run_command : List Row → Text → Option Command
-run_command rows file = option_map (λ memory. Run (has_checks rows) memory file) (memory_in rows)
+-- how the rows say that programs are run: beside one evacuator and one fetcher where they tell no other number
+abbrev pub started_in : List Row → Option Started
+started_in rows =
+    option_and_then (λ m. option_and_then (λ e. option_map (λ q. record { checks = has_checks rows; memory = m; evacuators = e; fetchers = q })
+    (short_option (codes "fetchers") 1 rows)) (short_option (codes "evacuators") 1 rows)) (memory_in rows)
+
+-- the run of the files of the rows
+abbrev pub run_command : List Row → Option Command
+run_command rows = option_and_then (λ asked. option_map (λ files. Run asked files) (all_of (codes "file") rows)) (started_in rows)
 
 -- how the rows say that programs are replayed: with one evacuator and one fetcher where they tell no other number
 abbrev pub replayed_in : List Row → Option Replayed
@@ -169,17 +184,22 @@ named_command name rows file =
     cond (bytes_eq name (codes "build")) (build_command rows file)
     (cond (bytes_eq name (codes "check")) (Some (Check file))
     (cond (bytes_eq name (codes "list")) (Some (Lists file))
-    (cond (bytes_eq name (codes "mean")) (mean_command rows file)
-    (cond (bytes_eq name (codes "run")) (run_command rows file) None))))
+    (cond (bytes_eq name (codes "mean")) (mean_command rows file) None)))
 
 -- the command that clap found, with its rows
 abbrev pub command_in : Option (Text × List Row) → Option Command
 command_in None = None
-command_in (Some p) = cond (bytes_eq p.0 (codes "replay")) (replay_command p.1) (option_and_then (named_command p.0 p.1) (first_of (codes "file") p.1))
+command_in (Some p) =
+    cond (bytes_eq p.0 (codes "replay")) (replay_command p.1)
+    (cond (bytes_eq p.0 (codes "run")) (run_command p.1) (option_and_then (named_command p.0 p.1) (first_of (codes "file") p.1)))
 
 -- a memory as code has it
 abbrev pub memory_of : Written → Memory
 memory_of m = record { frames = m.frames; objects = m.objects; store = option_map (λ s. s.now) m.store; fail_from = m.fail_from }
+
+-- a run as code has it
+abbrev pub started_of : AskedRun → Started
+started_of r = record { checks = r.checks; memory = memory_of r.memory; evacuators = r.evacuators; fetchers = r.fetchers }
 
 -- a replay as code has it
 abbrev pub replayed_of : Asked → Replayed
@@ -192,7 +212,7 @@ command_of (line.Check file) = Check file.now
 command_of (line.List file) = Lists file.now
 command_of (line.Mean checks turns file) = Mean checks turns file.now
 command_of (line.Replay asked files) = Replay (replayed_of asked) (map (λ f. f.now) files.items)
-command_of (line.Run checks memory file) = Run checks (memory_of memory) file.now
+command_of (line.Run asked files) = Run (started_of asked) (map (λ f. f.now) files.items)
 
 -- clap finds no fault in the words, and they are this command, as it reads them
 abbrev pub Names : List Text → Command → Type 0

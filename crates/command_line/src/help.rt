@@ -1,7 +1,7 @@
 //! What is told of words that are no command line: what is refused, and a page of help.
 ghost use Rattle.std.specs.Prelude.{◌≡◌, ◌==◌, map, option_map};
 ghost use Rattle.std.specs.List.{starts_with};
-ghost use Rattle.command_line.specs.Help.{asks_help, behind, complaint_of, complaint_text, ask_help as asked_in, is_command, is_memory_option, is_option, is_replay_option, is_stray, page_named, page_of, stray, topic};
+ghost use Rattle.command_line.specs.Help.{asks_help, behind, complaint_of, complaint_text, ask_help as asked_in, is_command, is_memory_option, is_option, is_replay_option, is_run_option, is_stray, page_named, page_of, stray, topic};
 
 use crate::complaint::Complaint;
 
@@ -14,7 +14,7 @@ commands:
   list FILE                   prints the instructions that the text is compiled to
   mean [-d] --turns N FILE    runs the text's program plainly, for at most N turns
   replay --schedule S FILE..  does the steps of programs and movers that S lists
-  run [-d] FILE               compiles the text, and runs it over a store
+  run [-d] FILE..             compiles texts, and runs them side by side over a store
   help [COMMAND]              shows this page, or that of a command
 
 A FILE whose name ends in .c0i is an image, as build writes it: check tells whether
@@ -89,23 +89,29 @@ docs/LANGUAGE.md tells what is accepted, docs/LIMITS.md how deep calls nest";
 
 /// The page of `run`.
 pub const RUN_PAGE: &str = "usage: c0far run [-d] [--frames F] [--objects N] [--store DIR]
-                 [--fail-from K] FILE
+                 [--fail-from K] [--evacuators E] [--fetchers Q] FILE..
 
-Compiles the text in FILE and runs its program, whose objects move between local
-memory and a store; an image in FILE is run as it is. When it has ended it prints its output and then how it ended:
-`result: N`, `assertion failed`, `error: TEXT`, `null fault`, `bounds fault`,
-`length fault`, `arithmetic fault`, `out of memory`, `no objects`, or `store failed`.
+Compiles the text in each FILE, or takes the image there, and runs these programs
+side by side, each on a thread of its own. Their objects move between local memory
+and a store, which evacuators and fetchers see to on threads of theirs. When all
+have ended it prints of each its output and then how it ended: `result: N`,
+`assertion failed`, `error: TEXT`, `null fault`, `bounds fault`, `length fault`,
+`arithmetic fault`, `out of memory`, `no objects`, or `store failed`; where there
+are several, behind a line `program K:`.
 
 options:
-  -d             checks contracts while it runs; not for an image
-  --frames F     local memory has F frames of 64 cells (64), at most 1,048,576
-  --objects N    there are N objects of at most 64 cells (65536), at most 16,777,216
-  --store DIR    the store is in files of the folder DIR, and not in memory; it
-                 writes over files there whose names are numbers
-  --fail-from K  each call of the store fails from call K on; none where K is 0 (0)
+  -d              checks contracts while programs run; not for an image
+  --frames F      local memory has F frames of 64 cells (64), at most 1,048,576
+  --objects N     there are N objects of at most 64 cells (65536), at most
+                  16,777,216, and each program has an equal share of them
+  --store DIR     the store is in files of the folder DIR, and not in memory; it
+                  writes over files there whose names are numbers
+  --fail-from K   each call of the store fails from call K on; none where K is 0 (0)
+  --evacuators E  E movers bring objects out of frames (1), at most 64
+  --fetchers Q    Q movers bring objects into frames (1), at most 64
 
-status: 0 where it ended with a result; 1 where it stopped otherwise; 2 where the
-  text or the image is refused, or cannot be read, or there are too few frames or
+status: 0 where each ended with a result; 1 where one stopped otherwise; 2 where a
+  text or an image is refused, or cannot be read, or there are too few frames or
   too many of anything; 3 where memory or objects ran out, or the store failed
 
 docs/LIMITS.md tells how many objects there are, docs/LANGUAGE.md what is accepted";
@@ -209,14 +215,18 @@ fn is_of_memory(word: &str) -> bool
         || begins(word, "--fail-from")
 }
 
+/// Whether the word begins an option of `run`, but for `-d`.
+fn is_of_run(word: &str) -> bool
+    ensures { result ≡ is_run_option word.now }
+{
+    is_of_memory(word) || begins(word, "--evacuators") || begins(word, "--fetchers")
+}
+
 /// Whether the word begins an option of `replay`, but for `-d`.
 fn is_of_replay(word: &str) -> bool
     ensures { result ≡ is_replay_option word.now }
 {
-    is_of_memory(word)
-        || begins(word, "--evacuators")
-        || begins(word, "--fetchers")
-        || begins(word, "--schedule")
+    is_of_run(word) || begins(word, "--schedule")
 }
 
 /// Whether the command of this name has the option that the word begins.
@@ -227,7 +237,7 @@ fn has_option(name: &str, word: &str) -> bool
         "build" => word == "-d" || begins(word, "-o"),
         "mean" => word == "-d" || begins(word, "--turns"),
         "replay" => word == "-d" || is_of_replay(word),
-        "run" => word == "-d" || is_of_memory(word),
+        "run" => word == "-d" || is_of_run(word),
         _ => false,
     }
 }

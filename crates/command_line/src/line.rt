@@ -1,9 +1,9 @@
 //! From words to a command.
 ghost use Rattle.std.specs.Prelude.{◌≡◌, [], codes, false, IfErr, IfOk, List, MatchResult, None, Some, ℕ, map, option_and_then, option_map, true};
 ghost use Rattle.clap.specs.Words.{all_of, app_of, first_of, found_of, kind_of, rows_of, rule_of, subcommand_rows_of};
-ghost use Rattle.command_line.specs.Shell.{Command as Asked, IsLocal, Names, build_command, build_shape, checks_rule, command_in, command_of, file_rule, file_shape, has_checks, is_signed, mean_command, mean_shape, memory_in, memory_of, named_command, number_in, number_or, option_rule, replay_command, replay_shape, replayed_in, replayed_of, run_command, run_shape, shell, short_number_in, short_option, with_memory};
+ghost use Rattle.command_line.specs.Shell.{Command as Asked, IsLocal, Names, build_command, build_shape, checks_rule, command_in, command_of, file_rule, file_shape, has_checks, is_signed, mean_command, mean_shape, memory_in, memory_of, named_command, number_in, number_or, option_rule, replay_command, replay_shape, replayed_in, replayed_of, run_command, run_shape, shell, short_number_in, short_option, started_in, started_of, with_memory};
 
-use crate::words::{Line, Memory, Replay, Usage};
+use crate::words::{Line, Memory, Replay, Run, Usage};
 use clap::error::ErrorKind;
 use clap::{Arg, ArgAction, ArgMatches, Command, Error};
 use std::alloc::{AllocError, Global};
@@ -81,7 +81,7 @@ fn over_memory<'a>(alloc: Global, command: Command<'a>) -> Result<Command<'a>, A
         .arg(option(alloc, "fail-from"))
 }
 
-/// The run, with its options and its file.
+/// The run, with its options and its files.
 fn run<'a>(alloc: Global) -> Result<Command<'a>, AllocError>
     ensures shape { IfOk result (λ c. app_of c ≡ record { top = run_shape; subs = [] }) }
     ensures local { IfOk result IsLocal }
@@ -89,11 +89,14 @@ fn run<'a>(alloc: Global) -> Result<Command<'a>, AllocError>
     let checks = Arg::new(alloc, "checks")
         .short('d')
         .action(ArgAction::SetTrue);
-    let file = Arg::new(alloc, "file")
+    let files = Arg::new(alloc, "file")
         .required(true)
-        .action(ArgAction::Set);
+        .action(ArgAction::Append);
     let command = Command::new(alloc, "run").arg(checks)?;
-    over_memory(alloc, command)?.arg(file)
+    over_memory(alloc, command)?
+        .arg(option(alloc, "evacuators"))?
+        .arg(option(alloc, "fetchers"))?
+        .arg(files)
 }
 
 /// The replay of a schedule, with its options and its files.
@@ -254,18 +257,25 @@ fn written<'a>(matches: &ArgMatches<'a>, file: &'a str) -> Option<Line<'a>>
     Some(Line::Build { checks, out, file })
 }
 
-/// The run of this file, with the options that clap found.
-fn ran<'a>(matches: &ArgMatches<'a>, file: &'a str) -> Option<Line<'a>>
-    ensures { option_map command_of result ≡ run_command (rows_of (found_of matches.now)) file.now }
+/// How programs are run, by the options that clap found.
+fn started<'a>(matches: &ArgMatches<'a>) -> Option<Run<'a>>
+    ensures { option_map started_of result ≡ started_in (rows_of (found_of matches.now)) }
 {
     let Some(memory) = memory(matches) else {
         return None;
     };
+    let Some(evacuators) = short_option(matches, "evacuators", 1) else {
+        return None;
+    };
+    let Some(fetchers) = short_option(matches, "fetchers", 1) else {
+        return None;
+    };
     let checks = checks(matches);
-    Some(Line::Run {
+    Some(Run {
         checks,
         memory,
-        file,
+        evacuators,
+        fetchers,
     })
 }
 
@@ -295,6 +305,35 @@ fn replayed<'a>(matches: &ArgMatches<'a>) -> Option<Replay<'a>>
     })
 }
 
+/// The files that clap found. `Refused` where there is none, `OutOfMemory` where a growth was refused.
+fn files_of<'a>(alloc: Global, matches: &ArgMatches<'a>) -> Result<Vec<&'a str>, Usage>
+    ensures { MatchResult result (λ v. Some (map (λ f. f.now) v.items) ≡ all_of (codes "file") (rows_of (found_of matches.now)))
+        (λ u. u ≡ Usage.Refused → None ≡ all_of (codes "file") (rows_of (found_of matches.now))) }
+{
+    let Some(named) = matches.get_strs("file") else {
+        return Err(Usage::Refused);
+    };
+    let mut files = Vec::new(alloc);
+    match files.extend_from_slice(named) {
+        Ok(()) => Ok(files),
+        Err(_refused) => Err(Usage::OutOfMemory),
+    }
+}
+
+/// The run of the files that clap found. `Refused` where a number is none, `OutOfMemory` where a growth was refused.
+fn runs<'a>(alloc: Global, matches: &ArgMatches<'a>) -> Result<Line<'a>, Usage>
+    ensures { MatchResult result (λ l. Some (command_of l) ≡ run_command (rows_of (found_of matches.now)))
+        (λ u. u ≡ Usage.Refused → None ≡ run_command (rows_of (found_of matches.now))) }
+{
+    let Some(asked) = started(matches) else {
+        return Err(Usage::Refused);
+    };
+    match files_of(alloc, matches) {
+        Ok(files) => Ok(Line::Run { asked, files }),
+        Err(usage) => Err(usage),
+    }
+}
+
 /// The replay of the files that clap found. `Refused` where a number is none, `OutOfMemory` where a growth was refused.
 fn replays<'a>(alloc: Global, matches: &ArgMatches<'a>) -> Result<Line<'a>, Usage>
     ensures { MatchResult result (λ l. Some (command_of l) ≡ replay_command (rows_of (found_of matches.now)))
@@ -303,13 +342,9 @@ fn replays<'a>(alloc: Global, matches: &ArgMatches<'a>) -> Result<Line<'a>, Usag
     let Some(asked) = replayed(matches) else {
         return Err(Usage::Refused);
     };
-    let Some(named) = matches.get_strs("file") else {
-        return Err(Usage::Refused);
-    };
-    let mut files = Vec::new(alloc);
-    match files.extend_from_slice(named) {
-        Ok(()) => Ok(Line::Replay { asked, files }),
-        Err(_refused) => Err(Usage::OutOfMemory),
+    match files_of(alloc, matches) {
+        Ok(files) => Ok(Line::Replay { asked, files }),
+        Err(usage) => Err(usage),
     }
 }
 
@@ -322,7 +357,6 @@ fn named<'a>(name: &str, matches: &ArgMatches<'a>, file: &'a str) -> Option<Line
         "check" => Some(Line::Check { file }),
         "list" => Some(Line::List { file }),
         "mean" => plain_run(matches, file),
-        "run" => ran(matches, file),
         _ => None,
     }
 }
@@ -349,10 +383,10 @@ fn found<'a>(alloc: Global, matches: &ArgMatches<'a>) -> Result<Line<'a>, Usage>
     let Some((name, inner)) = matches.subcommand() else {
         return Err(Usage::Refused);
     };
-    if name == "replay" {
-        replays(alloc, inner)
-    } else {
-        of_file(name, inner)
+    match name {
+        "replay" => replays(alloc, inner),
+        "run" => runs(alloc, inner),
+        _ => of_file(name, inner),
     }
 }
 

@@ -11,6 +11,15 @@ pub struct Memory<'a> {
     pub fail_from: u64,
 }
 
+/// How programs are run: with contracts checked or not, over this memory, beside so many evacuators and fetchers.
+#[derive(Clone, Copy, Debug, PartialEq, Eq)]
+pub struct Run<'a> {
+    pub checks: bool,
+    pub memory: Memory<'a>,
+    pub evacuators: u32,
+    pub fetchers: u32,
+}
+
 /// How programs are replayed: with contracts checked or not, over this memory, with so many evacuators and fetchers, by the schedule of this file.
 #[derive(Clone, Copy, Debug, PartialEq, Eq)]
 pub struct Replay<'a> {
@@ -49,11 +58,10 @@ pub enum Line<'a> {
         asked: Replay<'a>,
         files: Vec<&'a str>,
     },
-    /// Runs an image, or the program of a text, with contracts checked or not, over this memory.
+    /// Runs the programs of these files, each an image or a text.
     Run {
-        checks: bool,
-        memory: Memory<'a>,
-        file: &'a str,
+        asked: Run<'a>,
+        files: Vec<&'a str>,
     },
 }
 

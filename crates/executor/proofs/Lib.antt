@@ -1,10 +1,1 @@
-mod Counts
-mod Holding
-mod Laws
-mod Missing
-mod Opening
-mod Places
-mod Plainly
-mod Running
-mod Ways
-mod Writing
+pub mod Composed

@@ -1,11 +1,11 @@
-//! Programs that run over far memory: each a session at one seat of a table of objects.
+//! The running system: each program of a region on a thread of its own, beside evacuators and fetchers.
 #![tactic(auto)]
 
-mod hold;
-mod kinds;
-mod program;
-mod run;
-mod session;
+mod all;
+mod hiring;
+mod movers;
+mod places;
 
-pub use hold::Hold;
+pub use all::run_all;
+pub use program_run::{Gate, OpenGate};
 pub use session::Session;

@@ -5,6 +5,8 @@
 //! - `= port disk NAME`: the same over a folder on the disk, in which a file of this name lies from before, of as many bytes as a row has, each of them 9;
 //! - `= store foreign N`: writes and reads of a row's words, over two folders whose reads give so many bytes, and of which each write fails;
 //! - `= store planned N`: the same over a folder in memory, where call `N` of the store fails by plan;
+//! - `= port heap PLAN`: puts and gets over a store in memory that fails by plan: `never`, `at N` or `from N`;
+//! - `= store heap PLAN`: writes and reads of a row's words, over such a store;
 //! - `= folder missing` and `= folder disk NAME`: writes and reads of a row's bytes, in such a folder itself.
 //!
 //! The rows behind it use the words that the test holds, and one of the ways:

@@ -1,5 +1,7 @@
 //! Reading a row.
 
+use remote_store::FaultPlan;
+
 /// What a test goes over.
 #[derive(Clone, Copy)]
 pub(crate) enum Over<'a> {
@@ -13,10 +15,24 @@ pub(crate) enum Over<'a> {
     StoresOfForeign(usize),
     /// Stores, of which the call of this number fails.
     PlannedStores(u64),
+    /// Ports to a store in memory that fails by this plan.
+    PortsOfHeap(FaultPlan),
+    /// Stores in memory that fail by this plan.
+    StoresOfHeap(FaultPlan),
     /// A folder in memory that is not there.
     MissingFolder,
     /// A folder on the disk, with an old file of this name.
     DiskFolder(&'a str),
+}
+
+/// The plan of these words.
+fn plan(words: &[&str]) -> Option<FaultPlan> {
+    match words {
+        ["never"] => Some(FaultPlan::Never),
+        ["at", number] => Some(FaultPlan::Only(number.parse().ok()?)),
+        ["from", number] => Some(FaultPlan::From(number.parse().ok()?)),
+        _ => None,
+    }
 }
 
 impl<'a> Over<'a> {
@@ -28,6 +44,8 @@ impl<'a> Over<'a> {
             ["port", "disk", name] => Some(Over::PortsOfDisk(name)),
             ["store", "foreign", count] => Some(Over::StoresOfForeign(count.parse().ok()?)),
             ["store", "planned", number] => Some(Over::PlannedStores(number.parse().ok()?)),
+            ["port", "heap", plan_words @ ..] => Some(Over::PortsOfHeap(plan(plan_words)?)),
+            ["store", "heap", plan_words @ ..] => Some(Over::StoresOfHeap(plan(plan_words)?)),
             ["folder", "missing"] => Some(Over::MissingFolder),
             ["folder", "disk", name] => Some(Over::DiskFolder(name)),
             _ => None,

@@ -4,10 +4,10 @@ use crate::disk::Disk;
 use crate::foreign::Foreign;
 use crate::play::play;
 use crate::rows::Over;
-use crate::ways::{Counted, FolderWay, PortWay, StoreWay};
+use crate::ways::{BerthWay, Counted, FolderWay, PortWay, StoreWay};
 use cells::Want;
 use file_store::{FileStore, FileStores, Folder, MemFolder};
-use remote_store::{FaultPlan, FaultStore, FaultStores, Stores};
+use remote_store::{FarHeap, FaultPlan, FaultStore, FaultStores, Stores};
 use std::alloc::Global;
 use std::io;
 use std::io::Write;
@@ -35,6 +35,29 @@ fn planned(
     let first = StoreWay::new(alloc, stores.one(alloc)?)?;
     let other = StoreWay::new(alloc, stores.one(alloc)?)?;
     Ok((first, other))
+}
+
+/// Two ways to a store in memory that fails by this plan.
+fn heaps(
+    alloc: Global,
+    plan: FaultPlan,
+) -> Result<(FaultStore<FarHeap>, FaultStore<FarHeap>), Want> {
+    let Ok(stores) = FaultStores::new(alloc, FarHeap, plan) else {
+        return Err(Want::OutOfMemory);
+    };
+    Ok((stores.one(alloc)?, stores.one(alloc)?))
+}
+
+/// Two ways through ports to a store in memory that fails by this plan.
+fn heap_ports(alloc: Global, plan: FaultPlan) -> Result<Two<BerthWay<FaultStore<FarHeap>>>, Want> {
+    let (first, other) = heaps(alloc, plan)?;
+    Ok((BerthWay::new(alloc, first)?, BerthWay::new(alloc, other)?))
+}
+
+/// Two ways to a store in memory that fails by this plan.
+fn heap_stores(alloc: Global, plan: FaultPlan) -> Result<Two<StoreWay<FaultStore<FarHeap>>>, Want> {
+    let (first, other) = heaps(alloc, plan)?;
+    Ok((StoreWay::new(alloc, first)?, StoreWay::new(alloc, other)?))
 }
 
 /// Two stores, each in a folder whose reads give so many bytes.
@@ -67,6 +90,8 @@ fn test<O: Write>(disk: &Disk, over: Over, rows: &[&str], out: &mut O) -> io::Re
         Over::PortsOfDisk(old) => play(disk, ports(alloc, disk.make(old)?), rows, out),
         Over::StoresOfForeign(count) => play(disk, foreign(alloc, count), rows, out),
         Over::PlannedStores(number) => play(disk, planned(alloc, number), rows, out),
+        Over::PortsOfHeap(plan) => play(disk, heap_ports(alloc, plan), rows, out),
+        Over::StoresOfHeap(plan) => play(disk, heap_stores(alloc, plan), rows, out),
         Over::MissingFolder => play(disk, folders(alloc, MemFolder::missing()), rows, out),
         Over::DiskFolder(old) => play(disk, folders(alloc, disk.make(old)?), rows, out),
     }

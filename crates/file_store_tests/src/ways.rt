@@ -6,7 +6,9 @@ use cells::Want;
 use file_store::{
     DiskFolder, FileStore, Folder, MemFolder, ROW_BYTES, get_from_file, put_into_file,
 };
-use remote_store::{Berth, Failed, FaultStore, PIECE_CELLS, Port, ROW_WORDS, RawStore, Refusal};
+use remote_store::{
+    Berth, Failed, FarHeap, FaultStore, PIECE_CELLS, Port, ROW_WORDS, RawStore, Refusal,
+};
 use std::alloc::Global;
 use std::fmt;
 
@@ -125,6 +127,48 @@ impl<'a> Way for PortWay<DiskFolder<'a, HostRuntime>> {
     }
 }
 
+/// A berth in a store, and a port to it.
+#[derive(Drop)]
+pub(crate) struct BerthWay<S: RawStore + Counted> {
+    port: Port<S>,
+    berth: Berth<S::Cell>,
+}
+
+impl<S: RawStore + Counted> BerthWay<S> {
+    /// A berth in a new cell of this store.
+    pub(crate) fn new(alloc: Global, store: S) -> Result<BerthWay<S>, Want> {
+        let cell = store.cell(alloc)?;
+        Ok(BerthWay {
+            port: Port::new(store),
+            berth: Berth::new(cell),
+        })
+    }
+}
+
+impl Way for BerthWay<FaultStore<FarHeap>> {
+    fn put(&mut self, object: usize, words: &[u64; ROW_WORDS]) -> Result<(), Failed> {
+        self.berth
+            .put(&mut self.port, object, &words[..PIECE_CELLS])
+    }
+
+    // Nothing is asked of a berth into which nothing was put.
+    fn get(&mut self, object: usize, words: &mut [u64; ROW_WORDS]) -> Result<(), Refusal> {
+        if self.berth.version == 0 {
+            return Err(Refusal::Wrong);
+        }
+        self.berth
+            .get(&mut self.port, object, &mut words[..PIECE_CELLS])
+    }
+
+    fn counts(&self) -> Counts {
+        Counts::Port(
+            self.berth.version,
+            self.port.refusals(),
+            self.port.store().failed_calls(),
+        )
+    }
+}
+
 /// A store or a folder that tells how many of its calls failed.
 pub(crate) trait Counted {
     /// How many calls failed.
@@ -138,6 +182,12 @@ impl Counted for FileStore<Foreign> {
 }
 
 impl Counted for FaultStore<FileStore<MemFolder>> {
+    fn failed_calls(&self) -> u64 {
+        self.failures()
+    }
+}
+
+impl Counted for FaultStore<FarHeap> {
     fn failed_calls(&self) -> u64 {
         self.failures()
     }

@@ -81,6 +81,13 @@ impl Hints {
         }
     }
 
+    /// Below which number the objects of its hints are.
+    pub fn objects(&self) -> usize
+        ensures { result ≡ self.now.objects }
+    {
+        self.objects
+    }
+
     /// One more pass.
     fn another(&self, pass: &mut HintPass) -> HintPass
         requires { pass.old ≡ self.now }

@@ -37,6 +37,13 @@ impl<S: RawStore> Model for MoverSeat<S> {
 }
 
 impl<S: RawStore> MoverSeat<S> {
+    /// The mover's number: that of a program is one more than the program's, counted from 0.
+    pub fn number(&self) -> u64
+        ensures { result ≡ self.now.view.number }
+    {
+        self.number
+    }
+
     /// The first of its own objects.
     pub fn low(&self) -> usize
         ensures { result ≡ self.now.view.low }

@@ -7,9 +7,9 @@ use crate::setting::Setting;
 use crate::shelf::Shelf;
 use crate::touches::put_output;
 use code_form::{Function, Image};
-use executor::Session;
 use object_lock::ObjectTable;
 use remote_store::{FarHeap, FaultStore, RawStore};
+use session::Session;
 use std::alloc::{AllocError, Global};
 use std::fmt::Write;
 use std::sync::Wait;
@@ -73,7 +73,7 @@ fn tell_image<R: Wait>(
     let Some(seat) = owners.pop() else {
         return Err(AllocError);
     };
-    let Ok(mut session) = Session::new(alloc, &table, image, seat) else {
+    let Ok(mut session) = Session::over(alloc, &table, image, seat) else {
         return Err(AllocError);
     };
     let mut told = String::new(alloc);

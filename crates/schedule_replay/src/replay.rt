@@ -26,7 +26,7 @@ fn images(alloc: Global, programs: Vec<Verified>) -> Result<Vec<Image>, AllocErr
 /// What each of these programs has come to after all lines of a schedule, over stores that `config` makes. The programs are those that `fits` admits.
 ///
 /// `Line` names the first line that can't be read or is not enabled, counted from 1. `OutOfMemory` where a growth was refused, or a store could not be
-/// made. After a refusal nothing is kept.
+/// made. After a refusal nothing is kept. A reliable store failed in none of the events.
 pub fn replay_admitted<M: Stores + Drop>(
     alloc: Global,
     programs: Vec<Verified>,
@@ -35,8 +35,8 @@ pub fn replay_admitted<M: Stores + Drop>(
 ) -> Result<Vec<Ended>, Refused>
     requires { IsAdmitted programs.items config.now.frames config.now.objects config.now.evacuators config.now.fetchers }
     ensures { MatchResult result
-        (λ ends. IsReplayed M.S.honest (sizes_of (length programs.items) config.now.frames config.now.objects config.now.evacuators config.now.fetchers) (image_at programs.items) schedule.now ends.items)
-        (λ refused. IsUnreplayed M.S.honest (sizes_of (length programs.items) config.now.frames config.now.objects config.now.evacuators config.now.fetchers) (image_at programs.items) schedule.now refused) }
+        (λ ends. IsReplayed M.S.honest M.S.reliable (sizes_of (length programs.items) config.now.frames config.now.objects config.now.evacuators config.now.fetchers) (image_at programs.items) schedule.now ends.items)
+        (λ refused. IsUnreplayed M.S.honest M.S.reliable (sizes_of (length programs.items) config.now.frames config.now.objects config.now.evacuators config.now.fetchers) (image_at programs.items) schedule.now refused) }
 {
     let Ok(images) = images(alloc, programs) else {
         return Err(Refused::OutOfMemory);

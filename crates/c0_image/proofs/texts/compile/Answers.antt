@@ -12,6 +12,7 @@ use Rattle.middle_form.specs.ScopedMeaning.{scoped_means}
 use Rattle.middle_form.specs.Views.{program_of as code_of}
 use Rattle.scope_placement.specs.Placed.{placed_program}
 use Rattle.guard_hoisting.specs.Hoisted.{hoisted_program}
+use Rattle.prefetch_pass.specs.Prefetched.{prefetched_program}
 use Rattle.codegen.specs.Correct.{IsSafe, Keeps}
 use Rattle.codegen.specs.Generated.{generated}
 use Rattle.scope_verifier_laws.specs.Faults.{fault_of}
@@ -38,7 +39,7 @@ verified-requires c =
     let fits : FitsProgram (program_of c.in_ok-typed.typed) = c.elaborated.ensures t.program (program_of c.in_ok-typed.typed) t.rules in
     let made : image_of c.in_ok-image.image ≡ image_of_tree c.args.checks c.in_ok-typed.typed =
     c.in_ok-image.ensures.image
-    ∙ ap generated (c.in_ok-scoped.ensures ∙ ap hoisted_program (c.in_ok-placed.ensures ∙ ap placed_program c.in_ok-middle.ensures.exact)) in
+    ∙ ap generated (c.in_ok-scoped.ensures ∙ ap prefetched_program (c.in_ok-hoisted.ensures ∙ ap hoisted_program (c.in_ok-placed.ensures ∙ ap placed_program c.in_ok-middle.ensures.exact))) in
     subst (λ (C : Image). fault_of C ≡ None) (sym made)
     (c.images_are_accepted.ensures c.args.checks c.in_ok-typed.typed fits (subst (λ (C : Image). has_few_items C ≡ true) made c.in_ok-image.ensures.few))
 
@@ -49,12 +50,14 @@ returns-clause-compiled c =
     let program = program_of c.in_ok-typed.typed in
     let code : m.Program = code_of c.in_ok-middle.middle in
     let placed : s.Program = placed_program code in
-    let with_scopes : s.Program = hoisted_program placed in
+    let hoisted : s.Program = hoisted_program placed in
+    let with_scopes : s.Program = prefetched_program hoisted in
     let image : Image = image_of c.in_ok-image.image in
-    let generates : image ≡ generated with_scopes = c.in_ok-image.ensures.image ∙ ap generated (c.in_ok-scoped.ensures ∙ ap hoisted_program c.in_ok-placed.ensures) in
-    let made : image ≡ image_of_tree c.args.checks c.in_ok-typed.typed = generates ∙ ap (λ (p : m.Program). generated (hoisted_program (placed_program p))) c.in_ok-middle.ensures.exact in
+    let generates : image ≡ generated with_scopes = c.in_ok-image.ensures.image ∙ ap generated (c.in_ok-scoped.ensures ∙ ap prefetched_program (c.in_ok-hoisted.ensures ∙ ap hoisted_program c.in_ok-placed.ensures)) in
+    let made : image ≡ image_of_tree c.args.checks c.in_ok-typed.typed = generates ∙ ap (λ (p : m.Program). generated (prefetched_program (hoisted_program (placed_program p)))) c.in_ok-middle.ensures.exact in
     let same : (n : ℕ) → scoped_means with_scopes n ≡ Some (mean program c.args.checks n) =
-    λ n. c.hoisted_means_the_same.ensures placed (c.placed_is_scoped.ensures code) n ∙ (c.placed_means_the_same.ensures code n ∙ c.in_ok-middle.ensures.same n) in
+    λ n. c.prefetched_means_the_same.ensures hoisted (c.hoisted_is_scoped.ensures placed (c.placed_is_scoped.ensures code)) n
+    ∙ (c.hoisted_means_the_same.ensures placed (c.placed_is_scoped.ensures code) n ∙ (c.placed_means_the_same.ensures code n ∙ c.in_ok-middle.ensures.same n)) in
     let is_safe : IsSafe with_scopes = safe program c.args.checks with_scopes same in
     let few : has_few_items (image_of_tree c.args.checks c.in_ok-typed.typed) ≡ true = subst (λ (C : Image). has_few_items C ≡ true) made c.in_ok-image.ensures.few in
     subst (λ (i : RustImage). IsCompiled c.args.text.now c.args.checks (image_of i)) (sym c.in_ok-verified.ensures.same) (record {
@@ -75,11 +78,13 @@ returns-clause-every c = λ p w.
     let program = program_of c.in_ok-typed.typed in
     let code : m.Program = code_of c.in_ok-middle.middle in
     let placed : s.Program = placed_program code in
-    let with_scopes : s.Program = hoisted_program placed in
+    let hoisted : s.Program = hoisted_program placed in
+    let with_scopes : s.Program = prefetched_program hoisted in
     let image : Image = image_of c.in_ok-image.image in
-    let generates : image ≡ generated with_scopes = c.in_ok-image.ensures.image ∙ ap generated (c.in_ok-scoped.ensures ∙ ap hoisted_program c.in_ok-placed.ensures) in
+    let generates : image ≡ generated with_scopes = c.in_ok-image.ensures.image ∙ ap generated (c.in_ok-scoped.ensures ∙ ap prefetched_program (c.in_ok-hoisted.ensures ∙ ap hoisted_program c.in_ok-placed.ensures)) in
     let same : (n : ℕ) → scoped_means with_scopes n ≡ Some (mean program c.args.checks n) =
-    λ n. c.hoisted_means_the_same.ensures placed (c.placed_is_scoped.ensures code) n ∙ (c.placed_means_the_same.ensures code n ∙ c.in_ok-middle.ensures.same n) in
+    λ n. c.prefetched_means_the_same.ensures hoisted (c.hoisted_is_scoped.ensures placed (c.placed_is_scoped.ensures code)) n
+    ∙ (c.hoisted_means_the_same.ensures placed (c.placed_is_scoped.ensures code) n ∙ (c.placed_means_the_same.ensures code n ∙ c.in_ok-middle.ensures.same n)) in
     let is_safe : IsSafe with_scopes = safe program c.args.checks with_scopes same in
     let kept : Behaves program c.args.checks image =
     behaves program c.args.checks with_scopes image same (subst (Keeps with_scopes) (sym generates) (c.generated_keeps_the_meaning.ensures with_scopes is_safe)) in

@@ -1,5 +1,5 @@
 use Rattle.std.proofs.Common.{◌≡◌, ℕ, List, map, take}
-use Rattle.c0far.specs.Replays.{AreCodes}
+use Rattle.c0far.specs.FileCode.{AreCodes}
 use Rattle.c0far.specs.Streams.{IsQuiet, writes}
 use Rattle.c0far.proofs.code.codes_of.Given as goal
 

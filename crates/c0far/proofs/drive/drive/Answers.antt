@@ -1,10 +1,13 @@
-use Rattle.std.proofs.Common.{◌≡◌, ◌∙◌, inl, inr, map, refl, rules, subst, sym}
-use Rattle.command_line.specs.Shell.{Names, command_of}
+use Rattle.std.proofs.Common.{◌≡◌, ◌∙◌, Bor, List, inl, inr, map, refl, rules, subst, sym, ℕ}
+use Rattle.command_line.specs.Shell.{Names, command_of, replayed_of}
 use Rattle.command_line.specs.Shell as shell
 use Rattle.command_line.specs.declared.words.Line.{Line}
+use Rattle.command_line.specs.declared.words.Replay.{Replay as Asked}
 use Rattle.command_line.specs.declared.words.Usage.{Usage}
 use Rattle.command_line.specs.declared.words.Usage.TheVariants.{Refused, OutOfMemory}
 use Rattle.c0far.proofs.Moved.{built_at, keeps_at}
+use Rattle.c0far.specs.Replays.{Replays}
+use Rattle.c0far.specs.Streams.{writes}
 use Rattle.c0far.proofs.drive.drive.Goals as goal
 
 pub returns-in-Err-Refused : goal.returns-in-Err-Refused
@@ -30,5 +33,23 @@ returns-in-Ok-Build g c =
       (
         built_at held now _ asked.file.now _ asked.checks _ asked.target.now _ _ _ (search rules) (search rules) (search rules) c.build.ensures.done,
         keeps_at held now _ asked.target.now (search rules) c.build.ensures.files,
+      ),
+    )
+
+-- the words asked for a replay of these files
+pub returns-in-Ok-Replay : goal.returns-in-Ok-Replay
+returns-in-Ok-Replay g c =
+    let held = g.F.Files.holds c.args.files.now in
+    let asked = c.in-Ok-Replay in
+    let out = writes g.O.Stream.contents g.O.Stream.failures c.args.out.now c.replay.new.out in
+    let err = writes g.E.Stream.contents g.E.Stream.failures c.args.err.now c.replay.new.err in
+    let names : c.deref.result.now ≡ asked.names.items = search rules in
+    let done = subst (λ (a : Asked). Replays g.F.Place.Folder.honest (replayed_of a) (map (λ n. n.now) c.deref.result.now) held out err c.replay.result) asked.asked-is c.replay.ensures.done in
+    inl (
+      shell.Replay (replayed_of asked.asked) (map (λ n. n.now) asked.names.items),
+      subst (λ (l : Line). Names (map (λ w. w.now) c.args.words.now) (command_of l)) asked.field-0-is asked.ensures.named,
+      (
+        subst (λ (ns : List (Bor (List ℕ))). Replays g.F.Place.Folder.honest (replayed_of asked.asked) (map (λ n. n.now) ns) held out err c.replay.result) names done,
+        c.replay.ensures.files,
       ),
     )

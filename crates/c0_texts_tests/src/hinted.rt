@@ -1,0 +1,108 @@
+//! Texts whose hints are served: a session runs with nobody to serve them, and then a fetcher looks for one.
+ghost use Rattle.object_lock.specs.Fresh.{IsFresh, IsFreshMover};
+ghost use Rattle.std.specs.Prelude.{◌≡◌, ◌<◌, ◌≤◌, length};
+
+use c0_image::compile;
+use fetcher::{HintPass, Hints, Served, hints_for, serve_one};
+use object_lock::{MoverSeat, OwnerSeat};
+use region::{Region, admit};
+use remote_store::{Config, FarHeap};
+use scope_verifier::Verified;
+use session::Session;
+use std::alloc::Global;
+use std::io;
+use std::io::Write;
+use std::sync::Wait;
+
+/// More instructions than such a text completes.
+const LIMIT: u64 = 10_000;
+
+/// Runs the region's program at its seat, until it has stopped.
+fn run_alone<R: Wait>(
+    alloc: Global,
+    rt: &R,
+    region: &Region<FarHeap>,
+    hints: &Hints,
+    pass: HintPass,
+    seat: OwnerSeat<FarHeap>,
+)
+    requires fresh { IsFresh region.now.table seat }
+    requires own { seat.view.low ≤ seat.view.high }
+    requires program { (0 < seat.view.number) × (seat.view.number ≤ length region.now.programs) }
+    requires pass { pass ≡ hints.now }
+{
+    let Ok(mut session) = Session::new(alloc, region, hints, pass, seat) else {
+        return;
+    };
+    if session.completed() < LIMIT {
+        let _ = session.run(rt, LIMIT);
+    }
+}
+
+/// What a fetcher comes to that looks for a hint.
+fn serve<R: Wait>(
+    rt: &R,
+    region: &Region<FarHeap>,
+    hints: &Hints,
+    mut pass: HintPass,
+    mut seat: MoverSeat<FarHeap>,
+) -> Served
+    requires seat { IsFreshMover region.now.table seat }
+    requires hints { hints.now.objects ≡ region.now.objects }
+    requires pass { pass ≡ hints.now }
+{
+    serve_one(rt, region, hints, &mut pass, &mut seat)
+}
+
+/// What a fetcher comes to behind a run of this program, over eight frames and ten objects. None where memory ran out.
+fn served_behind<R: Wait>(alloc: Global, rt: &R, verified: Verified) -> Option<Served> {
+    let mut programs = Vec::new(alloc);
+    if programs.push(verified).is_err() {
+        return None;
+    }
+    let config = Config {
+        frames: 8,
+        objects: 10,
+        evacuators: 0,
+        fetchers: 1,
+        stores: FarHeap,
+    };
+    let Ok((region, mut owners, mut movers)) = admit(alloc, programs, config) else {
+        return None;
+    };
+    let Ok((hints, mut passes)) = hints_for(alloc, &region) else {
+        return None;
+    };
+    let (Some(owner), Some(mover)) = (owners.pop(), movers.pop()) else {
+        return None;
+    };
+    let (Some(first), Some(second)) = (passes.pop(), passes.pop()) else {
+        return None;
+    };
+    run_alone(alloc, rt, &region, &hints, first, owner);
+    Some(serve(rt, &region, &hints, second, mover))
+}
+
+/// Runs the text alone, and tells whether it left a hint. False where it is refused, or memory ran out.
+pub(crate) fn leave_hints<R: Wait, O: Write>(
+    alloc: Global,
+    rt: &R,
+    name: &str,
+    text: &[u8],
+    out: &mut O,
+) -> io::Result<bool> {
+    let Ok(verified) = compile(alloc, text, false) else {
+        return Ok(false);
+    };
+    match served_behind(alloc, rt, verified) {
+        Some(Served::Nothing) => {
+            writeln!(out, "{name}: no hint")?;
+            Ok(true)
+        }
+        Some(Served::Dropped | Served::Brought | Served::Failed) => {
+            writeln!(out, "{name}: a hint")?;
+            Ok(true)
+        }
+        None => Ok(false),
+    }
+}

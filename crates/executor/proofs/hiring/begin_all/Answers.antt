@@ -1,0 +1,104 @@
+use Rattle.std.proofs.Common.{rules, arith, ◌≡◌, ◌∙◌, ◌+◌, ◌++◌, ◌-◌, ◌<◌, ◌∷◌, [], ap, length, length-append, subst, sym}
+use Rattle.std.specs.List.{All}
+use Rattle.std.specs.Vec.Iter.{into_iter_items}
+use Rattle.object_lock.specs.Fresh.{AreNumbered, IsFreshOwner}
+use Rattle.program_run.specs.Runs.{begun}
+use Rattle.region.specs.Admission.{image_at}
+use Rattle.executor.proofs.Composed.{all_at, begun_all, begun_more, image_there, more, none, numbered_at, numbered_count}
+use Rattle.executor.proofs.hiring.begin_all.Goals as goal
+
+pub loop-seat-init : goal.loop-seat-init
+loop-seat-init g c =
+    let gives = c.into_iter-seat-iterator.ensures.into_iter_gives.0 in
+    let many = numbered_count 1 (length c.args.region.now.programs) c.args.seats.items c.requires.numbers in
+    let long = ap length gives in
+    (tt, tt, gives, search rules, search rules, search rules, c.requires.passes, search rules)
+
+-- ---- the seat of a turn
+
+pub new-requires-clause-fresh : goal.new-requires-clause-fresh
+new-requires-clause-fresh g c κs within =
+    let took : into_iter_items c.loop-seat.seat-iterator ≡ c.in-Some.seat ∷ into_iter_items c.next.new.self = search rules in
+    let whole = ap (λ l. c.loop-seat.yielded ++ l) (sym took) ∙ c.loop-seat.invariant.2 in
+    (all_at (IsFreshOwner c.args.region.now.table c.args.share) c.loop-seat.yielded (into_iter_items c.next.new.self) c.in-Some.seat (subst (All (IsFreshOwner c.args.region.now.table c.args.share)) (sym whole) c.requires.seats)).0
+
+pub new-requires-clause-own : goal.new-requires-clause-own
+new-requires-clause-own g c κs within =
+    let took : into_iter_items c.loop-seat.seat-iterator ≡ c.in-Some.seat ∷ into_iter_items c.next.new.self = search rules in
+    let whole = ap (λ l. c.loop-seat.yielded ++ l) (sym took) ∙ c.loop-seat.invariant.2 in
+    let fresh = all_at (IsFreshOwner c.args.region.now.table c.args.share) c.loop-seat.yielded (into_iter_items c.next.new.self) c.in-Some.seat (subst (All (IsFreshOwner c.args.region.now.table c.args.share)) (sym whole) c.requires.seats) in
+    let end = fresh.2 in
+    omega arith
+
+pub new-requires-clause-program : goal.new-requires-clause-program
+new-requires-clause-program g c κs within =
+    let n = length c.args.region.now.programs in
+    let took : into_iter_items c.loop-seat.seat-iterator ≡ c.in-Some.seat ∷ into_iter_items c.next.new.self = search rules in
+    let whole = ap (λ l. c.loop-seat.yielded ++ l) (sym took) ∙ c.loop-seat.invariant.2 in
+    let at = numbered_at n 1 c.loop-seat.yielded (into_iter_items c.next.new.self) c.in-Some.seat (subst (AreNumbered 1 n) (sym whole) c.requires.numbers) in
+    let number = at.0 in
+    let low = at.1 in
+    (omega arith, omega arith)
+
+pub take_pass-pass-requires-clause-some : goal.take_pass-pass-requires-clause-some
+take_pass-pass-requires-clause-some g c =
+    let n = length c.args.region.now.programs in
+    let took : into_iter_items c.loop-seat.seat-iterator ≡ c.in-Some.seat ∷ into_iter_items c.next.new.self = search rules in
+    let whole = ap (λ l. c.loop-seat.yielded ++ l) (sym took) ∙ c.loop-seat.invariant.2 in
+    let low = (numbered_at n 1 c.loop-seat.yielded (into_iter_items c.next.new.self) c.in-Some.seat (subst (AreNumbered 1 n) (sym whole) c.requires.numbers)).1 in
+    let same = c.loop-seat.invariant.3 in
+    let left = c.loop-seat.invariant.7 in
+    let enough = c.requires.enough in
+    omega arith
+
+pub loop-seat-preserved : goal.loop-seat-preserved
+loop-seat-preserved g c =
+    let n = length c.args.region.now.programs in
+    let table = c.args.region.now.table in
+    let share = c.args.share in
+    let seat = c.in-Some.seat in
+    let before = c.loop-seat.invariant in
+    let took : into_iter_items c.loop-seat.seat-iterator ≡ seat ∷ into_iter_items c.next.new.self = search rules in
+    let whole = ap (λ l. c.loop-seat.yielded ++ l) (sym took) ∙ before.2 in
+    let at = numbered_at n 1 c.loop-seat.yielded (into_iter_items c.next.new.self) seat (subst (AreNumbered 1 n) (sym whole) c.requires.numbers) in
+    let fresh = all_at (IsFreshOwner table share) c.loop-seat.yielded (into_iter_items c.next.new.self) seat (subst (All (IsFreshOwner table share)) (sym whole) c.requires.seats) in
+    let run = c.in-Ok.run' in
+    let runs = c.loop-seat.runs.items in
+    let pushed = c.push_reserved.ensures.items in
+    let same = before.3 in
+    let low = at.1 in
+    let number = at.0 in
+    let end = fresh.2 in
+    let below : length runs < n = omega arith in
+    let there = image_there c.args.region.now.programs (length runs) below in
+    let place : seat.view.number - 1 ≡ length runs = omega arith in
+    let many : seat.view.high - seat.view.low ≡ share = omega arith in
+    let is = c.in-Ok.ensures.begun ∙ ap (λ k. begun (image_at c.args.region.now.programs k) (seat.view.high - seat.view.low)) place ∙ ap (λ k. begun (image_at c.args.region.now.programs (length runs)) k) many ∙ ap (λ C. begun C share) there.2 in
+    let longer = length-append c.loop-seat.yielded (seat ∷ []) in
+    let grown = ap length pushed ∙ length-append runs (run ∷ []) in
+    let passes = c.take_pass-pass.ensures.count in
+    let left = before.7 in (
+      tt,
+      tt,
+      more c.loop-seat.yielded (into_iter_items c.loop-seat.seat-iterator) (into_iter_items c.next.new.self) _ seat before.2 took,
+      omega arith,
+      search rules,
+      begun_more share c.args.region.now.programs runs c.push_reserved.new.self.items run there.0 below there.1 pushed before.5 is,
+      c.take_pass-pass.ensures.passes,
+      omega arith,
+    )
+
+-- ---- all programs are begun
+
+pub returns-clause-begun : goal.returns-clause-begun
+returns-clause-begun g c =
+    let seats = none c.loop-seat.yielded (into_iter_items c.loop-seat.seat-iterator) c.args.seats.items c.loop-seat.invariant.2 (search rules) in
+    let many = numbered_count 1 (length c.args.region.now.programs) c.args.seats.items c.requires.numbers in
+    begun_all c.args.share (length c.loop-seat.runs.items) c.args.region.now.programs c.loop-seat.runs.items (sym c.loop-seat.invariant.3 ∙ ap length seats ∙ many) c.loop-seat.invariant.5
+
+pub returns-clause-left : goal.returns-clause-left
+returns-clause-left g c =
+    let seats = none c.loop-seat.yielded (into_iter_items c.loop-seat.seat-iterator) c.args.seats.items c.loop-seat.invariant.2 (search rules) in
+    let many = numbered_count 1 (length c.args.region.now.programs) c.args.seats.items c.requires.numbers in
+    let runs = sym c.loop-seat.invariant.3 ∙ ap length seats ∙ many in
+    ap (λ k. length c.loop-seat.passes.items + k) (sym runs) ∙ c.loop-seat.invariant.7

@@ -1,8 +1,0 @@
-use Rattle.std.proofs.Common.{subst, sym}
-use Rattle.code_form.specs.Form.{image_of}
-use Rattle.executor.specs.Keeping.{IsSession}
-use Rattle.executor.proofs.Opening.{fresh_run}
-use Rattle.executor.proofs.session.Session.new.Goals as goal
-
-pub invariant_of-result : goal.invariant_of-result
-invariant_of-result g c = subst (IsSession g.S.RawStore.honest) (sym c.in-Ok.ensures) (fresh_run g.S.RawStore.honest c.args.table.now c.args.seat (image_of c.args.image.now) c.requires.fresh c.requires.own c.requires.scopes)

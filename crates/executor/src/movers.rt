@@ -1,0 +1,226 @@
+//! Movers: evacuators and fetchers, which go on until every program has ended.
+ghost use Rattle.std.specs.Prelude.{◌≡◌};
+ghost use Rattle.executor.specs.Ends.{IsSeatOf};
+ghost use Rattle.object_lock.specs.SeatViews.{IsSeat};
+ghost use Rattle.pointer_word.specs.Asked.{HasNothing};
+
+use evacuator::round_from;
+use fetcher::{HintPass, Hints, Served, serve_one};
+use object_lock::MoverSeat;
+use program_run::Gate;
+use region::Region;
+use remote_store::RawStore;
+use std::hint::spin_loop;
+use std::marker::Model;
+use std::sync::Wait;
+use std::sync::atomic::{AtomicBool, Ordering};
+use std::thread;
+use std::thread::Threads;
+use std::time::{Clock, Duration};
+
+/// At how many frames an evacuator looks in a round.
+const BUDGET: u32 = 16;
+
+/// Evacuators make rounds only while fewer than one frame in so many is free.
+const SHARE: usize = 8;
+
+/// After so many turns with nothing to do a mover yields its processor at each turn.
+const SPINS: u32 = 16;
+
+/// After so many turns with nothing to do a mover sleeps at each turn.
+const YIELDS: u32 = 64;
+
+/// How long a mover sleeps, in microseconds.
+const SLEEP_MICROS: u64 = 1_000;
+
+/// An evacuator at its seat, which goes round the frames like the hand of a clock. Its hands are empty.
+#[derive(Drop)]
+pub(crate) struct Evacuator<'a, S: RawStore> {
+    region: &'a Region<S>,
+    number: u32,
+    seat: MoverSeat<S>,
+    // The frame at which the next round begins.
+    next: usize,
+}
+
+impl<'a, S: RawStore> Model for Evacuator<'a, S> {
+    ghost use Rattle.object_lock.specs.SeatViews.{IsSeat};
+    ghost use Rattle.pointer_word.specs.Asked.{HasNothing};
+    ghost use Rattle.std.specs.Prelude.{ℕ};
+
+    ghost Value = { ℕ };
+
+    ghost view = { λ e. e.number };
+
+    ghost invariant = { λ e. IsSeat e.region.now.table e.seat × HasNothing e.seat.view.hand };
+}
+
+/// A fetcher at its seat, with its pass of the hints. Its hands are empty.
+#[derive(Drop)]
+pub(crate) struct Fetcher<'a, S: RawStore> {
+    region: &'a Region<S>,
+    hints: &'a Hints,
+    number: u32,
+    seat: MoverSeat<S>,
+    pass: HintPass,
+}
+
+impl<'a, S: RawStore> Model for Fetcher<'a, S> {
+    ghost use Rattle.object_lock.specs.SeatViews.{IsSeat};
+    ghost use Rattle.pointer_word.specs.Asked.{HasNothing};
+    ghost use Rattle.std.specs.Prelude.{◌≡◌, ℕ};
+
+    ghost Value = { ℕ };
+
+    ghost view = { λ f. f.number };
+
+    ghost invariant = { λ f. IsSeat f.region.now.table f.seat × HasNothing f.seat.view.hand × (f.pass ≡ f.hints.now) × (f.hints.now.objects ≡ f.region.now.objects) };
+}
+
+/// An evacuator or a fetcher.
+#[derive(Drop)]
+pub(crate) enum Mover<'a, S: RawStore> {
+    Evacuates(Evacuator<'a, S>),
+    Fetches(Fetcher<'a, S>),
+}
+
+/// Whether fewer than `wanted` frames are free, by one look at each until so many are seen.
+fn lacks_frames<S: RawStore>(region: &Region<S>, seat: &mut MoverSeat<S>, wanted: usize) -> bool
+    requires table { IsSeat region.now.table seat.old }
+    ensures same { seat.new ≡ seat.old }
+{
+    let table = region.table();
+    let mut free = 0;
+    for frame in 0..table.frames() {
+        if free >= wanted {
+            return false;
+        }
+        if table.look(seat, frame).is_none() {
+            free += 1;
+        }
+    }
+    free < wanted
+}
+
+impl<'a, S: RawStore> Evacuator<'a, S> {
+    /// An evacuator of this number at its seat.
+    pub(crate) fn new(region: &'a Region<S>, number: u32, seat: MoverSeat<S>) -> Evacuator<'a, S>
+        requires seat { IsSeatOf region.now.table seat }
+        ensures { result ≡ number }
+    {
+        Evacuator {
+            region,
+            number,
+            seat,
+            next: 0,
+        }
+    }
+
+    /// Makes a round where frames are short, which they never are where all objects have room in them. False where it found nothing to move out.
+    fn turn(&mut self) -> bool
+        ensures { self.new ≡ self.old }
+    {
+        let frames = self.region.table().frames();
+        if self.region.objects() <= frames {
+            return false;
+        }
+        if !lacks_frames(self.region, &mut self.seat, frames / SHARE + 1) {
+            return false;
+        }
+        let round = round_from(self.region, &mut self.seat, self.next, BUDGET);
+        self.next = (self.next.wrapping_add(BUDGET as usize)) % frames.max(1);
+        round.left > 0
+    }
+}
+
+impl<'a, S: RawStore> Fetcher<'a, S> {
+    /// A fetcher of this number at its seat, with a pass of the hints.
+    pub(crate) fn new(
+        region: &'a Region<S>,
+        hints: &'a Hints,
+        number: u32,
+        seat: MoverSeat<S>,
+        pass: HintPass,
+    ) -> Fetcher<'a, S>
+        requires seat { IsSeatOf region.now.table seat }
+        requires pass { pass ≡ hints.now }
+        requires hints { hints.now.objects ≡ region.now.objects }
+        ensures { result ≡ number }
+    {
+        Fetcher {
+            region,
+            hints,
+            number,
+            seat,
+            pass,
+        }
+    }
+
+    /// Serves a hint. False where it found none.
+    fn turn<R: Wait>(&mut self, rt: &R) -> bool
+        ensures { self.new ≡ self.old }
+    {
+        match serve_one(rt, self.region, self.hints, &mut self.pass, &mut self.seat) {
+            Served::Nothing => false,
+            Served::Dropped | Served::Brought | Served::Failed => true,
+        }
+    }
+}
+
+/// Waits a little, the longer the more turns there were with nothing to do: an idle mover takes next to no processor.
+fn rest<C: Clock>(clock: &C, idle: u32) {
+    if idle > YIELDS {
+        thread::sleep(clock, Duration::from_micros(SLEEP_MICROS));
+    } else if idle > SPINS {
+        thread::yield_now();
+    } else if idle > 0 {
+        spin_loop();
+    }
+}
+
+impl<'a, S: RawStore> Mover<'a, S> {
+    /// Makes a round, or serves a hint, and tells the gate so. False where there was nothing to do.
+    fn turn<R: Wait, G: Gate>(&mut self, rt: &R, gate: &G) -> bool {
+        match self {
+            Mover::Evacuates(evacuator) => {
+                let moved = evacuator.turn();
+                gate.turned(evacuator.number);
+                moved
+            }
+            Mover::Fetches(fetcher) => {
+                let served = fetcher.turn(rt);
+                gate.turned(fetcher.number);
+                served
+            }
+        }
+    }
+
+    /// Goes on until every program has ended.
+    fn go_on<R: Wait + Clock, G: Gate>(&mut self, rt: &R, gate: &G, over: &AtomicBool) {
+        let mut idle = 0u32;
+        for _ in rt.forever() {
+            if over.load(Ordering::SeqCst) {
+                break;
+            }
+            idle = if self.turn(rt, gate) {
+                0
+            } else {
+                idle.saturating_add(1)
+            };
+            rest(rt, idle);
+        }
+    }
+}
+
+/// Has each mover go on until every program has ended, on a thread of its own where one can be made.
+pub(crate) fn move_all<S: RawStore + Send, G: Gate, R: Threads + Wait + Clock + Sync>(
+    rt: &R,
+    gate: &G,
+    over: &AtomicBool,
+    movers: &mut [Mover<'_, S>],
+) {
+    let count = movers.len();
+    if count > 0 {
+        thread::for_each_mut(rt, movers, count, &|_, mover| mover.go_on(rt, gate, over));
+    }
+}

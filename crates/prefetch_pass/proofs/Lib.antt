@@ -1,0 +1,3 @@
+pub mod Ordered
+pub mod Same
+pub mod Scopes

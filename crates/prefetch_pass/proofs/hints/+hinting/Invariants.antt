@@ -1,0 +1,7 @@
+use Rattle.std.proofs.Common.{◌≡◌, map}
+use Rattle.scope_placement.specs.Building.{codes}
+use Rattle.prefetch_pass.specs.Prefetched.{hinted}
+use Rattle.prefetch_pass.proofs.hints.+hinting.Given as goal
+
+abbrev pub invariant-hint_code-loop-part : goal.invariant-hint_code-loop-part
+invariant-hint_code-loop-part l = codes l.parts.items ≡ map (hinted l.offsets) (codes l.yielded)

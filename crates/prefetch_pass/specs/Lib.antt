@@ -1,0 +1,4 @@
+pub mod Laws
+pub mod Prefetched
+pub mod Raised
+pub mod Worked

@@ -1,0 +1,194 @@
+//! The program in whose loops hints are set.
+ghost use Rattle.middle_form.specs.ScopedViews.{scoped_code_of, scoped_function_of, scoped_program_of};
+ghost use Rattle.prefetch_pass.specs.Prefetched.{hinted, hinted_for, prefetched_function, prefetched_program, with_hint as with_hint_of};
+ghost use Rattle.guard_hoisting.specs.Building.{is_straight};
+ghost use Rattle.std.specs.Prelude.{◌≡◌, ◌<◌, ◌+◌, IfOk, map, true};
+
+use crate::changes::is_among;
+use crate::offsets::offsets_of;
+use code_form::Operation;
+use middle_form::{Scoped, ScopedCode, ScopedFunction};
+use std::alloc::{AllocError, Global};
+
+/// How many cells further on a hint is for.
+const AHEAD: u32 = 64;
+
+/// A load or a store, and behind it a hint for the cell 64 further on.
+fn hinted_access(
+    alloc: Global,
+    access: ScopedCode,
+    register: u32,
+    offset: u32,
+    displacement: u32,
+) -> Result<ScopedCode, AllocError>
+    requires { displacement + 64 < 4294967296 }
+    ensures { IfOk result (λ c. scoped_code_of c ≡ hinted_for register offset displacement (scoped_code_of access)) }
+{
+    let mut parts = Vec::new(alloc);
+    parts.push(access)?;
+    parts.push(ScopedCode::Do(Operation::Prefetch {
+        register,
+        offset: Some(offset),
+        displacement: displacement + AHEAD,
+    }))?;
+    Ok(ScopedCode::Sequence(parts))
+}
+
+/// A load or a store, with a hint where it is through one of these offsets.
+fn with_hint(
+    alloc: Global,
+    access: ScopedCode,
+    offsets: &[u32],
+    register: u32,
+    offset: Option<u32>,
+    displacement: u32,
+) -> Result<ScopedCode, AllocError>
+    ensures { IfOk result (λ c. scoped_code_of c ≡ with_hint_of offsets.now register offset displacement (scoped_code_of access)) }
+{
+    let Some(offset) = offset else {
+        return Ok(access);
+    };
+    if is_among(offsets, offset) && displacement < u32::MAX - (AHEAD - 1) {
+        hinted_access(alloc, access, register, offset, displacement)
+    } else {
+        Ok(access)
+    }
+}
+
+/// Code that has no other code in it.
+fn hint_straight(alloc: Global, code: ScopedCode, offsets: &[u32]) -> Result<ScopedCode, AllocError>
+    ensures { IfOk result (λ c. is_straight (scoped_code_of code) ≡ true → scoped_code_of c ≡ hinted offsets.now (scoped_code_of code)) }
+{
+    match code {
+        ScopedCode::Load {
+            register,
+            offset,
+            displacement,
+            ..
+        }
+        | ScopedCode::Store {
+            register,
+            offset,
+            displacement,
+            ..
+        }
+        | ScopedCode::LoadBy {
+            register,
+            offset,
+            displacement,
+            ..
+        }
+        | ScopedCode::StoreBy {
+            register,
+            offset,
+            displacement,
+            ..
+        } => with_hint(alloc, code, offsets, register, offset, displacement),
+        other => Ok(other),
+    }
+}
+
+/// Code with its hints.
+#[cycle(hinting)]
+fn hint_code(alloc: Global, code: ScopedCode, offsets: &[u32]) -> Result<ScopedCode, AllocError>
+    ensures { IfOk result (λ c. scoped_code_of c ≡ hinted offsets.now (scoped_code_of code)) }
+{
+    match code {
+        ScopedCode::Sequence(all) => {
+            let mut parts = Vec::new(alloc);
+            for part in all {
+                parts.push(hint_code(alloc, part, offsets)?)?;
+            }
+            Ok(ScopedCode::Sequence(parts))
+        }
+        ScopedCode::Choose {
+            condition,
+            then_code,
+            else_code,
+        } => Ok(ScopedCode::Choose {
+            condition,
+            then_code: hint_whole(alloc, then_code, offsets)?,
+            else_code: hint_whole(alloc, else_code, offsets)?,
+        }),
+        ScopedCode::Loop {
+            test,
+            condition,
+            body,
+        } => Ok(ScopedCode::Loop {
+            test: hint_whole(alloc, test, offsets)?,
+            condition,
+            body: hint_whole(alloc, body, offsets)?,
+        }),
+        ScopedCode::Block(inner) => Ok(ScopedCode::Block(hint_whole(alloc, inner, offsets)?)),
+        straight => hint_straight(alloc, straight, offsets),
+    }
+}
+
+/// Code in a choice, a loop or a block.
+#[cycle(hinting)]
+fn hint_whole(
+    alloc: Global,
+    code: Box<ScopedCode>,
+    offsets: &[u32],
+) -> Result<Box<ScopedCode>, AllocError>
+    ensures { IfOk result (λ c. scoped_code_of c.value ≡ hinted offsets.now (scoped_code_of code.value)) }
+{
+    let code = hint_code(alloc, Box::into_inner(code), offsets)?;
+    Ok(Box::new(alloc, code)?)
+}
+
+/// A function.
+fn prefetch_function(alloc: Global, function: ScopedFunction) -> Result<ScopedFunction, AllocError>
+    ensures { IfOk result (λ g. scoped_function_of g ≡ prefetched_function (scoped_function_of function)) }
+{
+    let ScopedFunction {
+        result,
+        parameters,
+        kinds,
+        scopes,
+        body,
+        value,
+    } = function;
+    let offsets = offsets_of(alloc, &body)?;
+    let body = hint_code(alloc, body, &offsets)?;
+    Ok(ScopedFunction {
+        result,
+        parameters,
+        kinds,
+        scopes,
+        body,
+        value,
+    })
+}
+
+/// All functions.
+fn prefetch_functions(
+    alloc: Global,
+    functions: Vec<ScopedFunction>,
+) -> Result<Vec<ScopedFunction>, AllocError>
+    ensures { IfOk result (λ v. map scoped_function_of v.items ≡ map prefetched_function (map scoped_function_of functions.items)) }
+{
+    let mut made = Vec::new(alloc);
+    for function in functions {
+        made.push(prefetch_function(alloc, function)?)?;
+    }
+    Ok(made)
+}
+
+/// The program with a hint behind each load and each store of an element at an index that is only raised in its loop; the page of this crate says which
+/// those are. It means what it did, and keeps the discipline of scopes where it did. The only error is that of memory, and nothing is kept behind it.
+pub fn prefetch(alloc: Global, scoped: Scoped) -> Result<Scoped, AllocError>
+    ensures { IfOk result (λ s. scoped_program_of s ≡ prefetched_program (scoped_program_of scoped)) }
+{
+    let Scoped {
+        texts,
+        layouts,
+        functions,
+    } = scoped;
+    let functions = prefetch_functions(alloc, functions)?;
+    Ok(Scoped {
+        texts,
+        layouts,
+        functions,
+    })
+}

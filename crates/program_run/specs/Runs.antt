@@ -1,0 +1,45 @@
+-- A program that is run to its end.
+use Rattle.std.specs.Prelude.{◌≡◌, ◌≢◌, ℕ, ◌≤◌, Bool, true, false}
+use Rattle.cells.specs.declared.ending.Run.{Run}
+use Rattle.cells.specs.declared.ending.Run.TheVariants.{Running, Stopped, Wanted}
+use Rattle.cells.specs.declared.ending.Want.TheVariants.{StoreFailed}
+use Rattle.code_form.specs.Code.{Covered}
+use Rattle.code_form.specs.Form.{Image}
+use Rattle.remote_store.specs.Kept.{piece_cells}
+use Rattle.session.specs.State.{IsAt, IsGoing, State}
+use Rattle.program_run.specs.Executed.{IsOver}
+
+-- a program that is run: its image, how many objects it has, and whether its run is over
+pub record RunView : Type 0 where
+  pub image : Image
+  pub objects : ℕ
+  pub over : Bool
+
+-- a program of this image with so many objects, at its beginning
+abbrev pub begun : Image → ℕ → RunView
+begun C n = record { image = C; objects = n; over = false }
+
+-- the same program when its run is over
+abbrev pub ended : RunView → RunView
+ended p = record p { over = true }
+
+-- whether a run that answered this is over
+abbrev pub is_over : Run → Bool
+is_over Running = false
+is_over (Stopped x) = true
+is_over (Wanted w) = true
+
+-- how far a session has come, through whose port nothing was refused at its beginning: it goes on, and nothing is refused yet; or it is at its end
+abbrev pub HasCome : Type 0 → State → Run → Type 0
+HasCome reliable s Running = IsGoing s × (s.refusals ≡ 0)
+HasCome reliable s (Stopped x) = IsOver reliable 0 s (Stopped x)
+HasCome reliable s (Wanted w) = IsOver reliable 0 s (Wanted w)
+
+-- A session of a verified image that has come so far; over a store that is honest and reliable it never wants the store
+pub record IsOnRun (honest reliable : Type 0) (s : State) (r : Run) : Type 0 where
+  pub at : honest → IsAt s
+  pub cells : s.view.sizes.cells ≡ piece_cells
+  pub share : s.view.low ≤ s.view.high
+  pub covered : Covered s.image
+  pub come : HasCome reliable s r
+  pub sure : honest → reliable → r ≢ Wanted StoreFailed

@@ -1,0 +1,10 @@
+mod Counts
+mod Holding
+mod Laws
+mod Missing
+mod Opening
+mod Places
+mod Plainly
+mod Running
+mod Ways
+mod Writing

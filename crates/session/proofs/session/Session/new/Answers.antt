@@ -1,0 +1,15 @@
+use Rattle.std.proofs.Common.{◌≡◌, ◌∙◌, ap, subst, sym}
+use Rattle.code_form.specs.Form.{image_of}
+use Rattle.object_lock.specs.Fresh.{IsFresh}
+use Rattle.object_lock.specs.SeatViews.{TableView}
+use Rattle.region.specs.Admission.{image_at, image_by}
+use Rattle.session.specs.Keeping.{IsSession}
+use Rattle.session.specs.State.{State, begin}
+use Rattle.session.proofs.Opening.{fresh_run}
+use Rattle.session.proofs.session.Session.new.Goals as goal
+
+pub invariant_of-result : goal.invariant_of-result
+invariant_of-result g c =
+    let image = image_of c.image-image.result.now in
+    let few = (c.accepted_is_verified.ensures.verified image c.image-image.ensures.accepted).few in
+    subst (IsSession g.S.RawStore.honest) (sym c.in-Ok.ensures) (fresh_run g.S.RawStore.honest c.args.region.now.table c.args.seat image c.requires.fresh c.requires.own few)

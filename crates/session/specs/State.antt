@@ -1,0 +1,117 @@
+-- What a session is to its caller, and where its code run is.
+use Rattle.std.specs.Prelude.{◌≡◌, ◌⊎◌, ℕ, ◌+◌, ◌<◌, ◌≤◌, true, List, [], Option, Some, None, slice_index_or, replicate}
+use Rattle.cells.specs.declared.ending.Want.{Want}
+use Rattle.cells.specs.declared.ending.Want.TheVariants.{OutOfMemory, NoObjects, StoreFailed}
+use Rattle.cells.specs.declared.ending.Run.{Run}
+use Rattle.cells.specs.declared.ending.Run.TheVariants.{Running, Stopped, Wanted}
+use Rattle.cells.specs.Stops.{stop_of as stop_read}
+use Rattle.code_form.specs.Form.{Image}
+use Rattle.code_form.specs.Effects.{code_run}
+use Rattle.code_form.specs.Code.{Core, sizes, allocations_of, effect, code, held, stop_of, is_blocked}
+use Rattle.code_form.specs.Growth.{has_text, may_grow, rest_of}
+use Rattle.code_form.specs.Placed.{SameHeap, next_object, object_at, pieces}
+use Rattle.code_form.specs.Touches.{cell_option, touch_of}
+use Rattle.code_form.specs.declared.touch.Cell.{Cell}
+use Rattle.code_form.specs.declared.touch.Touch.{Touch}
+use Rattle.code_form.specs.declared.touch.Touch.TheVariants as touch
+use Rattle.pointer_word.specs.Hands.{latest_of}
+use Rattle.object_lock.specs.Seats.{View, note}
+use Rattle.session.specs.declared.hold.Hold.{Hold}
+use Rattle.object_moves.specs.Taken.{Refused, seat_of}
+
+-- A session: its image, where its program is, what each scope holds, the first object of each allocation, the newest first, the next
+-- object, what its seat knows, how many calls were refused through its port modulo 2^64, how many instructions were completed, and what it
+-- wants if it wants anything
+pub record State : Type 0 where
+  pub image : Image
+  pub core : Core
+  pub holds : List (Option Hold)
+  pub firsts : List ℕ
+  pub next : ℕ
+  pub view : View
+  pub refusals : ℕ
+  pub completed : ℕ
+  pub want : Option Want
+
+-- the number of cells of each allocation, the newest first
+abbrev pub cells_in : State → List ℕ
+cells_in s = sizes (allocations_of s.core)
+
+-- the latest store at place i of object o, as its owner knows; 0 where nothing was stored
+abbrev pub latest_in : View → ℕ → ℕ → ℕ
+latest_in v o i = latest_of (note v o).history i
+
+-- the object of a cell
+abbrev pub object_of : State → Cell → ℕ
+object_of s a = object_at s.view.sizes.cells s.view.low (cells_in s) a.reference a.index
+
+-- what the next instruction touches
+abbrev pub next_touch : State → Touch
+next_touch s = touch_of (effect s.image s.core)
+
+-- what scope k holds
+abbrev pub hold_at : List (Option Hold) → ℕ → Option Hold
+hold_at hs k = slice_index_or hs k None
+
+-- every scope holds nothing
+abbrev pub AllShut : State → Type 0
+AllShut s = (k : ℕ) → hold_at s.holds k ≡ None
+
+-- a hold is of the object of this cell, and there is none where there is no cell
+abbrev pub Matches : State → Option Cell → Option Hold → Type 0
+Matches s None None = Unit {0}
+Matches s None (Some h) = ⊥
+Matches s (Some a) None = ⊥
+Matches s (Some a) (Some h) = h.object ≡ object_of s a
+
+-- each scope holds the piece of the cell that its program's scope has, and nothing where that has none
+abbrev pub ScopesHold : State → Type 0
+ScopesHold s = (k : ℕ) → Matches s (cell_option (held s.core k)) (hold_at s.holds k)
+
+-- The session's program is where the run of its code is, its objects fit in its share, and its cells are the latest stores. Before each instruction
+-- that it completed the code had not stopped
+pub record IsAt (s : State) : Type 0 where
+  pub core : s.core ≡ (code_run (code s.image) s.completed).0
+  pub going : (n : ℕ) → n < s.completed → stop_of (code_run (code s.image) n).0 ≡ None
+  pub fits : next_object s.view.sizes.cells s.view.low (cells_in s) ≤ s.view.high
+  pub heap : SameHeap s.view.sizes.cells s.view.low s.view.high (cells_in s) (latest_in s.view) (code_run (code s.image) s.completed).1
+
+-- the program has not stopped, and wants nothing
+abbrev pub IsGoing : State → Type 0
+IsGoing s = (stop_of s.core ≡ None) × (s.want ≡ None)
+
+-- the code is stuck, or needs all scopes shut where one is open
+abbrev pub IsHalted : State → Type 0
+IsHalted s = (next_touch s ≡ touch.Wrong) ⊎ ((next_touch s ≡ touch.Nothing) ⊎ (is_blocked s.core ≡ true))
+
+-- the pieces of an allocation that is touched fit in what is left of the share
+abbrev pub HasRoom : State → Touch → Type 0
+HasRoom s (touch.Allocs n) = next_object s.view.sizes.cells s.view.low (cells_in s) + pieces s.view.sizes.cells n ≤ s.view.high
+HasRoom s _ = Unit {0}
+
+-- Why a want is answered, where so many calls had been refused before. NoObjects: the pieces of the allocation that is next don't fit in
+-- what is left of the share. OutOfMemory: memory was refused to an instruction for which it may have to grow, and an allocation's pieces would fit. StoreFailed: one call was refused through the session's own port;
+-- or none was, and the code is halted
+abbrev pub Caused : Type 0 → ℕ → State → Want → Type 0
+Caused reliable before s NoObjects = (s.refusals ≡ before) × ((n : ℕ) × (next_touch s ≡ touch.Allocs n) × (s.view.high < next_object s.view.sizes.cells s.view.low (cells_in s) + pieces s.view.sizes.cells n))
+Caused reliable before s OutOfMemory = (s.refusals ≡ before) × (may_grow (next_touch s) (rest_of s.core) ≡ true) × HasRoom s (next_touch s)
+Caused reliable before s StoreFailed = Refused reliable before s.refusals ⊎ ((s.refusals ≡ before) × IsHalted s)
+
+-- the program is the same, and its seat: the same mover of the same table, with the same objects of its own
+abbrev pub SameProgram : State → State → Type 0
+SameProgram s t = (t.image ≡ s.image) × (t.view.low ≡ s.view.low) × (t.view.high ≡ s.view.high) × (seat_of t.view ≡ seat_of s.view)
+
+-- A run of at most n instructions from s to t: what it answers is so, and it answers a want for a cause. No call is refused through the session's
+-- port but one for which it wants StoreFailed
+abbrev pub Ran : Type 0 → ℕ → State → State → Run → Type 0
+Ran reliable n s t Running = SameProgram s t × (t.completed ≡ s.completed + n) × IsGoing t × (t.refusals ≡ s.refusals)
+Ran reliable n s t (Stopped x) = SameProgram s t × (t.completed ≤ s.completed + n) × (stop_of t.core ≡ Some (stop_read x)) × (t.refusals ≡ s.refusals)
+Ran reliable n s t (Wanted w) = SameProgram s t × (t.completed ≤ s.completed + n) × (t.want ≡ Some w) × (stop_of t.core ≡ None) × (IsGoing s → Caused reliable s.refusals t w)
+
+-- a program that had stopped by an error, for whose text memory is refused: that is answered alone, and nothing is changed
+abbrev pub IsUntold : State → State → Run → Type 0
+IsUntold s t r = (t ≡ s) × (has_text (stop_of s.core) ≡ true) × (r ≡ Wanted OutOfMemory)
+
+-- a session at its beginning
+abbrev pub begin : Image → View → ℕ → State
+begin C v n = record { image = C; core = (code C).start; holds = replicate 4 None; firsts = []; next = v.low; view = v; refusals = n; completed = 0; want = None }

@@ -1,0 +1,182 @@
+//! Each kind of instruction, by what it touches.
+ghost use Rattle.code_form.specs.declared.touch.Touch.TheVariants.{Aims, Allocs, Ends, Hints, Leaves, Loads, Plain, Stores};
+ghost use Rattle.code_form.specs.Growth.{may_grow, rest_of};
+ghost use Rattle.code_form.specs.Placed.{pieces as pieces_of};
+ghost use Rattle.session.specs.Keeping.{Allocated, IsHolding, IsNext, IsSafe, Made, Moves, is_simple};
+ghost use Rattle.session.specs.State.{next_touch};
+ghost use Rattle.std.specs.Prelude.{◌≡◌, ◌+◌, ◌%◌, ◌<◌, ◌^◌, MatchResult, true};
+
+use crate::program::{Program, pieces};
+use cells::Want;
+use code_form::{Cell, Touch, effect_laws};
+use remote_store::{PIECE_CELLS, RawStore};
+use std::alloc::AllocError;
+use std::sync::Wait;
+
+impl<'a, S: RawStore> Program<'a, S> {
+    /// The place of a cell in its piece.
+    #[inline(always)]
+    fn place(&self, cell: Cell) -> usize
+        requires { IsHolding self.now }
+        ensures { result ≡ cell.index % self.now.view.sizes.cells }
+    {
+        (cell.index % PIECE_CELLS as u64) as usize
+    }
+
+    /// How many pieces this many cells are.
+    #[inline(always)]
+    fn pieces(&self, cells: u64) -> u64
+        requires { IsHolding self.now }
+        ensures { result ≡ pieces_of self.now.view.sizes.cells cells }
+    {
+        pieces(cells)
+    }
+
+    /// Completes an instruction that touches nothing. `Err` where memory is refused: then nothing is changed.
+    #[inline(never)]
+    pub(crate) fn complete_plain(&mut self) -> Result<(), AllocError>
+        requires safe { IsSafe self.old }
+        requires next { IsNext Plain self.old }
+        requires room { self.old.completed + 1 < 2 ^ 64 }
+        ensures { MatchResult result (λ _. IsSafe self.new × Moves S.honest Plain self.old self.new)
+            (λ _. (self.new ≡ self.old) × (may_grow (next_touch self.old) (rest_of self.old.core) ≡ true)) }
+    {
+        effect_laws();
+        match self.proceed() {
+            Ok(()) => Ok(()),
+            Err(error) => Err(error),
+        }
+    }
+
+    /// Completes an instruction that tells a cell: its object is hinted.
+    #[inline(always)]
+    fn hints<R: Wait>(&mut self, rt: &R, wanted: Option<Cell>)
+        requires safe { IsSafe self.old }
+        requires next { IsNext (Hints wanted) self.old }
+        requires room { self.old.completed + 1 < 2 ^ 64 }
+        ensures safe { IsSafe self.new }
+        ensures moves { Moves S.honest (Hints wanted) self.old self.new }
+    {
+        effect_laws();
+        self.hint_wanted(rt, wanted);
+        self.finish(0);
+    }
+
+    /// False where the store failed.
+    #[inline(always)]
+    fn aims<R: Wait>(&mut self, rt: &R, scope: usize, wanted: Option<Cell>) -> bool
+        requires safe { IsSafe self.old }
+        requires next { IsNext (Aims scope wanted) self.old }
+        requires room { self.old.completed + 1 < 2 ^ 64 }
+        ensures { Made S.honest S.reliable (Aims scope wanted) self.old self.new result }
+    {
+        effect_laws();
+        if self.hold_wanted(rt, scope, wanted) {
+            self.finish(0);
+            true
+        } else {
+            false
+        }
+    }
+
+    #[inline(always)]
+    fn leaves(&mut self, scope: usize)
+        requires safe { IsSafe self.old }
+        requires next { IsNext (Leaves scope) self.old }
+        requires room { self.old.completed + 1 < 2 ^ 64 }
+        ensures safe { IsSafe self.new }
+        ensures moves { Moves S.honest (Leaves scope) self.old self.new }
+    {
+        effect_laws();
+        self.shut(scope);
+        self.finish(0);
+    }
+
+    #[inline(always)]
+    fn loads(&mut self, scope: usize, cell: Cell)
+        requires safe { IsSafe self.old }
+        requires next { IsNext (Loads scope cell) self.old }
+        requires room { self.old.completed + 1 < 2 ^ 64 }
+        ensures safe { IsSafe self.new }
+        ensures moves { Moves S.honest (Loads scope cell) self.old self.new }
+    {
+        effect_laws();
+        let hold = self.held(scope);
+        let index = self.place(cell);
+        let value = self.load_cell(hold, index);
+        self.finish(value);
+    }
+
+    #[inline(always)]
+    fn stores(&mut self, scope: usize, cell: Cell, value: u64)
+        requires safe { IsSafe self.old }
+        requires next { IsNext (Stores scope cell value) self.old }
+        requires room { self.old.completed + 1 < 2 ^ 64 }
+        ensures safe { IsSafe self.new }
+        ensures moves { Moves S.honest (Stores scope cell value) self.old self.new }
+    {
+        effect_laws();
+        let hold = self.held(scope);
+        self.make_writable(scope, hold);
+        let index = self.place(cell);
+        self.store_cell(hold, index, value);
+        self.finish(0);
+    }
+
+    /// Completes an instruction that stops the program.
+    #[inline(never)]
+    pub(crate) fn ends(&mut self)
+        requires safe { IsSafe self.old }
+        requires next { IsNext Ends self.old }
+        requires room { self.old.completed + 1 < 2 ^ 64 }
+        ensures safe { IsSafe self.new }
+        ensures moves { Moves S.honest Ends self.old self.new }
+    {
+        effect_laws();
+        self.close_all();
+        self.finish_end();
+    }
+
+    /// Completes an allocation, or tells what it wants.
+    #[inline(never)]
+    pub(crate) fn allocs(&mut self, cells: u64) -> Option<Want>
+        requires safe { IsSafe self.old }
+        requires next { IsNext (Allocs cells) self.old }
+        requires room { self.old.completed + 1 < 2 ^ 64 }
+        ensures { Allocated S.honest cells self.old self.new result }
+    {
+        effect_laws();
+        let many = self.pieces(cells);
+        if self.end() - self.next() < many {
+            return Some(Want::NoObjects);
+        }
+        match self.extend(cells, many) {
+            Ok(()) => None,
+            Err(_) => Some(Want::OutOfMemory),
+        }
+    }
+
+    /// Completes an instruction that uses a scope, or tells a cell. False where the store failed.
+    #[inline(always)]
+    pub(crate) fn make<R: Wait>(&mut self, rt: &R, touch: Touch) -> bool
+        requires safe { IsSafe self.old }
+        requires next { IsNext touch self.old }
+        requires simple { is_simple touch ≡ true }
+        requires room { self.old.completed + 1 < 2 ^ 64 }
+        ensures { Made S.honest S.reliable touch self.old self.new result }
+    {
+        match touch {
+            Touch::Aims(scope, wanted) => return self.aims(rt, scope, wanted),
+            Touch::Loads(scope, cell) => self.loads(scope, cell),
+            Touch::Stores(scope, cell, value) => self.stores(scope, cell, value),
+            Touch::Leaves(scope) => self.leaves(scope),
+            Touch::Hints(wanted) => self.hints(rt, wanted),
+            Touch::Plain => unreachable!(),
+            Touch::Allocs(_) => unreachable!(),
+            Touch::Ends => unreachable!(),
+            Touch::Wrong => unreachable!(),
+            Touch::Nothing => unreachable!(),
+        }
+        true
+    }
+}

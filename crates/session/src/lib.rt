@@ -1,0 +1,12 @@
+//! Programs that run over far memory: each a session at one seat of a table of objects.
+#![tactic(auto)]
+
+mod hinter;
+mod hold;
+mod kinds;
+mod program;
+mod run;
+mod session;
+
+pub use hold::Hold;
+pub use session::Session;

@@ -1,0 +1,516 @@
+//! A program with what its scopes hold, at one seat of a table: single steps, and those that keep the holds right.
+ghost use Rattle.code_execution.specs.Plain.{ArePlain};
+ghost use Rattle.code_form.specs.Code.{effect, is_blocked as is_blocked_in, most_scopes, output_of, stop_of};
+ghost use Rattle.code_form.specs.Form.{image_of};
+ghost use Rattle.code_form.specs.Growth.{has_text, may_grow, rest_of};
+ghost use Rattle.code_form.specs.Placed.{pieces as pieces_of};
+ghost use Rattle.code_form.specs.Touches.{IsCell, IsCellOrNone, IsWithin, resumed};
+ghost use Rattle.code_form.specs.declared.touch.Touch.TheVariants.{Allocs, Ends, Plain};
+ghost use Rattle.cells.specs.Stops.{stop_of as stop_read};
+ghost use Rattle.session.specs.Keeping.{Changes, Closes, Fails, HasWriter, Holds, HoldsObject, IsHolding, cleared, count_of, extended, finished, first_of, has_object, is_simple, Misses, ran_on, shut, shut_at, wants, written};
+ghost use Rattle.session.specs.State.{AllShut, Matches, State, begin, hold_at, latest_in, next_touch, object_of};
+ghost use Rattle.object_moves.specs.Taken.{IsQuiet};
+ghost use Rattle.object_lock.specs.SeatViews.{IsSeat};
+ghost use Rattle.object_lock.specs.Seats.{Owns, note};
+ghost use Rattle.remote_store.specs.Kept.{piece_cells};
+ghost use Rattle.std.specs.Prelude.{◌≡◌, ◌≢◌, ◌+◌, ◌-◌, ◌/◌, ◌<◌, ◌≤◌, ◌^◌, ℕ, IfOk, MatchBool, MatchResult, None, Some, length, option_map, slice_index, true};
+
+use crate::hinter::Hinter;
+use crate::hold::Hold;
+use cells::{Stop, Want};
+use code_execution::Execution;
+use code_form::{Cell, Image, Touch, heap_laws};
+use object_lock::{ObjectTable, OwnerSeat};
+use object_moves::take;
+use remote_store::{PIECE_CELLS, RawStore};
+use std::alloc::{AllocError, Global};
+use std::marker::Model;
+use std::sync::Wait;
+
+/// A program with what its scopes hold, at one seat of a table.
+#[derive(Drop)]
+pub(crate) struct Program<'a, S: RawStore> {
+    alloc: Global,
+    table: &'a ObjectTable<S>,
+    owner: OwnerSeat<S>,
+    execution: Execution<'a>,
+    holds: Vec<Option<Hold>>,
+    firsts: Vec<u64>,
+    next: u64,
+    // The frame at which the next search for a free one begins.
+    next_frame: usize,
+    completed: u64,
+    want: Option<Want>,
+    // None where nobody serves hints.
+    hinter: Option<Hinter<'a>>,
+}
+
+impl<'a, S: RawStore> Model for Program<'a, S> {
+    ghost use Rattle.session.specs.State.{State};
+    ghost use Rattle.object_lock.specs.SeatViews.{IsSeat};
+    ghost use Rattle.std.specs.Prelude.{reverse};
+
+    ghost Value = { State };
+
+    ghost view = { λ m. record { image = m.execution.image; core = m.execution.core; holds = m.holds.items; firsts = reverse m.firsts.items; next = m.next; view = m.owner.view; refusals = m.owner.refusals; completed = m.completed; want = m.want } };
+
+    ghost invariant = { λ m. IsSeat m.table.now m.owner };
+}
+
+impl<'a, S: RawStore> Program<'a, S> {
+    pub(crate) fn new(
+        alloc: Global,
+        table: &'a ObjectTable<S>,
+        image: &'a Image,
+        owner: OwnerSeat<S>,
+        hinter: Option<Hinter<'a>>,
+    ) -> Result<Program<'a, S>, AllocError>
+        requires table { IsSeat table.now owner }
+        ensures { IfOk result (λ m. m ≡ begin (image_of image.now) owner.view owner.refusals) }
+    {
+        let execution = Execution::new(alloc, image)?;
+        let holds = Vec::from_elem(alloc, None, 4)?;
+        let next = owner.low() as u64;
+        Ok(Program {
+            alloc,
+            table,
+            owner,
+            execution,
+            holds,
+            firsts: Vec::new(alloc),
+            next,
+            next_frame: 0,
+            completed: 0,
+            want: None,
+            hinter,
+        })
+    }
+
+    #[inline(always)]
+    pub(crate) fn completed(&self) -> u64
+        ensures { result ≡ self.now.completed }
+    {
+        self.completed
+    }
+
+    pub(crate) fn output(&self) -> &[u8]
+        ensures { result.now ≡ output_of self.now.core }
+    {
+        self.execution.output()
+    }
+
+    pub(crate) fn into_output(self) -> Vec<u8>
+        ensures { result.items ≡ output_of self.entry.core }
+    {
+        self.execution.into_output()
+    }
+
+    /// How the program has stopped, if it has. `Err` where memory is refused for the text of an error.
+    pub(crate) fn stop(&self) -> Result<Option<Stop>, AllocError>
+        ensures { MatchResult result (λ s. option_map stop_read s ≡ stop_of self.now.core) (λ _. has_text (stop_of self.now.core) ≡ true) }
+    {
+        self.execution.stop(self.alloc)
+    }
+
+    /// How the next instruction stops the program. `Err` where memory is refused for the text of an error.
+    pub(crate) fn stop_ahead(&self) -> Result<Option<Stop>, AllocError>
+        requires { next_touch self.now ≡ Ends }
+        ensures { MatchResult result
+            (λ s. option_map stop_read s ≡ stop_of (resumed (effect self.now.image self.now.core) self.now.core 0))
+            (λ _. may_grow (next_touch self.now) (rest_of self.now.core) ≡ true) }
+    {
+        self.execution.stop_ahead(self.alloc)
+    }
+
+    #[inline(always)]
+    pub(crate) fn want(&self) -> Option<Want>
+        ensures { result ≡ self.now.want }
+    {
+        self.want
+    }
+
+    #[inline(always)]
+    pub(crate) fn is_blocked(&self) -> bool
+        ensures { result ≡ is_blocked_in self.now.core }
+    {
+        self.execution.is_blocked()
+    }
+
+    /// What the next instruction touches.
+    #[inline(always)]
+    pub(crate) fn touch(&self) -> Touch
+        ensures value { result ≡ next_touch self.now }
+        ensures within { IsWithin (most_scopes self.now.image.functions) self.now.core result }
+    {
+        self.execution.next()
+    }
+
+    /// The end of the program's own objects.
+    #[inline(always)]
+    pub(crate) fn end(&self) -> u64
+        ensures { result ≡ self.now.view.high }
+    {
+        self.owner.high() as u64
+    }
+
+    #[inline(always)]
+    pub(crate) fn next(&self) -> u64
+        ensures { result ≡ self.now.next }
+    {
+        self.next
+    }
+
+    /// What the scope holds.
+    #[inline(always)]
+    pub(crate) fn hold(&self, scope: usize) -> Option<Hold>
+        requires { scope < length self.now.holds }
+        ensures { result ≡ hold_at self.now.holds scope }
+    {
+        self.holds[scope]
+    }
+
+    #[inline(always)]
+    fn close_hold(&mut self, scope: usize, hold: Hold)
+        requires scope { scope < length self.old.holds }
+        requires hold { Owns self.old.view hold.object × (0 < (note self.old.view hold.object).count) }
+        ensures { self.new ≡ shut_at self.old scope (Some hold) }
+    {
+        self.table.close(&mut self.owner, hold.object);
+        self.holds[scope] = None;
+    }
+
+    /// Opens a hold of the object for the scope. False where the store failed.
+    fn open_hold<R: Wait>(&mut self, rt: &R, scope: usize, object: usize, count: u64) -> bool
+        requires scope { scope < length self.old.holds }
+        requires hold { Owns self.old.view object × (count < 4) × (count ≡ (note self.old.view object).count) }
+        requires quiet { IsQuiet self.old.view }
+        ensures { MatchBool result (Holds scope object self.old self.new) (Misses S.reliable object self.old self.new) }
+    {
+        let from = &mut self.next_frame;
+        match take(rt, self.table, &mut self.owner, object, count, from) {
+            Some(frame) => {
+                self.holds[scope] = Some(Hold {
+                    object,
+                    frame,
+                    writes: false,
+                });
+                true
+            }
+            None => false,
+        }
+    }
+
+    #[inline(always)]
+    fn clear_hold(&mut self, scope: usize, hold: Hold)
+        requires scope { scope < length self.old.holds }
+        requires hold { Owns self.old.view hold.object × (0 < (note self.old.view hold.object).count) }
+        ensures { self.new ≡ cleared self.old scope hold }
+    {
+        self.table.begin_write(&mut self.owner, hold.object);
+        self.holds[scope] = Some(Hold {
+            object: hold.object,
+            frame: hold.frame,
+            writes: true,
+        });
+    }
+
+    #[inline(always)]
+    pub(crate) fn store_cell(&mut self, hold: Hold, index: usize, value: u64)
+        requires low { (hold.frame < self.old.view.sizes.frames) × (index < self.old.view.sizes.cells) }
+        requires hold { Owns self.old.view hold.object × ((note self.old.view hold.object).frame ≡ Some hold.frame) × ((note self.old.view hold.object).writing ≡ true) }
+        ensures { self.new ≡ written self.old hold index value }
+    {
+        let Hold { object, frame, .. } = hold;
+        let owner = &mut self.owner;
+        self.table.store(owner, object, frame, index, value);
+    }
+
+    #[inline(always)]
+    pub(crate) fn load_cell(&mut self, hold: Hold, index: usize) -> u64
+        requires low { (hold.frame < self.old.view.sizes.frames) × (index < self.old.view.sizes.cells) }
+        requires hold { Owns self.old.view hold.object × ((note self.old.view hold.object).frame ≡ Some hold.frame) }
+        ensures same { self.new ≡ self.old }
+        ensures value { S.honest → result ≡ latest_in self.old.view hold.object index }
+    {
+        let Hold { object, frame, .. } = hold;
+        self.table.load(&mut self.owner, object, frame, index)
+    }
+
+    /// Does what is left of the next instruction, which uses a scope or tells a cell.
+    #[inline(always)]
+    pub(crate) fn finish(&mut self, loaded: u64)
+        requires next { is_simple (next_touch self.old) ≡ true }
+        requires room { self.old.completed + 1 < 2 ^ 64 }
+        ensures { self.new ≡ finished self.old loaded }
+    {
+        self.execution.complete(loaded);
+        self.completed += 1;
+    }
+
+    /// Does the next instruction, which ends the program.
+    pub(crate) fn finish_end(&mut self)
+        requires next { next_touch self.old ≡ Ends }
+        requires room { self.old.completed + 1 < 2 ^ 64 }
+        ensures { self.new ≡ finished self.old 0 }
+    {
+        let Ok(()) = self.execution.proceed(0) else {
+            unreachable!()
+        };
+        self.completed += 1;
+    }
+
+    /// Does the next instruction, which touches nothing. `Err` where memory is refused: then nothing is changed.
+    pub(crate) fn proceed(&mut self) -> Result<(), AllocError>
+        requires next { next_touch self.old ≡ Plain }
+        requires room { self.old.completed + 1 < 2 ^ 64 }
+        ensures { MatchResult result (λ _. self.new ≡ finished self.old 0) (λ _. (self.new ≡ self.old) × (may_grow (next_touch self.old) (rest_of self.old.core) ≡ true)) }
+    {
+        self.execution.proceed(0)?;
+        self.completed += 1;
+        Ok(())
+    }
+
+    /// Does instructions one after the other, as long as they touch nothing and find no scope open that must be shut, at most `limit`, and
+    /// tells how many.
+    #[inline(always)]
+    pub(crate) fn proceed_plainly(&mut self, limit: u64) -> u64
+        requires room { self.old.completed + limit < 2 ^ 64 }
+        ensures within { result ≤ limit }
+        ensures ran { self.new ≡ ran_on self.old result }
+        ensures plain { ArePlain self.old.image result self.old.core }
+    {
+        let done = self.execution.run_plain(limit);
+        self.completed += done;
+        done
+    }
+
+    /// Does the next instruction, which is an allocation of this many pieces. `Err` where memory is refused: then nothing is
+    /// changed.
+    #[inline(never)]
+    pub(crate) fn extend(&mut self, cells: u64, many: u64) -> Result<(), AllocError>
+        requires next { next_touch self.old ≡ Allocs cells }
+        requires room { self.old.completed + 1 < 2 ^ 64 }
+        requires many { many ≡ pieces_of self.old.view.sizes.cells cells }
+        requires end { self.old.next + many < 2 ^ 64 }
+        ensures { MatchResult result (λ _. self.new ≡ extended self.old cells) (λ _. self.new ≡ self.old) }
+    {
+        self.firsts.push(self.next)?;
+        if let Err(error) = self.execution.allocate() {
+            self.firsts.pop();
+            return Err(error);
+        }
+        self.next += many;
+        self.completed += 1;
+        Ok(())
+    }
+
+    pub(crate) fn set_want(&mut self, want: Want)
+        ensures { self.new ≡ wants self.old want }
+    {
+        self.want = Some(want);
+    }
+
+    /// Closes what the scope holds.
+    #[inline(always)]
+    pub(crate) fn shut(&mut self, scope: usize)
+        requires holding { IsHolding self.old }
+        requires scope { scope < length self.old.holds }
+        ensures holding { IsHolding self.new }
+        ensures after { self.new ≡ shut self.old scope }
+        ensures changes { Changes scope self.old self.new }
+    {
+        if let Some(hold) = self.hold(scope) {
+            self.close_hold(scope, hold);
+        }
+    }
+
+    /// How many scopes hold the object.
+    #[inline(always)]
+    fn count(&self, object: usize) -> u64
+        requires four { length self.now.holds ≡ 4 }
+        ensures { result ≡ count_of object self.now.holds }
+    {
+        count_in(&self.holds, object)
+    }
+
+    /// The first object of the allocation of this number.
+    #[inline(always)]
+    fn first(&self, reference: u64) -> u64
+        requires { (0 < reference) × (reference ≤ length self.now.firsts) }
+        ensures { result ≡ first_of self.now.firsts reference }
+    {
+        self.firsts[(reference - 1) as usize]
+    }
+
+    /// The object of a cell.
+    #[inline(always)]
+    fn object_at(&self, cell: Cell) -> usize
+        requires holding { IsHolding self.now }
+        requires cell { IsCell self.now.core cell }
+        ensures value { result ≡ object_of self.now cell }
+        ensures own { Owns self.now.view result }
+    {
+        heap_laws();
+        (self.first(cell.reference) + cell.index / PIECE_CELLS as u64) as usize
+    }
+
+    #[inline(always)]
+    fn has(&self, scope: usize, object: usize) -> bool
+        requires { scope < length self.now.holds }
+        ensures { result ≡ has_object (hold_at self.now.holds scope) object }
+    {
+        is_of(&self.holds[scope], object)
+    }
+
+    /// Makes the scope, which held nothing, hold the object. False where the store failed.
+    #[inline(never)]
+    fn reopen<R: Wait>(&mut self, rt: &R, scope: usize, object: usize) -> bool
+        requires holding { IsHolding self.old }
+        requires scope { scope < length self.old.holds }
+        requires free { hold_at self.old.holds scope ≡ None }
+        requires own { Owns self.old.view object }
+        ensures holding { IsHolding self.new }
+        ensures told { MatchBool result (Changes scope self.old self.new × HoldsObject self.new scope object) (Fails S.reliable self.old self.new) }
+    {
+        let count = self.count(object);
+        self.open_hold(rt, scope, object, count)
+    }
+
+    /// Makes the scope hold the piece of the cell. False where the store failed.
+    #[inline(always)]
+    fn seize<R: Wait>(&mut self, rt: &R, scope: usize, cell: Cell) -> bool
+        requires holding { IsHolding self.old }
+        requires scope { scope < length self.old.holds }
+        requires cell { IsCell self.old.core cell }
+        ensures holding { IsHolding self.new }
+        ensures told { MatchBool result (Changes scope self.old self.new × HoldsObject self.new scope (object_of self.old cell)) (Fails S.reliable self.old self.new) }
+    {
+        let object = self.object_at(cell);
+        if self.has(scope, object) {
+            true
+        } else {
+            self.shut(scope);
+            self.reopen(rt, scope, object)
+        }
+    }
+
+    /// Makes the scope hold the piece of the cell, or nothing. False where the store failed.
+    #[inline(always)]
+    pub(crate) fn hold_wanted<R: Wait>(
+        &mut self,
+        rt: &R,
+        scope: usize,
+        wanted: Option<Cell>,
+    ) -> bool
+        requires holding { IsHolding self.old }
+        requires scope { scope < length self.old.holds }
+        requires cell { IsCellOrNone self.old.core wanted }
+        ensures holding { IsHolding self.new }
+        ensures told { MatchBool result (Changes scope self.old self.new × Matches self.old wanted (hold_at self.new.holds scope)) (Fails S.reliable self.old self.new) }
+    {
+        match wanted {
+            None => {
+                self.shut(scope);
+                true
+            }
+            Some(cell) => self.seize(rt, scope, cell),
+        }
+    }
+
+    /// Hints the object of the cell, where somebody serves hints.
+    #[inline(always)]
+    pub(crate) fn hint_wanted<R: Wait>(&mut self, rt: &R, wanted: Option<Cell>)
+        requires holding { IsHolding self.old }
+        requires cell { IsCellOrNone self.old.core wanted }
+        ensures { self.new ≡ self.old }
+    {
+        let Some(cell) = wanted else {
+            return;
+        };
+        let object = self.object_at(cell);
+        if let Some(hinter) = &mut self.hinter {
+            hinter.hint(rt, object);
+        }
+    }
+
+    /// Makes the scope's hold one for writing.
+    #[inline(always)]
+    pub(crate) fn make_writable(&mut self, scope: usize, hold: Hold)
+        requires holding { IsHolding self.old }
+        requires scope { scope < length self.old.holds }
+        requires held { hold_at self.old.holds scope ≡ Some hold }
+        ensures holding { IsHolding self.new }
+        ensures changes { Changes scope self.old self.new }
+        ensures writer { HasWriter self.new scope hold }
+    {
+        if !hold.writes {
+            self.clear_hold(scope, hold);
+        }
+    }
+
+    /// What the scope holds, where it holds something.
+    #[inline(always)]
+    pub(crate) fn held(&self, scope: usize) -> Hold
+        requires scope { scope < length self.now.holds }
+        requires held { hold_at self.now.holds scope ≢ None }
+        ensures { hold_at self.now.holds scope ≡ Some result }
+    {
+        match self.holds[scope] {
+            Some(hold) => hold,
+            None => unreachable!(),
+        }
+    }
+
+    /// Closes what every scope holds.
+    #[inline(never)]
+    pub(crate) fn close_all(&mut self)
+        requires holding { IsHolding self.old }
+        ensures holding { IsHolding self.new }
+        ensures closes { Closes self.old self.new }
+        ensures shut { AllShut self.new }
+    {
+        for scope in 0..self.scopes() {
+            self.shut(scope);
+        }
+    }
+
+    fn scopes(&self) -> usize
+        ensures { result ≡ length self.now.holds }
+    {
+        self.holds.len()
+    }
+}
+
+/// How many of these holds are of the object.
+#[inline(always)]
+fn count_in(holds: &[Option<Hold>], object: usize) -> u64
+    requires { length holds.now < 2 ^ 32 }
+    ensures { result ≡ count_of object holds.now }
+{
+    let mut count = 0;
+    for hold in holds {
+        if is_of(hold, object) {
+            count += 1;
+        }
+    }
+    count
+}
+
+/// Whether there is a hold, and it is of the object.
+#[inline(always)]
+fn is_of(hold: &Option<Hold>, object: usize) -> bool
+    ensures { result ≡ has_object hold.now object }
+{
+    match hold {
+        Some(hold) => hold.object == object,
+        None => false,
+    }
+}
+
+/// How many pieces this many cells are.
+pub(crate) fn pieces(cells: u64) -> u64
+    ensures { result ≡ pieces_of piece_cells cells }
+{
+    let size = PIECE_CELLS as u64;
+    cells / size + if cells % size == 0 { 0 } else { 1 }
+}

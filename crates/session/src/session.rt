@@ -1,0 +1,141 @@
+//! A session: a program that runs at one seat of a table.
+ghost use Rattle.cells.specs.declared.ending.Run.TheVariants.{Wanted};
+ghost use Rattle.cells.specs.declared.ending.Want.TheVariants.{OutOfMemory, StoreFailed};
+ghost use Rattle.cells.specs.Stops.{Stop};
+ghost use Rattle.code_form.specs.Code.{Covered, most_scopes, output_of, stop_of};
+ghost use Rattle.code_form.specs.Form.{image_of};
+ghost use Rattle.session.specs.Keeping.{IsSession};
+ghost use Rattle.session.specs.State.{AllShut, IsAt, IsGoing, IsUntold, Ran, ScopesHold, State, begin};
+ghost use Rattle.object_moves.specs.Taken.{IsQuiet, Refused};
+ghost use Rattle.object_lock.specs.Fresh.{IsFresh};
+ghost use Rattle.region.specs.Admission.{image_at};
+ghost use Rattle.std.specs.Prelude.{◌≡◌, ◌≢◌, ◌⊎◌, ◌+◌, ◌<◌, ◌≤◌, ◌^◌, ◌-◌, IfOk, MatchResult, Some, length};
+
+use crate::hinter::Hinter;
+use crate::program::Program;
+use cells::{Run, Want};
+use code_form::{Image, effect_laws, heap_laws, run_laws};
+use hint_queue::{HintPass, Hints};
+use object_lock::{ObjectTable, OwnerSeat};
+use region::Region;
+use remote_store::RawStore;
+use scope_verifier_laws::accepted_is_verified;
+use std::alloc::Global;
+use std::marker::Model;
+use std::sync::Wait;
+
+/// A program that runs at one seat of a table. A contract sees where it is: its image, the state of its program, what its scopes
+/// hold, what its seat knows, how many instructions it completed, and what it wants, if it wants anything.
+#[derive(Drop)]
+pub struct Session<'a, S: RawStore> {
+    program: Program<'a, S>,
+}
+
+impl<'a, S: RawStore> Model for Session<'a, S> {
+    ghost use Rattle.code_form.specs.Growth.{has_text};
+    ghost use Rattle.session.specs.Keeping.{IsSession};
+    ghost use Rattle.session.specs.State.{State};
+
+    ghost Value = { State };
+
+    ghost view = { λ s. s.program };
+
+    ghost invariant = { λ s. IsSession S.honest s.program };
+}
+
+impl<'a, S: RawStore> Session<'a, S> {
+    /// The region's program of this seat, at its beginning, at the seat as the region's admission gave it out. What the program will want soon it hints
+    /// to `hints`, with this pass of them. The only want is `OutOfMemory`, where memory is refused.
+    pub fn new(
+        alloc: Global,
+        region: &'a Region<S>,
+        hints: &'a Hints,
+        pass: HintPass,
+        seat: OwnerSeat<S>,
+    ) -> Result<Session<'a, S>, Want>
+        requires fresh { IsFresh region.now.table seat }
+        requires own { seat.view.low ≤ seat.view.high }
+        requires program { (0 < seat.view.number) × (seat.view.number ≤ length region.now.programs) }
+        requires pass { pass ≡ hints.now }
+        ensures begins { MatchResult result (λ s. s ≡ begin (image_at region.now.programs (seat.view.number - 1)) seat.view seat.refusals) (λ want. want ≡ OutOfMemory) }
+        ensures at { IfOk result (λ s. S.honest → IsAt s) }
+        ensures covered { IfOk result (λ s. Covered s.image) }
+    {
+        accepted_is_verified();
+        let image = region.image(seat.number() as usize - 1).image();
+        let hinter = Some(Hinter::new(hints, pass));
+        match Program::new(alloc, region.table(), image, seat, hinter) {
+            Ok(program) => Ok(Session { program }),
+            Err(_) => Err(Want::OutOfMemory),
+        }
+    }
+
+    /// The image's program at its beginning, at a seat as the table gave it out, where nobody serves hints. The only want is `OutOfMemory`, where memory
+    /// is refused.
+    pub fn over(
+        alloc: Global,
+        table: &'a ObjectTable<S>,
+        image: &'a Image,
+        seat: OwnerSeat<S>,
+    ) -> Result<Session<'a, S>, Want>
+        requires fresh { IsFresh table.now seat }
+        requires own { seat.view.low ≤ seat.view.high }
+        requires scopes { most_scopes (image_of image.now).functions ≤ 4 }
+        ensures begins { MatchResult result (λ s. s ≡ begin (image_of image.now) seat.view seat.refusals) (λ want. want ≡ OutOfMemory) }
+        ensures at { IfOk result (λ s. S.honest → IsAt s) }
+    {
+        match Program::new(alloc, table, image, seat, None) {
+            Ok(program) => Ok(Session { program }),
+            Err(_) => Err(Want::OutOfMemory),
+        }
+    }
+
+    /// Completes `limit` instructions, unless the program stops or wants something; it may wait. Having answered a stop or a want it
+    /// answers the same from then on and changes nothing; only where it had stopped by an error, for whose text memory is refused now,
+    /// this call alone answers `OutOfMemory`. Where its frames are full it moves objects out by itself.
+    ///
+    /// `NoObjects`: the pieces of the allocation that is next don't fit in what is left of the program's share. `OutOfMemory`: memory
+    /// was refused to an allocation, to output, to a call, or for the text of an error. `StoreFailed`: a call was refused through the session's own port; or the code is stuck, or an
+    /// allocation or a return finds a scope open, which is never so where the store is honest and the image covered. Then
+    /// the session has given back what it had in hand, and every scope is shut.
+    pub fn run<R: Wait>(&mut self, rt: &R, limit: u64) -> Run
+        requires { self.old.completed + limit < 2 ^ 64 }
+        ensures at { S.honest → IsAt self.new }
+        ensures told { Ran S.reliable limit self.old self.new result ⊎ IsUntold self.old self.new result }
+        ensures scopes { self.new.want ≢ Some StoreFailed → ScopesHold self.new }
+        ensures shut { (x : Stop) → stop_of self.new.core ≡ Some x → AllShut self.new }
+        ensures failed { self.new.want ≡ Some StoreFailed → AllShut self.new }
+        ensures quiet { IsQuiet self.new.view }
+        ensures covered { S.honest → Covered self.old.image → IsGoing self.old → result ≡ Wanted StoreFailed → Refused S.reliable self.old.refusals self.new.refusals }
+        ensures ended { (IsGoing self.old → ⊥) → self.new ≡ self.old }
+    {
+        effect_laws();
+        heap_laws();
+        run_laws();
+        match self.program.run(rt, limit) {
+            Ok(run) => run,
+            Err(_refused) => Run::Wanted(Want::OutOfMemory),
+        }
+    }
+
+    /// What the program printed.
+    pub fn output(&self) -> &[u8]
+        ensures { result.now ≡ output_of self.now.core }
+    {
+        self.program.output()
+    }
+
+    /// What the program printed, where it is run no further.
+    pub fn into_output(self) -> Vec<u8>
+        ensures { result.items ≡ output_of self.entry.core }
+    {
+        self.program.into_output()
+    }
+
+    /// How many instructions were completed.
+    pub fn completed(&self) -> u64
+        ensures { result ≡ self.now.completed }
+    {
+        self.program.completed()
+    }
+}
