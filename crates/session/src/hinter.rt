@@ -5,10 +5,10 @@ use hint_queue::{HintPass, Hints};
 use std::marker::Model;
 use std::sync::Wait;
 
-/// How many objects are kept in mind that were hinted last: a loop may come to a few arrays by turns.
+/// How many objects are kept in mind that came last: a loop may come to a few arrays by turns.
 const RECENT: usize = 8;
 
-/// A queue of hints with a pass of it, and the objects that were hinted last.
+/// A queue of hints with a pass of it, and the objects that came last.
 #[derive(Drop)]
 pub(crate) struct Hinter<'a> {
     hints: &'a Hints,
@@ -43,16 +43,22 @@ impl<'a> Hinter<'a> {
         }
     }
 
-    /// Hints the object, unless it is among those that were hinted last: one hint does for all cells of a piece. An object that the queue is not for is not
-    /// hinted.
-    pub(crate) fn hint<R: Wait>(&mut self, rt: &R, object: usize)
+    /// Whether the object is not among those that came here last. It is then.
+    pub(crate) fn is_new(&mut self, object: usize) -> bool
         ensures { self.new ≡ self.old }
     {
         if self.recent.contains(&object) {
-            return;
+            return false;
         }
         self.recent[self.next % RECENT] = object;
         self.next = self.next.wrapping_add(1);
+        true
+    }
+
+    /// Hints the object. One that the queue is not for is not hinted.
+    pub(crate) fn hint<R: Wait>(&mut self, rt: &R, object: usize)
+        ensures { self.new ≡ self.old }
+    {
         if object < self.hints.objects() {
             self.hints.push(rt, &mut self.pass, object);
         }

@@ -22,6 +22,7 @@ use code_execution::Execution;
 use code_form::{Cell, Image, Touch, heap_laws};
 use object_lock::{ObjectTable, OwnerSeat};
 use object_moves::take;
+use pointer_word::{Word, WordState};
 use remote_store::{PIECE_CELLS, RawStore};
 use std::alloc::{AllocError, Global};
 use std::marker::Model;
@@ -417,7 +418,7 @@ impl<'a, S: RawStore> Program<'a, S> {
         }
     }
 
-    /// Hints the object of the cell, where somebody serves hints.
+    /// Hints the object of the cell, where it is away and somebody serves hints.
     #[inline(always)]
     pub(crate) fn hint_wanted<R: Wait>(&mut self, rt: &R, wanted: Option<Cell>)
         requires holding { IsHolding self.old }
@@ -428,7 +429,16 @@ impl<'a, S: RawStore> Program<'a, S> {
             return;
         };
         let object = self.object_at(cell);
-        if let Some(hinter) = &mut self.hinter {
+        let Some(hinter) = &mut self.hinter else {
+            return;
+        };
+        if !hinter.is_new(object) {
+            return;
+        }
+        let word = Word {
+            bits: self.table.word(&mut self.owner, object),
+        };
+        if let WordState::Away = word.state() {
             hinter.hint(rt, object);
         }
     }
