@@ -3,7 +3,7 @@ ghost use Rattle.object_lock.specs.Fresh.{IsFresh, IsFreshMover};
 ghost use Rattle.std.specs.Prelude.{◌≡◌, ◌<◌, ◌≤◌, length};
 
 use c0_image::compile;
-use fetcher::{HintPass, Hints, Served, hints_for, serve_one};
+use fetcher::{HintPass, Hints, Served, serve_one};
 use object_lock::{MoverSeat, OwnerSeat};
 use region::{Region, admit};
 use remote_store::{Config, FarHeap};
@@ -70,7 +70,7 @@ fn served_behind<R: Wait>(alloc: Global, rt: &R, verified: Verified) -> Option<S
     let Ok((region, mut owners, mut movers)) = admit(alloc, programs, config) else {
         return None;
     };
-    let Ok((hints, mut passes)) = hints_for(alloc, &region) else {
+    let Ok((hints, mut passes)) = Hints::new(alloc, &region) else {
         return None;
     };
     let (Some(owner), Some(mover)) = (owners.pop(), movers.pop()) else {

@@ -2,8 +2,7 @@
 //! ends, the text is compiled too, its image is written, read again and run, and a line tells whether that printed the same and ended the same way. Before
 //! a name may stand `-d`, for contracts to be checked, and a number of turns in place of 5,000. Behind `-p` it is checked, its tree is printed and
 //! read back, and its image runs with its contracts checked; behind `-f` it runs once for each call of the store, which fails; behind `-h` it runs alone, and a fetcher looks for a hint
-//! then; behind `-m` it runs twice at
-//! once, and both meet with two movers; behind `-t` it is kept, and all that are kept run at once in the end, each of them twice. The status is 1 where a text is refused, or
+//! then; behind a number and `-o` it runs alone in a world, and opens no more holds than that; behind `-m` it runs twice at once, and both meet with two movers; behind `-t` it is kept, and all that are kept run at once in the end, each of them twice. The status is 1 where a text is refused, or
 //! something is not as it has to be.
 #![tactic(auto)]
 
@@ -11,6 +10,7 @@ mod again;
 mod failures;
 mod hinted;
 mod means;
+mod opens;
 mod prints;
 mod runs;
 mod together;
@@ -18,6 +18,7 @@ mod together;
 use crate::failures::fail_each_call;
 use crate::hinted::leave_hints;
 use crate::means::mean;
+use crate::opens::open_few;
 use crate::prints::print_back;
 use crate::together::{Together, meet};
 use std::alloc::Global;
@@ -35,6 +36,7 @@ enum Asked {
     Prints,
     Fails,
     Hints,
+    Opens { most: u64 },
     Meets,
     Joins,
 }
@@ -52,14 +54,13 @@ impl Asked {
     fn with(self, word: &str) -> Option<Asked> {
         let (old_checks, old_turns) = match self {
             Asked::Means { checks, turns } => (checks, turns),
-            Asked::Prints | Asked::Fails | Asked::Hints | Asked::Meets | Asked::Joins => (
-                false, 5000,
-            ),
+            _ => (false, 5000),
         };
         match word {
             "-p" => Some(Asked::Prints),
             "-f" => Some(Asked::Fails),
             "-h" => Some(Asked::Hints),
+            "-o" => Some(Asked::Opens { most: old_turns }),
             "-m" => Some(Asked::Meets),
             "-t" => Some(Asked::Joins),
             "-d" => Some(Asked::Means {
@@ -92,6 +93,7 @@ fn tell<R: Threads + Wait + Clock + Sync, O: Write>(
         Asked::Prints => print_back(alloc, rt, name, text, out),
         Asked::Fails => fail_each_call(alloc, rt, name, text, out),
         Asked::Hints => leave_hints(alloc, rt, name, text, out),
+        Asked::Opens { most } => open_few(alloc, most, name, text, out),
         Asked::Meets => meet(alloc, rt, name, text, out),
         Asked::Joins => Ok(together.add(name, text)?),
     }

@@ -9,7 +9,7 @@ ghost use Rattle.remote_store.specs.Kept.{piece_cells};
 use crate::hiring::{begin_all, end_all, hire};
 use crate::places::run_beside;
 use cells::Ended;
-use fetcher::hints_for;
+use fetcher::Hints;
 use object_lock::{MoverSeat, OwnerSeat};
 use program_run::Gate;
 use region::{AdmitFault, Region, admit};
@@ -38,7 +38,7 @@ fn run_region<S: RawStore + Send, G: Gate, R: Threads + Wait + Clock + Sync>(
     requires cells { region.now.table.sizes.cells ≡ piece_cells }
     ensures { IfOk result (λ v. AreEnds S.honest S.reliable share region.now.programs v.items) }
 {
-    let Ok((hints, mut passes)) = hints_for(alloc, region) else {
+    let Ok((hints, mut passes)) = Hints::new(alloc, region) else {
         return Err(AllocError);
     };
     let ends = Vec::with_capacity(alloc, region.programs())?;

@@ -3,9 +3,7 @@
 
 mod serve;
 mod served;
-mod start;
 
 pub use hint_queue::{HintPass, Hints};
 pub use serve::serve_one;
 pub use served::Served;
-pub use start::hints_for;

@@ -6,7 +6,7 @@ ghost use Rattle.std.specs.Prelude.{◌≡◌, IfSome};
 use crate::frames::{Filled, fill_frames};
 use crate::moves::{Twice, bring_twice};
 use crate::regions::{last_seat, region};
-use fetcher::{HintPass, Hints, hints_for};
+use fetcher::{HintPass, Hints};
 use object_lock::{MoverSeat, OwnerSeat};
 use region::Region;
 use remote_store::{RawStore, Stores};
@@ -72,7 +72,7 @@ pub(crate) fn play<R: Wait, M: Stores + Drop>(
     stores: M,
 ) -> Option<Story> {
     let (region, mut owners, mut movers) = region(alloc, stores)?;
-    let Ok((hints, mut passes)) = hints_for(alloc, &region) else {
+    let Ok((hints, mut passes)) = Hints::new(alloc, &region) else {
         return None;
     };
     let mut owner = last_seat(&region, &mut owners)?;

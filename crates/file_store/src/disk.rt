@@ -7,7 +7,8 @@ use crate::folder::{Folder, ROW_BYTES};
 use cells::Want;
 use remote_store::Failed;
 use std::alloc::{AllocError, Global};
-use std::io::Read;
+use std::fs::{OpenFile, OpenOptions};
+use std::io::{Read, Write};
 use std::rt::Files;
 use std::snapshot::Snapshot;
 use std::sync::Arc;
@@ -94,15 +95,20 @@ impl<'a, R: Files + AllocGlobal> Clone for DiskFolder<'a, R> {
     }
 }
 
-// Makes these bytes the whole of the file, which is opened anew.
+// Makes these bytes the whole of the file, which is opened anew. A longer file is cut off behind them and not before: a file that is emptied first has
+// some file systems wait for the disk.
 fn write_file<R: Files + AllocGlobal>(
     rt: &R,
     place: &Place,
     number: u64,
-    bytes: &[u8],
+    bytes: &[u8; ROW_BYTES],
 ) -> io::Result<()> {
     let path = place.file_path(rt.alloc(), number)?;
-    fs::write(rt, path.as_str(), bytes)
+    let mut options = OpenOptions::new();
+    options.write(true).create(true);
+    let mut file = options.open(rt, path.as_str())?;
+    file.write_all(bytes)?;
+    file.set_len(ROW_BYTES as u64)
 }
 
 // Reads until there is no more room, or the file has ended, and gives the number of bytes that were read.

@@ -1,11 +1,13 @@
 //! The queue of hints, and its passes.
 ghost use Rattle.cells.specs.declared.ending.Want.TheVariants.{OutOfMemory};
 ghost use Rattle.std.specs.List.{All};
-ghost use Rattle.std.specs.Prelude.{◌≡◌, ◌<◌, IfErr, IfOk, IfSome, length};
+ghost use Rattle.std.specs.Prelude.{◌≡◌, ◌+◌, ◌<◌, IfErr, IfOk, IfSome, length};
 
 use crate::rule::{Founds, Knows, Named, Puts, Same, Takes};
 use cells::Want;
 use crossbeam_queue::{Pass, RuledArrayQueue};
+use region::Region;
+use remote_store::RawStore;
 use std::alloc::{AllocError, Global};
 use std::marker::Model;
 use std::sync::Wait;
@@ -67,14 +69,20 @@ fn found(alloc: Global, objects: usize) -> Result<(Hints, HintPass), AllocError>
 }
 
 impl Hints {
-    /// A queue with no hint, for objects below `objects`, and its passes, `count` of them. `OutOfMemory` where a growth was refused.
-    pub fn new(alloc: Global, objects: usize, count: usize) -> Result<(Hints, Vec<HintPass>), Want>
-        ensures made { IfOk result (λ r. (r.0.objects ≡ objects) × (length r.1.items ≡ count) × All (λ p. p ≡ r.0) r.1.items) }
+    /// A queue with no hint, for the objects of the region's programs, with a pass for each program and then for each fetcher. `OutOfMemory` where a
+    /// growth was refused.
+    pub fn new<S: RawStore>(
+        alloc: Global,
+        region: &Region<S>,
+    ) -> Result<(Hints, Vec<HintPass>), Want>
+        ensures objects { IfOk result (λ r. r.0.objects ≡ region.now.objects) }
+        ensures passes { IfOk result (λ r. (length r.1.items ≡ length region.now.programs + region.now.fetchers) × All (λ p. p ≡ r.0) r.1.items) }
         ensures wants { IfErr result (λ want. want ≡ OutOfMemory) }
     {
-        let Ok((hints, mut first)) = found(alloc, objects) else {
+        let Ok((hints, mut first)) = found(alloc, region.objects()) else {
             return Err(Want::OutOfMemory);
         };
+        let count = region.programs() + region.fetchers();
         match hints.passes(alloc, &mut first, count) {
             Ok(passes) => Ok((hints, passes)),
             Err(_refused) => Err(Want::OutOfMemory),

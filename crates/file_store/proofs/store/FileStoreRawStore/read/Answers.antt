@@ -1,4 +1,4 @@
-use Rattle.std.proofs.Common.{◌≡◌, ℕ, List, length, take, refl, sym, ap, subst, ◌∙◌, inr, arith}
+use Rattle.std.proofs.Common.{ℕ, List, take, refl, sym, ap, subst, ◌∙◌, inr, arith}
 use Rattle.std.proofs.lemmas.List.{length-take-le}
 use Rattle.file_store.proofs.Written.{row_taken}
 use Rattle.file_store.proofs.store.FileStoreRawStore.read.Goals as goal
