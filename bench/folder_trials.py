@@ -2,7 +2,8 @@
 """Runs programs over a store in files of a folder: beside the store in memory, on a disk that is full, and with the folder taken away while
 the program runs. It prints what each run said last, its status, its processor seconds and its peak memory.
 
-usage: bench/folder_trials.py PROGRAM
+usage: bench/folder_trials.py PROGRAM [--large]
+With --large it runs a program whose heap is 2 GiB of cells over 64 MiB of frames alone, which takes 4,194,304 files and some 17 GB of the disk.
 The full disk is a small one in memory, whose mount wants root; without that it is left out.
 """
 import os
@@ -23,16 +24,30 @@ SCAN = """int main() {
 """
 
 
+# An array of 2 GiB of cells, one cell of each piece of which is written, and some of which are read.
+LARGE = """int main() {
+    int n = 268435456;
+    int[] a = alloc_array(int, n);
+    for (int i = 0; i < n; i += 64) { a[i] = i / 64; }
+    int s = 0;
+    for (int i = 0; i < n; i += 64000) { s += a[i] %% 7; }
+    return s;
+}
+"""
+LARGE_OBJECTS = 4_194_304
+LARGE_FRAMES = 131_072
+
+
 class Run:
     """A run of a text, over a store in memory or in this folder."""
 
-    def __init__(self, program, text, folder=None):
+    def __init__(self, program, text, folder=None, options=()):
         self.file = tempfile.NamedTemporaryFile("w", suffix=".c0")
         self.file.write(text)
         self.file.flush()
         words = ["--store", folder] if folder else []
         self.started = time.monotonic()
-        self.process = subprocess.Popen([program, "run", *words, self.file.name], stdout=subprocess.PIPE, stderr=subprocess.STDOUT)
+        self.process = subprocess.Popen([program, "run", *words, *options, self.file.name], stdout=subprocess.PIPE, stderr=subprocess.STDOUT)
 
     def tell(self, name):
         """Waits for the end, and prints what the run came to."""
@@ -80,14 +95,26 @@ def taken_away(program):
         runs[1].tell("beside it, in another folder")
 
 
+def large(program):
+    """A heap of 2 GiB over 64 MiB of frames."""
+    cells, words = 8 * 64 * LARGE_FRAMES, 8 * (LARGE_OBJECTS + LARGE_FRAMES)
+    with tempfile.TemporaryDirectory(dir=".") as folder:
+        options = ["--frames", str(LARGE_FRAMES), "--objects", str(LARGE_OBJECTS)]
+        Run(program, LARGE % (), folder, options).tell(f"a heap of 2 GiB; frames and words are {(cells + words) / 2**20:.0f} MiB")
+        print(f"  {len(os.listdir(folder))} files; the sum is {sum(i % 7 for i in range(0, LARGE_OBJECTS, 1000))}")
+
+
 def main():
     program = os.path.abspath(sys.argv[1])
+    if sys.argv[2:] == ["--large"]:
+        large(program)
+        return
     beside_memory(program)
     full_disk(program)
     taken_away(program)
 
 
 if __name__ == "__main__":
-    if len(sys.argv) != 2:
+    if len(sys.argv) not in (2, 3):
         sys.exit(__doc__)
     main()

@@ -1,17 +1,20 @@
 #!/usr/bin/env python3
 """What threads cost and give: programs with all of their objects in frames, and with a sixteenth of them beside one evacuator and one fetcher; two programs
-at once beside one alone; an idle region; and the memory of a region, by objects and by frames.
+at once beside one alone; an idle region; the memory of a region, by objects and by frames; and runs for which no thread, or only a few, can be made.
 
 usage: bench/threads.py PROGRAM
 Each time is the least of three runs, in seconds, less that of a program that does nothing in a region of the same numbers.
 """
 import os
+import shutil
 import subprocess
 import sys
 import tempfile
 import time
 
 RUNS = 3
+# A user of whom nothing else runs.
+NOBODY = 65_534
 NOTHING = "int main() { return 0; }"
 SCAN = (
     "int main() { int[] a = alloc_array(int, 100000); for (int i = 0; i < 100000; i++) { a[i] = i % 100; }"
@@ -84,6 +87,24 @@ def memory(program):
     print(f"an object takes {(objects[1] - objects[0]) * 1024 / 500_000:.0f} bytes, a frame {(frames[1] - frames[0]) * 1024 / 500_000:.0f}")
 
 
+def few_threads(program):
+    """Three programs beside movers, where no more than so many threads can be made: by a user who may have only so many, which wants root."""
+    if os.geteuid():
+        print("few threads: left out, which wants root")
+        return
+    with tempfile.TemporaryDirectory() as folder:
+        os.chmod(folder, 0o755)
+        copy = shutil.copy(program, f"{folder}/c0far")
+        with open(f"{folder}/list.c0", "w") as file:
+            file.write(LIST)
+        for most in (1, 2, 3, 1000):
+            limit = ["setpriv", "--reuid", str(NOBODY), "--clear-groups", "prlimit", f"--nproc={most}"]
+            words = [*limit, copy, "run", *sizes(4_000, 70_000, 2), *[f"{folder}/list.c0"] * 3]
+            ran = subprocess.run(words, stdout=subprocess.PIPE, stderr=subprocess.STDOUT, check=False)
+            said = ran.stdout.decode().splitlines()
+            print(f"at most {most} threads: {said.count('result: 1999900000')} of 3 programs right, status {ran.returncode}")
+
+
 def main():
     if len(sys.argv) != 2:
         sys.exit(__doc__)
@@ -93,6 +114,7 @@ def main():
     two_at_once(program)
     idle(program)
     memory(program)
+    few_threads(program)
 
 
 main()
