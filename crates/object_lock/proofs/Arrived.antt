@@ -1,5 +1,5 @@
 -- What a mover's view is when it has arrived, with or without a hold.
-use Rattle.std.proofs.Common.{◌≡◌, ℕ, zero, suc, List, false, length, set, sym, refl, ap, ◌∙◌, arith, length-set}
+use Rattle.std.proofs.Common.{◌≡◌, ℕ, zero, suc, List, length, set, sym, refl, ap, ◌∙◌, arith, length-set}
 use Rattle.std.specs.Prelude.{Some}
 use Rattle.atomic_table.specs.Table.{Step, Me, rest}
 use Rattle.pointer_word.specs.Hands.{Note, arriving, told}

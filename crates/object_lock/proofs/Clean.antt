@@ -1,5 +1,5 @@
 -- A clean object leaves its frame: the step keeps the rule, and what it says of the seat's own view.
-use Rattle.std.proofs.Common.{◌≡◌, ℕ, ◌+◌, ◌<◌, ◌≤◌, ◌≢◌, Bool, true, false, ◌&&◌, List, length, get_or, sym, refl, ap, ap₂, ◌∙◌, subst, arith, eqb, eq-eqb}
+use Rattle.std.proofs.Common.{◌≡◌, ℕ, ◌<◌, ◌≢◌, true, false, ◌&&◌, List, length, get_or, sym, refl, ap, ap₂, ◌∙◌, subst, arith, eqb, eq-eqb}
 use Rattle.std.specs.Prelude.{None, ◌==◌}
 use mathlib.Core.Option as maybe
 use lib.ListN.{get_elem?}

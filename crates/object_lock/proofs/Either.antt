@@ -1,5 +1,5 @@
 -- Steps that an owner with a hold and a mover without make alike.
-use Rattle.std.proofs.Common.{◌≡◌, ℕ, zero, suc, ◌+◌, ◌%◌, ◌<◌, ◌≤◌, Bool, true, List, ◌∷◌, arith, eqb}
+use Rattle.std.proofs.Common.{◌≡◌, ℕ, zero, suc, ◌+◌, ◌%◌, ◌<◌, ◌≤◌, List, ◌∷◌, arith, eqb}
 use Rattle.std.specs.Prelude.{Some, None, slice_index}
 use mathlib.Core.Option as maybe
 use native.Mathlib.Decide.{dec_le}

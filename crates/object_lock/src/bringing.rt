@@ -67,7 +67,7 @@ impl<S: RawStore> ObjectTable<S> {
         self.words.fill_cell(&mut mover.seat, frame, i, v);
     }
 
-    /// The object is in the claimed frame, all of whose cells were filled, and its berth is back in its slot. An owner
+    /// The object is in the claimed frame, all of whose cells were filled, and its berth is back in its slot: it is clean. An owner
     /// that holds the object is told of the frame.
     pub fn arrive(&self, mover: &mut MoverSeat<S>, obj: usize, frame: usize)
         requires table { IsSeat self.now mover.old }

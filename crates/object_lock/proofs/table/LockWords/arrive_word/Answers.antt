@@ -1,10 +1,9 @@
-use Rattle.std.proofs.Common.{arith, subst, sym, ap, false, refl}
+use Rattle.std.proofs.Common.{arith, subst, sym, ap}
 use mathlib.Core.Option.{none}
 use Rattle.atomic_table.specs.Table.{step}
 use Rattle.pointer_word.specs.Calls.{Filled}
 use Rattle.object_lock.specs.declared.shape.Shape.{Shape}
 use Rattle.object_lock.specs.Kept.{slot_keeps, slot_has}
-use Rattle.object_lock.proofs.Stored.{stored}
 use Rattle.object_lock.proofs.Either.{arrives_any}
 use Rattle.object_lock.proofs.Arrived.{arrives_kept, arrives_notes}
 use Rattle.object_lock.proofs.Exact.{arrives_exactly, arrives_step, brings_exactly, brings_step}
