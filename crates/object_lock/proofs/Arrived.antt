@@ -1,5 +1,5 @@
 -- What a mover's view is when it has arrived, with or without a hold.
-use Rattle.std.proofs.Common.{◌≡◌, ℕ, zero, suc, List, false, length, set, sym, refl, ap, ◌∙◌, arith, length-set}
+use Rattle.std.proofs.Common.{◌≡◌, ℕ, zero, suc, List, length, set, sym, refl, ap, ◌∙◌, arith, length-set}
 use Rattle.std.specs.Prelude.{Some}
 use Rattle.atomic_table.specs.Table.{Step, Me, rest}
 use Rattle.pointer_word.specs.Hands.{Note, arriving, told}
@@ -19,7 +19,7 @@ unheld v o none own = go (note v o).count refl
     go zero e = e
     go (suc c) e = absurd (none (own, omega arith))
 
-arrived : {S : Type 0} (honest : Type 0) (kept : S → ℕ → List ℕ → Type 0) (there : S → Type 0) (st : Step S) (m : Me S View) (r : ℕ) (m' : Me S View) (f : ℕ) → m.0.hand.claimed ≡ Some f → told_arrive_any honest kept there false st m r m' → IsArrived m m'
+arrived : {S : Type 0} (honest : Type 0) (kept : S → ℕ → List ℕ → Type 0) (there : S → Type 0) (st : Step S) (m : Me S View) (r : ℕ) (m' : Me S View) (f : ℕ) → m.0.hand.claimed ≡ Some f → told_arrive_any honest kept there st m r m' → IsArrived m m'
 arrived {S} honest kept there st m r m' f mine_is told_any = go (has_hold m.0 st.word)
   where
     go : Dec (Holds m.0 st.word) → IsArrived m m'
@@ -31,10 +31,10 @@ arrived {S} honest kept there st m r m' f mine_is told_any = go (has_hold m.0 st
         let t = brings_exactly honest st m r m' (told_any.1 (unheld m.0 st.word n)) in let ns : m'.0.notes ≡ m.0.notes = ap (λ (v : View). v.notes) t.0 in
         ((λ i. ((t.0 ∙ ap (λ (ns : List Note). record m.0 { hand = arriving m.0.hand; notes = ns }) (sym ns)) i, t.1 i)), ap length ns)
 
-pub arrives_kept : {S : Type 0} (honest : Type 0) (kept : S → ℕ → List ℕ → Type 0) (there : S → Type 0) (st : Step S) (m : Me S View) (r : ℕ) (m' : Me S View) (f : ℕ) → m.0.hand.claimed ≡ Some f → told_arrive_any honest kept there false st m r m'
+pub arrives_kept : {S : Type 0} (honest : Type 0) (kept : S → ℕ → List ℕ → Type 0) (there : S → Type 0) (st : Step S) (m : Me S View) (r : ℕ) (m' : Me S View) (f : ℕ) → m.0.hand.claimed ≡ Some f → told_arrive_any honest kept there st m r m'
     → m' ≡ (record m.0 { hand = arriving m.0.hand; notes = m'.0.notes }, rest m.1)
 arrives_kept honest kept there st m r m' f mine_is told_any = (arrived honest kept there st m r m' f mine_is told_any).0
 
-pub arrives_notes : {S : Type 0} (honest : Type 0) (kept : S → ℕ → List ℕ → Type 0) (there : S → Type 0) (st : Step S) (m : Me S View) (r : ℕ) (m' : Me S View) (f : ℕ) → m.0.hand.claimed ≡ Some f → told_arrive_any honest kept there false st m r m'
+pub arrives_notes : {S : Type 0} (honest : Type 0) (kept : S → ℕ → List ℕ → Type 0) (there : S → Type 0) (st : Step S) (m : Me S View) (r : ℕ) (m' : Me S View) (f : ℕ) → m.0.hand.claimed ≡ Some f → told_arrive_any honest kept there st m r m'
     → length m'.0.notes ≡ length m.0.notes
 arrives_notes honest kept there st m r m' f mine_is told_any = (arrived honest kept there st m r m' f mine_is told_any).1

@@ -3,7 +3,7 @@ use Rattle.std.proofs.Common.{◌≡◌, ℕ, zero, suc, ◌<◌, true, false, n
 use Rattle.std.specs.Prelude.{Some, None, ◌==◌}
 use Rattle.pointer_word.specs.Hands.{Hand, Note}
 use Rattle.pointer_word.specs.Machine.{State as Machine}
-use Rattle.pointer_word.specs.Calls.{Opens, Closes, Clears, Stores, Begins, Claims, Fills, Arrives, Unclaims, Retreats, Marks, Copies, Commits, Aborts, Releases, May}
+use Rattle.pointer_word.specs.Calls.{Opens, Closes, Clears, Stores, Begins, Claims, Fills, Arrives, Unclaims, Retreats, Marks, Copies, Commits, Aborts, Leaves, Releases, May}
 use Rattle.pointer_word.specs.Asked.{HasNoFrame, HasNothing}
 use Rattle.object_lock.specs.Seats.{View, Owns, note, Shows}
 use Rattle.object_lock.specs.Plays.{IsAsked}
@@ -28,7 +28,7 @@ module _ (honest : Type 0) (v : View) (x : Machine) (knew : Shows v x) where
   pub asks_fill : (f i a : ℕ) → i < v.sizes.cells → v.hand.claimed ≡ Some f → IsAsked honest (Fills v.number f i a) v x
   asks_fill f i a low claimed owner mine = (refl, low, subst (λ (h : Hand). h.claimed ≡ Some f) knew.0 claimed)
 
-  pub asks_arrive : (o f : ℕ) → Owns v o → May honest v.sizes.cells x (Arrives v.number o f false true) → IsAsked honest (Arrives v.number o f false true) v x
+  pub asks_arrive : (o f : ℕ) → Owns v o → May honest v.sizes.cells x (Arrives v.number o f true) → IsAsked honest (Arrives v.number o f true) v x
   asks_arrive o f own may owner mine = (refl, (λ _. mine o own), may)
 
   pub asks_try : (o c : ℕ) → (0 < c → Owns v o × (c ≡ (note v o).count)) → HasNothing v.hand → IsAsked honest (Begins v.number o c (not (c == 0))) v x
@@ -37,7 +37,7 @@ module _ (honest : Type 0) (v : View) (x : Machine) (knew : Shows v x) where
       let h = held (omega arith) in let some : not (suc c == 0) ≡ true = ap not (ne_eqb (suc c) 0 (λ e. cc)) in
       (refl, subst HasNothing knew.0 nothing, (λ _. let p = subst (λ (y : Note). (0 < y.count) × (suc c ≡ y.count)) (knew.1 o h.0) ((let e = h.1 in omega arith), h.1) in (mine o h.0, p.0, p.1)), (λ e. absurd (let d : true ≡ false = sym some ∙ e in cc)))
 
-  pub asks_bring : (o f : ℕ) → May honest v.sizes.cells x (Arrives v.number o f false false) → IsAsked honest (Arrives v.number o f false false) v x
+  pub asks_bring : (o f : ℕ) → May honest v.sizes.cells x (Arrives v.number o f false) → IsAsked honest (Arrives v.number o f false) v x
   asks_bring o f may owner mine = (refl, (λ e. cc), may)
 
   pub asks_unclaim : (f : ℕ) → May honest v.sizes.cells x (Unclaims v.number f) → IsAsked honest (Unclaims v.number f) v x
@@ -48,6 +48,9 @@ module _ (honest : Type 0) (v : View) (x : Machine) (knew : Shows v x) where
 
   pub asks_mark : (o f : ℕ) → v.hand.leaving ≡ None → HasNoFrame v.hand → ((p : ℕ) → v.hand.bringing ≡ Some p → Owns v p) → IsAsked honest (Marks v.number o f) v x
   asks_mark o f empty none only owner mine = (refl, subst (λ (h : Hand). (h.leaving ≡ None) × HasNoFrame h × ((p : ℕ) → h.bringing ≡ Some p → owner p ≡ v.number)) knew.0 (empty, none, λ p e. mine p (only p e)))
+
+  pub asks_leave : (o f : ℕ) → v.hand.leaving ≡ None → HasNoFrame v.hand → ((p : ℕ) → v.hand.bringing ≡ Some p → Owns v p) → IsAsked honest (Leaves v.number o f) v x
+  asks_leave o f empty none only owner mine = (refl, subst (λ (h : Hand). (h.leaving ≡ None) × HasNoFrame h × ((p : ℕ) → h.bringing ≡ Some p → owner p ≡ v.number)) knew.0 (empty, none, λ p e. mine p (only p e)))
 
   pub asks_copy : (f i : ℕ) → i < v.sizes.cells → IsMovingOut v.hand f → IsAsked honest (Copies v.number f i) v x
   asks_copy f i low moving owner mine = (refl, low, subst (λ (h : Hand). IsMovingOut h f) knew.0 moving)

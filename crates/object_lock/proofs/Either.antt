@@ -1,11 +1,11 @@
 -- Steps that an owner with a hold and a mover without make alike.
-use Rattle.std.proofs.Common.{◌≡◌, ℕ, zero, suc, ◌+◌, ◌%◌, ◌<◌, ◌≤◌, Bool, true, List, ◌∷◌, arith, eqb}
+use Rattle.std.proofs.Common.{◌≡◌, ℕ, zero, suc, ◌+◌, ◌%◌, ◌<◌, ◌≤◌, List, ◌∷◌, arith, eqb}
 use Rattle.std.specs.Prelude.{Some, None, slice_index}
 use mathlib.Core.Option as maybe
 use native.Mathlib.Decide.{dec_le}
 use prog.Atomic.{either}
 use Rattle.atomic_table.specs.Table.{Me, Act, Valid, rest, step, stepped, carried_after, Allows}
-use Rattle.pointer_word.specs.Words.{Coming, keeps_clean, face, arrival}
+use Rattle.pointer_word.specs.Words.{Coming, face, arrival}
 use Rattle.pointer_word.specs.Calls.{Filled}
 use Rattle.object_lock.specs.Seats.{Sizes, View, Owns, note}
 use Rattle.object_lock.specs.Rule.{Rule}
@@ -36,17 +36,17 @@ module _ {S : Type 0} (kept : S → ℕ → List ℕ → Type 0) (there : S → 
       let h = own (omega arith) in let d = begins_own kept there honest z slots id me o (suc c) new h.0 h.1 low empty is_new s r wide at bound in
       (d.0, d.1, d.2, d.3, ((λ _. d.4), (λ e. absurd (omega arith))))
 
-  pub arrives_any : (k : Bool) (clean : k ≡ keeps_clean) (stores : (b : S) (o : ℕ) (ws : List ℕ) → kept b o ws → there b) (slots id : ℕ) (me : M) (o f by : ℕ) (b : S)
+  pub arrives_any : (slots id : ℕ) (me : M) (o f by : ℕ) (b : S)
       → me.0.hand.bringing ≡ Some o → me.0.hand.claimed ≡ Some f → Filled honest z.cells me.0.hand
-      → me.1 ≡ (o, b) ∷ rest me.1 → kept b o me.0.hand.promised → by ≡ arrival me.0.number (mine me.0) k
-      → Allows (Rule kept there honest z) slots id me o (λ n. (n + by) % 18446744073709551616) (told_arrive_any honest kept there k (step slots o by 0 maybe.none) me)
-  arrives_any k clean stores slots id me o f by b has claims filled carries keeps_ws is_by s r wide at bound = go (has_hold me.0 o)
+      → me.1 ≡ (o, b) ∷ rest me.1 → kept b o me.0.hand.promised → by ≡ arrival me.0.number (mine me.0)
+      → Allows (Rule kept there honest z) slots id me o (λ n. (n + by) % 18446744073709551616) (told_arrive_any honest kept there (step slots o by 0 maybe.none) me)
+  arrives_any slots id me o f by b has claims filled carries keeps_ws is_by s r wide at bound = go (has_hold me.0 o)
     where
       go : Dec (Holds me.0 o) → (w : View) × (a : Act S) × Valid s.homes me.1 a × Rule kept there honest z (stepped s o ((slice_index s.words o + by) % 18446744073709551616) id me.1 w a)
-          × told_arrive_any honest kept there k (step slots o by 0 maybe.none) me (slice_index s.words o) (w, carried_after me.1 a)
+          × told_arrive_any honest kept there (step slots o by 0 maybe.none) me (slice_index s.words o) (w, carried_after me.1 a)
       go (yes h) =
-          let d = arrives_own kept there honest z k clean stores slots id me o f by b h.0 h.1 has claims filled carries keeps_ws is_by s r wide at bound in
+          let d = arrives_own kept there honest z slots id me o f by b h.0 h.1 has claims filled carries keeps_ws is_by s r wide at bound in
           (d.0, d.1, d.2, d.3, ((λ _. d.4), (λ none. absurd (let e = none h.0 in let l = h.1 in omega arith))))
       go (no n) =
-          let d = arrives kept there honest z k clean stores slots id me o f by b has claims filled carries keeps_ws is_by s r wide at bound in
+          let d = arrives kept there honest z slots id me o f by b has claims filled carries keeps_ws is_by s r wide at bound in
           (d.0, d.1, d.2, d.3, ((λ h. absurd (n h)), (λ _. d.4)))

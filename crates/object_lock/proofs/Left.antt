@@ -32,8 +32,8 @@ module _ (x : Machine) where
   pub word_aborts : (m o f : ℕ) → LeavesAt (Aborts m o f) o (Here f false) x
   word_aborts m o f = upd-same x.word o (counted (x.word o).count (Here f false)) o refl
 
-  pub word_brings : (m o f : ℕ) → LeavesAt (Arrives m o f false false) o (Here f false) x
-  word_brings m o f = upd-same x.word o (counted (x.word o).count (Here f false)) o refl
+  pub word_brings : (m o f : ℕ) → LeavesAt (Arrives m o f false) o (Here f true) x
+  word_brings m o f = upd-same x.word o (counted (x.word o).count (Here f true)) o refl
 
   -- an object that the seat owns has the holds that the seat counts
   module _ (honest : Type 0) (v : View) (sound : Inv honest v.sizes.cells x) (knew : Shows v x) (o : ℕ) (own : Owns v o) where
@@ -49,5 +49,5 @@ module _ (x : Machine) where
     pub word_clears : LeavesWord (Clears o) o (note v o).count (cleared (x.word o).place) x
     word_clears = with_count (cleared (x.word o).place)
 
-    pub word_arrives : (m f : ℕ) → LeavesWord (Arrives m o f false true) o (note v o).count (Here f false) x
-    word_arrives m f = with_count (Here f false)
+    pub word_arrives : (m f : ℕ) → LeavesWord (Arrives m o f true) o (note v o).count (Here f true) x
+    word_arrives m f = with_count (Here f true)

@@ -1,14 +1,14 @@
 -- Every kind of step of the table, as one call of the machine.
-use Rattle.std.specs.Prelude.{◌≡◌, ℕ, suc, ◌+◌, ◌%◌, ◌<◌, Bool, true, false, eqb, List, ◌∷◌, Some, None, bit_and}
+use Rattle.std.specs.Prelude.{◌≡◌, ℕ, suc, ◌+◌, ◌%◌, ◌<◌, true, false, eqb, List, ◌∷◌, Some, None, bit_and}
 use mathlib.Core.Option as maybe
 use prog.Atomic.{either}
 use Rattle.atomic_table.specs.Table.{Me, rest, step}
-use Rattle.pointer_word.specs.Words.{Coming, Here, Leaving, face, keeps_clean, keep_plain, keep_here, keep_coming, arrival}
+use Rattle.pointer_word.specs.Words.{Coming, Here, Leaving, face, keep_plain, keep_here, keep_coming, arrival}
 use Rattle.pointer_word.specs.Hands.{or_zero, seen, listed}
 use Rattle.pointer_word.specs.Machine.{Kept}
-use Rattle.pointer_word.specs.Calls.{Opens, Closes, Clears, Stores, Begins, Claims, Fills, Arrives, Unclaims, Retreats, Marks, Copies, Puts, Commits, Aborts, Releases, act, Filled}
+use Rattle.pointer_word.specs.Calls.{Opens, Closes, Clears, Stores, Begins, Claims, Fills, Arrives, Unclaims, Retreats, Marks, Copies, Puts, Commits, Aborts, Leaves, Releases, act, Filled}
 use Rattle.object_lock.specs.Seats.{Sizes, View, Owns, note, frame_word, cell_word}
-use Rattle.object_lock.specs.Plays.{mine, frame_at, index_at, IsCell, told_open, told_close, told_clear, told_load, told_store, told_peek, told_look, told_begin, told_begin_own, told_claim, told_fill, told_arrive, told_arrive_own, told_mark, told_copy, told_commit, told_abort, told_retreat, told_unclaim, told_release}
+use Rattle.object_lock.specs.Plays.{mine, frame_at, index_at, IsCell, told_open, told_close, told_clear, told_load, told_store, told_peek, told_look, told_begin, told_begin_own, told_claim, told_fill, told_arrive, told_arrive_own, told_mark, told_copy, told_commit, told_leave, told_abort, told_retreat, told_unclaim, told_release}
 use Rattle.object_lock.specs.Carrying.{Carries}
 
 module _ {S : Type 0} (kept : S → ℕ → List ℕ → Type 0) (there : S → Type 0) (honest : Type 0) where
@@ -38,15 +38,17 @@ module _ {S : Type 0} (kept : S → ℕ → List ℕ → Type 0) (there : S → 
     -- a mover fills a cell of its frame
     pub fills : (z : Sizes) (slots id : ℕ) (me : Me S View) (k i a : ℕ) → k ≡ cell_word me.0.sizes (mine me.0) i → i < me.0.sizes.cells → me.0.hand.claimed ≡ Some (mine me.0) → Carries kept there honest z slots id me k (λ _. a) (λ x. act x (Fills me.0.number (mine me.0) (index_at me.0 (mine me.0) k) a)) (λ _. told_fill honest (step slots k a 0 maybe.none) me a)
     -- a fetcher arrives
-    pub arrives : (z : Sizes) (k : Bool) (clean : k ≡ keeps_clean) (slots id : ℕ) (me : Me S View) (o f by : ℕ) (b : S) → me.0.hand.bringing ≡ Some o → me.0.hand.claimed ≡ Some f → Filled honest z.cells me.0.hand → me.1 ≡ (o, b) ∷ rest me.1 → kept b o me.0.hand.promised → by ≡ arrival me.0.number (mine me.0) k → Carries kept there honest z slots id me o (λ n. (n + by) % 18446744073709551616) (λ x. act x (Arrives me.0.number o (mine me.0) k false)) (told_arrive honest k (step slots o by 0 maybe.none) me)
+    pub arrives : (z : Sizes) (slots id : ℕ) (me : Me S View) (o f by : ℕ) (b : S) → me.0.hand.bringing ≡ Some o → me.0.hand.claimed ≡ Some f → Filled honest z.cells me.0.hand → me.1 ≡ (o, b) ∷ rest me.1 → kept b o me.0.hand.promised → by ≡ arrival me.0.number (mine me.0) → Carries kept there honest z slots id me o (λ n. (n + by) % 18446744073709551616) (λ x. act x (Arrives me.0.number o (mine me.0) false)) (told_arrive honest (step slots o by 0 maybe.none) me)
     -- an owner arrives
-    pub arrives_own : (z : Sizes) (k : Bool) (clean : k ≡ keeps_clean) (slots id : ℕ) (me : Me S View) (o f by : ℕ) (b : S) → Owns me.0 o → 0 < (note me.0 o).count → me.0.hand.bringing ≡ Some o → me.0.hand.claimed ≡ Some f → Filled honest z.cells me.0.hand → me.1 ≡ (o, b) ∷ rest me.1 → kept b o me.0.hand.promised → by ≡ arrival me.0.number (mine me.0) k → Carries kept there honest z slots id me o (λ n. (n + by) % 18446744073709551616) (λ x. act x (Arrives me.0.number o (mine me.0) k true)) (told_arrive_own honest kept there k (step slots o by 0 maybe.none) me)
+    pub arrives_own : (z : Sizes) (slots id : ℕ) (me : Me S View) (o f by : ℕ) (b : S) → Owns me.0 o → 0 < (note me.0 o).count → me.0.hand.bringing ≡ Some o → me.0.hand.claimed ≡ Some f → Filled honest z.cells me.0.hand → me.1 ≡ (o, b) ∷ rest me.1 → kept b o me.0.hand.promised → by ≡ arrival me.0.number (mine me.0) → Carries kept there honest z slots id me o (λ n. (n + by) % 18446744073709551616) (λ x. act x (Arrives me.0.number o (mine me.0) true)) (told_arrive_own honest kept there (step slots o by 0 maybe.none) me)
     -- a mover tries to mark
     pub marks : (z : Sizes) (slots id : ℕ) (me : Me S View) (o f old new : ℕ) → o < z.objects → f < z.frames → me.0.hand.leaving ≡ None → old ≡ face (Here f false) 0 → new ≡ face (Leaving f me.0.number true) 0 → Carries kept there honest z slots id me o (λ n. either (eqb n old) new n) (λ x. act x (Marks me.0.number o f)) (told_mark honest kept there (step slots o old new maybe.none) me)
     -- a mover copies a cell
     pub copies : (z : Sizes) (slots id : ℕ) (me : Me S View) (k o i : ℕ) → k ≡ cell_word me.0.sizes me.0.hand.source i → i < me.0.sizes.cells → me.0.hand.leaving ≡ Some o → Carries kept there honest z slots id me k (λ n. n) (λ x. act x (Copies me.0.number me.0.hand.source (index_at me.0 me.0.hand.source k))) (told_copy honest (step slots k 0 0 maybe.none) me)
     -- a mover tries to commit, after a put that its store cell shows
     pub commits : (z : Sizes) (slots id : ℕ) (me : Me S View) (o old : ℕ) (b : S) (ws : List ℕ) → me.0.hand.leaving ≡ Some o → me.0.hand.freed ≡ None → me.1 ≡ (o, b) ∷ rest me.1 → kept b o ws → ((i : ℕ) → i < z.cells → seen me.0.hand.copied i ≡ Some (listed ws i)) → old ≡ face (Leaving me.0.hand.source me.0.number true) 0 → Carries kept there honest z slots id me o (λ n. either (eqb n old) 0 n) (λ x. act (act x (Puts me.0.number o (Kept ws))) (Commits me.0.number o me.0.hand.source)) (told_commit honest (step slots o old 0 maybe.none) me)
+    -- a mover has a clean object leave
+    pub leaves : (z : Sizes) (slots id : ℕ) (me : Me S View) (o f old : ℕ) → o < z.objects → f < z.frames → me.0.hand.freed ≡ None → old ≡ face (Here f true) 0 → Carries kept there honest z slots id me o (λ n. either (eqb n old) 0 n) (λ x. act x (Leaves me.0.number o f)) (told_leave honest (step slots o old 0 maybe.none) me)
     -- a mover aborts
     pub aborts : (z : Sizes) (slots id : ℕ) (me : Me S View) (o : ℕ) (b : S) → me.0.hand.leaving ≡ Some o → me.1 ≡ (o, b) ∷ rest me.1 → there b → Carries kept there honest z slots id me o (λ n. bit_and n keep_here) (λ x. act x (Aborts me.0.number o me.0.hand.source)) (told_abort honest (step slots o keep_here 0 maybe.none) me)
     -- a mover retreats

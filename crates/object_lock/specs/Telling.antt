@@ -1,7 +1,7 @@
 -- What the calls answer, and what they leave of the seat that made them.
 use Rattle.std.specs.Prelude.{◌≡◌, ℕ, zero, suc, ◌<◌, ◌==◌, cond, List, Bool, true, false, Option, Some, None}
 use Rattle.pointer_word.specs.Words.{Place, Away, Coming, Here, Leaving, Word}
-use Rattle.pointer_word.specs.Hands.{seen, listed, opened, told, bringing, claiming, marking, committing}
+use Rattle.pointer_word.specs.Hands.{seen, listed, opened, told, bringing, claiming, marking, committing, leaving}
 use Rattle.remote_store.specs.declared.berth.Berth.{Berth}
 use Rattle.object_lock.specs.declared.answers.Held.{Held}
 use Rattle.object_lock.specs.declared.answers.Held.TheVariants as H
@@ -74,6 +74,11 @@ Marked o f old new false = new ≡ old
 abbrev pub Committed : {W C : Type 0} → SeatView W C → SeatView W C → Bool → Type 0
 Committed old new true = new ≡ record old { view = with_hand old.view (committing old.view.hand old.view.hand.source); taken = None }
 Committed old new false = new ≡ old
+
+-- the object that was clean in the frame f is away, and the frame freed, or nothing changed
+abbrev pub Left : {W C : Type 0} → ℕ → SeatView W C → SeatView W C → Bool → Type 0
+Left f old new true = new ≡ record old { view = with_hand old.view (leaving old.view.hand f) }
+Left f old new false = new ≡ old
 
 -- the berth of the object o that is moved out keeps the n cells that were copied
 abbrev pub HasPut : {W C : Type 0} → (C → Option (List ℕ)) → ℕ → ℕ → SeatView W C → Type 0

@@ -67,7 +67,7 @@ impl<S: RawStore> ObjectTable<S> {
         self.words.fill_cell(&mut mover.seat, frame, i, v);
     }
 
-    /// The object is in the claimed frame, all of whose cells were filled, and its berth is back in its slot. An owner
+    /// The object is in the claimed frame, all of whose cells were filled, and its berth is back in its slot: it is clean. An owner
     /// that holds the object is told of the frame.
     pub fn arrive(&self, mover: &mut MoverSeat<S>, obj: usize, frame: usize)
         requires table { IsSeat self.now mover.old }
@@ -77,8 +77,8 @@ impl<S: RawStore> ObjectTable<S> {
         ensures table { IsSeat self.now mover.new }
         ensures arrived { Holds mover.old.view obj → mover.new ≡ record mover.old { view = with_note (with_hand mover.old.view (arriving mover.old.view.hand)) obj (told (note mover.old.view obj) (Some frame)); brought = None } }
         ensures brought { IsUnheld mover.old.view obj → mover.new ≡ record mover.old { view = with_hand mover.old.view (arriving mover.old.view.hand); brought = None } }
-        ensures step { Holds mover.old.view obj → Steps S.honest (Arrives mover.old.view.number obj frame false true) mover.old.view mover.new.view (LeavesWord (Arrives mover.old.view.number obj frame false true) obj (note mover.old.view obj).count (Here frame false)) }
-        ensures unheld_step { IsUnheld mover.old.view obj → Steps S.honest (Arrives mover.old.view.number obj frame false false) mover.old.view mover.new.view (LeavesAt (Arrives mover.old.view.number obj frame false false) obj (Here frame false)) }
+        ensures step { Holds mover.old.view obj → Steps S.honest (Arrives mover.old.view.number obj frame true) mover.old.view mover.new.view (LeavesWord (Arrives mover.old.view.number obj frame true) obj (note mover.old.view obj).count (Here frame true)) }
+        ensures unheld_step { IsUnheld mover.old.view obj → Steps S.honest (Arrives mover.old.view.number obj frame false) mover.old.view mover.new.view (LeavesAt (Arrives mover.old.view.number obj frame false) obj (Here frame true)) }
     {
         let berth = mover.brought.take();
         self.words

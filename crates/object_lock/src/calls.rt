@@ -39,7 +39,7 @@ impl<S: RawStore> ObjectTable<S> {
         self.words.close_word(&mut owner.seat, obj);
     }
 
-    /// Makes a hold of the object one for writing, where its frame was told: a mover that has marked the object can't commit.
+    /// Makes a hold of the object one for writing, where its frame was told: a mover that has marked the object can't commit, and one that was clean can't leave.
     #[inline(always)]
     pub fn begin_write(&self, owner: &mut OwnerSeat<S>, obj: usize)
         requires table { IsSeat self.now owner.old }

@@ -2,13 +2,13 @@
 ghost use Rattle.std.specs.Prelude.{◌≡◌, ℕ, ◌<◌, ◌↔◌, true, false, Some, None, IfSome};
 ghost use Rattle.pointer_word.specs.Words.{Here, Leaving, counted};
 ghost use Rattle.pointer_word.specs.Hands.{copying, aborting, unclaiming, releasing};
-ghost use Rattle.pointer_word.specs.Calls.{Marks, Copies, Commits, Aborts, Unclaims, Releases};
+ghost use Rattle.pointer_word.specs.Calls.{Marks, Copies, Commits, Aborts, Leaves, Unclaims, Releases};
 ghost use Rattle.pointer_word.specs.Asked.{HasNoFrame};
 ghost use Rattle.object_lock.specs.Seats.{Owns, with_hand};
 ghost use Rattle.object_lock.specs.Seating.{HasFrame, IsMovingOut};
 ghost use Rattle.object_lock.specs.Plays.{Steps, IsLook, LeavesAt, LeavesFree};
 ghost use Rattle.object_lock.specs.SeatViews.{IsSeat};
-ghost use Rattle.object_lock.specs.Telling.{named, Marked, HasPut, Committed};
+ghost use Rattle.object_lock.specs.Telling.{named, Marked, HasPut, Committed, Left};
 
 use crate::found::named_by;
 use crate::seat::MoverSeat;
@@ -29,7 +29,7 @@ impl<S: RawStore> ObjectTable<S> {
         named_by(self.words.look_word(&mut mover.seat, frame))
     }
 
-    /// Marks the object, where it is in the frame with no hold and in no mover's hands, and takes its berth.
+    /// Marks the object, where it is in the frame with no hold, is not clean and is in no mover's hands, and takes its berth.
     pub fn try_mark(&self, mover: &mut MoverSeat<S>, obj: usize, frame: usize) -> bool
         requires table { IsSeat self.now mover.old }
         requires low { (obj < self.now.sizes.objects) × (frame < self.now.sizes.frames) }
@@ -51,6 +51,23 @@ impl<S: RawStore> ObjectTable<S> {
         } else {
             false
         }
+    }
+
+    /// The object is in its store cell, where it was clean in the frame with no hold: nothing was stored in it since it was brought
+    /// in, so nothing is copied or put. Its berth stays in its slot, and the frame is freed.
+    pub fn try_leave(&self, mover: &mut MoverSeat<S>, obj: usize, frame: usize) -> bool
+        requires table { IsSeat self.now mover.old }
+        requires low { (obj < self.now.sizes.objects) × (frame < self.now.sizes.frames) }
+        requires hands { (mover.old.view.hand.leaving ≡ None) × HasNoFrame mover.old.view.hand }
+        requires own { (p : ℕ) → mover.old.view.hand.bringing ≡ Some p → Owns mover.old.view p }
+        ensures table { IsSeat self.now mover.new }
+        ensures told { Left frame mover.old mover.new result }
+        ensures step { Steps S.honest (Leaves mover.old.view.number obj frame) mover.old.view mover.new.view (λ x. result ≡ true ↔ x.word obj ≡ counted 0 (Here frame true)) }
+    {
+        let clean = Word::clean_here(frame as u64);
+        self.words
+            .leave_word(&mut mover.seat, obj, frame, clean.bits)
+            == clean.bits
     }
 
     /// The cell `i` of the frame out of which the mover is moving an object.

@@ -1,6 +1,6 @@
 -- What moving an object out of a frame, and bringing one into a frame, leaves of its mover's seat.
-use Rattle.std.specs.Prelude.{◌≡◌, ℕ, List, Bool, true, false, Some, None}
-use Rattle.pointer_word.specs.Hands.{Hand, aborting, arriving, committing, releasing, retreating, told, unclaiming}
+use Rattle.std.specs.Prelude.{◌≡◌, ℕ, ◌<◌, List, Bool, true, false, Option, Some, None}
+use Rattle.pointer_word.specs.Hands.{Hand, aborting, arriving, committing, leaving, releasing, retreating, told, unclaiming}
 use Rattle.object_lock.specs.Plays.{Holds, IsUnheld}
 use Rattle.object_lock.specs.Seats.{note, with_hand, with_note}
 use Rattle.object_lock.specs.SeatViews.{SeatView}
@@ -30,6 +30,16 @@ abbrev pub LetsGo : {W C : Type 0} → SeatView W C → SeatView W C → Moved �
 LetsGo s t M.Left = t ≡ record s { view = with_hand s.view (releasing (committing s.view.hand s.view.hand.source)); taken = None }
 LetsGo s t M.Stayed = t ≡ record s { view = with_hand s.view (aborting s.view.hand); taken = None }
 LetsGo s t M.Failed = ⊥
+
+-- an object that was clean in the frame f left it, which is given up, or nothing changed
+abbrev pub LeavesClean : {W C : Type 0} → ℕ → SeatView W C → SeatView W C → Bool → Type 0
+LeavesClean f s t true = t ≡ record s { view = with_hand s.view (releasing (leaving s.view.hand f)) }
+LeavesClean f s t false = t ≡ s
+
+-- an object that was clean in a frame of the table left it, which is given up, or nothing changed
+abbrev pub LeavesOne : {W C : Type 0} → SeatView W C → SeatView W C → Option ℕ → Type 0
+LeavesOne s t None = t ≡ s
+LeavesOne s t (Some f) = (f < s.view.sizes.frames) × LeavesClean f s t true
 
 -- a mover has the berth of the object o in hand, to bring it in, and the frame f, which it claimed for it; and nothing else
 abbrev pub BringsInto : ℕ → ℕ → Hand → Type 0

@@ -10,5 +10,5 @@ mod search;
 pub use arrival::{bring_into, fill, read};
 pub use bring::take;
 pub use moved::Moved;
-pub use room::move_out;
+pub use room::{leave_clean, move_out};
 pub use search::find_frame;

@@ -1,11 +1,14 @@
 //! How an object is moved out of a frame, and room made for another.
-ghost use Rattle.std.specs.Prelude.{◌≡◌, ◌<◌, ℕ, None, Some, IfOk, IfSome, MatchResult, length};
+ghost use Rattle.std.specs.Prelude.{◌≡◌, ◌≢◌, ◌<◌, ℕ, None, Some, IfOk, IfSome, MatchResult, false, length, true};
+ghost use Rattle.object_lock.specs.Plays.{IsLook};
 ghost use Rattle.object_lock.specs.SeatViews.{IsSeat};
 ghost use Rattle.object_lock.specs.Seats.{Owns};
 ghost use Rattle.object_lock.specs.Telling.{HasPut};
-ghost use Rattle.object_moves.specs.Moving.{LetsGo, MovesAway};
+ghost use Rattle.object_moves.specs.Moving.{LeavesClean, LeavesOne, LetsGo, MovesAway};
 ghost use Rattle.object_moves.specs.Taken.{CopiesOnly, HandOnly, HasOnly, MovesOut, Refused, StillBrings};
+ghost use Rattle.pointer_word.specs.Asked.{HasNoFrame};
 ghost use Rattle.pointer_word.specs.Ordered.{IsCopied};
+ghost use Rattle.pointer_word.specs.Words.{Here, counted};
 
 use crate::moved::Moved;
 use object_lock::{MoverSeat, ObjectTable, OwnerSeat};
@@ -85,9 +88,57 @@ pub fn move_out<S: RawStore>(
     }
 }
 
+/// Has the object leave the frame, where it is clean there and has no hold: nothing is copied or put, and the frame is free then. Whether it left;
+/// else nothing changed.
+pub fn leave_clean<S: RawStore>(
+    table: &ObjectTable<S>,
+    mover: &mut MoverSeat<S>,
+    obj: usize,
+    frame: usize,
+) -> bool
+    requires table { IsSeat table.now mover.old }
+    requires low { (obj < table.now.sizes.objects) × (frame < table.now.sizes.frames) }
+    requires hands { (mover.old.view.hand.leaving ≡ None) × HasNoFrame mover.old.view.hand }
+    requires own { (p : ℕ) → mover.old.view.hand.bringing ≡ Some p → Owns mover.old.view p }
+    ensures table { IsSeat table.now mover.new }
+    ensures told { LeavesClean frame mover.old mover.new result }
+    ensures stayed { result ≡ false → IsLook S.honest mover.old.view (λ x. x.word obj ≢ counted 0 (Here frame true)) }
+{
+    if table.try_leave(mover, obj, frame) {
+        table.release(mover, frame);
+        true
+    } else {
+        false
+    }
+}
+
+/// Looks once at each frame, and has the first object leave there that is clean and has no hold: the frame that it has left.
+fn leave_one<S: RawStore>(
+    table: &ObjectTable<S>,
+    owner: &mut OwnerSeat<S>,
+    obj: usize,
+) -> Option<usize>
+    requires table { IsSeat table.now owner.old }
+    requires own { Owns owner.old.view obj }
+    requires hands { HasOnly obj owner.old.view }
+    ensures table { IsSeat table.now owner.new }
+    ensures told { LeavesOne owner.old owner.new result }
+{
+    // For the proof alone: the clauses speak of the object that is being brought in.
+    let _ = obj;
+    for frame in 0..table.frames() {
+        if let Some(victim) = table.look(owner, frame) {
+            if leave_clean(table, owner, victim, frame) {
+                return Some(frame);
+            }
+        }
+    }
+    None
+}
+
 /// Looks once at each frame, and moves out the first object there that it can mark: the frame that it has left. `Err` where the store
 /// failed.
-pub(crate) fn make_room<S: RawStore>(
+fn move_one_out<S: RawStore>(
     table: &ObjectTable<S>,
     owner: &mut OwnerSeat<S>,
     obj: usize,
@@ -116,4 +167,25 @@ pub(crate) fn make_room<S: RawStore>(
         }
     }
     Ok(None)
+}
+
+/// Has a clean object leave a frame; where none can, moves one out that was written: the frame that it has left. `Err` where the store failed.
+pub(crate) fn make_room<S: RawStore>(
+    table: &ObjectTable<S>,
+    owner: &mut OwnerSeat<S>,
+    obj: usize,
+) -> Result<Option<usize>, Failed>
+    requires table { IsSeat table.now owner.old }
+    requires own { Owns owner.old.view obj }
+    requires hands { HasOnly obj owner.old.view }
+    ensures table { IsSeat table.now owner.new }
+    ensures same { HandOnly owner.old owner.new }
+    ensures brings { StillBrings owner.old.view.hand owner.new.view.hand }
+    ensures low { IfOk result (λ freed. IfSome freed (λ frame. frame < table.now.sizes.frames)) }
+    ensures told { MatchResult result (λ _. owner.new.refusals ≡ owner.old.refusals) (λ _. Refused S.reliable owner.old.refusals owner.new.refusals) }
+{
+    match leave_one(table, owner, obj) {
+        Some(frame) => Ok(Some(frame)),
+        None => move_one_out(table, owner, obj),
+    }
 }

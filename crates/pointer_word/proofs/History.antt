@@ -62,7 +62,7 @@ adds s (Stores v f i a) o = elim (same_or o v) [
 adds s (Begins m v c own) o = begin_past s m v c own (s.word v).place o ∙ sym (append-nil (past s o))
 adds s (Claims m v f) o = cond_past (s.frame f == 0) (after_claim s m v f) s s o refl refl ∙ sym (append-nil (past s o))
 adds s (Fills m f i a) o = sym (append-nil (past s o))
-adds s (Arrives m v f k own) o = told_past own (after_arrive s m v f k) v o ∙ sym (append-nil (past s o))
+adds s (Arrives m v f own) o = told_past own (after_arrive s m v f) v o ∙ sym (append-nil (past s o))
 adds s (Unclaims m f) o = sym (append-nil (past s o))
 adds s (Retreats m v) o = sym (append-nil (past s o))
 adds s (Marks m v f) o = mark_past s m v f (s.word v).place o ∙ sym (append-nil (past s o))
@@ -85,7 +85,7 @@ stored_on o (Stores v f i a) cs = cond_on (o == v) (i, a) (stored o cs)
 stored_on o (Begins m v c own) cs = refl
 stored_on o (Claims m v f) cs = refl
 stored_on o (Fills m f i a) cs = refl
-stored_on o (Arrives m v f k own) cs = refl
+stored_on o (Arrives m v f own) cs = refl
 stored_on o (Unclaims m f) cs = refl
 stored_on o (Retreats m v) cs = refl
 stored_on o (Marks m v f) cs = refl

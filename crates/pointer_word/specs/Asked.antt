@@ -1,6 +1,5 @@
 -- What each call asks of its caller, which knows it from its own view and the berths in its hands.
 use Rattle.std.specs.Prelude.{◌≡◌, ℕ, ◌<◌, true, false, Some, None}
-use Rattle.pointer_word.specs.Words.{keeps_clean}
 use Rattle.pointer_word.specs.Hands.{Hand}
 use Rattle.pointer_word.specs.Machine.{State}
 use Rattle.pointer_word.specs.Calls.{Call, Opens, Closes, Clears, Stores, Begins, Claims, Fills, Arrives, Unclaims, Retreats, Marks, Copies, Puts, Commits, Aborts, Leaves, Releases, May}
@@ -27,7 +26,7 @@ Asked owner h n s a (Stores o f i v) = (owner o ≡ a) × (i < n) × May h n s (
 Asked owner h n s a (Begins m o c own) = (m ≡ a) × HasNothing (s.hand m) × (own ≡ true → (owner o ≡ a) × (0 < (s.note o).count) × (c ≡ (s.note o).count)) × (own ≡ false → c ≡ 0)
 Asked owner h n s a (Claims m o f) = (m ≡ a) × ((s.hand m).bringing ≡ Some o) × ((s.hand m).leaving ≡ None) × HasNoFrame (s.hand m)
 Asked owner h n s a (Fills m f i v) = (m ≡ a) × (i < n) × May h n s (Fills m f i v)
-Asked owner h n s a (Arrives m o f k own) = (m ≡ a) × (own ≡ true → owner o ≡ a) × May h n s (Arrives m o f k own)
+Asked owner h n s a (Arrives m o f own) = (m ≡ a) × (own ≡ true → owner o ≡ a) × May h n s (Arrives m o f own)
 Asked owner h n s a (Unclaims m f) = (m ≡ a) × May h n s (Unclaims m f)
 Asked owner h n s a (Retreats m o) = (m ≡ a) × ((s.hand m).claimed ≡ None) × May h n s (Retreats m o)
 Asked owner h n s a (Marks m o f) = (m ≡ a) × HasOnlyOwn owner a (s.hand m)
@@ -35,5 +34,5 @@ Asked owner h n s a (Copies m f i) = (m ≡ a) × (i < n) × May h n s (Copies m
 Asked owner h n s a (Puts m o x) = (m ≡ a) × May h n s (Puts m o x)
 Asked owner h n s a (Commits m o f) = (m ≡ a) × ((s.hand m).claimed ≡ None) × May h n s (Commits m o f)
 Asked owner h n s a (Aborts m o f) = (m ≡ a) × May h n s (Aborts m o f)
-Asked owner h n s a (Leaves m o f) = (m ≡ a) × HasOnlyOwn owner a (s.hand m) × (keeps_clean ≡ true)
+Asked owner h n s a (Leaves m o f) = (m ≡ a) × HasOnlyOwn owner a (s.hand m)
 Asked owner h n s a (Releases m f) = (m ≡ a) × May h n s (Releases m f)

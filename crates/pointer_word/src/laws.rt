@@ -8,7 +8,7 @@ ghost use Rattle.pointer_word.specs.Calls.{Call, May, Runs, act, Filled, Copied,
 ghost use Rattle.pointer_word.specs.Asked.{Asked};
 ghost use Rattle.pointer_word.specs.Ordered.{IsFilled, IsCopied};
 ghost use Rattle.pointer_word.specs.Legal.{legal, Agrees};
-ghost use Rattle.pointer_word.specs.Rows.{words_after, start, written_meanwhile, moved_out_and_in};
+ghost use Rattle.pointer_word.specs.Rows.{words_after, start, clean_start, written_meanwhile, moved_out_and_in, left_clean, written_clean};
 
 use crate::word::{KEEP_COMING, KEEP_HERE, KEEP_PLAIN};
 
@@ -52,13 +52,16 @@ pub fn bits_and_fields()
     ensures opens { (p : Place) (c n : ℕ) → PlaceFits p → c < 65535 → n ≡ face p c → (n + 1) % 18446744073709551616 ≡ face p (c + 1) }
     ensures closes { (p : Place) (c n : ℕ) → PlaceFits p → c < 65535 → 0 < c → n ≡ face p c → (n + 18446744073709551615) % 18446744073709551616 ≡ face p (c - 1) }
     ensures clears { (p : Place) (c n : ℕ) → PlaceFits p → c < 65536 → n ≡ face p c → bit_and n keep_plain ≡ face (cleared p) c }
-    ensures arrives { (f m c n : ℕ) (k : Bool) → f < 16777216 → m < 65536 → c < 65536 → n ≡ face (Coming m) c → (n + arrival m f k) % 18446744073709551616 ≡ face (Here f k) c }
+    ensures arrives { (f m c n : ℕ) → f < 16777216 → m < 65536 → c < 65536 → n ≡ face (Coming m) c → (n + arrival m f) % 18446744073709551616 ≡ face (Here f true) c }
     ensures retreats { (m c n : ℕ) → m < 65536 → c < 65536 → n ≡ face (Coming m) c → bit_and n keep_coming ≡ face Away c }
     ensures aborts { (f m c n : ℕ) (b : Bool) → f < 16777216 → m < 65536 → c < 65536 → n ≡ face (Leaving f m b) c → bit_and n keep_here ≡ face (Here f false) c }
 {}
 
-/// The words that two worked rows of calls leave: an object that is written while a mover moves it out, and one that is moved out and brought in again.
+/// The words that worked rows of calls leave: of an object that is written while a mover moves it out; of one that is moved out and brought in again, and then, as nothing was
+/// stored in it, leaves without being copied, where no mark can be made; and of one that is clean, and is held and then to be written.
 pub fn worked_rows()
     ensures written_meanwhile { words_after start written_meanwhile ≡ 0x2000_002B_0000 ∷ 0x2000_002B_0001 ∷ 0x2000_002A_0001 ∷ 0x2000_002A_0000 ∷ 0x2000_002A_0000 ∷ 0x28_0000 ∷ [] }
-    ensures moved { words_after start moved_out_and_in ≡ 0x2000_002B_0000 ∷ 0x2000_002B_0000 ∷ 0 ∷ 1 ∷ 0x1000_0004_0001 ∷ 0x28_0001 ∷ [] }
+    ensures moved { words_after start moved_out_and_in ≡ 0x2000_002B_0000 ∷ 0x2000_002B_0000 ∷ 0 ∷ 1 ∷ 0x1000_0004_0001 ∷ 0x1000_0000_0028_0001 ∷ [] }
+    ensures left { words_after start (moved_out_and_in ++ left_clean) ≡ 0x2000_002B_0000 ∷ 0x2000_002B_0000 ∷ 0 ∷ 1 ∷ 0x1000_0004_0001 ∷ 0x1000_0000_0028_0001 ∷ 0x1000_0000_0028_0000 ∷ 0x1000_0000_0028_0000 ∷ 0 ∷ 0 ∷ [] }
+    ensures written { words_after clean_start written_clean ≡ 0x1000_0000_0028_0001 ∷ 0x1000_0000_0028_0001 ∷ 0x28_0001 ∷ [] }
 {}

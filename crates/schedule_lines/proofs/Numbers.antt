@@ -12,9 +12,8 @@ use Rattle.world_semantics.specs.declared.event.Actor.{Actor}
 use Rattle.world_semantics.specs.declared.event.Actor.TheVariants as actor
 use Rattle.world_semantics.specs.declared.event.Choice.{Choice}
 use Rattle.world_semantics.specs.declared.event.Choice.TheVariants as choice
-use Rattle.world_semantics.specs.declared.event.Choice.TheVariants.{Mark}
-use Rattle.schedule_lines.specs.Lines.{IsActor32, IsChoice32, IsLine, IsNoDigit, IsNoLine, spell, spell_actor, spell_choice}
-use Rattle.schedule_lines.specs.Numerals.{AreDigits, value_behind, HasDigits, IsTooGreat, is_plain, IsNumber, IsNoNumber, IsNumbered, IsNotNumbered, IsLast, IsNotLast, IsChosen, IsNotChosen, IsNamed, IsNotNamed}
+use Rattle.schedule_lines.specs.Lines.{IsActor32, IsLine, IsNoDigit, IsNoLine, spell, spell_actor, spell_choice}
+use Rattle.schedule_lines.specs.Numerals.{AreDigits, value_behind, HasDigits, IsTooGreat, is_plain, IsNumber, IsNoNumber, IsNumbered, IsNotNumbered, IsLast, IsNotLast, IsPair, IsNoPair, IsChosen, IsNotChosen, IsNamed, IsNotNamed}
 
 model : IsNumeralModel AreDigits (value_behind 0)
 model = numerals_by_fold AreDigits (record { empty = tt; parts = λ c cs p. ((p.0, p.1), p.2); more = λ c cs r p. (r.0, r.1, p) }) value_behind (record { empty = λ n. refl; more = λ n c cs r. refl })
@@ -154,13 +153,22 @@ not_last word text rest n is none m more small e =
     let cut = same_behind word (decimal n ++ rest) (decimal m ++ (codes "\n" ++ more)) (sym is.1 ∙ e) in
     none more (sym (same_number n m (decimal n ++ rest) rest (codes "\n" ++ more) (is.0, refl, is.2) small (λ low high. omega arith) cut).1)
 
-pub not_mark : (text rest : List ℕ) (n : ℕ) → IsNumbered (codes " mark ") n rest text → IsNotLast (codes " ") rest
-    → (o f : ℕ) (more : List ℕ) → IsChoice32 (Mark o f) → text ≢ spell_choice (Mark o f) ++ (codes "\n" ++ more)
-not_mark text rest n is none o f more small e =
+joined : (word : List ℕ) (o f : ℕ) (rest : List ℕ) → (word ++ (decimal o ++ (codes " " ++ decimal f))) ++ (codes "\n" ++ rest) ≡ word ++ (decimal o ++ (codes " " ++ (decimal f ++ (codes "\n" ++ rest))))
+joined word o f rest =
+    append_assoc word (decimal o ++ (codes " " ++ decimal f)) (codes "\n" ++ rest) ∙ ap (λ xs. word ++ xs) (append_assoc (decimal o) (codes " " ++ decimal f) (codes "\n" ++ rest))
+
+-- two numbers behind a word
+pub is_pair : (word text more rest : List ℕ) (o f : ℕ) → IsNumbered word o more text → IsLast (codes " ") f rest more → IsPair word o f rest text
+is_pair word text more rest o f a b = (a.0, b.0, a.1 ∙ ap (λ xs. word ++ (decimal o ++ xs)) b.1 ∙ sym (joined word o f rest))
+
+pub no_pair : (word text : List ℕ) → IsNotNumbered word text → IsNoPair word text
+no_pair word text none o f rest small low e = none o (codes " " ++ (decimal f ++ (codes "\n" ++ rest))) small (λ low high. omega arith) (e ∙ joined word o f rest)
+
+pub not_pair : (word text rest : List ℕ) (n : ℕ) → IsNumbered word n rest text → IsNotLast (codes " ") rest → IsNoPair word text
+not_pair word text rest n is none o f more small low e =
     let line : List ℕ = codes " " ++ (decimal f ++ (codes "\n" ++ more)) in
-    let cut : decimal n ++ rest ≡ (decimal o ++ (codes " " ++ decimal f)) ++ (codes "\n" ++ more) = same_behind (codes " mark ") (decimal n ++ rest) ((decimal o ++ (codes " " ++ decimal f)) ++ (codes "\n" ++ more)) (sym is.1 ∙ e) in
-    let cut2 : decimal n ++ rest ≡ decimal o ++ line = cut ∙ append_assoc (decimal o) (codes " " ++ decimal f) (codes "\n" ++ more) in
-    none f more small.1 (sym (same_number n o (decimal n ++ rest) rest line (is.0, refl, is.2) small.0 (λ low high. omega arith) cut2).1)
+    let cut : decimal n ++ rest ≡ decimal o ++ line = same_behind word (decimal n ++ rest) (decimal o ++ line) (sym is.1 ∙ e ∙ joined word o f more) in
+    none f more low (sym (same_number n o (decimal n ++ rest) rest line (is.0, refl, is.2) small (λ low high. omega arith) cut).1)
 
 -- ---- lines
 
@@ -185,6 +193,7 @@ behind_actor choice.Next rest = λ low high. omega arith
 behind_actor (choice.Look f) rest = λ low high. omega arith
 behind_actor (choice.Claim f) rest = λ low high. omega arith
 behind_actor (choice.Mark o f) rest = λ low high. omega arith
+behind_actor (choice.Leave o f) rest = λ low high. omega arith
 behind_actor (choice.Begin o) rest = λ low high. omega arith
 
 spelled : (a : Actor) (c : Choice) (rest : List ℕ) → spell (record { actor = a; choice = c }) ++ rest ≡ spell_actor a ++ (spell_choice c ++ (codes "\n" ++ rest))
@@ -207,9 +216,10 @@ not_named text p e f (actor.Evacuator k) rest small no_digit is = e k rest small
 not_named text p e f (actor.Fetcher k) rest small no_digit is = f k rest small no_digit is
 
 pub not_chosen : (text : List ℕ) → ((rest : List ℕ) → text ≢ codes "\n" ++ rest) → IsNotLast (codes " look ") text → IsNotLast (codes " claim ") text → IsNotLast (codes " begin ") text
-    → ((o f : ℕ) (rest : List ℕ) → IsChoice32 (Mark o f) → text ≢ spell_choice (Mark o f) ++ (codes "\n" ++ rest)) → IsNotChosen text
-not_chosen text next look claim begin mark choice.Next rest small is = next rest is
-not_chosen text next look claim begin mark (choice.Look f) rest small is = look f rest small is
-not_chosen text next look claim begin mark (choice.Claim f) rest small is = claim f rest small is
-not_chosen text next look claim begin mark (choice.Begin o) rest small is = begin o rest small is
-not_chosen text next look claim begin mark (choice.Mark o f) rest small is = mark o f rest small is
+    → IsNoPair (codes " mark ") text → IsNoPair (codes " leave ") text → IsNotChosen text
+not_chosen text next look claim begin mark leave choice.Next rest small is = next rest is
+not_chosen text next look claim begin mark leave (choice.Look f) rest small is = look f rest small is
+not_chosen text next look claim begin mark leave (choice.Claim f) rest small is = claim f rest small is
+not_chosen text next look claim begin mark leave (choice.Begin o) rest small is = begin o rest small is
+not_chosen text next look claim begin mark leave (choice.Mark o f) rest small is = mark o f rest small.0 small.1 is
+not_chosen text next look claim begin mark leave (choice.Leave o f) rest small is = leave o f rest small.0 small.1 is

@@ -17,6 +17,7 @@ spell_choice choice.Next = []
 spell_choice (choice.Look f) = codes " look " ++ decimal f
 spell_choice (choice.Claim f) = codes " claim " ++ decimal f
 spell_choice (choice.Mark o f) = codes " mark " ++ (decimal o ++ (codes " " ++ decimal f))
+spell_choice (choice.Leave o f) = codes " leave " ++ (decimal o ++ (codes " " ++ decimal f))
 spell_choice (choice.Begin o) = codes " begin " ++ decimal o
 
 -- who acts, and what it chooses
@@ -36,6 +37,7 @@ IsChoice32 choice.Next = Unit {0}
 IsChoice32 (choice.Look f) = f < 2 ^ 32
 IsChoice32 (choice.Claim f) = f < 2 ^ 32
 IsChoice32 (choice.Mark o f) = (o < 2 ^ 32) × (f < 2 ^ 32)
+IsChoice32 (choice.Leave o f) = (o < 2 ^ 32) × (f < 2 ^ 32)
 IsChoice32 (choice.Begin o) = o < 2 ^ 32
 
 -- a line, with its newline

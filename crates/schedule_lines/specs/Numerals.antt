@@ -51,6 +51,14 @@ IsLast word n rest text = (n < 2 ^ 32) × (text ≡ word ++ (decimal n ++ (codes
 abbrev pub IsNotLast : List ℕ → List ℕ → Type 0
 IsNotLast word text = (n : ℕ) (rest : List ℕ) → n < 2 ^ 32 → text ≢ word ++ (decimal n ++ (codes "\n" ++ rest))
 
+-- the text is the word, then what is printed of o, a blank, what is printed of f, a newline, and then the rest
+abbrev pub IsPair : List ℕ → ℕ → ℕ → List ℕ → List ℕ → Type 0
+IsPair word o f rest text = (o < 2 ^ 32) × (f < 2 ^ 32) × (text ≡ (word ++ (decimal o ++ (codes " " ++ decimal f))) ++ (codes "\n" ++ rest))
+
+-- the text is no such word with two numbers at the end of a line
+abbrev pub IsNoPair : List ℕ → List ℕ → Type 0
+IsNoPair word text = (o f : ℕ) (rest : List ℕ) → o < 2 ^ 32 → f < 2 ^ 32 → text ≢ (word ++ (decimal o ++ (codes " " ++ decimal f))) ++ (codes "\n" ++ rest)
+
 -- the text is this choice to the end of its line, and then the rest
 abbrev pub IsChosen : Choice → List ℕ → List ℕ → Type 0
 IsChosen c rest text = IsChoice32 c × (text ≡ spell_choice c ++ (codes "\n" ++ rest))

@@ -1,8 +1,7 @@
 //! How the lines of a schedule are read.
-ghost use Rattle.std.specs.Prelude.{◌≡◌, ◌≢◌, ◌+◌, ◌*◌, ◌≤◌, ◌^◌, ◌++◌, ℕ, List, MatchOption, codes};
-ghost use Rattle.schedule_lines.specs.Lines.{IsChoice32, IsLine, IsNoLine, spell_choice};
-ghost use Rattle.schedule_lines.specs.Numerals.{HasDigits, IsChosen, IsLast, IsNamed, IsNoNumber, IsNotChosen, IsNotLast, IsNotNamed, IsNotNumbered, IsNumber, IsNumbered, IsTooGreat, is_plain as spec_is_plain};
-ghost use Rattle.world_semantics.specs.declared.event.Choice.TheVariants.{Mark};
+ghost use Rattle.std.specs.Prelude.{◌≡◌, ◌≢◌, ◌+◌, ◌*◌, ◌≤◌, ◌^◌, ◌++◌, ℕ, List, MatchOption};
+ghost use Rattle.schedule_lines.specs.Lines.{IsLine, IsNoLine};
+ghost use Rattle.schedule_lines.specs.Numerals.{HasDigits, IsChosen, IsLast, IsNamed, IsNoNumber, IsNoPair, IsNotChosen, IsNotLast, IsNotNamed, IsNotNumbered, IsNumber, IsNumbered, IsPair, IsTooGreat, is_plain as spec_is_plain};
 
 use world_semantics::event::{Actor, Choice};
 
@@ -97,15 +96,14 @@ fn last<'a>(text: &'a [u8], word: &[u8]) -> Option<(u32, &'a [u8])>
     }
 }
 
-/// The two numbers of `mark`, and what stands behind the newline.
-fn mark(text: &[u8]) -> Option<(Choice, &[u8])>
-    ensures { MatchOption result
-        ((o f : ℕ) (rest : List ℕ) → IsChoice32 (Mark o f) → text.now ≢ spell_choice (Mark o f) ++ (codes "\n" ++ rest))
-        (λ p. IsChosen p.0 p.1.now text.now) }
+/// The two numbers, with a blank between them, between a word that begins the text and a newline, and what stands behind that.
+#[tactic(auto, using(crate::proofs::Numbers::is_pair, crate::proofs::Numbers::no_pair))]
+fn pair<'a>(text: &'a [u8], word: &[u8]) -> Option<((u32, u32), &'a [u8])>
+    ensures { MatchOption result (IsNoPair word.now text.now) (λ p. IsPair word.now p.0.0 p.0.1 p.1.now text.now) }
 {
-    match numbered(text, b" mark ") {
-        Some((object, rest)) => match last(rest, b" ") {
-            Some((frame, others)) => Some((Choice::Mark(object, frame), others)),
+    match numbered(text, word) {
+        Some((first, rest)) => match last(rest, b" ") {
+            Some((second, others)) => Some(((first, second), others)),
             None => None,
         },
         None => None,
@@ -124,8 +122,12 @@ fn choice(text: &[u8]) -> Option<(Choice, &[u8])>
         Some((Choice::Claim(frame), rest))
     } else if let Some((object, rest)) = last(text, b" begin ") {
         Some((Choice::Begin(object), rest))
+    } else if let Some(((object, frame), rest)) = pair(text, b" mark ") {
+        Some((Choice::Mark(object, frame), rest))
+    } else if let Some(((object, frame), rest)) = pair(text, b" leave ") {
+        Some((Choice::Leave(object, frame), rest))
     } else {
-        mark(text)
+        None
     }
 }
 

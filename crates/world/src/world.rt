@@ -95,7 +95,7 @@ impl<'a, S: RawStore> World<'a, S> {
         match choice {
             Choice::Next => true,
             Choice::Look(frame) | Choice::Claim(frame) => (frame as usize) < frames,
-            Choice::Mark(object, frame) => {
+            Choice::Mark(object, frame) | Choice::Leave(object, frame) => {
                 (object as usize) < objects && (frame as usize) < frames
             }
             Choice::Begin(object) => (object as usize) < objects,

@@ -7,7 +7,7 @@ use Rattle.code_form.specs.Touches.{resumed}
 use Rattle.pointer_word.specs.Words.{Away, Coming, Here, Word, counted, framed}
 use Rattle.pointer_word.specs.Hands.{Hand, Note, bringing, claiming, known, listed, upd, told as told_as}
 use Rattle.pointer_word.specs.Machine.{Far, Never, Kept, Unknown, State, after_arrive, after_begin, after_claim, after_told, content_or, content as far_content}
-use Rattle.pointer_word.specs.Calls.{Call, Arrives, Begins, Claims, Fills, Marks, May, Retreats, Unclaims, act, begin_at, told_where}
+use Rattle.pointer_word.specs.Calls.{Call, Arrives, Begins, Claims, Fills, Leaves, Marks, May, Retreats, Unclaims, act, begin_at, told_where}
 use Rattle.pointer_word.specs.Legal.{holds, legal}
 use Rattle.pointer_word.proofs.Legal.{agrees_anyway, legal_may, may_legal}
 use Rattle.pointer_word.proofs.Ordered.{filled_all}
@@ -26,11 +26,11 @@ use Rattle.world_memory.specs.Answered.{AnswersSo, Nothing, reading}
 use Rattle.world_actors.specs.Asking.{asked_in}
 use Rattle.world_semantics.specs.InHand.{FitsMode, OnlyBrings, WasPut}
 use Rattle.world_semantics.specs.Fetchers.{as_mode}
-use Rattle.world_semantics.specs.Programs.{Copying, Mode, Ready, Missing, Bringing, Reading, Filling, Evicting, Releasing, Retreating, Closing, Wanted, Program, finished as finished_as, in_mode}
+use Rattle.world_semantics.specs.Programs.{Copying, Freed, Mode, Ready, Missing, Bringing, Reading, Filling, Evicting, Releasing, Retreating, Closing, Wanted, Program, finished as finished_as, in_mode}
 use Rattle.world_actors.specs.Seats.{Seat, eviction_of, finished, mode_of}
 use Rattle.world_memory.specs.Shown.{AreTables, IsNew, Shown}
 use Rattle.world_memory.specs.Tables.{Tables, frame_at, frame_word, is_away_at, object_at, place_of}
-use Rattle.world_semantics.specs.Turns.{Answer, Turn, Alone, Calls, began, evicts, found, marked_so, program_claimed, read_so, taken, to_fill}
+use Rattle.world_semantics.specs.Turns.{Answer, Turn, Alone, Calls, began, evicts, found, left_so, marked_so, program_claimed, read_so, taken, to_fill}
 use Rattle.world_semantics.specs.Worlds.{IsHonestRead, ReadsHonestly, Sizes}
 use Rattle.world_actors.proofs.Acting.{bringing_inside, claimed_inside, leads_call, plain, refused_call}
 use Rattle.world_actors.proofs.Answered.{unasked}
@@ -60,7 +60,7 @@ reads_none n s (Wanted w) = tt
 pub away : (x : RustPlace) → is_away_at x ≡ true → place_of x ≡ Away
 away placed.Away e = refl
 away (placed.Coming j) e = cc
-away (placed.Here f) e = cc
+away (placed.Here f k) e = cc
 away (placed.Leaving f j k) e = cc
 
 not_zero : (o : ℕ) → (suc o == 0) ≡ false
@@ -137,7 +137,7 @@ module _ {C : Type 0} (content : C → Option (List ℕ)) (h : Type 0) (z : Size
   not_away : (o c : ℕ) (y : RustPlace) → is_away_at y ≡ false → begin_at s x.setting.mover o c true (place_of y) ≡ after_told s o
   not_away o c placed.Away e = cc
   not_away o c (placed.Coming j) e = refl
-  not_away o c (placed.Here f) e = refl
+  not_away o c (placed.Here f k) e = refl
   not_away o c (placed.Leaving f j k) e = refl
 
   pub begins_away : (o : ℕ) (t' : Tables) (x' : Seat) → x.mode ≡ m.Missing o → 0 < (object_at t o).count → is_away_at (object_at t o).place ≡ true
@@ -221,6 +221,16 @@ module _ {C : Type 0} (content : C → Option (List ℕ)) (h : Type 0) (z : Size
       calls_to (λ a. Calls (Marks j v f) (marked_so x.setting p o v f)) t' berths' x' (Marks j v f) (marked_so x.setting p o v f) refl (may_legal h piece_cells s (Marks j v f) (only o e).1)
       so.0 (subst (IsProgram x') (sym goes) program) same
 
+  pub leaves_other : (o v f : ℕ) (t' : Tables) (berths' : List (Berth C)) (x' : Seat) (b : Bool) → x.mode ≡ m.Bringing o
+      → Shows content z t' berths' (act s (Leaves x.setting.mover v f)) × (holds ((act s (Leaves x.setting.mover v f)).hand x.setting.mover).freed f ≡ b)
+      → IsProgram x' (cond b (in_mode p (Evicting o (Freed f))) p) → x'.setting ≡ x.setting → TurnsTo (λ a. Calls (Leaves x.setting.mover v f) (left_so x.setting p o f)) t' berths' x'
+  leaves_other o v f t' berths' x' b e so program same =
+      let j = x.setting.mover in
+      let u : State = act s (Leaves j v f) in
+      let goes : left_so x.setting p o f u ≡ cond b (in_mode p (Evicting o (Freed f))) p = ap (λ y. cond y (in_mode p (Evicting o (Freed f))) p) so.1 in
+      calls_to (λ a. Calls (Leaves j v f) (left_so x.setting p o f)) t' berths' x' (Leaves j v f) (left_so x.setting p o f) refl (may_legal h piece_cells s (Leaves j v f) (only o e).2.1)
+      so.0 (subst (IsProgram x') (sym goes) program) same
+
   -- ---- reading and filling
 
   -- the object that it brings in was put before
@@ -288,32 +298,32 @@ module _ {C : Type 0} (content : C → Option (List ℕ)) (h : Type 0) (z : Size
 
   -- ---- arriving
 
-  arrive_may : (o f k : ℕ) (words : List ℕ) → mode_of x.mode x.words ≡ Filling o f words k → piece_cells ≤ k → 0 < (s.note o).count → May h piece_cells s (Arrives x.setting.mover o f false true)
+  arrive_may : (o f k : ℕ) (words : List ℕ) → mode_of x.mode x.words ≡ Filling o f words k → piece_cells ≤ k → 0 < (s.note o).count → May h piece_cells s (Arrives x.setting.mover o f true)
   arrive_may o f k words e full some =
       let fits = filling o f words k e in
-      (fits.0.0, fits.0.2, filled_all h piece_cells (s.hand x.setting.mover) words fits.2 (λ i l. fits.1 i (omega arith)), (λ _. some), refl)
+      (fits.0.0, fits.0.2, filled_all h piece_cells (s.hand x.setting.mover) words fits.2 (λ i l. fits.1 i (omega arith)), (λ _. some))
 
-  pub arrives_not : (o f : ℕ) (q : Program) → (object_at t o).count ≡ 0 → (a : Answer) → taken piece_cells s (Calls (Arrives x.setting.mover o f false true) (λ u. q)) ≡ None
-  arrives_not o f q none a = refused_call s (Arrives x.setting.mover o f false true) (λ u. q) (by_test (legal piece_cells s (Arrives x.setting.mover o f false true)) refl)
+  pub arrives_not : (o f : ℕ) (q : Program) → (object_at t o).count ≡ 0 → (a : Answer) → taken piece_cells s (Calls (Arrives x.setting.mover o f true) (λ u. q)) ≡ None
+  arrives_not o f q none a = refused_call s (Arrives x.setting.mover o f true) (λ u. q) (by_test (legal piece_cells s (Arrives x.setting.mover o f true)) refl)
     where
-      by_test : (b : Bool) → legal piece_cells s (Arrives x.setting.mover o f false true) ≡ b → legal piece_cells s (Arrives x.setting.mover o f false true) ≡ false
+      by_test : (b : Bool) → legal piece_cells s (Arrives x.setting.mover o f true) ≡ b → legal piece_cells s (Arrives x.setting.mover o f true) ≡ false
       by_test false e = e
       by_test true e =
-          let may = legal_may ⊥ piece_cells s (Arrives x.setting.mover o f false true) e (agrees_anyway piece_cells s (Arrives x.setting.mover o f false true)) in
+          let may = legal_may ⊥ piece_cells s (Arrives x.setting.mover o f true) e (agrees_anyway piece_cells s (Arrives x.setting.mover o f true)) in
           let l : 0 < (s.note o).count = may.3 refl in
           let c = note_count o in
           absurd (omega arith)
 
   pub arrives_there : (o f k : ℕ) (words : List ℕ) (t1 t2 : Tables) (x' : Seat) → mode_of x.mode x.words ≡ Filling o f words k → piece_cells ≤ k → 0 < (object_at t o).count
-      → (Shown z t s → o < z.objects → AreTables z t1 (upd s.word o (counted (s.word o).count (Here f false))) s.note s.frame s.cell)
+      → (Shown z t s → o < z.objects → AreTables z t1 (upd s.word o (counted (s.word o).count (Here f true))) s.note s.frame s.cell)
       → ((s : State) → Shown z t1 s → o < z.objects → Shown z t2 (after_told s o)) → x' ≡ finished x 0
-      → TurnsTo (λ a. Calls (Arrives x.setting.mover o f false true) (λ u. finished_as x.setting p 0)) t2 berths x'
+      → TurnsTo (λ a. Calls (Arrives x.setting.mover o f true) (λ u. finished_as x.setting p 0)) t2 berths x'
   arrives_there o f k words t1 t2 x' e full some shown told same =
       let j = x.setting.mover in
       let inside = held_inside o some in
-      let v : State = after_arrive s j o f false in
-      calls_to (λ a. Calls (Arrives j o f false true) (λ u. finished_as x.setting p 0)) t2 berths x' (Arrives j o f false true) (λ u. finished_as x.setting p 0) refl
-      (may_legal h piece_cells s (Arrives j o f false true) (arrive_may o f k words e full (subst (λ n. 0 < n) (sym (note_count o)) some)))
+      let v : State = after_arrive s j o f in
+      calls_to (λ a. Calls (Arrives j o f true) (λ u. finished_as x.setting p 0)) t2 berths x' (Arrives j o f true) (λ u. finished_as x.setting p 0) refl
+      (may_legal h piece_cells s (Arrives j o f true) (arrive_may o f k words e full (subst (λ n. 0 < n) (sym (note_count o)) some)))
       (record { tables = told v (shown is.shows.tables inside) inside; far = is.shows.far; many = is.shows.many; objects_few = is.shows.objects_few; frames_few = is.shows.frames_few })
       (program_finished x x' p 0 is.program same) (ap (λ (k : Seat). k.setting) same)
 

@@ -26,13 +26,13 @@ below_false a b l = grind (arith, nat_tests)
 pub fills_cell : (g : Setting) (p : Program) (a : Answer) (o f k : ℕ) (words : List ℕ) → g.size ≡ piece_cells → k < piece_cells
     → program_brings g p a (fetching.Filling o f words k) ≡ Calls (Fills g.mover f k (listed words k)) (λ t. in_mode p (Filling o f words (suc k)))
 fills_cell g p a o f k words e l =
-    ap (λ b. cond b (Calls (Fills g.mover f k (listed words k)) (λ (t : State). in_mode p (Filling o f words (suc k)))) (Calls (Arrives g.mover o f false true) (λ t. finished g p 0)))
+    ap (λ b. cond b (Calls (Fills g.mover f k (listed words k)) (λ (t : State). in_mode p (Filling o f words (suc k)))) (Calls (Arrives g.mover o f true) (λ t. finished g p 0)))
     (ap (nat_lt k) e ∙ below_true k piece_cells l)
 
 pub fills_all : (g : Setting) (p : Program) (a : Answer) (o f k : ℕ) (words : List ℕ) → g.size ≡ piece_cells → piece_cells ≤ k
-    → program_brings g p a (fetching.Filling o f words k) ≡ Calls (Arrives g.mover o f false true) (λ t. finished g p 0)
+    → program_brings g p a (fetching.Filling o f words k) ≡ Calls (Arrives g.mover o f true) (λ t. finished g p 0)
 fills_all g p a o f k words e l =
-    ap (λ b. cond b (Calls (Fills g.mover f k (listed words k)) (λ (t : State). in_mode p (Filling o f words (suc k)))) (Calls (Arrives g.mover o f false true) (λ t. finished g p 0)))
+    ap (λ b. cond b (Calls (Fills g.mover f k (listed words k)) (λ (t : State). in_mode p (Filling o f words (suc k)))) (Calls (Arrives g.mover o f true) (λ t. finished g p 0)))
     (ap (nat_lt k) e ∙ below_false k piece_cells l)
 
 -- a turn that isn't what is next
@@ -41,6 +41,7 @@ not_next choice.Next x d = absurd (d refl)
 not_next (choice.Look f) x d = refl
 not_next (choice.Claim f) x d = refl
 not_next (choice.Mark o f) x d = refl
+not_next (choice.Leave o f) x d = refl
 not_next (choice.Begin o) x d = refl
 
 idle : (g : Setting) (s : State) (p : Program) (y : RustMode) (words : List ℕ) (c : Choice) (a : Answer) → ((o : ℕ) → y ≡ m.Bringing o → ⊥) → (c ≡ choice.Next → ⊥) → by_mode g s p (mode_of y words) c a ≡ NotEnabled

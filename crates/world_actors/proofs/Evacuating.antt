@@ -2,7 +2,7 @@
 use Rattle.std.proofs.Common.{◌≡◌, ℕ, ◌<◌, Bool, true, false, cond, ◌&&◌, List, [], Option, Some, None, refl, sym, ap, ◌∙◌, subst}
 use Rattle.std.specs.Prelude.{option_map, nat_lt}
 use Rattle.pointer_word.specs.Machine.{Far, State}
-use Rattle.pointer_word.specs.Calls.{Marks}
+use Rattle.pointer_word.specs.Calls.{Leaves, Marks}
 use Rattle.pointer_word.specs.Legal.{holds}
 use Rattle.pointer_word.proofs.Legal.{may_legal}
 use Rattle.remote_store.specs.Kept.{piece_cells}
@@ -17,14 +17,14 @@ use Rattle.world_semantics.specs.declared.event.Step.{Step}
 use Rattle.world_actors.specs.declared.program.Eviction.{Eviction as RustEviction}
 use Rattle.world_actors.specs.Acting.{Evacuates, Goes, Leads, Moves, Shows, Unread, UnreadSo, eviction_in}
 use Rattle.world_semantics.specs.InHand.{FitsEvacuator}
-use Rattle.world_semantics.specs.Programs.{Eviction, Copying}
+use Rattle.world_semantics.specs.Programs.{Eviction, Copying, Freed}
 use Rattle.world_actors.specs.Seats.{eviction_of}
 use Rattle.world_memory.specs.Tables.{Tables}
 use Rattle.world_semantics.specs.Turns.{Answer, evacuator_idle, evacuator_turn, evicts}
 use Rattle.world_semantics.specs.Worlds.{Sizes, in_range}
 use Rattle.world_actors.proofs.Acting.{leads_call, plain}
 use Rattle.world_semantics.proofs.Moving.{below}
-use Rattle.world_actors.proofs.MovedOut.{MarkedSo}
+use Rattle.world_actors.proofs.MovedOut.{LeftSo, MarkedSo}
 
 both : (a b : Bool) → (a && b) ≡ true → (a ≡ true) × (b ≡ true)
 both true b e = (refl, e)
@@ -33,6 +33,9 @@ both false b e = cc
 -- a choice in range names an object that is there
 pub mark_inside : (z : Sizes) (o f : ℕ) → in_range z (choice.Mark o f) ≡ true → o < z.objects
 mark_inside z o f e = below o z.objects (both (nat_lt o z.objects) (nat_lt f z.frames) e).0
+
+pub leave_inside : (z : Sizes) (o f : ℕ) → in_range z (choice.Leave o f) ≡ true → o < z.objects
+leave_inside z o f e = below o z.objects (both (nat_lt o z.objects) (nat_lt f z.frames) e).0
 
 -- and a frame that is there
 pub frame_inside : (z : Sizes) (f : ℕ) → in_range z (choice.Claim f) ≡ true → f < z.frames
@@ -56,6 +59,14 @@ module _ {C : Type 0} (content : C → Option (List ℕ)) (h : Type 0) (z : Size
       let go : State → Option Eviction = λ u. cond (holds (u.hand x.mover).leaving o) (Some (Copying o f [])) None in
       leads_call s (λ a. evacuator_idle x.mover (choice.Mark o f)) Unread (λ u y. Shows content z t' berths' u × (y ≡ d)) plain (Marks x.mover o f) go refl refl
       (may_legal h piece_cells s (Marks x.mover o f) (idle_fits e).1) (so.0, ap (λ (y : Bool). cond y (Some (Copying o f [])) None) so.1 ∙ q)
+
+  -- it tries to have a clean object leave
+  pub idle_leaves : (o f : ℕ) (t' : Tables) (berths' : List (Berth C)) (b : Bool) (d : Option Eviction) → x.eviction ≡ None → LeftSo content z t berths x.mover s is.shows o f t' berths' b → cond b (Some (Freed f)) None ≡ d
+      → Leads s (λ a. evacuator_idle x.mover (choice.Leave o f)) Unread (λ u y. Shows content z t' berths' u × (y ≡ d))
+  idle_leaves o f t' berths' b d e so q =
+      let go : State → Option Eviction = λ u. cond (holds (u.hand x.mover).freed f) (Some (Freed f)) None in
+      leads_call s (λ a. evacuator_idle x.mover (choice.Leave o f)) Unread (λ u y. Shows content z t' berths' u × (y ≡ d)) plain (Leaves x.mover o f) go refl refl
+      (may_legal h piece_cells s (Leaves x.mover o f) (idle_fits e).2.1) (so.0, ap (λ (y : Bool). cond y (Some (Freed f)) None) so.1 ∙ q)
 
 -- a turn of an evacuator that is idle, and of one that moves an object out
 pub turn_idle : (x : Evacuator) (s : State) (c : Choice) (honest : Answer → Type 0) (Q : State → Option Eviction → Type 0) (same : Type 0) (r : Step) → None ≡ x.eviction

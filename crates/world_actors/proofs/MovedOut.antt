@@ -5,9 +5,9 @@ use Rattle.std.proofs.Math.ListN.{set}
 use Rattle.std.proofs.lemmas.List.{length-take-le, take_all, take_more_set}
 use Rattle.std.proofs.lemmas.Bool.Decides.{nat_tests}
 use Rattle.pointer_word.specs.Words.{Away, Leaving, Word, counted}
-use Rattle.pointer_word.specs.Hands.{Hand, committing, known, listed, marking, upd}
-use Rattle.pointer_word.specs.Machine.{State, after_commit, after_mark}
-use Rattle.pointer_word.specs.Calls.{Aborts, Commits, Copies, Marks, Puts, Releases, IsPut, act, commit_at, mark_at}
+use Rattle.pointer_word.specs.Hands.{Hand, committing, known, leaving, listed, marking, upd}
+use Rattle.pointer_word.specs.Machine.{State, after_commit, after_leave, after_mark}
+use Rattle.pointer_word.specs.Calls.{Aborts, Commits, Copies, Leaves, Marks, Puts, Releases, IsPut, act, commit_at, leave_at, mark_at}
 use Rattle.pointer_word.specs.Legal.{acts, holds, legal}
 use Rattle.pointer_word.proofs.Legal.{may_legal}
 use Rattle.pointer_word.proofs.Upd.{upd-same}
@@ -19,7 +19,7 @@ use Rattle.world_actors.specs.Acting.{Leads, Moves, Outcome, On, Done, Failed, S
 use Rattle.world_memory.specs.Answered.{storing}
 use Rattle.world_semantics.specs.Programs.{Eviction, Copying, Stored, NotStored, Refused, Freed}
 use Rattle.world_memory.specs.Shown.{AreFar, AreTables, Shown}
-use Rattle.world_memory.specs.Tables.{Tables, cells_at, is_at_rest_in, is_here_at, is_marked_at, is_marked_by, object_at, place_of}
+use Rattle.world_memory.specs.Tables.{Tables, cells_at, is_at_rest_in, is_clean_at, is_clean_in, is_here_at, is_marked_at, is_marked_by, object_at, place_of}
 use Rattle.world_semantics.specs.Turns.{Answer, Turn, Calls, after_call, committed_so, evicts, put_of, put_so, taken}
 use Rattle.world_semantics.specs.Worlds.{Sizes}
 use Rattle.world_actors.proofs.Acting.{leads_call, leaving_inside, plain}
@@ -27,14 +27,14 @@ use Rattle.world_actors.proofs.Acting.{leads_call, leaving_inside, plain}
 commits_yes : (s : State) (m o f c : ℕ) (x : RustPlace) → (s.word o).count ≡ c → is_marked_at x c f m ≡ true → commit_at s m o f (place_of x) ≡ after_commit s m o f
 commits_yes s m o f c p.Away e q = cc
 commits_yes s m o f c (p.Coming j) e q = cc
-commits_yes s m o f c (p.Here g) e q = cc
+commits_yes s m o f c (p.Here g k) e q = cc
 commits_yes s m o f c (p.Leaving g j true) e q = ap (λ n. cond ((g == f) && ((j == m) && (n == 0))) (after_commit s m o f) s) e ∙ ap (λ b. cond b (after_commit s m o f) s) q
 commits_yes s m o f c (p.Leaving g j false) e q = cc
 
 commits_no : (s : State) (m o f c : ℕ) (x : RustPlace) → (s.word o).count ≡ c → is_marked_at x c f m ≡ false → commit_at s m o f (place_of x) ≡ s
 commits_no s m o f c p.Away e q = refl
 commits_no s m o f c (p.Coming j) e q = refl
-commits_no s m o f c (p.Here g) e q = refl
+commits_no s m o f c (p.Here g k) e q = refl
 commits_no s m o f c (p.Leaving g j true) e q = ap (λ n. cond ((g == f) && ((j == m) && (n == 0))) (after_commit s m o f) s) e ∙ ap (λ b. cond b (after_commit s m o f) s) q
 commits_no s m o f c (p.Leaving g j false) e q = refl
 
@@ -147,13 +147,15 @@ module _ {C : Type 0} (content : C → Option (List ℕ)) (h : Type 0) (z : Size
 marks_yes : (s : State) (m o f c : ℕ) (x : RustPlace) → (s.word o).count ≡ c → is_here_at x c f ≡ true → mark_at s m o f (place_of x) ≡ after_mark s m o f
 marks_yes s m o f c p.Away e q = cc
 marks_yes s m o f c (p.Coming j) e q = cc
-marks_yes s m o f c (p.Here g) e q = ap (λ n. cond ((g == f) && (n == 0)) (after_mark s m o f) s) e ∙ ap (λ b. cond b (after_mark s m o f) s) q
+marks_yes s m o f c (p.Here g true) e q = cc
+marks_yes s m o f c (p.Here g false) e q = ap (λ n. cond ((g == f) && (n == 0)) (after_mark s m o f) s) e ∙ ap (λ b. cond b (after_mark s m o f) s) q
 marks_yes s m o f c (p.Leaving g j k) e q = cc
 
 marks_no : (s : State) (m o f c : ℕ) (x : RustPlace) → (s.word o).count ≡ c → is_here_at x c f ≡ false → mark_at s m o f (place_of x) ≡ s
 marks_no s m o f c p.Away e q = refl
 marks_no s m o f c (p.Coming j) e q = refl
-marks_no s m o f c (p.Here g) e q = ap (λ n. cond ((g == f) && (n == 0)) (after_mark s m o f) s) e ∙ ap (λ b. cond b (after_mark s m o f) s) q
+marks_no s m o f c (p.Here g true) e q = refl
+marks_no s m o f c (p.Here g false) e q = ap (λ n. cond ((g == f) && (n == 0)) (after_mark s m o f) s) e ∙ ap (λ b. cond b (after_mark s m o f) s) q
 marks_no s m o f c (p.Leaving g j k) e q = refl
 
 module _ {C : Type 0} (content : C → Option (List ℕ)) (z : Sizes) (t : Tables) (berths : List (Berth C)) (m : ℕ) (s : State) (shows : Shows content z t berths s) where
@@ -180,6 +182,47 @@ module _ {C : Type 0} (content : C → Option (List ℕ)) (z : Sizes) (t : Table
       let place : (s.word o).place ≡ place_of x.place = ap (λ (w : Word). w.place) (shows.tables.objects o).word in
       let same : act s (Marks m o f) ≡ s = ap (mark_at s m o f) place ∙ marks_no s m o f x.count x.place count e in
       subst (λ (v : State). Shows content z t berths v × (holds (v.hand m).leaving o ≡ false)) (sym same) (shows, ap (λ y. holds y o) none)
+
+-- ---- clean objects that leave
+
+leaves_yes : (s : State) (m o f c : ℕ) (x : RustPlace) → (s.word o).count ≡ c → is_clean_at x c f ≡ true → leave_at s m o f (place_of x) ≡ after_leave s m o f
+leaves_yes s m o f c p.Away e q = cc
+leaves_yes s m o f c (p.Coming j) e q = cc
+leaves_yes s m o f c (p.Here g false) e q = cc
+leaves_yes s m o f c (p.Here g true) e q = ap (λ n. cond ((g == f) && (n == 0)) (after_leave s m o f) s) e ∙ ap (λ b. cond b (after_leave s m o f) s) q
+leaves_yes s m o f c (p.Leaving g j k) e q = cc
+
+leaves_no : (s : State) (m o f c : ℕ) (x : RustPlace) → (s.word o).count ≡ c → is_clean_at x c f ≡ false → leave_at s m o f (place_of x) ≡ s
+leaves_no s m o f c p.Away e q = refl
+leaves_no s m o f c (p.Coming j) e q = refl
+leaves_no s m o f c (p.Here g false) e q = refl
+leaves_no s m o f c (p.Here g true) e q = ap (λ n. cond ((g == f) && (n == 0)) (after_leave s m o f) s) e ∙ ap (λ b. cond b (after_leave s m o f) s) q
+leaves_no s m o f c (p.Leaving g j k) e q = refl
+
+module _ {C : Type 0} (content : C → Option (List ℕ)) (z : Sizes) (t : Tables) (berths : List (Berth C)) (m : ℕ) (s : State) (shows : Shows content z t berths s) where
+  -- a try to have a clean object leave leads to a state that the tables show, and it is known whether the mover has the frame
+  abbrev pub LeftSo : ℕ → ℕ → Tables → List (Berth C) → Bool → Type 0
+  LeftSo o f t' berths' b = let u : State = act s (Leaves m o f) in Shows content z t' berths' u × (holds (u.hand m).freed f ≡ b)
+
+  pub left : (o f : ℕ) (t' : Tables) → o < z.objects → is_clean_in (object_at t o) f ≡ true
+      → (Shown z t s → o < z.objects → AreTables z t' (upd s.word o (counted (s.word o).count Away)) s.note s.frame s.cell) → LeftSo o f t' berths true
+  left o f t' inside e told =
+      let x = object_at t o in
+      let u : State = after_leave s m o f in
+      let hand : u.hand m ≡ leaving (s.hand m) f = upd-same s.hand m (leaving (s.hand m) f) m refl in
+      let count : (s.word o).count ≡ x.count = ap (λ (w : Word). w.count) (shows.tables.objects o).word in
+      let place : (s.word o).place ≡ place_of x.place = ap (λ (w : Word). w.place) (shows.tables.objects o).word in
+      let same : act s (Leaves m o f) ≡ u = ap (leave_at s m o f) place ∙ leaves_yes s m o f x.count x.place count e in
+      subst (λ (v : State). Shows content z t' berths v × (holds (v.hand m).freed f ≡ true)) (sym same)
+      (record { tables = told shows.tables inside; far = shows.far; many = shows.many; objects_few = shows.objects_few; frames_few = shows.frames_few }, ap (λ (y : Hand). holds y.freed f) hand ∙ eq-eqb f f refl)
+
+  pub not_left : (o f : ℕ) → (s.hand m).freed ≡ None → is_clean_in (object_at t o) f ≡ false → LeftSo o f t berths false
+  not_left o f none e =
+      let x = object_at t o in
+      let count : (s.word o).count ≡ x.count = ap (λ (w : Word). w.count) (shows.tables.objects o).word in
+      let place : (s.word o).place ≡ place_of x.place = ap (λ (w : Word). w.place) (shows.tables.objects o).word in
+      let same : act s (Leaves m o f) ≡ s = ap (leave_at s m o f) place ∙ leaves_no s m o f x.count x.place count e in
+      subst (λ (v : State). Shows content z t berths v × (holds (v.hand m).freed f ≡ false)) (sym same) (shows, ap (λ y. holds y f) none)
 
 -- ---- whoever moves out
 

@@ -1,6 +1,6 @@
 //! A program's turns as it brings an object in, and as it gives up because its store failed.
 ghost use Rattle.std.specs.Prelude.{◌≡◌, ◌<◌, ◌≤◌, ℕ, suc, List, true, false, cond};
-ghost use Rattle.pointer_word.specs.Calls.{Arrives, Begins, Claims, Fills, Marks, Retreats, Unclaims};
+ghost use Rattle.pointer_word.specs.Calls.{Arrives, Begins, Claims, Fills, Leaves, Marks, Retreats, Unclaims};
 ghost use Rattle.pointer_word.specs.Hands.{known, listed};
 ghost use Rattle.pointer_word.specs.Machine.{Far};
 ghost use Rattle.remote_store.specs.Kept.{piece_cells};
@@ -10,10 +10,10 @@ ghost use Rattle.world_semantics.specs.Fetchers.{as_mode};
 ghost use Rattle.world_semantics.specs.Programs.{Program as Defined, Bringing, Closing, Evicting, Filling, Missing, Retreating, finished as finished_as, in_mode};
 ghost use Rattle.world_actors.specs.Seats.{IsSteady, Waits, eviction_of, mode_of, next_touch};
 ghost use Rattle.world_memory.specs.Shown.{IsNew};
-ghost use Rattle.world_semantics.specs.Turns.{Alone, Calls, began, evicts, marked_so, program_claimed, read_so, seeks, to_fill};
+ghost use Rattle.world_semantics.specs.Turns.{Alone, Calls, began, evicts, left_so, marked_so, program_claimed, read_so, seeks, to_fill};
 ghost use Rattle.world_semantics.specs.Worlds.{in_range};
 
-use crate::evict::mark;
+use crate::evict::{leave, mark};
 use crate::program::{Eviction, Mode, Program};
 use remote_store::{Port, RawStore};
 use world_memory::{Lock, Place};
@@ -117,6 +117,31 @@ impl<'a> Program<'a> {
         }
     }
 
+    /// Tries to have another object leave, which is clean.
+    fn leave_other<S: RawStore>(
+        &mut self,
+        lock: &mut Lock<S>,
+        object: usize,
+        other: usize,
+        frame: usize,
+    ) -> Step
+        requires mode { self.old.mode ≡ Mode.Bringing object }
+        requires steady { IsSteady (next_touch self.old) }
+        ensures { TurnsIn S.content (λ z. other < z.objects) S.honest lock.old.memory lock.new.memory lock.old.berths.items lock.new.berths.items self.old self.new
+            (λ s p a. Calls (Leaves self.old.setting.mover other frame) (left_so self.old.setting p object frame)) ((lock.new ≡ lock.old) × (self.new ≡ self.old)) result }
+    {
+        let mover = self.mover();
+        if leave(lock, mover, other, frame) {
+            self.set_mode(Mode::Evicting {
+                object,
+                eviction: Eviction::Freed(frame),
+            });
+            Step::Took
+        } else {
+            Step::Took
+        }
+    }
+
     /// Seeks a frame for the object that it brings in.
     pub(crate) fn seek<S: RawStore>(
         &mut self,
@@ -134,6 +159,9 @@ impl<'a> Program<'a> {
             Choice::Claim(frame) => self.claim(lock, object, frame as usize),
             Choice::Mark(other, frame) => {
                 self.mark_other(lock, object, other as usize, frame as usize)
+            }
+            Choice::Leave(other, frame) => {
+                self.leave_other(lock, object, other as usize, frame as usize)
             }
             Choice::Next | Choice::Begin(_) => Step::NotEnabled,
         }
@@ -173,12 +201,12 @@ impl<'a> Program<'a> {
         requires steady { IsSteady (next_touch self.old) }
         ensures { (words : List ℕ) (k : ℕ) → mode_of self.old.mode self.old.words ≡ Filling object frame words k → piece_cells ≤ k
             → Turns S.content S.honest lock.old.memory lock.new.memory lock.old.berths.items lock.new.berths.items self.old self.new
-            (λ s p a. Calls (Arrives self.old.setting.mover object frame false true) (λ t. finished_as self.old.setting p 0)) ((lock.new ≡ lock.old) × (self.new ≡ self.old)) result }
+            (λ s p a. Calls (Arrives self.old.setting.mover object frame true) (λ t. finished_as self.old.setting p 0)) ((lock.new ≡ lock.old) × (self.new ≡ self.old)) result }
     {
         if lock.memory.object(object).count == 0 {
             Step::NotEnabled
         } else {
-            lock.memory.put_place(object, Place::Here(frame));
+            lock.memory.put_place(object, Place::Here(frame, true));
             lock.memory.tell(object);
             self.finish(0);
             Step::Took

@@ -9,7 +9,7 @@ ghost use Rattle.world_actors.specs.Seats.{eviction_of};
 ghost use Rattle.world_semantics.specs.Turns.{evacuator_idle, evacuator_turn, evicts};
 ghost use Rattle.world_semantics.specs.Worlds.{Sizes, in_range};
 
-use crate::evict::{evict, mark};
+use crate::evict::{evict, leave, mark};
 use crate::program::Eviction;
 use remote_store::{PIECE_CELLS, Port, RawStore};
 use world_memory::Lock;
@@ -43,7 +43,7 @@ impl Evacuator {
         self.eviction
     }
 
-    /// Looks at a frame, or tries to mark an object.
+    /// Looks at a frame, or tries to mark an object, or to have a clean one leave.
     fn seek<S: RawStore>(&mut self, lock: &mut Lock<S>, choice: Choice) -> Step
         requires { self.old.eviction ≡ None }
         ensures mover { self.new.mover ≡ self.old.mover }
@@ -61,6 +61,13 @@ impl Evacuator {
                         frame,
                         at: 0,
                     });
+                }
+                Step::Took
+            }
+            Choice::Leave(object, frame) => {
+                let (object, frame) = (object as usize, frame as usize);
+                if leave(lock, self.mover, object, frame) {
+                    self.eviction = Some(Eviction::Freed(frame));
                 }
                 Step::Took
             }

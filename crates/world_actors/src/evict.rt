@@ -1,6 +1,6 @@
 //! Moving an object out of its frame, an event at a time.
 ghost use Rattle.std.specs.Prelude.{◌≡◌, ◌<◌, ◌≤◌, ℕ, List, None, Some, false, length, option_map};
-ghost use Rattle.pointer_word.specs.Calls.{Aborts, Marks, Releases, act};
+ghost use Rattle.pointer_word.specs.Calls.{Aborts, Leaves, Marks, Releases, act};
 ghost use Rattle.pointer_word.specs.Legal.{holds};
 ghost use Rattle.pointer_word.specs.Machine.{State};
 ghost use Rattle.pointer_word.specs.Sound.{Inv};
@@ -56,7 +56,7 @@ impl Evicted {
     }
 }
 
-/// Tries to mark the object in the frame, to move it out. False where it isn't there, or is held, or moves already.
+/// Tries to mark the object in the frame, to move it out. False where it isn't there, or is held, or is clean, or moves already.
 pub(crate) fn mark<S: RawStore>(lock: &mut Lock<S>, mover: u16, object: usize, frame: usize) -> bool
     ensures marks { (z : Sizes) (s : State) → object < z.objects → (s.hand mover).leaving ≡ None → Shows S.content z lock.old.memory lock.old.berths.items s
         → let t = act s (Marks mover object frame) in Shows S.content z lock.new.memory lock.new.berths.items t × (holds (t.hand mover).leaving object ≡ result) }
@@ -65,6 +65,27 @@ pub(crate) fn mark<S: RawStore>(lock: &mut Lock<S>, mover: u16, object: usize, f
     if lock.memory.object(object).is_at_rest(frame) {
         lock.memory
             .put_place(object, Place::Leaving(frame, mover, true));
+        true
+    } else {
+        false
+    }
+}
+
+/// Tries to have the object leave the frame. False where it isn't clean there, or is held.
+pub(crate) fn leave<S: RawStore>(
+    lock: &mut Lock<S>,
+    mover: u16,
+    object: usize,
+    frame: usize,
+) -> bool
+    ensures leaves { (z : Sizes) (s : State) → object < z.objects → (s.hand mover).freed ≡ None → Shows S.content z lock.old.memory lock.old.berths.items s
+        → let t = act s (Leaves mover object frame) in Shows S.content z lock.new.memory lock.new.berths.items t × (holds (t.hand mover).freed frame ≡ result) }
+    ensures refused { result ≡ false → lock.new ≡ lock.old }
+{
+    // Only the clauses speak of the mover, which has no berth in hand for it.
+    let _ = mover;
+    if lock.memory.object(object).is_clean(frame) {
+        lock.memory.put_place(object, Place::Away);
         true
     } else {
         false
@@ -134,7 +155,7 @@ fn abort<S: RawStore>(lock: &mut Lock<S>, object: usize, frame: usize)
     ensures { (m : ℕ) (z : Sizes) (s : State) → Inv S.honest piece_cells s → MovesOut object frame (s.hand m) → Shows S.content z lock.old.memory lock.old.berths.items s
         → Shows S.content z lock.new.memory lock.new.berths.items (act s (Aborts m object frame)) }
 {
-    lock.memory.put_place(object, Place::Here(frame));
+    lock.memory.put_place(object, Place::Here(frame, false));
 }
 
 /// Gives the freed frame back.

@@ -45,19 +45,19 @@ begin_inside z o e = below o z.objects e
 begins_yes : (s : State) (m o : ℕ) (x : RustPlace) → (s.word o).count ≡ 0 → is_away_at x ≡ true → begin_at s m o 0 false (place_of x) ≡ after_begin s m o
 begins_yes s m o placed.Away e q = ap (λ b. cond b (after_begin s m o) s) (eq-eqb (s.word o).count 0 e)
 begins_yes s m o (placed.Coming j) e q = cc
-begins_yes s m o (placed.Here f) e q = cc
+begins_yes s m o (placed.Here f k) e q = cc
 begins_yes s m o (placed.Leaving f j k) e q = cc
 
 begins_held : (s : State) (m o : ℕ) (x : RustPlace) → (s.word o).count ≢ 0 → begin_at s m o 0 false (place_of x) ≡ s
 begins_held s m o placed.Away e = ap (λ b. cond b (after_begin s m o) s) (ne_eqb (s.word o).count 0 e)
 begins_held s m o (placed.Coming j) e = refl
-begins_held s m o (placed.Here f) e = refl
+begins_held s m o (placed.Here f k) e = refl
 begins_held s m o (placed.Leaving f j k) e = refl
 
 begins_elsewhere : (s : State) (m o : ℕ) (x : RustPlace) → is_away_at x ≡ false → begin_at s m o 0 false (place_of x) ≡ s
 begins_elsewhere s m o placed.Away e = cc
 begins_elsewhere s m o (placed.Coming j) e = refl
-begins_elsewhere s m o (placed.Here f) e = refl
+begins_elsewhere s m o (placed.Here f k) e = refl
 begins_elsewhere s m o (placed.Leaving f j k) e = refl
 
 module _ {C : Type 0} (content : C → Option (List ℕ)) (z : Sizes) (t : Tables) (berths : List (Berth C)) (m : ℕ) (s : State) (shows : Shows content z t berths s) where
@@ -141,17 +141,17 @@ module _ {C : Type 0} (content : C → Option (List ℕ)) (h : Type 0) (z : Size
   filled o f k v words t' berths' is l value after =
       let r : Option Fetching = Some (Filling o f words (suc k)) in
       leads_call s (λ a. brings piece_cells m false a (Filling o f words k) Some None None) Unread (λ u q. Shows content z t' berths' u × (q ≡ Some (Filling o f words (k + 1)))) plain (Fills m f k (listed words k)) (λ _. r) refl
-      (ap (λ b. cond b (Calls (Fills m f k (listed words k)) (λ (u : State). r)) (Calls (Arrives m o f false false) (λ (u : State). None))) (below_true k piece_cells l))
+      (ap (λ b. cond b (Calls (Fills m f k (listed words k)) (λ (u : State). r)) (Calls (Arrives m o f false) (λ (u : State). None))) (below_true k piece_cells l))
       (may_legal h piece_cells s (Fills m f k (listed words k)) is.fits.0.2)
       (subst (λ n. Shows content z t' berths' (act s (Fills m f k n))) value after, ap (λ n. Some (Filling o f words n)) (next k))
 
-  pub arrived : (o f k : ℕ) (words : List ℕ) (t' : Tables) (berths' : List (Berth C)) → Brings content h z t berths m (Filling o f words k) s → piece_cells ≤ k → Shows content z t' berths' (act s (Arrives m o f false false))
+  pub arrived : (o f k : ℕ) (words : List ℕ) (t' : Tables) (berths' : List (Berth C)) → Brings content h z t berths m (Filling o f words k) s → piece_cells ≤ k → Shows content z t' berths' (act s (Arrives m o f false))
       → LeadsTo (Filling o f words k) t' berths' None
   arrived o f k words t' berths' is full after =
       let fits = is.fits in
-      leads_call s (λ a. brings piece_cells m false a (Filling o f words k) Some None None) Unread (λ u q. Shows content z t' berths' u × (q ≡ None)) plain (Arrives m o f false false) (λ _. None) refl
-      (ap (λ b. cond b (Calls (Fills m f k (listed words k)) (λ (u : State). Some (Filling o f words (suc k)))) (Calls (Arrives m o f false false) (λ (u : State). None))) (below_false k piece_cells full))
-      (may_legal h piece_cells s (Arrives m o f false false) (fits.0.0, fits.0.2, filled_all h piece_cells (s.hand m) words fits.2 (λ i l. fits.1 i (omega arith)), (λ own. cc), refl)) (after, refl)
+      leads_call s (λ a. brings piece_cells m false a (Filling o f words k) Some None None) Unread (λ u q. Shows content z t' berths' u × (q ≡ None)) plain (Arrives m o f false) (λ _. None) refl
+      (ap (λ b. cond b (Calls (Fills m f k (listed words k)) (λ (u : State). Some (Filling o f words (suc k)))) (Calls (Arrives m o f false) (λ (u : State). None))) (below_false k piece_cells full))
+      (may_legal h piece_cells s (Arrives m o f false) (fits.0.0, fits.0.2, filled_all h piece_cells (s.hand m) words fits.2 (λ i l. fits.1 i (omega arith)), (λ own. cc))) (after, refl)
 
   pub released : (o f : ℕ) (t' : Tables) (berths' : List (Berth C)) → Brings content h z t berths m (Releasing o f) s → Shows content z t' berths' (act s (Unclaims m f)) → LeadsTo (Releasing o f) t' berths' (Some (Retreating o))
   released o f t' berths' is after =
@@ -241,6 +241,7 @@ on_else m e choice.Next a next claim = absurd (next refl)
 on_else m e (choice.Look f) a next claim = refl
 on_else m e (choice.Claim f) a next claim = absurd (claim f refl)
 on_else m e (choice.Mark o f) a next claim = refl
+on_else m e (choice.Leave o f) a next claim = refl
 on_else m e (choice.Begin o) a next claim = refl
 
 pub turn_else : (x : Fetcher) (s : State) (c : Choice) (e : RustFetching) (a : Answer) → Some e ≡ x.fetching → (c ≡ choice.Next → ⊥) → ((f : ℕ) → c ≡ choice.Claim f → ⊥)

@@ -142,9 +142,9 @@ fn fill<S: RawStore>(lock: &mut Lock<S>, frame: usize, index: usize, value: u64)
 /// The frame is filled, and the object is in it.
 fn arrive<S: RawStore>(lock: &mut Lock<S>, object: usize, frame: usize)
     ensures { (m : ℕ) (z : Sizes) (s : State) → Inv S.honest piece_cells s → (s.hand m).bringing ≡ Some object → Shows S.content z lock.old.memory lock.old.berths.items s
-        → Shows S.content z lock.new.memory lock.new.berths.items (act s (Arrives m object frame false false)) }
+        → Shows S.content z lock.new.memory lock.new.berths.items (act s (Arrives m object frame false)) }
 {
-    lock.memory.put_place(object, Place::Here(frame));
+    lock.memory.put_place(object, Place::Here(frame, true));
 }
 
 /// Fills the next cell with what was read; behind the last the object arrives.

@@ -59,9 +59,11 @@ impl Fetcher {
                 }
                 Step::Took
             }
-            Choice::Next | Choice::Look(_) | Choice::Claim(_) | Choice::Mark(_, _) => {
-                Step::NotEnabled
-            }
+            Choice::Next
+            | Choice::Look(_)
+            | Choice::Claim(_)
+            | Choice::Mark(_, _)
+            | Choice::Leave(_, _) => Step::NotEnabled,
         }
     }
 

@@ -12,11 +12,11 @@ pub record Tables : Type 0 where
   pub objects : List Object
   pub frames : List Frame
 
--- the place that code holds; no object is clean
+-- the place that code holds
 abbrev pub place_of : Place → words.Place
 place_of p.Away = words.Away
 place_of (p.Coming m) = words.Coming m
-place_of (p.Here f) = words.Here f false
+place_of (p.Here f k) = words.Here f k
 place_of (p.Leaving f m k) = words.Leaving f m k
 
 -- the word that code holds
@@ -69,14 +69,23 @@ is_marked_at _ c f m = false
 abbrev pub is_marked_by : Object → ℕ → ℕ → Bool
 is_marked_by x f m = is_marked_at x.place x.count f m
 
--- in this frame with no hold, and no mover moves it
+-- in this frame with no hold, not clean, and no mover moves it
 abbrev pub is_here_at : Place → ℕ → ℕ → Bool
-is_here_at (p.Here g) c f = (g == f) && (c == 0)
+is_here_at (p.Here g false) c f = (g == f) && (c == 0)
 is_here_at _ c f = false
 
 -- so of an object
 abbrev pub is_at_rest_in : Object → ℕ → Bool
 is_at_rest_in x f = is_here_at x.place x.count f
+
+-- clean in this frame with no hold
+abbrev pub is_clean_at : Place → ℕ → ℕ → Bool
+is_clean_at (p.Here g true) c f = (g == f) && (c == 0)
+is_clean_at _ c f = false
+
+-- so of an object
+abbrev pub is_clean_in : Object → ℕ → Bool
+is_clean_in x f = is_clean_at x.place x.count f
 
 -- in its store cell
 abbrev pub is_away_at : Place → Bool

@@ -2,9 +2,9 @@
 ghost use Rattle.std.specs.Prelude.{◌≡◌, ◌<◌, ◌≤◌, ◌^◌, IfOk, Some, None, is_none, length, replicate, slice_index};
 ghost use Rattle.pointer_word.specs.Hands.{upd};
 ghost use Rattle.pointer_word.specs.Machine.{State, after_clear, after_close, after_open, after_told};
-ghost use Rattle.pointer_word.specs.Words.{cleared, counted, framed, mark_bit, pack, place_bits};
+ghost use Rattle.pointer_word.specs.Words.{clean_bit, cleared, counted, framed, mark_bit, pack, place_bits};
 ghost use Rattle.remote_store.specs.Kept.{piece_cells};
-ghost use Rattle.world_memory.specs.Tables.{cells_at, frame_at, frame_word, free, is_at_rest_in, is_away_at, is_marked_by, object_at, place_of, resting, with_cell, with_frame, with_object, word_of, FrameFits};
+ghost use Rattle.world_memory.specs.Tables.{cells_at, frame_at, frame_word, free, is_at_rest_in, is_away_at, is_clean_in, is_marked_by, object_at, place_of, resting, with_cell, with_frame, with_object, word_of, FrameFits};
 ghost use Rattle.world_memory.specs.Shown.{Shown};
 ghost use Rattle.world_semantics.specs.Worlds.{Sizes};
 
@@ -20,8 +20,8 @@ pub enum Place {
     Away,
     /// A mover brings it in.
     Coming(u16),
-    /// In a frame.
-    Here(usize),
+    /// In a frame; it may be clean: then its store cell has the same words.
+    Here(usize, bool),
     /// In a frame, while a mover copies it out; the mark may still stand.
     Leaving(usize, u16, bool),
 }
@@ -64,7 +64,7 @@ impl Place {
     {
         match self {
             Place::Away | Place::Coming(_) => None,
-            Place::Here(frame) | Place::Leaving(frame, _, _) => Some(frame),
+            Place::Here(frame, _) | Place::Leaving(frame, _, _) => Some(frame),
         }
     }
 }
@@ -78,7 +78,9 @@ impl Place {
         match self {
             Place::Away => 0,
             Place::Coming(mover) => 0x4_0000 + mover as u64 * 0x1000_0000_0000,
-            Place::Here(frame) => 0x8_0000 + (frame as u64 % 0x100_0000) * 0x10_0000,
+            Place::Here(frame, clean) => {
+                clean_bits(clean) + 0x8_0000 + (frame as u64 % 0x100_0000) * 0x10_0000
+            }
             Place::Leaving(frame, mover, marked) => {
                 let at = (frame as u64 % 0x100_0000) * 0x10_0000;
                 mark_bits(marked) + 0xa_0000 + at + mover as u64 * 0x1000_0000_0000
@@ -126,21 +128,32 @@ impl Object {
         }
     }
 
-    /// Whether it is in this frame with no hold, and no mover moves it.
+    /// Whether it is in this frame with no hold, is not clean, and no mover moves it.
     pub fn is_at_rest(self, frame: usize) -> bool
         ensures { result ≡ is_at_rest_in self frame }
     {
         match self.place {
-            Place::Here(at) => at == frame && self.count == 0,
+            Place::Here(at, false) => at == frame && self.count == 0,
             _ => false,
         }
     }
 
-    /// The place with no mark.
+    /// Whether it is clean in this frame with no hold.
+    pub fn is_clean(self, frame: usize) -> bool
+        ensures { result ≡ is_clean_in self frame }
+    {
+        match self.place {
+            Place::Here(at, true) => at == frame && self.count == 0,
+            _ => false,
+        }
+    }
+
+    /// The place with no mark, and not clean.
     fn cleared(self) -> Place
         ensures { place_of result ≡ cleared (place_of self.place) }
     {
         match self.place {
+            Place::Here(frame, _) => Place::Here(frame, false),
             Place::Leaving(frame, mover, _) => Place::Leaving(frame, mover, false),
             place => place,
         }
@@ -271,7 +284,7 @@ impl Memory {
         self.put_object(object, closed);
     }
 
-    /// The object is not marked, and its owner may write where it knows the frame.
+    /// The object is neither marked nor clean, and its owner may write where it knows the frame.
     pub fn clear(&mut self, object: usize)
         ensures { (z : Sizes) (s : State) → Shown z self.old s → object < z.objects → Shown z self.new (after_clear s object) }
     {
@@ -337,4 +350,12 @@ fn mark_bits(marked: bool) -> u64
     ensures room { result ≤ 65536 }
 {
     if marked { 0x1_0000 } else { 0 }
+}
+
+/// The bits of an object in a frame that is clean or isn't.
+fn clean_bits(clean: bool) -> u64
+    ensures value { result ≡ clean_bit clean }
+    ensures room { result ≤ 0x1000_0000_0000_0000 }
+{
+    if clean { 0x1000_0000_0000_0000 } else { 0 }
 }

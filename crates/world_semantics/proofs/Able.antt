@@ -41,6 +41,7 @@ same_next n s choice.Next x y e = e
 same_next n s (choice.Look f) x y e = refl
 same_next n s (choice.Claim f) x y e = refl
 same_next n s (choice.Mark o f) x y e = refl
+same_next n s (choice.Leave o f) x y e = refl
 same_next n s (choice.Begin o) x y e = refl
 
 same_cond : {A : Type 0} (n : ℕ) (s : State) (b : Bool) (v w x y : Turn A) → able n s v ≡ able n s w → (b ≡ false → able n s x ≡ able n s y) → able n s (cond b v x) ≡ able n s (cond b w y)
@@ -110,6 +111,7 @@ fetches_same n s m d choice.Next a b = brings_same n s m false a b Some None Non
 fetches_same n s m d (choice.Look f) a b = refl
 fetches_same n s m d (choice.Claim f) a b = refl
 fetches_same n s m d (choice.Mark o f) a b = refl
+fetches_same n s m d (choice.Leave o f) a b = refl
 fetches_same n s m d (choice.Begin o) a b = refl
 
 fetcher_same : (n : ℕ) (s : State) (m : ℕ) (d : Option Fetching) (c : Choice) (a b : Answer) → able n s (fetcher_turn n m d c a) ≡ able n s (fetcher_turn n m d c b)

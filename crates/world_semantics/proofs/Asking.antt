@@ -52,6 +52,7 @@ asks_next owner h n s m choice.Next x k = k
 asks_next owner h n s m (choice.Look f) x k = tt
 asks_next owner h n s m (choice.Claim f) x k = tt
 asks_next owner h n s m (choice.Mark o f) x k = tt
+asks_next owner h n s m (choice.Leave o f) x k = tt
 asks_next owner h n s m (choice.Begin o) x k = tt
 
 equal : (a b : ℕ) → (a == b) ≡ true → a ≡ b
@@ -134,7 +135,7 @@ module _ {A : Type 0} (owner : ℕ → ℕ) (h : Type 0) (n : ℕ) (s : State) (
   asks_fill o f words k mine into is same = asks_cond owner h n s m (nat_lt k n) _ _
       (λ e. (refl, below k n e, into.2))
       (λ e. let far : n ≤ k = not_below k n e in
-      (refl, (λ q. (mine q).0), (into.0, into.2, (λ i l. (listed words i, is i (omega arith), λ y. same y i l)), (λ q. (mine q).1), refl)))
+      (refl, (λ q. (mine q).0), (into.0, into.2, (λ i l. (listed words i, is i (omega arith), λ y. same y i l)), (λ q. (mine q).1))))
 
   -- an owner has a hold of what it brings in
   pub asks_brings : (d : Fetching) → ((o : ℕ) → (s.hand m).bringing ≡ Some o → own ≡ true → (owner o ≡ m) × (0 < (s.note o).count)) → FitsMode h n s.far (s.hand m) (as_mode d)
@@ -235,6 +236,8 @@ module _ (owner : ℕ → ℕ) (h : Type 0) (g : Setting) (s : State) (p : Progr
   asks_seek o (choice.Claim f) aiming only = (refl, only.0, only.1, only.2)
   asks_seek o (choice.Mark v f) aiming only =
       (refl, (only.1, only.2, (λ q e. let same : o ≡ q = (let k : Some o ≡ Some q = sym only.0 ∙ e in cc) in subst (λ i. owner i ≡ g.mover) same (aimed o aiming).0)))
+  asks_seek o (choice.Leave v f) aiming only =
+      (refl, (only.1, only.2, (λ q e. let same : o ≡ q = (let k : Some o ≡ Some q = sym only.0 ∙ e in cc) in subst (λ i. owner i ≡ g.mover) same (aimed o aiming).0)))
 
   brings_own : (o : ℕ) → IsAiming g p o → (s.hand g.mover).bringing ≡ Some o → (q : ℕ) → (s.hand g.mover).bringing ≡ Some q → true ≡ true → (owner q ≡ g.mover) × (0 < (s.note q).count)
   brings_own o aiming only q e r = let same : o ≡ q = (let k : Some o ≡ Some q = sym only ∙ e in cc) in subst (λ i. (owner i ≡ g.mover) × (0 < (s.note i).count)) same (aimed o aiming)
@@ -268,6 +271,7 @@ asks_idle owner h n s m (choice.Look f) has = tt
 asks_idle owner h n s m (choice.Claim f) has = tt
 asks_idle owner h n s m (choice.Begin o) has = tt
 asks_idle owner h n s m (choice.Mark o f) has = (refl, (has.1, has.2, (λ q e. let k : None ≡ Some q = sym has.0 ∙ e in cc)))
+asks_idle owner h n s m (choice.Leave o f) has = (refl, (has.1, has.2, (λ q e. let k : None ≡ Some q = sym has.0 ∙ e in cc)))
 
 pub asks_evacuator : (owner : ℕ → ℕ) (h : Type 0) (n : ℕ) (s : State) (m : ℕ) (d : Option Eviction) (c : Choice) (a : Answer) → FitsEvacuator n s.far (s.hand m) d → AsksTurn owner h n s m (evacuator_turn n m d c a)
 asks_evacuator owner h n s m None c a fits = asks_idle owner h n s m c fits
@@ -281,6 +285,7 @@ module _ (owner : ℕ → ℕ) (h : Type 0) (n : ℕ) (s : State) (m : ℕ) wher
   asks_begin (choice.Look f) has = tt
   asks_begin (choice.Claim f) has = tt
   asks_begin (choice.Mark o f) has = tt
+  asks_begin (choice.Leave o f) has = tt
   asks_begin (choice.Begin o) has = (refl, has, (λ own. cc), (λ other. refl))
 
   asks_claim : (f : ℕ) (d : Fetching) → FitsMode h n s.far (s.hand m) (as_mode d) → AsksTurn owner h n s m (fetcher_claims m f d)
@@ -295,6 +300,7 @@ module _ (owner : ℕ → ℕ) (h : Type 0) (n : ℕ) (s : State) (m : ℕ) wher
   asks_fetches d (choice.Look f) a fits = tt
   asks_fetches d (choice.Claim f) a fits = asks_claim f d fits
   asks_fetches d (choice.Mark o f) a fits = tt
+  asks_fetches d (choice.Leave o f) a fits = tt
   asks_fetches d (choice.Begin o) a fits = tt
 
   pub asks_fetcher : (d : Option Fetching) (c : Choice) (a : Answer) → FitsFetcher h n s.far (s.hand m) d → AsksTurn owner h n s m (fetcher_turn n m d c a)

@@ -93,7 +93,7 @@ module _ {A : Type 0} (h : Type 0) (n : ℕ) (s : State) (m : ℕ) (inv : Inv h 
         (λ e. let far : n ≤ k = not_below k n e in (
           (λ q i v l r. let w : Some (listed words i) ≡ Some v = sym (is i (omega arith)) ∙ r in let u : listed words i ≡ v = cc in sym u ∙ same q i l),
           refl,
-          ends (act s (Arrives m o f false own)) (subst HasNothing (sym (arrives s m o f false own).hand) (refl, into.1, (refl, into.3))),
+          ends (act s (Arrives m o f own)) (subst HasNothing (sym (arrives s m o f own).hand) (refl, into.1, (refl, into.3))),
         ))
 
     gives_up_ok : (o : ℕ) → OnlyBrings o (s.hand m) → TurnOk h n s m Q (brings n m own a (fetching.Retreating o) go done failed)
@@ -123,6 +123,7 @@ module _ (h : Type 0) (n : ℕ) (s : State) (m : ℕ) (inv : Inv h n s) where
   idle_ok (choice.Look f) has = tt
   idle_ok (choice.Claim f) has = tt
   idle_ok (choice.Mark o f) has = tt
+  idle_ok (choice.Leave o f) has = tt
   idle_ok (choice.Begin o) has =
       let t : State = act s (Begins m o 0 false) in
       let tried = begins s m o 0 false in (
@@ -151,6 +152,7 @@ module _ (h : Type 0) (n : ℕ) (s : State) (m : ℕ) (inv : Inv h n s) where
   fetches_ok d (choice.Look f) a fits honest = tt
   fetches_ok d (choice.Claim f) a fits honest = claims_ok f d fits
   fetches_ok d (choice.Mark o f) a fits honest = tt
+  fetches_ok d (choice.Leave o f) a fits honest = tt
   fetches_ok d (choice.Begin o) a fits honest = tt
 
   pub fetcher_ok : (d : Option Fetching) (c : Choice) (a : Answer) → FitsFetcher h n s.far (s.hand m) d → (h → FetchesHonestly n s d a.read) → TurnOk h n s m FetcherFits (fetcher_turn n m d c a)

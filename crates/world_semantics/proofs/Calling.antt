@@ -2,7 +2,7 @@
 use Rattle.std.proofs.Common.{◌≡◌, ◌≢◌, ◌⊎◌, inl, inr, ℕ, Bool, true, false, cond, ◌&&◌, Option, Some, None, refl, sym, ap, ◌∙◌, subst}
 use Rattle.std.specs.Prelude.{◌==◌}
 use Rattle.pointer_word.specs.Words.{Place, Away, Coming, Here, Leaving}
-use Rattle.pointer_word.specs.Hands.{Hand, bringing, claiming, filling, arriving, unclaiming, retreating, marking, copying, committing, aborting, releasing}
+use Rattle.pointer_word.specs.Hands.{Hand, bringing, claiming, filling, arriving, unclaiming, retreating, marking, copying, committing, leaving, aborting, releasing}
 use Rattle.pointer_word.specs.Machine.{Far, Never, Kept, Unknown, content, content_or, State, after_begin, after_claim, after_mark, after_commit, after_leave}
 use Rattle.pointer_word.specs.Calls.{Call, Opens, Closes, Clears, Stores, Begins, Claims, Fills, Arrives, Unclaims, Retreats, Marks, Copies, Puts, Commits, Aborts, Leaves, Releases, May, IsPut, Copied, told_where, begin_at, mark_at, commit_at, leave_at, act}
 use Rattle.pointer_word.specs.Sound.{Inv}
@@ -69,12 +69,22 @@ commits_at s m o f (Leaving g j true) = tried_cond m s (after_commit s m o f) (c
 pub commits : (s : State) (m o f : ℕ) → Tried m s (act s (Commits m o f)) (committing (s.hand m) f)
 commits s m o f = commits_at s m o f (s.word o).place
 
+leaves_at : (s : State) (m o f : ℕ) (p : Place) → Tried m s (leave_at s m o f p) (leaving (s.hand m) f)
+leaves_at s m o f Away = tried_not m s _
+leaves_at s m o f (Coming j) = tried_not m s _
+leaves_at s m o f (Here g false) = tried_not m s _
+leaves_at s m o f (Here g true) = tried_cond m s (after_leave s m o f) (leaving (s.hand m) f) ((g == f) && ((s.word o).count == 0)) (upd-same s.hand m _ m refl) refl
+leaves_at s m o f (Leaving g j k) = tried_not m s _
+
+pub leaves : (s : State) (m o f : ℕ) → Tried m s (act s (Leaves m o f)) (leaving (s.hand m) f)
+leaves s m o f = leaves_at s m o f (s.word o).place
+
 pub fills_one : (s : State) (m f i v : ℕ) → After m s (act s (Fills m f i v)) (filling (s.hand m) i v)
 fills_one s m f i v = record { hand = upd-same s.hand m _ m refl; far = refl }
 
-pub arrives : (s : State) (m o f : ℕ) (k own : Bool) → After m s (act s (Arrives m o f k own)) (arriving (s.hand m))
-arrives s m o f k true = record { hand = upd-same s.hand m _ m refl; far = refl }
-arrives s m o f k false = record { hand = upd-same s.hand m _ m refl; far = refl }
+pub arrives : (s : State) (m o f : ℕ) (own : Bool) → After m s (act s (Arrives m o f own)) (arriving (s.hand m))
+arrives s m o f true = record { hand = upd-same s.hand m _ m refl; far = refl }
+arrives s m o f false = record { hand = upd-same s.hand m _ m refl; far = refl }
 
 pub unclaims : (s : State) (m f : ℕ) → After m s (act s (Unclaims m f)) (unclaiming (s.hand m))
 unclaims s m f = record { hand = upd-same s.hand m _ m refl; far = refl }
@@ -140,8 +150,8 @@ other_hand j s (Stores o f i v) d = refl
 other_hand j s (Begins m o c own) d = other_begin j s m o c own (s.word o).place (apart m j d)
 other_hand j s (Claims m o f) d = other_cond j s (after_claim s m o f) s (s.frame f == 0) (upd-other s.hand m _ j (apart m j d)) refl
 other_hand j s (Fills m f i v) d = upd-other s.hand m _ j (apart m j d)
-other_hand j s (Arrives m o f k true) d = upd-other s.hand m _ j (apart m j d)
-other_hand j s (Arrives m o f k false) d = upd-other s.hand m _ j (apart m j d)
+other_hand j s (Arrives m o f true) d = upd-other s.hand m _ j (apart m j d)
+other_hand j s (Arrives m o f false) d = upd-other s.hand m _ j (apart m j d)
 other_hand j s (Unclaims m f) d = upd-other s.hand m _ j (apart m j d)
 other_hand j s (Retreats m o) d = upd-other s.hand m _ j (apart m j d)
 other_hand j s (Marks m o f) d = other_mark j s m o f (s.word o).place (apart m j d)
@@ -183,8 +193,8 @@ stores_stay h n j s (Stores o f i v) may inv d = stay_same j s (act s (Stores o 
 stores_stay h n j s (Begins m o c own) may inv d = stay_same j s (act s (Begins m o c own)) (begins s m o c own).far
 stores_stay h n j s (Claims m o f) may inv d = stay_same j s (act s (Claims m o f)) (claims s m o f).far
 stores_stay h n j s (Fills m f i v) may inv d = stay_same j s (act s (Fills m f i v)) refl
-stores_stay h n j s (Arrives m o f k true) may inv d = stay_same j s (act s (Arrives m o f k true)) refl
-stores_stay h n j s (Arrives m o f k false) may inv d = stay_same j s (act s (Arrives m o f k false)) refl
+stores_stay h n j s (Arrives m o f true) may inv d = stay_same j s (act s (Arrives m o f true)) refl
+stores_stay h n j s (Arrives m o f false) may inv d = stay_same j s (act s (Arrives m o f false)) refl
 stores_stay h n j s (Unclaims m f) may inv d = stay_same j s (act s (Unclaims m f)) refl
 stores_stay h n j s (Retreats m o) may inv d = stay_same j s (act s (Retreats m o)) refl
 stores_stay h n j s (Marks m o f) may inv d = stay_same j s (act s (Marks m o f)) (marks s m o f).far
@@ -195,7 +205,7 @@ stores_stay h n j s (Puts m o x) may inv d = record {
 }
 stores_stay h n j s (Commits m o f) may inv d = stay_same j s (act s (Commits m o f)) (commits s m o f).far
 stores_stay h n j s (Aborts m o f) may inv d = stay_same j s (act s (Aborts m o f)) refl
-stores_stay h n j s (Leaves m o f) may inv d = let e : false ≡ true = may.1 in cc
+stores_stay h n j s (Leaves m o f) may inv d = stay_same j s (act s (Leaves m o f)) (leaves s m o f).far
 stores_stay h n j s (Releases m f) may inv d = stay_same j s (act s (Releases m f)) refl
 
 -- ---- what an actor has in hand stays under the calls of others

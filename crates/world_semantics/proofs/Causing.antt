@@ -11,7 +11,7 @@ use Rattle.code_form.specs.Form.{Image}
 use Rattle.code_form.specs.Placed.{pieces}
 use Rattle.pointer_word.specs.Hands.{known, upd}
 use Rattle.pointer_word.specs.Machine.{Far, Never, Kept, Unknown, State}
-use Rattle.pointer_word.specs.Calls.{Opens, Closes, Begins, Claims, Marks, Commits, act}
+use Rattle.pointer_word.specs.Calls.{Opens, Closes, Begins, Claims, Marks, Commits, Leaves, act}
 use Rattle.pointer_word.specs.Legal.{holds}
 use Rattle.pointer_word.proofs.Upd.{upd-same, upd-other, same_or}
 use Rattle.world_semantics.specs.declared.event.Actor.{Actor}
@@ -126,6 +126,10 @@ module _ (g : Setting) (s : State) (p : Program) (a : Answer) where
   seeks_so o (choice.Mark v f) e =
       let t : State = act s (Marks g.mover v f) in
       chosen t (holds (t.hand g.mover).leaving v) _ _ (λ _. tt) (λ _. subst (IsCaused g p a) (sym e) tt)
+
+  seeks_so o (choice.Leave v f) e =
+      let t : State = act s (Leaves g.mover v f) in
+      chosen t (holds (t.hand g.mover).freed f) _ _ (λ _. tt) (λ _. subst (IsCaused g p a) (sym e) tt)
 
   read_caused : (o f : ℕ) (read : Option (List ℕ)) → a.read ≡ read → p.mode ≡ Reading o f → Q s (in_mode p (as_mode (read_so o f read)))
   read_caused o f None r e = refused (Reading o f) e r

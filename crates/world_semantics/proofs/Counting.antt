@@ -64,7 +64,7 @@ keeps_count s (Stores v f i a) e o = noted s v (added (s.note v) i a) o refl
 keeps_count s (Begins m v c own) e o = begin_holds s m v c own (s.word v).place o
 keeps_count s (Claims m v f) e o = cond_holds (s.frame f == 0) (after_claim s m v f) s s o refl refl
 keeps_count s (Fills m f i v) e o = refl
-keeps_count s (Arrives m v f k own) e o = told_holds own (after_arrive s m v f k) v o
+keeps_count s (Arrives m v f own) e o = told_holds own (after_arrive s m v f) v o
 keeps_count s (Unclaims m f) e o = refl
 keeps_count s (Retreats m v) e o = refl
 keeps_count s (Marks m v f) e o = mark_holds s m v f (s.word v).place o

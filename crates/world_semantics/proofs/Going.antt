@@ -12,7 +12,7 @@ use Rattle.code_form.specs.Placed.{pieces}
 use Rattle.code_form.specs.Touches.{resumed}
 use Rattle.pointer_word.specs.Hands.{upd, known, listed}
 use Rattle.pointer_word.specs.Machine.{Far, Never, Kept, Unknown, State, latest}
-use Rattle.pointer_word.specs.Calls.{Call, Opens, Closes, Clears, Begins, Claims, Fills, Arrives, Unclaims, Retreats, Marks, Copies, Puts, Commits, Aborts, Releases, act}
+use Rattle.pointer_word.specs.Calls.{Call, Opens, Closes, Clears, Begins, Claims, Fills, Arrives, Unclaims, Retreats, Marks, Copies, Puts, Commits, Aborts, Leaves, Releases, act}
 use Rattle.pointer_word.specs.Legal.{holds}
 use Rattle.world_semantics.specs.declared.event.Choice.{Choice}
 use Rattle.world_semantics.specs.declared.event.Choice.TheVariants as choice
@@ -38,6 +38,7 @@ leads_next s Q choice.Next x ok = ok
 leads_next s Q (choice.Look f) x ok = tt
 leads_next s Q (choice.Claim f) x ok = tt
 leads_next s Q (choice.Mark o f) x ok = tt
+leads_next s Q (choice.Leave o f) x ok = tt
 leads_next s Q (choice.Begin o) x ok = tt
 
 -- moving an object out stores nothing
@@ -64,7 +65,7 @@ module _ {A : Type 0} (n : ℕ) (s : State) (m : ℕ) (own : Bool) (a : Answer) 
   leads_brings (fetching.Reading o f) = goes s (read_so o f a.read) (λ o i. refl)
   leads_brings (fetching.Filling o f words k) = leads_cond s Q (nat_lt k n) _ _
       (λ _. goes (act s (Fills m f k (listed words k))) (fetching.Filling o f words (suc k)) (keeps_latest s (Fills m f k (listed words k)) refl))
-      (λ _. ends (act s (Arrives m o f false own)) (keeps_latest s (Arrives m o f false own) refl))
+      (λ _. ends (act s (Arrives m o f own)) (keeps_latest s (Arrives m o f own) refl))
   leads_brings (fetching.Releasing o f) = goes (act s (Unclaims m f)) (fetching.Retreating o) (keeps_latest s (Unclaims m f) refl)
   leads_brings (fetching.Retreating o) = fails (act s (Retreats m o)) (keeps_latest s (Retreats m o) refl)
 
@@ -296,6 +297,13 @@ module _ (g : Setting) (s : State) (p : Program) (a : Answer) where
       (λ _. stays t (in_mode p (Evicting o (Copying v f []))) refl refl (same_call c refl) (aiming_on _ o aiming))
       (λ _. stays t p refl refl (same_call c refl) (subst (AimsIn g p) (sym e) aiming))
 
+  seeks_to o (choice.Leave v f) aiming e =
+      let c : Call = Leaves g.mover v f in
+      let t : State = act s c in
+      chosen t (holds (t.hand g.mover).freed f) _ _
+      (λ _. stays t (in_mode p (Evicting o (Freed f))) refl refl (same_call c refl) (aiming_on _ o aiming))
+      (λ _. stays t p refl refl (same_call c refl) (subst (AimsIn g p) (sym e) aiming))
+
   read_to : (o f : ℕ) (read : Option (List ℕ)) → IsAiming g p o → Q s (in_mode p (as_mode (read_so o f read)))
   read_to o f None aiming = stays s _ refl refl still (aiming_on _ o aiming)
   read_to o f (Some words) aiming = stays s _ refl refl still (aiming_on _ o aiming)
@@ -303,7 +311,7 @@ module _ (g : Setting) (s : State) (p : Program) (a : Answer) where
   fills_to : (o f : ℕ) (words : List ℕ) (k : ℕ) → IsAiming g p o → Leads s Q (program_brings g p a (fetching.Filling o f words k))
   fills_to o f words k aiming = leads_cond s Q (nat_lt k g.size) _ _
       (λ _. stays (act s (Fills g.mover f k (listed words k))) _ refl refl (same_call (Fills g.mover f k (listed words k)) refl) (aiming_on _ o aiming))
-      (λ _. plain (touch.Aims aiming.scope (Some aiming.cell)) aiming.is tt (act s (Arrives g.mover o f false true)) (same_call (Arrives g.mover o f false true) refl) p.holds)
+      (λ _. plain (touch.Aims aiming.scope (Some aiming.cell)) aiming.is tt (act s (Arrives g.mover o f true)) (same_call (Arrives g.mover o f true) refl) p.holds)
 
   closed_to : (t : State) (k : ℕ) (q : Option (ℕ × Hold)) → ((o i : ℕ) → latest t o i ≡ latest s o i) → p.mode ≡ Closing → Q t (closed_so (holding p k None) q)
   closed_to t k None same e = stays t _ refl refl same tt

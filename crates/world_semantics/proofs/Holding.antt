@@ -7,14 +7,14 @@ use Rattle.code_form.specs.declared.touch.Cell.{Cell}
 use Rattle.code_form.specs.declared.touch.Touch.{Touch}
 use Rattle.code_form.specs.declared.touch.Touch.TheVariants as touch
 use Rattle.code_form.specs.declared.allocation.Allocation.{Allocation}
-use Rattle.code_form.specs.Effects.{Effect, Plain, Hints, Aims, Loads, Stores as StoresOf, Leaves, Allocs, Ends, Wrong, Nothing}
+use Rattle.code_form.specs.Effects.{Effect, Plain, Hints, Aims, Loads, Stores as StoresOf, Leaves as LeavesOf, Allocs, Ends, Wrong, Nothing}
 use Rattle.code_form.specs.Code.{Core, Running, Stopped, Stuck, Scope, Shut, Aimed, Stale, allocations_of, cells_of, code, effect, held, held_by, is_blocked, sizes}
 use Rattle.code_form.specs.Placed.{pieces}
 use Rattle.code_form.specs.Touches.{cell, cell_option, touch_of}
 use Rattle.code_form.specs.Tracked.{IsTidy, IsTracked}
 use Rattle.pointer_word.specs.Hands.{known, listed}
 use Rattle.pointer_word.specs.Machine.{State}
-use Rattle.pointer_word.specs.Calls.{Call, Opens, Closes, Clears, Stores, Begins, Claims, Fills, Arrives, Unclaims, Retreats, Marks, Copies, Puts, Commits, Aborts, Releases, act}
+use Rattle.pointer_word.specs.Calls.{Call, Opens, Closes, Clears, Stores, Begins, Claims, Fills, Arrives, Unclaims, Retreats, Marks, Copies, Puts, Commits, Aborts, Leaves, Releases, act}
 use Rattle.pointer_word.specs.Legal.{holds}
 use Rattle.pointer_word.proofs.Upd.{same_or}
 use Rattle.std.specs.Prelude.{slice_get}
@@ -82,7 +82,7 @@ effect_there (Hints v d) cells k w e so = cc
 effect_there (Aims s v d) cells k w e so = let b = so s v d refl in aimed_at s d cells v k w b.0 b.1 e
 effect_there (Loads s r x n) cells k w e so = cc
 effect_there (StoresOf s r x v d) cells k w e so = cc
-effect_there (Leaves s d) cells k w e so = cc
+effect_there (LeavesOf s d) cells k w e so = cc
 effect_there (Allocs n d) cells k w e so = cc
 effect_there (Ends d) cells k w e so = cc
 effect_there (Wrong d) cells k w e so = cc
@@ -190,6 +190,10 @@ module _ (g : Setting) (s : State) (p : Program) (a : Answer) (there : (k : ℕ)
       let c : Call = Marks g.mover v f in
       chosen (act s c) (holds ((act s c).hand g.mover).leaving v) _ _ (by_call c _ refl refl) (by_call c _ refl refl)
 
+  seeks_h o (choice.Leave v f) =
+      let c : Call = Leaves g.mover v f in
+      chosen (act s c) (holds ((act s c).hand g.mover).freed f) _ _ (by_call c _ refl refl) (by_call c _ refl refl)
+
   missing_h : (o : ℕ) → Leads s Q (Calls (Begins g.mover o (s.note o).count true) (began g p o))
   missing_h o =
       let c : Call = Begins g.mover o (s.note o).count true in
@@ -197,7 +201,7 @@ module _ (g : Setting) (s : State) (p : Program) (a : Answer) (there : (k : ℕ)
       chosen t (holds (t.hand g.mover).bringing o) _ _ (by_call c _ refl refl) (chosen t (known (t.note o).frame) _ _ (by_call c _ refl refl) (by_call c _ refl refl))
 
   fills_h : (o f : ℕ) (words : List ℕ) (k : ℕ) → Leads s Q (program_brings g p a (fetching.Filling o f words k))
-  fills_h o f words k = leads_cond s Q (nat_lt k g.size) _ _ (λ _. by_call (Fills g.mover f k (listed words k)) _ refl refl) (λ _. by_call (Arrives g.mover o f false true) _ refl refl)
+  fills_h o f words k = leads_cond s Q (nat_lt k g.size) _ _ (λ _. by_call (Fills g.mover f k (listed words k)) _ refl refl) (λ _. by_call (Arrives g.mover o f true) _ refl refl)
 
   evicts_h : (o : ℕ) (d : Eviction) → Leads s Q (evicts g.size g.mover a d (λ x. in_mode p (Evicting o x)) (in_mode p (Bringing o)) (in_mode p (Retreating o)))
   evicts_h o (Copying v f words) = leads_cond s Q (nat_lt (length words) g.size) _ _

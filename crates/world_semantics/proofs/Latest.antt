@@ -62,7 +62,7 @@ keeps_past s (Stores v f i a) o e = cc
 keeps_past s (Begins m v c own) o e = begin_past s m v c own (s.word v).place o
 keeps_past s (Claims m v f) o e = cond_past (s.frame f == 0) (after_claim s m v f) s s o refl refl
 keeps_past s (Fills m f i v) o e = refl
-keeps_past s (Arrives m v f k own) o e = told_past own (after_arrive s m v f k) v o
+keeps_past s (Arrives m v f own) o e = told_past own (after_arrive s m v f) v o
 keeps_past s (Unclaims m f) o e = refl
 keeps_past s (Retreats m v) o e = refl
 keeps_past s (Marks m v f) o e = mark_past s m v f (s.word v).place o

@@ -25,7 +25,7 @@ Granted h n s (Closes o) = Unit {0}
 Granted h n s (Clears o) = Unit {0}
 Granted h n s (Stores o f i v) = Unit {0}
 Granted h n s (Begins m o c own) = Unit {0}
-Granted h n s (Arrives m o f k own) = Agrees h n s (Arrives m o f k own)
+Granted h n s (Arrives m o f own) = Agrees h n s (Arrives m o f own)
 Granted h n s c = May h n s c
 
 pub granted_may : (h : Type 0) (n : ℕ) (s : State) (c : Call) → legal n s c ≡ true → Granted h n s c → May h n s c
@@ -34,7 +34,7 @@ granted_may h n s (Closes o) e g = legal_may h n s (Closes o) e tt
 granted_may h n s (Clears o) e g = legal_may h n s (Clears o) e tt
 granted_may h n s (Stores o f i v) e g = legal_may h n s (Stores o f i v) e tt
 granted_may h n s (Begins m o c own) e g = legal_may h n s (Begins m o c own) e tt
-granted_may h n s (Arrives m o f k own) e g = legal_may h n s (Arrives m o f k own) e g
+granted_may h n s (Arrives m o f own) e g = legal_may h n s (Arrives m o f own) e g
 granted_may h n s (Claims m o f) e g = g
 granted_may h n s (Fills m f i v) e g = g
 granted_may h n s (Unclaims m f) e g = g

@@ -16,7 +16,7 @@ noted (Closes o) = Some o
 noted (Clears o) = Some o
 noted (Stores o f i v) = Some o
 noted (Begins m o c own) = cond own (Some o) None
-noted (Arrives m o f k own) = cond own (Some o) None
+noted (Arrives m o f own) = cond own (Some o) None
 noted _ = None
 
 apart : (o v : ℕ) → Some o ≢ Some v → v ≢ o
@@ -66,7 +66,7 @@ note_stays s (Stores o f i x) v d = upd-other s.note o _ v (apart o v d)
 note_stays s (Begins m o c own) v d = begin_note s m o c own (s.word o).place v d
 note_stays s (Claims m o f) v d = cond_note (s.frame f == 0) s (after_claim s m o f) s v refl refl
 note_stays s (Fills m f i x) v d = refl
-note_stays s (Arrives m o f k own) v d = told_note own (after_arrive s m o f k) o v d
+note_stays s (Arrives m o f own) v d = told_note own (after_arrive s m o f) o v d
 note_stays s (Unclaims m f) v d = refl
 note_stays s (Retreats m o) v d = refl
 note_stays s (Marks m o f) v d = mark_note s m o f (s.word o).place v
@@ -88,7 +88,7 @@ noted_own owner h n s m (Closes o) v k e = let q : o ≡ v = cc in subst (λ i. 
 noted_own owner h n s m (Clears o) v k e = let q : o ≡ v = cc in subst (λ i. owner i ≡ m) q k.0
 noted_own owner h n s m (Stores o f i x) v k e = let q : o ≡ v = cc in subst (λ i. owner i ≡ m) q k.0
 noted_own owner h n s m (Begins j o c own) v k e = let q = none_noted own o v e in subst (λ i. owner i ≡ m) q.1 (k.2 q.0).0
-noted_own owner h n s m (Arrives j o f c own) v k e = let q = none_noted own o v e in subst (λ i. owner i ≡ m) q.1 (k.1 q.0)
+noted_own owner h n s m (Arrives j o f own) v k e = let q = none_noted own o v e in subst (λ i. owner i ≡ m) q.1 (k.1 q.0)
 noted_own owner h n s m (Claims j o f) v k e = cc
 noted_own owner h n s m (Fills j f i x) v k e = cc
 noted_own owner h n s m (Unclaims j f) v k e = cc
@@ -153,21 +153,21 @@ begun_told h n s m o c own (Here g k) inv = told_told h n s o own inv
 begun_told h n s m o c own (Leaving g j k) inv = told_told h n s o own inv
 
 -- an owner that arrives is told the frame
-pub arrived_frame : (s : State) (m o f : ℕ) (k : Bool) → known ((act s (Arrives m o f k true)).note o).frame ≡ true
-arrived_frame s m o f k =
-    let t : State = after_arrive s m o f k in
+pub arrived_frame : (s : State) (m o f : ℕ) → known ((act s (Arrives m o f true)).note o).frame ≡ true
+arrived_frame s m o f =
+    let t : State = after_arrive s m o f in
     let x : Note = told (s.note o) (framed (t.word o).place) in
-    let e : (act s (Arrives m o f k true)).note o ≡ x = upd-same s.note o x o refl in
-    let d : t.word o ≡ counted (s.word o).count (Here f k) = upd-same s.word o _ o refl in
+    let e : (act s (Arrives m o f true)).note o ≡ x = upd-same s.note o x o refl in
+    let d : t.word o ≡ counted (s.word o).count (Here f true) = upd-same s.word o _ o refl in
     ap (λ (y : Note). known y.frame) e ∙ ap (λ (w : Word). known (framed w.place)) d
 
-arrived_told : (s : State) (m o f : ℕ) (k own : Bool) → KeepsTold s (act s (Arrives m o f k own)) o
-arrived_told s m o f k true =
-    let t : State = after_arrive s m o f k in
+arrived_told : (s : State) (m o f : ℕ) (own : Bool) → KeepsTold s (act s (Arrives m o f own)) o
+arrived_told s m o f true =
+    let t : State = after_arrive s m o f in
     let x : Note = told (s.note o) (framed (t.word o).place) in
-    let e : (act s (Arrives m o f k true)).note o ≡ x = upd-same s.note o x o refl in
-    record { frame = λ q c. arrived_frame s m o f k; writing = λ q c w. ap (λ (y : Note). y.writing) e ∙ w }
-arrived_told s m o f k false = same_told s (act s (Arrives m o f k false)) o refl
+    let e : (act s (Arrives m o f true)).note o ≡ x = upd-same s.note o x o refl in
+    record { frame = λ q c. arrived_frame s m o f; writing = λ q c w. ap (λ (y : Note). y.writing) e ∙ w }
+arrived_told s m o f false = same_told s (act s (Arrives m o f false)) o refl
 
 -- an owner that clears may write
 pub cleared_told : (s : State) (o : ℕ) → known (s.note o).frame ≡ true → ((act s (Clears o)).note o).writing ≡ true
@@ -189,7 +189,7 @@ own_told h n s (Stores o f i x) v inv e =
     let q : o ≡ v = cc in
     subst (KeepsTold s (act s (Stores o f i x))) q (to_told s (act s (Stores o f i x)) o (added (s.note o) i x) (upd-same s.note o _ o refl) (λ k. k) (λ w. w))
 own_told h n s (Begins m o c own) v inv e = subst (KeepsTold s (act s (Begins m o c own))) (none_noted own o v e).1 (begun_told h n s m o c own (s.word o).place inv)
-own_told h n s (Arrives m o f k own) v inv e = subst (KeepsTold s (act s (Arrives m o f k own))) (none_noted own o v e).1 (arrived_told s m o f k own)
+own_told h n s (Arrives m o f own) v inv e = subst (KeepsTold s (act s (Arrives m o f own))) (none_noted own o v e).1 (arrived_told s m o f own)
 own_told h n s (Claims m o f) v inv e = cc
 own_told h n s (Fills m f i x) v inv e = cc
 own_told h n s (Unclaims m f) v inv e = cc

@@ -7,7 +7,7 @@ use Rattle.code_form.specs.Code.{is_blocked}
 use Rattle.code_form.specs.Placed.{pieces}
 use Rattle.pointer_word.specs.Hands.{Hand, known}
 use Rattle.pointer_word.specs.Machine.{State}
-use Rattle.pointer_word.specs.Calls.{Opens, Closes, Begins, Marks, act}
+use Rattle.pointer_word.specs.Calls.{Opens, Closes, Begins, Marks, Leaves, act}
 use Rattle.pointer_word.specs.Asked.{HasNothing}
 use Rattle.pointer_word.specs.Legal.{holds}
 use Rattle.pointer_word.specs.Sound.{Inv}
@@ -15,11 +15,11 @@ use Rattle.world_semantics.specs.declared.event.Choice.{Choice}
 use Rattle.world_semantics.specs.declared.event.Choice.TheVariants as choice
 use Rattle.world_semantics.specs.Fetchers as fetching
 use Rattle.world_semantics.specs.Fetchers.{Fetching, as_mode}
-use Rattle.world_semantics.specs.Programs.{Eviction, Copying, Hold, Mode, Ready, Missing, Bringing, Reading, Filling, Evicting, Releasing, Retreating, Closing, Wanted, Program, Setting, next_touch, object_of, object_or_none, next_free, hold_at, holding, in_mode, finished, first_hold, may_grow, rest_of}
-use Rattle.world_semantics.specs.Turns.{Answer, Turn, NotEnabled, Calls, as_next, evacuator_idle, evacuator_turn, grows, closes, found, aims_at, loads_from, loads_by, stores_to, stores_by, leaves_by, ends_by, ready, began, marked_so, seeks, program_brings, closed_so, gives_up, by_mode}
+use Rattle.world_semantics.specs.Programs.{Eviction, Copying, Freed, Hold, Mode, Ready, Missing, Bringing, Reading, Filling, Evicting, Releasing, Retreating, Closing, Wanted, Program, Setting, next_touch, object_of, object_or_none, next_free, hold_at, holding, in_mode, finished, first_hold, may_grow, rest_of}
+use Rattle.world_semantics.specs.Turns.{Answer, Turn, NotEnabled, Calls, as_next, evacuator_idle, evacuator_turn, grows, closes, found, aims_at, loads_from, loads_by, stores_to, stores_by, leaves_by, ends_by, ready, began, marked_so, left_so, seeks, program_brings, closed_so, gives_up, by_mode}
 use Rattle.world_semantics.specs.Worlds.{ReadsHonestly}
 use Rattle.world_semantics.specs.InHand.{OnlyBrings, FitsMode, FitsEvacuator}
-use Rattle.world_semantics.proofs.Calling.{begins, marks}
+use Rattle.world_semantics.proofs.Calling.{begins, marks, leaves}
 use Rattle.world_semantics.proofs.Bringing.{brings_ok, claim_ok, holds_none, holds_self}
 use Rattle.world_semantics.proofs.Moving.{TurnOk, turn_cond, evicts_ok}
 
@@ -28,6 +28,7 @@ as_next_ok h n s m Q choice.Next x ok = ok
 as_next_ok h n s m Q (choice.Look f) x ok = tt
 as_next_ok h n s m Q (choice.Claim f) x ok = tt
 as_next_ok h n s m Q (choice.Mark o f) x ok = tt
+as_next_ok h n s m Q (choice.Leave o f) x ok = tt
 as_next_ok h n s m Q (choice.Begin o) x ok = tt
 
 module _ (h : Type 0) (g : Setting) (s : State) (p : Program) (a : Answer) (inv : Inv h g.size s) where
@@ -143,6 +144,23 @@ module _ (h : Type 0) (g : Setting) (s : State) (p : Program) (a : Answer) (inv 
             ]),
       )
 
+  leave_ok : (o v f : ℕ) → OnlyBrings o (s.hand g.mover) → p.mode ≡ Bringing o → Ok (Calls (Leaves g.mover v f) (left_so g p o f))
+  leave_ok o v f only m =
+      let t : State = act s (Leaves g.mover v f) in
+      let tried = leaves s g.mover v f in (
+        only.2.1,
+        refl,
+        either t (holds (t.hand g.mover).freed f) (in_mode p (Evicting o (Freed f))) p
+            (λ q. elim tried.hand [
+              | inl e ↦ subst (λ (y : Hand). FitsMode h g.size t.far y (Evicting o (Freed f))) (sym e) (only.0, only.2.0, (only.1, refl))
+              | inr e ↦ absurd (holds_none (t.hand g.mover).freed f (ap (λ (y : Hand). y.freed) e ∙ only.2.1) q)
+            ])
+            (λ q. elim tried.hand [
+              | inl e ↦ absurd (holds_self (t.hand g.mover).freed f (ap (λ (y : Hand). y.freed) e) q)
+              | inr e ↦ subst (λ y. FitsMode h g.size t.far (t.hand g.mover) y) (sym m) (subst (OnlyBrings o) (sym e) only)
+            ]),
+      )
+
   seeks_ok : (o : ℕ) (c : Choice) → OnlyBrings o (s.hand g.mover) → p.mode ≡ Bringing o → Ok (seeks g p o c)
   seeks_ok o choice.Next only m = tt
   seeks_ok o (choice.Begin v) only m = tt
@@ -150,6 +168,7 @@ module _ (h : Type 0) (g : Setting) (s : State) (p : Program) (a : Answer) (inv 
   seeks_ok o (choice.Claim f) only m =
       claim_ok h g.size s g.mover inv (λ d. in_mode p (as_mode d)) Fits (λ t d is. is) o f p (λ t is. subst (λ y. FitsMode h g.size t.far (t.hand g.mover) y) (sym m) is) only
   seeks_ok o (choice.Mark v f) only m = mark_ok o v f only m
+  seeks_ok o (choice.Leave v f) only m = leave_ok o v f only m
 
   bring_ok : (d : Fetching) → FitsMode h g.size s.far (s.hand g.mover) (as_mode d) → (h → ReadsHonestly g.size s (as_mode d) a.read) → Ok (program_brings g p a d)
   bring_ok d fits honest = brings_ok h g.size s g.mover inv (λ e. in_mode p (as_mode e)) Fits (λ t e is. is) true a (finished g p 0) (in_mode p Closing) (λ t is. is) (λ t is. is) d fits honest
@@ -197,6 +216,22 @@ module _ (h : Type 0) (n : ℕ) (s : State) (m : ℕ) where
             ])
             (λ q. elim tried.hand [
               | inl e ↦ absurd (holds_self (t.hand m).leaving o (ap (λ (y : Hand). y.leaving) e) q)
+              | inr e ↦ subst HasNothing (sym e) has
+            ]),
+      )
+
+  idle_ok (choice.Leave o f) has =
+      let t : State = act s (Leaves m o f) in
+      let tried = leaves s m o f in (
+        has.2.1,
+        refl,
+        either_so t (holds (t.hand m).freed f) (Some (Freed f)) None
+            (λ q. elim tried.hand [
+              | inl e ↦ subst (λ (y : Hand). FitsEvacuator n t.far y (Some (Freed f))) (sym e) (has.0, has.2.0, (has.1, refl))
+              | inr e ↦ absurd (holds_none (t.hand m).freed f (ap (λ (y : Hand). y.freed) e ∙ has.2.1) q)
+            ])
+            (λ q. elim tried.hand [
+              | inl e ↦ absurd (holds_self (t.hand m).freed f (ap (λ (y : Hand). y.freed) e) q)
               | inr e ↦ subst HasNothing (sym e) has
             ]),
       )

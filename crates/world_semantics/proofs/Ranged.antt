@@ -71,7 +71,7 @@ module _ (w : Word) (away : w.place ≡ Away) where
   change_outside Close = if_outside (nat_lt 0 w.count) (counted (w.count - 1) w.place) w outside outside
   change_outside Clear = if_outside (nat_lt 0 w.count) (counted w.count (cleared w.place)) w (ap (λ (p : Place). framed (cleared p)) away) outside
   change_outside (Begin m c) = subst (λ (p : Place). framed (changed_or (begun w p m c) w).place ≡ None) (sym away) (if_outside (w.count == c) (counted w.count (Coming m)) w refl outside)
-  change_outside (Arrive m f k) = subst (λ (p : Place). framed (changed_or (arrived w p m f k) w).place ≡ None) (sym away) outside
+  change_outside (Arrive m f) = subst (λ (p : Place). framed (changed_or (arrived w p m f) w).place ≡ None) (sym away) outside
   change_outside (Retreat m) = subst (λ (p : Place). framed (changed_or (retreated w p m) w).place ≡ None) (sym away) outside
   change_outside (Mark m f) = subst (λ (p : Place). framed (changed_or (marked w p m f) w).place ≡ None) (sym away) outside
   change_outside (Commit m f) = subst (λ (p : Place). framed (changed_or (committed w p m f) w).place ≡ None) (sym away) outside
@@ -189,6 +189,7 @@ idle_below z s m choice.Next inside = tt
 idle_below z s m (choice.Look f) inside = tt
 idle_below z s m (choice.Claim f) inside = tt
 idle_below z s m (choice.Mark o f) inside = tt
+idle_below z s m (choice.Leave o f) inside = tt
 idle_below z s m (choice.Begin o) inside = by_test (holds ((act s (Begins m o 0 false)).hand m).bringing o)
   where
     by_test : (b : Bool) → FetchesBelow z.objects (cond b (Some (fetching.Bringing o)) None)
@@ -227,6 +228,7 @@ fetches_below n cells s m d choice.Next a l = brings_below n cells s m a d l
 fetches_below n cells s m d (choice.Look f) a l = tt
 fetches_below n cells s m d (choice.Claim f) a l = claim_below n s m f d l
 fetches_below n cells s m d (choice.Mark o f) a l = tt
+fetches_below n cells s m d (choice.Leave o f) a l = tt
 fetches_below n cells s m d (choice.Begin o) a l = tt
 
 fetcher_below : (z : Sizes) (s : State) (m : ℕ) (d : Option Fetching) (c : Choice) (a : Answer) → in_range z c ≡ true → FetchesBelow z.objects d

@@ -8,7 +8,7 @@ use Rattle.code_form.specs.Placed.{next_object, object_at}
 use Rattle.code_form.specs.Tracked.{WaitsShut}
 use Rattle.pointer_word.specs.Hands.{upd}
 use Rattle.pointer_word.specs.Machine.{State, latest}
-use Rattle.pointer_word.specs.Calls.{Call, Begins, Claims, Marks, act}
+use Rattle.pointer_word.specs.Calls.{Call, Begins, Claims, Marks, Leaves, act}
 use Rattle.pointer_word.specs.Legal.{legal}
 use Rattle.pointer_word.proofs.Upd.{upd-same, upd-other, same_or}
 use Rattle.pointer_word.proofs.Safe.{safe}
@@ -53,6 +53,7 @@ idle_leads s m choice.Next = tt
 idle_leads s m (choice.Look f) = λ o i. refl
 idle_leads s m (choice.Claim f) = tt
 idle_leads s m (choice.Mark o f) = keeps_latest s (Marks m o f) refl
+idle_leads s m (choice.Leave o f) = keeps_latest s (Leaves m o f) refl
 idle_leads s m (choice.Begin o) = tt
 
 moving_leads : (n : ℕ) (s : State) (m : ℕ) (e : Eviction) (c : Choice) (a : Answer) → Leads s (Same s) (evacuator_turn n m (Some e) c a)
@@ -60,6 +61,7 @@ moving_leads n s m e choice.Next a = leads_evicts n s m a Some None None (Same s
 moving_leads n s m e (choice.Look f) a = tt
 moving_leads n s m e (choice.Claim f) a = tt
 moving_leads n s m e (choice.Mark o f) a = tt
+moving_leads n s m e (choice.Leave o f) a = tt
 moving_leads n s m e (choice.Begin o) a = tt
 
 evacuator_leads : (n : ℕ) (s : State) (m : ℕ) (d : Option Eviction) (c : Choice) (a : Answer) → Leads s (Same s) (evacuator_turn n m d c a)
@@ -73,6 +75,7 @@ begin_leads s m choice.Next = tt
 begin_leads s m (choice.Look f) = tt
 begin_leads s m (choice.Claim f) = tt
 begin_leads s m (choice.Mark o f) = tt
+begin_leads s m (choice.Leave o f) = tt
 begin_leads s m (choice.Begin o) = keeps_latest s (Begins m o 0 false) refl
 
 claim_leads : (s : State) (m f : ℕ) (d : Fetching) → Leads s (Same s) (fetcher_claims m f d)
@@ -87,6 +90,7 @@ fetches_lead n s m d choice.Next a = leads_brings n s m false a Some None None (
 fetches_lead n s m d (choice.Look f) a = tt
 fetches_lead n s m d (choice.Claim f) a = claim_leads s m f d
 fetches_lead n s m d (choice.Mark o f) a = tt
+fetches_lead n s m d (choice.Leave o f) a = tt
 fetches_lead n s m d (choice.Begin o) a = tt
 
 fetcher_leads : (n : ℕ) (s : State) (m : ℕ) (d : Option Fetching) (c : Choice) (a : Answer) → Leads s (Same s) (fetcher_turn n m d c a)

@@ -7,14 +7,14 @@ use Rattle.cells.specs.declared.ending.Want.TheVariants.{OutOfMemory}
 use Rattle.code_form.specs.declared.touch.Cell.{Cell}
 use Rattle.code_form.specs.declared.touch.Touch.{Touch}
 use Rattle.code_form.specs.declared.touch.Touch.TheVariants as touch
-use Rattle.code_form.specs.Effects.{Effect, Plain, Hints, Aims, Loads, Stores, Leaves, Allocs, Ends, Wrong, Nothing}
+use Rattle.code_form.specs.Effects.{Effect, Plain, Hints, Aims, Loads, Stores, Leaves as LeavesOf, Allocs, Ends, Wrong, Nothing}
 use Rattle.code_form.specs.Code.{Core, effect, held, is_blocked}
 use Rattle.code_form.specs.Placed.{pieces, object_at}
 use Rattle.code_form.specs.Touches.{cell_option, resumed, touch_of}
 use Rattle.code_form.specs.Tracked.{HoldsSame, HoldsSameBut, IsTracked}
 use Rattle.pointer_word.specs.Hands.{known}
 use Rattle.pointer_word.specs.Machine.{Far, Never, Kept, Unknown, State}
-use Rattle.pointer_word.specs.Calls.{Opens, Begins, Claims, Marks, act}
+use Rattle.pointer_word.specs.Calls.{Opens, Begins, Claims, Marks, Leaves, act}
 use Rattle.pointer_word.specs.Legal.{holds}
 use Rattle.pointer_word.proofs.Upd.{same_or}
 use Rattle.world_semantics.specs.declared.event.Choice.{Choice}
@@ -75,7 +75,7 @@ tracks c (Hints w d) v t = t
 tracks c (Aims s w d) v t = (ap cell_option t.0, t.1)
 tracks c (Loads s r x k) v t = t.1 v
 tracks c (Stores s r x w d) v t = t.1
-tracks c (Leaves s d) v t = t
+tracks c (LeavesOf s d) v t = t
 tracks c (Allocs n d) v t = t
 tracks c (Ends d) v t = t
 tracks c (Wrong d) v t = tt
@@ -303,6 +303,10 @@ module _ (laws : Laws) (g : Setting) (some : 0 < g.size) (s : State) (p : Progra
     seeks_s (choice.Mark v f) m =
         let t : State = act s (Marks g.mover v f) in
         chosen t (holds (t.hand g.mover).leaving v) (in_mode p (Evicting o (Copying v f []))) p (λ _. carried (Evicting o (Copying v f []))) (λ _. stays_s t m)
+
+    seeks_s (choice.Leave v f) m =
+        let t : State = act s (Leaves g.mover v f) in
+        chosen t (holds (t.hand g.mover).freed f) (in_mode p (Evicting o (Freed f))) p (λ _. carried (Evicting o (Freed f))) (λ _. stays_s t m)
 
     read_s : (f : ℕ) (read : Option (List ℕ)) → Q s (in_mode p (as_mode (read_so o f read)))
     read_s f None = carried (Releasing o f)

@@ -10,7 +10,7 @@ use Rattle.code_form.specs.Code.{is_blocked}
 use Rattle.code_form.specs.Placed.{pieces}
 use Rattle.pointer_word.specs.Hands.{known, listed}
 use Rattle.pointer_word.specs.Machine.{Far, Never, Kept, Unknown, State}
-use Rattle.pointer_word.specs.Calls.{Call, Opens, Closes, Clears, Stores, Begins, Claims, Fills, Arrives, Unclaims, Marks, Copies, Puts, Commits, Aborts, Releases, act}
+use Rattle.pointer_word.specs.Calls.{Call, Opens, Closes, Clears, Stores, Begins, Claims, Fills, Arrives, Unclaims, Marks, Copies, Puts, Commits, Aborts, Leaves, Releases, act}
 use Rattle.pointer_word.specs.Legal.{holds}
 use Rattle.pointer_word.specs.Sound.{Inv}
 use Rattle.pointer_word.proofs.Upd.{same_or}
@@ -186,13 +186,17 @@ module _ (h : Type 0) (g : Setting) (s : State) (p : Program) (a : Answer) (inv 
         let c : Call = Marks g.mover v f in
         chosen (act s c) (holds ((act s c).hand g.mover).leaving v) (in_mode p (Evicting o (Copying v f []))) p (λ _. on c) (λ _. refused c m)
 
+    seeks_t (choice.Leave v f) m =
+        let c : Call = Leaves g.mover v f in
+        chosen (act s c) (holds ((act s c).hand g.mover).freed f) (in_mode p (Evicting o (Freed f))) p (λ _. on c) (λ _. refused c m)
+
     read_t : (f : ℕ) (read : Option (List ℕ)) → Q s (in_mode p (as_mode (read_so o f read)))
     read_t f None = λ j x e n. told j x e
     read_t f (Some words) = λ j x e n. told j x e
 
     fills_t : (f : ℕ) (words : List ℕ) (k : ℕ) → Leads s Q (program_brings g p a (fetching.Filling o f words k))
     fills_t f words k = leads_cond s Q (nat_lt k g.size) _ _ (λ _. on (Fills g.mover f k (listed words k)))
-        (λ _ j x e n. inl (settled (Arrives g.mover o f false true) (arrived_frame s g.mover o f false) j x e n))
+        (λ _ j x e n. inl (settled (Arrives g.mover o f true) (arrived_frame s g.mover o f) j x e n))
 
     evicts_t : (d : Eviction) → Leads s Q (evicts g.size g.mover a d (λ x. in_mode p (Evicting o x)) (in_mode p (Bringing o)) (in_mode p (Retreating o)))
     evicts_t (Copying v f words) = leads_cond s Q (nat_lt (length words) g.size) _ _ (λ _. on (Copies g.mover f (length words))) (λ _. on (Puts g.mover v (put_of a.stored words)))

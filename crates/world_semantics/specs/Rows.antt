@@ -4,6 +4,7 @@ use Rattle.cells.specs.declared.ending.Want.{Want}
 use Rattle.cells.specs.Stops.{Stop}
 use Rattle.code_form.specs.declared.form.Operation.TheVariants.{Alloc, Const, Null, CheckNull}
 use Rattle.code_form.specs.Form.{Image, Simple, Aim, Leave, Return}
+use Rattle.code_form.specs.Form as form
 use Rattle.code_form.specs.Code.{stop_of}
 use Rattle.code_form.specs.Computed.{image_v, image_with}
 use Rattle.pointer_word.specs.Words.{pack}
@@ -40,6 +41,10 @@ p0_claim f = (actor.Program 0, choice.Claim f)
 abbrev pub p0_mark : ℕ → ℕ → Line
 p0_mark o f = (actor.Program 0, choice.Mark o f)
 
+-- the program tries to have a clean object leave a frame
+abbrev pub p0_leave : ℕ → ℕ → Line
+p0_leave o f = (actor.Program 0, choice.Leave o f)
+
 -- the evacuator goes on
 abbrev pub e0 : Line
 e0 = (actor.Evacuator 0, choice.Next)
@@ -47,6 +52,10 @@ e0 = (actor.Evacuator 0, choice.Next)
 -- the evacuator tries to mark an object in a frame
 abbrev pub e0_mark : ℕ → ℕ → Line
 e0_mark o f = (actor.Evacuator 0, choice.Mark o f)
+
+-- the evacuator tries to have a clean object leave a frame
+abbrev pub e0_leave : ℕ → ℕ → Line
+e0_leave o f = (actor.Evacuator 0, choice.Leave o f)
 
 -- the fetcher goes on
 abbrev pub f0 : Line
@@ -175,6 +184,14 @@ put_failed = copied ++ times 2 e0 ++ times 4 p0
 abbrev pub get_failed : List Line
 get_failed = moved_out ++ times 4 p0
 
+-- the evacuator tries to have the object leave, which was written, and then all goes on as it would have
+abbrev pub brought_back_later : List Line
+brought_back_later = written ++ e0_leave 0 0 ∷ e0_mark 0 0 ∷ times 67 e0 ++ times 2 p0 ++ p0_claim 1 ∷ times 69 p0
+
+-- the object that was brought back, and only read since, leaves; its frame is released, and the program returns
+abbrev pub left_clean : List Line
+left_clean = brought_back ++ e0_leave 0 1 ∷ e0 ∷ p0 ∷ []
+
 -- ---- the same program, with a fetcher
 
 -- with three frames, over a store
@@ -221,7 +238,7 @@ holding_one = times 3 p0 ++ p0_claim 0 ∷ times 66 p0
 
 -- ---- a program that moves one object out for another
 
--- it touches two objects in turn, with one frame, and returns 5
+-- it touches two objects in turn, with one frame, and returns 5; it writes neither
 abbrev pub two_objects : Store → Setup
 two_objects store = record {
   image = image_with (Simple (Alloc 0 0) ∷ Aim 0 0 None 0 ∷ Leave 0 ∷ Simple (Alloc 0 0) ∷ Aim 0 0 None 0 ∷ Leave 0 ∷ Simple (Const 1 (pos 5)) ∷ Return 1 ∷ []);
@@ -231,13 +248,31 @@ two_objects store = record {
   store = store;
 }
 
--- alloc, open, begin, claim, 64 fills, arrive, close; alloc, open, begin, mark, 64 copies
-abbrev pub copied_itself : List Line
-copied_itself = times 3 p0 ++ p0_claim 0 ∷ times 69 p0 ++ p0_mark 0 0 ∷ times 64 p0
+-- alloc, open, begin, claim, 64 fills, arrive, close; alloc, open, begin
+abbrev pub seeking_itself : List Line
+seeking_itself = times 3 p0 ++ p0_claim 0 ∷ times 69 p0
 
--- put, commit, release, claim, 64 fills, arrive, close, const, return
+-- leave, release, claim, 64 fills, arrive, close, const, return
+abbrev pub left_itself : List Line
+left_itself = seeking_itself ++ p0_leave 0 0 ∷ p0 ∷ p0_claim 0 ∷ times 68 p0
+
+-- it writes 5 into the first of two objects, touches the second, with one frame, and returns 5
+abbrev pub two_written : Store → Setup
+two_written store = record {
+  image = image_with (Simple (Alloc 0 0) ∷ Simple (Const 1 (pos 5)) ∷ Aim 0 0 None 0 ∷ form.Store 0 1 ∷ Leave 0 ∷ Simple (Alloc 0 0) ∷ Aim 0 0 None 0 ∷ Leave 0 ∷ Return 1 ∷ []);
+  frames = 1;
+  objects = 2;
+  fetchers = 0;
+  store = store;
+}
+
+-- alloc, const, open, begin, claim, 64 fills, arrive, begin to write, store, close; alloc, open, begin, mark, 64 copies
+abbrev pub copied_itself : List Line
+copied_itself = times 4 p0 ++ p0_claim 0 ∷ times 71 p0 ++ p0_mark 0 0 ∷ times 64 p0
+
+-- put, commit, release, claim, 64 fills, arrive, close, return
 abbrev pub moved_itself : List Line
-moved_itself = copied_itself ++ times 3 p0 ++ p0_claim 0 ∷ times 68 p0
+moved_itself = copied_itself ++ times 3 p0 ++ p0_claim 0 ∷ times 67 p0
 
 -- the put fails; abort, retreat, close
 abbrev pub failed_itself : List Line

@@ -7,7 +7,7 @@ use Rattle.code_form.specs.Code.{is_blocked}
 use Rattle.code_form.specs.Placed.{pieces}
 use Rattle.pointer_word.specs.Hands.{known, listed}
 use Rattle.pointer_word.specs.Machine.{Far, Never, Kept, Unknown, State}
-use Rattle.pointer_word.specs.Calls.{Call, Opens, Closes, Clears, Stores, Begins, Claims, Fills, Arrives, Unclaims, Retreats, Marks, Copies, Puts, Commits, Aborts, Releases}
+use Rattle.pointer_word.specs.Calls.{Call, Opens, Closes, Clears, Stores, Begins, Claims, Fills, Arrives, Unclaims, Retreats, Marks, Copies, Puts, Commits, Aborts, Leaves, Releases}
 use Rattle.pointer_word.specs.Legal.{holds, acts}
 use Rattle.world_semantics.specs.declared.event.Choice.{Choice}
 use Rattle.world_semantics.specs.declared.event.Choice.TheVariants as choice
@@ -73,10 +73,11 @@ evicts n m a (NotStored o f) go done failed = Calls (Aborts m o f) (λ t. failed
 evicts n m a (Refused o f) go done failed = Calls (Aborts m o f) (λ t. done)
 evicts n m a (Freed f) go done failed = Calls (Releases m f) (λ t. done)
 
--- an evacuator that is idle looks at a frame or tries to mark an object, whose moving out begins
+-- an evacuator that is idle looks at a frame, tries to mark an object, whose moving out begins, or tries to have a clean one leave, whose frame is then released
 abbrev pub evacuator_idle : ℕ → Choice → Turn (Option Eviction)
 evacuator_idle m (choice.Look f) = Alone None
 evacuator_idle m (choice.Mark o f) = Calls (Marks m o f) (λ t. cond (holds (t.hand m).leaving o) (Some (Copying o f [])) None)
+evacuator_idle m (choice.Leave o f) = Calls (Leaves m o f) (λ t. cond (holds (t.hand m).freed f) (Some (Freed f)) None)
 evacuator_idle m _ = NotEnabled
 
 -- an evacuator is idle, or moves an object out
@@ -107,7 +108,7 @@ abbrev pub brings : {A : Type 0} → ℕ → ℕ → Bool → Answer → Fetchin
 brings n m own a (fetching.Bringing o) go done failed = Calls (Retreats m o) (λ t. failed)
 brings n m own a (fetching.Reading o f) go done failed = Alone (go (read_so o f a.read))
 brings n m own a (fetching.Filling o f words k) go done failed =
-    cond (nat_lt k n) (Calls (Fills m f k (listed words k)) (λ t. go (fetching.Filling o f words (suc k)))) (Calls (Arrives m o f false own) (λ t. done))
+    cond (nat_lt k n) (Calls (Fills m f k (listed words k)) (λ t. go (fetching.Filling o f words (suc k)))) (Calls (Arrives m o f own) (λ t. done))
 brings n m own a (fetching.Releasing o f) go done failed = Calls (Unclaims m f) (λ t. go (fetching.Retreating o))
 brings n m own a (fetching.Retreating o) go done failed = Calls (Retreats m o) (λ t. failed)
 
@@ -214,11 +215,16 @@ program_claimed g p o f = claimed_so g.mover o f (λ d. in_mode p (as_mode d)) p
 abbrev pub marked_so : Setting → Program → ℕ → ℕ → ℕ → State → Program
 marked_so g p o v f t = cond (holds (t.hand g.mover).leaving v) (in_mode p (Evicting o (Copying v f []))) p
 
--- a program that seeks a frame looks at one, tries to claim it, or tries to mark the object in it
+-- after a try to have a clean object leave
+abbrev pub left_so : Setting → Program → ℕ → ℕ → State → Program
+left_so g p o f t = cond (holds (t.hand g.mover).freed f) (in_mode p (Evicting o (Freed f))) p
+
+-- a program that seeks a frame looks at one, tries to claim it, or tries to mark the object in it or to have it leave
 abbrev pub seeks : Setting → Program → ℕ → Choice → Turn Program
 seeks g p o (choice.Look f) = Alone p
 seeks g p o (choice.Claim f) = Calls (Claims g.mover o f) (program_claimed g p o f)
 seeks g p o (choice.Mark v f) = Calls (Marks g.mover v f) (marked_so g p o v f)
+seeks g p o (choice.Leave v f) = Calls (Leaves g.mover v f) (left_so g p o f)
 seeks g p o choice.Next = NotEnabled
 seeks g p o (choice.Begin v) = NotEnabled
 

@@ -57,6 +57,7 @@ in_range z choice.Next = true
 in_range z (choice.Look f) = nat_lt f z.frames
 in_range z (choice.Claim f) = nat_lt f z.frames
 in_range z (choice.Mark o f) = nat_lt o z.objects && nat_lt f z.frames
+in_range z (choice.Leave o f) = nat_lt o z.objects && nat_lt f z.frames
 in_range z (choice.Begin o) = nat_lt o z.objects
 
 -- there is such an actor

@@ -19,6 +19,8 @@ pub enum Choice {
     Claim(u32),
     /// Tries to mark an object in a frame, to move it out.
     Mark(u32, u32),
+    /// Tries to have a clean object leave a frame.
+    Leave(u32, u32),
     /// Begins to bring an object in.
     Begin(u32),
 }

@@ -18,15 +18,15 @@ ghost use Rattle.world_semantics.specs.Scopes.{AimsIn, IsFramed, ScopeFits};
 ghost use Rattle.world_semantics.specs.Steps.{IsSound, IsStep};
 ghost use Rattle.world_semantics.specs.Turns.{Answer};
 ghost use Rattle.world_semantics.specs.Worlds.{Event, Follows, IsHonest, Sizes, World, event, setting, start};
-ghost use Rattle.world_semantics.specs.Rows.{NoPuts, NoReads, Reliable, begun_first, brought_back, brought_by, e0, e0_mark, f0, f0_begin, failed_itself, faulty, fetch_failed, fetched_first, five, five_fetched, get_failed, given_up, held_meanwhile, holding_one, moved_itself, opened_first, p0, put_away, put_failed, read_meanwhile, row, times, two_objects, written};
+ghost use Rattle.world_semantics.specs.Rows.{NoPuts, NoReads, Reliable, begun_first, brought_back, brought_back_later, brought_by, e0, e0_leave, e0_mark, f0, f0_begin, failed_itself, faulty, fetch_failed, fetched_first, five, five_fetched, get_failed, given_up, held_meanwhile, holding_one, left_clean, left_itself, moved_itself, opened_first, p0, put_away, put_failed, read_meanwhile, row, times, two_objects, two_written, written};
 
 use code_form::{effect_laws, heap_laws, run_laws};
 
 /// What worked schedules of one program, one evacuator, and one fetcher or none come to: how many lines they have, how the program has stopped or what
 /// it wants, the bits of object 0's word, and cell 0 of two frames. None where a line is refused.
 pub fn worked_schedules()
-    ensures brought_back { row (five Reliable) (brought_back ++ p0 ∷ []) ≡ (214, Some (record { stop = Some (Ended (pos 5)); want = None; word = 0x18_0000; first = 5; second = 5 })) }
-    ensures not_returned { row (five Reliable) brought_back ≡ (213, Some (record { stop = None; want = None; word = 0x18_0000; first = 5; second = 5 })) }
+    ensures brought_back { row (five Reliable) (brought_back ++ p0 ∷ []) ≡ (214, Some (record { stop = Some (Ended (pos 5)); want = None; word = 0x1000_0000_0018_0000; first = 5; second = 5 })) }
+    ensures not_returned { row (five Reliable) brought_back ≡ (213, Some (record { stop = None; want = None; word = 0x1000_0000_0018_0000; first = 5; second = 5 })) }
     ensures read_meanwhile { row (five Reliable) read_meanwhile ≡ (146, Some (record { stop = Some (Ended (pos 5)); want = None; word = 0; first = 5; second = 0 })) }
     ensures held_meanwhile { row (five Reliable) held_meanwhile ≡ (146, Some (record { stop = Some (Ended (pos 5)); want = None; word = 0x8_0000; first = 5; second = 0 })) }
     ensures idle { row (five Reliable) (written ++ e0 ∷ []) ≡ (75, None) }
@@ -35,12 +35,13 @@ pub fn worked_schedules()
     ensures put_failed { row (five NoPuts) put_failed ≡ (145, Some (record { stop = Some (Ended (pos 5)); want = None; word = 0x8_0000; first = 5; second = 0 })) }
     ensures get_failed { row (five NoReads) get_failed ≡ (149, Some (record { stop = None; want = Some StoreFailed; word = 0; first = 5; second = 0 })) }
     ensures no_more { row (five NoReads) (get_failed ++ p0 ∷ []) ≡ (150, None) }
-    ensures closes { row faulty (holding_one ++ p0 ∷ []) ≡ (71, Some (record { stop = None; want = None; word = 0x8_0000; first = 0; second = 0 })) }
-    ensures stops { row faulty (holding_one ++ times 2 p0) ≡ (72, Some (record { stop = Some NullFault; want = None; word = 0x8_0000; first = 0; second = 0 })) }
-    ensures moved_itself { row (two_objects Reliable) moved_itself ≡ (210, Some (record { stop = Some (Ended (pos 5)); want = None; word = 0; first = 0; second = 0 })) }
-    ensures failed_itself { row (two_objects NoPuts) failed_itself ≡ (142, Some (record { stop = None; want = Some StoreFailed; word = 0x8_0000; first = 0; second = 0 })) }
-    ensures fetched_first { row (five_fetched Reliable) fetched_first ≡ (214, Some (record { stop = Some (Ended (pos 5)); want = None; word = 0x18_0000; first = 5; second = 5 })) }
-    ensures brought_by { row (five_fetched Reliable) brought_by ≡ (210, Some (record { stop = None; want = None; word = 0x18_0000; first = 5; second = 5 })) }
+    ensures closes { row faulty (holding_one ++ p0 ∷ []) ≡ (71, Some (record { stop = None; want = None; word = 0x1000_0000_0008_0000; first = 0; second = 0 })) }
+    ensures stops { row faulty (holding_one ++ times 2 p0) ≡ (72, Some (record { stop = Some NullFault; want = None; word = 0x1000_0000_0008_0000; first = 0; second = 0 })) }
+    ensures left_itself { row (two_objects Reliable) left_itself ≡ (144, Some (record { stop = Some (Ended (pos 5)); want = None; word = 0; first = 0; second = 0 })) }
+    ensures moved_itself { row (two_written Reliable) moved_itself ≡ (212, Some (record { stop = Some (Ended (pos 5)); want = None; word = 0; first = 0; second = 0 })) }
+    ensures failed_itself { row (two_written NoPuts) failed_itself ≡ (145, Some (record { stop = None; want = Some StoreFailed; word = 0x8_0000; first = 5; second = 0 })) }
+    ensures fetched_first { row (five_fetched Reliable) fetched_first ≡ (214, Some (record { stop = Some (Ended (pos 5)); want = None; word = 0x1000_0000_0018_0000; first = 5; second = 5 })) }
+    ensures brought_by { row (five_fetched Reliable) brought_by ≡ (210, Some (record { stop = None; want = None; word = 0x1000_0000_0018_0000; first = 5; second = 5 })) }
     ensures given_up { row (five_fetched Reliable) given_up ≡ (144, Some (record { stop = None; want = None; word = 0; first = 5; second = 0 })) }
     ensures given_up_twice { row (five_fetched Reliable) (given_up ++ f0 ∷ []) ≡ (145, None) }
     ensures opened_first { row (five_fetched Reliable) opened_first ≡ (144, Some (record { stop = None; want = None; word = 1; first = 5; second = 0 })) }
@@ -48,6 +49,11 @@ pub fn worked_schedules()
     ensures begun_first { row (five_fetched Reliable) begun_first ≡ (146, Some (record { stop = None; want = None; word = 1; first = 5; second = 0 })) }
     ensures fetch_failed { row (five_fetched NoReads) fetch_failed ≡ (148, Some (record { stop = None; want = None; word = 1; first = 5; second = 0 })) }
     ensures no_fetcher { row (five Reliable) (put_away ++ f0_begin 0 ∷ []) ≡ (143, None) }
+    ensures brought_back_later { row (five Reliable) brought_back_later ≡ (215, Some (record { stop = Some (Ended (pos 5)); want = None; word = 0x1000_0000_0018_0000; first = 5; second = 5 })) }
+    ensures leaves_not { row (five Reliable) (written ++ e0_leave 0 0 ∷ []) ≡ (75, Some (record { stop = None; want = None; word = 0x8_0000; first = 5; second = 0 })) }
+    ensures left_clean { row (five Reliable) left_clean ≡ (216, Some (record { stop = Some (Ended (pos 5)); want = None; word = 0; first = 5; second = 5 })) }
+    ensures no_mark { row (five Reliable) (brought_back ++ e0_mark 0 1 ∷ []) ≡ (214, Some (record { stop = None; want = None; word = 0x1000_0000_0018_0000; first = 5; second = 5 })) }
+    ensures nothing_marked { row (five Reliable) (brought_back ++ e0_mark 0 1 ∷ e0 ∷ []) ≡ (215, None) }
 {}
 
 /// Whatever events whichever actors make in whichever order, over any number of programs, evacuators and fetchers, any images, frames and objects

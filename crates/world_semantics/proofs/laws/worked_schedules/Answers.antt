@@ -1,4 +1,4 @@
-use Rattle.world_semantics.proofs.Schedules.{brought, not_yet, read, held, idle, no_frame, elsewhere, no_put, no_get, no_more, closes, stops, moves, fails, fetched, comes, gives_up, idle_again, opens, none_begun, begins, no_fetch, nobody}
+use Rattle.world_semantics.proofs.Schedules.{brought, not_yet, read, held, idle, no_frame, elsewhere, no_put, no_get, no_more, closes, stops, moves, fails, fetched, comes, gives_up, idle_again, opens, none_begun, begins, no_fetch, nobody, leaves, later, not_left, left, no_mark, unmarked}
 use Rattle.world_semantics.proofs.laws.worked_schedules.Goals as goal
 
 pub returns : goal.returns
@@ -26,4 +26,10 @@ returns c = record {
   begun_first = begins;
   fetch_failed = no_fetch;
   no_fetcher = nobody;
+  left_itself = leaves;
+  brought_back_later = later;
+  leaves_not = not_left;
+  left_clean = left;
+  no_mark = no_mark;
+  nothing_marked = unmarked;
 }

@@ -1,10 +1,9 @@
-use Rattle.std.proofs.Common.{arith, subst, sym, ap, false, refl}
+use Rattle.std.proofs.Common.{arith, subst, sym, ap}
 use mathlib.Core.Option.{none}
 use Rattle.atomic_table.specs.Table.{step}
 use Rattle.pointer_word.specs.Calls.{Filled}
 use Rattle.object_lock.specs.declared.shape.Shape.{Shape}
 use Rattle.object_lock.specs.Kept.{slot_keeps, slot_has}
-use Rattle.object_lock.proofs.Stored.{stored}
 use Rattle.object_lock.proofs.Either.{arrives_any}
 use Rattle.object_lock.proofs.Arrived.{arrives_kept, arrives_notes}
 use Rattle.object_lock.proofs.Exact.{arrives_exactly, arrives_step, brings_exactly, brings_step}
@@ -14,7 +13,7 @@ use Rattle.object_lock.proofs.table.LockWords.arrive_word.Goals as goal
 
 pub fetch_add-requires : goal.fetch_add-requires
 fetch_add-requires g c = let sized = c.args.self.now.sized.0 in let keyed = c.args.self.now.keyed in let zo = ap (λ (q : Shape). q.objects) keyed in let zf = ap (λ (q : Shape). q.frames) keyed in let same = c.requires.table.1 in let near = c.requires.hands.0 in let q = c.requires.hands.3 in
-    let filled = subst (λ (q : Shape). Filled _ q.cells c.args.seat.now.me.0.hand) (sym keyed) c.requires.filled in (c.requires.table.0, omega arith, arrives_any _ _ _ _ false refl (stored _) _ _ _ _ c.args.frame _ q.0 c.requires.hands.1 c.requires.hands.2 filled q.1 q.2 c.requires.words)
+    let filled = subst (λ (q : Shape). Filled _ q.cells c.args.seat.now.me.0.hand) (sym keyed) c.requires.filled in (c.requires.table.0, omega arith, arrives_any _ _ _ _ _ _ _ _ c.args.frame _ q.0 c.requires.hands.1 c.requires.hands.2 filled q.1 q.2 c.requires.words)
 
 pub returns-clause-kept : goal.returns-clause-kept
 returns-clause-kept g c = arrives_kept g.S.RawStore.honest (slot_keeps g.S.RawStore.content) slot_has (step 0 c.args.obj c.args.by 0 none) c.args.seat.now.me c.fetch_add.result c.fetch_add.new.seat.me c.args.frame c.requires.hands.2 c.fetch_add.ensures.2

@@ -37,10 +37,10 @@ pub returns-clause-step : goal.returns-clause-step
 returns-clause-step g c =
     let e : c.mover.inside.seat.me.0 ≡ c.args.mover.now.view = ap (λ (h : SeatView g.row.S.Denot g.row.S-Cell.Denot). h.view) c.mover.view_is in
     let d : c.exchange.new.seat.me.0 ≡ c.mover.inside.seat.me.0 = ap (λ (m : Me (Option (Berth g.row.S-Cell.Denot)) View). m.0) c.exchange.ensures.3 in
-    subst (λ (v : View). Holds v c.args.obj → Steps g.S.RawStore.honest (Arrives v.number c.args.obj c.args.frame false true) v c.arrive_word.new.seat.me.0 (LeavesWord (Arrives v.number c.args.obj c.args.frame false true) c.args.obj (note v c.args.obj).count (Here c.args.frame false))) (d ∙ e) c.arrive_word.ensures.step
+    subst (λ (v : View). Holds v c.args.obj → Steps g.S.RawStore.honest (Arrives v.number c.args.obj c.args.frame true) v c.arrive_word.new.seat.me.0 (LeavesWord (Arrives v.number c.args.obj c.args.frame true) c.args.obj (note v c.args.obj).count (Here c.args.frame true))) (d ∙ e) c.arrive_word.ensures.step
 
 pub returns-clause-unheld_step : goal.returns-clause-unheld_step
 returns-clause-unheld_step g c =
     let e : c.mover.inside.seat.me.0 ≡ c.args.mover.now.view = ap (λ (h : SeatView g.row.S.Denot g.row.S-Cell.Denot). h.view) c.mover.view_is in
     let d : c.exchange.new.seat.me.0 ≡ c.mover.inside.seat.me.0 = ap (λ (m : Me (Option (Berth g.row.S-Cell.Denot)) View). m.0) c.exchange.ensures.3 in
-    subst (λ (v : View). IsUnheld v c.args.obj → Steps g.S.RawStore.honest (Arrives v.number c.args.obj c.args.frame false false) v c.arrive_word.new.seat.me.0 (LeavesAt (Arrives v.number c.args.obj c.args.frame false false) c.args.obj (Here c.args.frame false))) (d ∙ e) c.arrive_word.ensures.unheld_step
+    subst (λ (v : View). IsUnheld v c.args.obj → Steps g.S.RawStore.honest (Arrives v.number c.args.obj c.args.frame false) v c.arrive_word.new.seat.me.0 (LeavesAt (Arrives v.number c.args.obj c.args.frame false) c.args.obj (Here c.args.frame true))) (d ∙ e) c.arrive_word.ensures.unheld_step

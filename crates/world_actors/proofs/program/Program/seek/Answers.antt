@@ -1,7 +1,7 @@
 use Rattle.std.proofs.Common.{refl}
 use Rattle.world_semantics.specs.Turns.{Alone}
 use Rattle.world_actors.proofs.BroughtIn.{alone_to}
-use Rattle.world_actors.proofs.Evacuating.{frame_inside, mark_inside}
+use Rattle.world_actors.proofs.Evacuating.{frame_inside, leave_inside, mark_inside}
 use Rattle.world_actors.proofs.program.Program.seek.Goals as goal
 
 pub returns-in-Look : goal.returns-in-Look
@@ -13,3 +13,6 @@ returns-in-Claim g c = rw c.in-Claim.is (λ z s p inside is. c.claim.ensures z s
 
 pub returns-in-Mark : goal.returns-in-Mark
 returns-in-Mark g c = rw c.in-Mark.is (λ z s p inside is. c.mark_other.ensures z s p (mark_inside z c.in-Mark.other c.in-Mark.frame inside) is)
+
+pub returns-in-Leave : goal.returns-in-Leave
+returns-in-Leave g c = rw c.in-Leave.is (λ z s p inside is. c.leave_other.ensures z s p (leave_inside z c.in-Leave.other c.in-Leave.frame inside) is)

@@ -1,5 +1,5 @@
 use Rattle.std.proofs.Common.{◌≡◌}
-use Rattle.object_moves.proofs.room.make_room.Given as goal
+use Rattle.object_moves.proofs.room.move_one_out.Given as goal
 
 abbrev pub invariant-loop-frame : goal.invariant-loop-frame
 invariant-loop-frame g l = l.owner ≡ l.initial.owner
