@@ -5,6 +5,7 @@ mod Fits
 mod Framing
 mod Grounds
 mod Growth
+mod Passing
 mod Plain
 mod Marks
 mod Reading

@@ -1,6 +1,8 @@
 pub mod Aimed
 pub mod Decisions
 pub mod Fitting
+pub mod Hinting
+pub mod Inside
 pub mod Marked
 pub mod Plain
 pub mod Stacks

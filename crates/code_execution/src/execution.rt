@@ -1,7 +1,7 @@
 //! The execution of an image up to its heap.
 ghost use Rattle.cells.specs.Stops.{stop_of as stop_read};
 ghost use Rattle.code_execution.specs.Decisions.{decided, growth_touch, is_simple, makes, refuses};
-ghost use Rattle.code_execution.specs.Plain.{ArePlain, EndsPlain, plain_run};
+ghost use Rattle.code_execution.specs.Plain.{ArePassed, EndsPlain, plain_run};
 ghost use Rattle.code_execution.specs.Statuses.{allocated, core_of, followed};
 ghost use Rattle.code_form.specs.Code.{Frame, Running, Stuck, begins, code, effect, most_scopes, output_of, stop_of, is_blocked as is_blocked_in};
 ghost use Rattle.code_form.specs.declared.allocation.Allocation.{Allocation};
@@ -16,6 +16,7 @@ use crate::call::Decision;
 use crate::calls::Calls;
 use crate::fitting::image_fits;
 use crate::halt::Halt;
+use crate::hinted::Hinted;
 use cells::Stop;
 use code_form::{Block, Function, Image, Touch};
 use code_operations::{Allocations, Command, are_small, number};
@@ -238,13 +239,14 @@ impl<'a> Execution<'a> {
     }
 
     /// Does instructions one after the other, each decided once, as long as they touch nothing and find no scope open that must be shut, at
-    /// most `limit`, and tells how many. It ends before an instruction that touches something or finds such a scope, one that stops the
-    /// program or is stuck, and one to which memory is refused: of that one nothing is done.
+    /// most `limit`, and tells how many. One that tells a cell is passed where a hint of it tells nothing new, or nobody listens. It ends before
+    /// another one, which touches something or finds such a scope, one that stops the program or is stuck, and one to which memory is refused:
+    /// of that one nothing is done.
     #[inline(always)]
-    pub fn run_plain(&mut self, limit: u64) -> u64
+    pub fn run_plain(&mut self, hinted: &Hinted, limit: u64) -> u64
         ensures within { result ≤ limit }
         ensures ran { self.new ≡ record self.old { core = plain_run self.old.image result self.old.core } }
-        ensures plain { ArePlain self.old.image result self.old.core }
+        ensures passed { ArePassed self.old.image result self.old.core }
         ensures ends { result < limit → EndsPlain self.new.image self.new.core }
     {
         match &mut self.status {
@@ -254,6 +256,7 @@ impl<'a> Execution<'a> {
                     self.image,
                     &self.allocations,
                     self.fits,
+                    hinted,
                     &mut self.output,
                     limit,
                 )

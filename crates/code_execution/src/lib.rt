@@ -7,7 +7,10 @@ mod calls;
 mod execution;
 mod fitting;
 mod halt;
+mod hinted;
+mod inside;
 mod places;
 mod scopes;
 
 pub use execution::Execution;
+pub use hinted::{Hinted, Stretch};

@@ -5,17 +5,11 @@ use hint_queue::{HintPass, Hints};
 use std::marker::Model;
 use std::sync::Wait;
 
-/// How many objects are kept in mind that came last: a loop may come to a few arrays by turns.
-const RECENT: usize = 8;
-
-/// A queue of hints with a pass of it, and the objects that came last.
+/// A queue of hints with a pass of it.
 #[derive(Drop)]
 pub(crate) struct Hinter<'a> {
     hints: &'a Hints,
     pass: HintPass,
-    recent: [usize; RECENT],
-    // Where in `recent` the next object stands, which forgets the one there.
-    next: usize,
 }
 
 impl<'a> Model for Hinter<'a> {
@@ -35,24 +29,7 @@ impl<'a> Hinter<'a> {
         requires { pass ≡ hints.now }
         ensures { result ≡ hints.now }
     {
-        Hinter {
-            hints,
-            pass,
-            recent: [usize::MAX; RECENT],
-            next: 0,
-        }
-    }
-
-    /// Whether the object is not among those that came here last. It is then.
-    pub(crate) fn is_new(&mut self, object: usize) -> bool
-        ensures { self.new ≡ self.old }
-    {
-        if self.recent.contains(&object) {
-            return false;
-        }
-        self.recent[self.next % RECENT] = object;
-        self.next = self.next.wrapping_add(1);
-        true
+        Hinter { hints, pass }
     }
 
     /// Hints the object. One that the queue is not for is not hinted.

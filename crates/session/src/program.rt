@@ -1,5 +1,5 @@
 //! A program with what its scopes hold, at one seat of a table: single steps, and those that keep the holds right.
-ghost use Rattle.code_execution.specs.Plain.{ArePlain};
+ghost use Rattle.code_execution.specs.Plain.{ArePassed};
 ghost use Rattle.code_form.specs.Code.{effect, is_blocked as is_blocked_in, most_scopes, output_of, stop_of};
 ghost use Rattle.code_form.specs.Form.{image_of};
 ghost use Rattle.code_form.specs.Growth.{has_text, may_grow, rest_of};
@@ -13,12 +13,12 @@ ghost use Rattle.object_moves.specs.Taken.{IsQuiet};
 ghost use Rattle.object_lock.specs.SeatViews.{IsSeat};
 ghost use Rattle.object_lock.specs.Seats.{Owns, note};
 ghost use Rattle.remote_store.specs.Kept.{piece_cells};
-ghost use Rattle.std.specs.Prelude.{◌≡◌, ◌≢◌, ◌+◌, ◌-◌, ◌/◌, ◌<◌, ◌≤◌, ◌^◌, ℕ, IfOk, MatchBool, MatchResult, None, Some, length, option_map, slice_index, true};
+ghost use Rattle.std.specs.Prelude.{◌≡◌, ◌≢◌, ◌⊎◌, ◌+◌, ◌-◌, ◌/◌, ◌%◌, ◌<◌, ◌≤◌, ◌^◌, ℕ, IfOk, MatchBool, MatchResult, None, Some, length, option_map, slice_index, true};
 
 use crate::hinter::Hinter;
 use crate::hold::Hold;
 use cells::{Stop, Want};
-use code_execution::Execution;
+use code_execution::{Execution, Hinted, Stretch};
 use code_form::{Cell, Image, Touch, heap_laws};
 use object_lock::{ObjectTable, OwnerSeat};
 use object_moves::take;
@@ -44,6 +44,7 @@ pub(crate) struct Program<'a, S: RawStore> {
     want: Option<Want>,
     // None where nobody serves hints.
     hinter: Option<Hinter<'a>>,
+    hinted: Hinted,
 }
 
 impl<'a, S: RawStore> Model for Program<'a, S> {
@@ -72,6 +73,7 @@ impl<'a, S: RawStore> Program<'a, S> {
         let execution = Execution::new(alloc, image)?;
         let holds = Vec::from_elem(alloc, None, 4)?;
         let next = owner.low() as u64;
+        let hinted = Hinted::new(hinter.is_some());
         Ok(Program {
             alloc,
             table,
@@ -84,6 +86,7 @@ impl<'a, S: RawStore> Program<'a, S> {
             completed: 0,
             want: None,
             hinter,
+            hinted,
         })
     }
 
@@ -271,16 +274,16 @@ impl<'a, S: RawStore> Program<'a, S> {
         Ok(())
     }
 
-    /// Does instructions one after the other, as long as they touch nothing and find no scope open that must be shut, at most `limit`, and
-    /// tells how many.
+    /// Does instructions one after the other, as long as they touch nothing, or tell a cell of which a hint would tell nothing new, and find no
+    /// scope open that must be shut, at most `limit`, and tells how many.
     #[inline(always)]
     pub(crate) fn proceed_plainly(&mut self, limit: u64) -> u64
         requires room { self.old.completed + limit < 2 ^ 64 }
         ensures within { result ≤ limit }
         ensures ran { self.new ≡ ran_on self.old result }
-        ensures plain { ArePlain self.old.image result self.old.core }
+        ensures passed { ArePassed self.old.image result self.old.core }
     {
-        let done = self.execution.run_plain(limit);
+        let done = self.execution.run_plain(&self.hinted, limit);
         self.completed += done;
         done
     }
@@ -418,8 +421,8 @@ impl<'a, S: RawStore> Program<'a, S> {
         }
     }
 
-    /// Hints the object of the cell, where it is away and somebody serves hints.
-    #[inline(always)]
+    /// Hints the object of the cell, where it is away, was not hinted lately, and somebody serves hints.
+    #[inline(never)]
     pub(crate) fn hint_wanted<R: Wait>(&mut self, rt: &R, wanted: Option<Cell>)
         requires holding { IsHolding self.old }
         requires cell { IsCellOrNone self.old.core wanted }
@@ -428,15 +431,16 @@ impl<'a, S: RawStore> Program<'a, S> {
         let Some(cell) = wanted else {
             return;
         };
-        let object = self.object_at(cell);
-        let Some(hinter) = &mut self.hinter else {
-            return;
-        };
-        if !hinter.is_new(object) {
+        if self.hinted.has(cell.reference, cell.index) {
             return;
         }
+        self.hinted.add(piece_of(cell));
+        let object = self.object_at(cell);
         let word = Word {
             bits: self.table.word(&mut self.owner, object),
+        };
+        let Some(hinter) = &mut self.hinter else {
+            return;
         };
         if let WordState::Away = word.state() {
             hinter.hint(rt, object);
@@ -514,6 +518,21 @@ fn is_of(hold: &Option<Hold>, object: usize) -> bool
     match hold {
         Some(hold) => hold.object == object,
         None => false,
+    }
+}
+
+/// The cells of the piece that a cell is in.
+fn piece_of(cell: Cell) -> Stretch
+    ensures reference { result.reference ≡ cell.reference }
+    ensures first { result.first ≡ cell.index - cell.index % piece_cells }
+    ensures end { result.end ≡ result.first + piece_cells ⊎ result.end ≡ 2 ^ 64 - 1 }
+{
+    let size = PIECE_CELLS as u64;
+    let first = cell.index - cell.index % size;
+    Stretch {
+        reference: cell.reference,
+        first,
+        end: first.saturating_add(size),
     }
 }
 
