@@ -1,27 +1,34 @@
 -- A program that is run to its end.
-use Rattle.std.specs.Prelude.{◌≡◌, ◌≢◌, ℕ, ◌≤◌, Bool, true, false}
+use Rattle.std.specs.Prelude.{◌≡◌, ◌≢◌, ℕ, ◌+◌, ◌≤◌, Bool, true, false, List}
 use Rattle.cells.specs.declared.ending.Run.{Run}
 use Rattle.cells.specs.declared.ending.Run.TheVariants.{Running, Stopped, Wanted}
 use Rattle.cells.specs.declared.ending.Want.TheVariants.{StoreFailed}
 use Rattle.code_form.specs.Code.{Covered}
-use Rattle.code_form.specs.Form.{Image}
 use Rattle.remote_store.specs.Kept.{piece_cells}
 use Rattle.session.specs.State.{IsAt, IsGoing, State}
+use Rattle.scope_verifier.specs.declared.acceptance.Verified.{Verified}
 use Rattle.program_run.specs.Executed.{IsOver}
+use Rattle.program_run.specs.declared.run.Turn.{Turn}
+use Rattle.program_run.specs.declared.run.Turn.TheVariants as turn
 
--- a program that is run: its image, how many objects it has, and whether its run is over
+-- a program that is run: the programs of its region, its number, how many objects it has, how many instructions it completed, and whether its run is over
 pub record RunView : Type 0 where
-  pub image : Image
+  pub programs : List Verified
+  pub number : ℕ
   pub objects : ℕ
+  pub completed : ℕ
   pub over : Bool
 
--- a program of this image with so many objects, at its beginning
-abbrev pub begun : Image → ℕ → RunView
-begun C n = record { image = C; objects = n; over = false }
+-- the program of this number with so many objects, at its beginning
+abbrev pub begun : List Verified → ℕ → ℕ → RunView
+begun programs k n = record { programs = programs; number = k; objects = n; completed = 0; over = false }
 
--- the same program when its run is over
-abbrev pub ended : RunView → RunView
-ended p = record p { over = true }
+-- What became of a program's turn of n instructions: nothing was done; or they were completed, and it goes on; or its run is over, after some number of
+-- instructions in all
+abbrev pub HasTurned : ℕ → RunView → RunView → Turn → Type 0
+HasTurned n p q turn.Held = q ≡ p
+HasTurned n p q turn.Ran = q ≡ record p { completed = p.completed + n }
+HasTurned n p q turn.Ended = q ≡ record p { completed = q.completed; over = true }
 
 -- whether a run that answered this is over
 abbrev pub is_over : Run → Bool

@@ -4,8 +4,8 @@ ghost use Rattle.cells.specs.declared.ending.Run.TheVariants.{Wanted};
 ghost use Rattle.cells.specs.declared.ending.Want.TheVariants.{OutOfMemory, StoreFailed};
 ghost use Rattle.code_form.specs.Code.{Covered};
 ghost use Rattle.object_lock.specs.Fresh.{IsFresh};
-ghost use Rattle.program_run.specs.Executed.{HasRunOn, IsExecutedOver, IsOver};
-ghost use Rattle.program_run.specs.Runs.{begun, ended};
+ghost use Rattle.program_run.specs.Executed.{HasRunOn, IsExecutedOver};
+ghost use Rattle.program_run.specs.Runs.{HasTurned, begun};
 ghost use Rattle.region.specs.Admission.{image_at};
 ghost use Rattle.remote_store.specs.Kept.{piece_cells};
 ghost use Rattle.session.specs.State.{IsAt, IsGoing, SameProgram};
@@ -20,54 +20,35 @@ use session::Session;
 use std::alloc::Global;
 use std::marker::Model;
 use std::sync::Wait;
-use std::thread;
 
-/// How many instructions are run at once.
-const QUANTUM: u64 = 1_000;
-
-/// Runs the session for `QUANTUM` instructions, unless its program stops or wants something.
-fn run_on<S: RawStore, W: Wait>(rt: &W, session: &mut Session<'_, S>) -> Run
-    requires going { IsGoing session.old }
-    requires room { session.old.completed + QUANTUM < 2 ^ 64 }
-    ensures at { S.honest → IsAt session.new }
-    ensures same { SameProgram session.old session.new }
-    ensures told { HasRunOn S.reliable QUANTUM session.old session.new result }
-    ensures covered { S.honest → S.reliable → Covered session.old.image → result ≢ Wanted StoreFailed }
-{
-    session.run(rt, QUANTUM)
+/// What became of a turn of a program.
+#[derive(Clone, Copy, Debug, PartialEq, Eq)]
+pub enum Turn {
+    /// The gate did not let the program go, and nothing was done.
+    Held,
+    /// The program was run, and goes on.
+    Ran,
+    /// The program has stopped, or wants something.
+    Ended,
 }
 
-/// Runs the session until its program has stopped or wants something. The gate is asked before each `QUANTUM` instructions, and asked again where it answers
-/// that the program may not go.
-fn run_session<S: RawStore, G: Gate, W: Wait>(
-    rt: &W,
-    gate: &G,
-    number: u32,
-    session: &mut Session<'_, S>,
-) -> Run
+/// Runs the session for so many instructions, unless its program stops or wants something.
+fn run_on<S: RawStore, W: Wait>(rt: &W, session: &mut Session<'_, S>, quantum: u64) -> Run
     requires going { IsGoing session.old }
+    requires room { session.old.completed + quantum < 2 ^ 64 }
     ensures at { S.honest → IsAt session.new }
     ensures same { SameProgram session.old session.new }
-    ensures over { IsOver S.reliable session.old.refusals session.new result }
+    ensures told { HasRunOn S.reliable quantum session.old session.new result }
     ensures covered { S.honest → S.reliable → Covered session.old.image → result ≢ Wanted StoreFailed }
 {
-    for _ in rt.forever() {
-        if session.completed() <= u64::MAX - QUANTUM && gate.may_go(number) {
-            match run_on(rt, session) {
-                Run::Running => {}
-                Run::Stopped(stop) => return Run::Stopped(stop),
-                Run::Wanted(want) => return Run::Wanted(want),
-            }
-        } else {
-            thread::yield_now();
-        }
-    }
-    unreachable!()
+    session.run(rt, quantum)
 }
 
-/// A program of a region that is run to its end at its seat. A contract sees its image, how many objects it has, and whether its run is over.
+/// A program of a region that is run to its end at its seat. A contract sees the region's programs, the number of this one, how many objects it has, how many
+/// instructions it completed, and whether its run is over.
 #[derive(Drop)]
 pub struct ProgramRun<'a, S: RawStore> {
+    region: &'a Region<S>,
     number: u32,
     session: Session<'a, S>,
     run: Run,
@@ -75,13 +56,17 @@ pub struct ProgramRun<'a, S: RawStore> {
 
 impl<'a, S: RawStore> Model for ProgramRun<'a, S> {
     ghost use Rattle.program_run.specs.Runs.{IsOnRun, RunView, is_over};
-    ghost use Rattle.std.specs.Prelude.{◌-◌};
+    ghost use Rattle.region.specs.Admission.{image_at};
+    ghost use Rattle.std.specs.Prelude.{◌≡◌, ◌-◌, ◌<◌, length};
 
     ghost Value = { RunView };
 
-    ghost view = { λ p. record { image = p.session.image; objects = p.session.view.high - p.session.view.low; over = is_over p.run } };
+    ghost view = { λ p. record { programs = p.region.now.programs; number = p.number; objects = p.session.view.high - p.session.view.low; completed = p.session.completed; over = is_over p.run } };
 
-    ghost invariant = { λ p. IsOnRun S.honest S.reliable p.session p.run };
+    ghost invariant = { λ p.
+        IsOnRun S.honest S.reliable p.session p.run
+        × (p.number < length p.region.now.programs)
+        × (p.session.image ≡ image_at p.region.now.programs p.number) };
 }
 
 impl<'a, S: RawStore> ProgramRun<'a, S> {
@@ -99,7 +84,7 @@ impl<'a, S: RawStore> ProgramRun<'a, S> {
         requires program { (0 < seat.view.number) × (seat.view.number ≤ length region.now.programs) }
         requires pass { pass ≡ hints.now }
         requires cells { region.now.table.sizes.cells ≡ piece_cells }
-        ensures begun { IfOk result (λ p. p ≡ begun (image_at region.now.programs (seat.view.number - 1)) (seat.view.high - seat.view.low)) }
+        ensures begun { IfOk result (λ p. p ≡ begun region.now.programs (seat.view.number - 1) (seat.view.high - seat.view.low)) }
         ensures wants { IfErr result (λ want. want ≡ OutOfMemory) }
     {
         // For the proof alone: there are at most 256 programs.
@@ -107,6 +92,7 @@ impl<'a, S: RawStore> ProgramRun<'a, S> {
         let number = (seat.number() - 1) as u32;
         match Session::new(alloc, region, hints, pass, seat) {
             Ok(session) => Ok(ProgramRun {
+                region,
                 number,
                 session,
                 run: Run::Running,
@@ -115,20 +101,39 @@ impl<'a, S: RawStore> ProgramRun<'a, S> {
         }
     }
 
-    /// Runs the program until it has stopped or wants something, and tells the gate so, once. It may wait.
-    pub fn run_to_end<G: Gate, W: Wait>(&mut self, rt: &W, gate: &G)
-        ensures { self.new ≡ ended self.old }
+    /// Its number, counted from 0.
+    pub fn number(&self) -> u32
+        ensures number { result ≡ self.now.number }
+        ensures there { result < length self.now.programs }
     {
-        if let Run::Running = self.run {
-            self.run = run_session(rt, gate, self.number, &mut self.session);
-            gate.stopped(self.number);
+        self.number
+    }
+
+    /// Asks the gate once whether the program may go, and where it may, runs it for `quantum` instructions, unless it stops or wants something: then the gate is
+    /// told so, once. It may wait. A program whose run is over stays as it is, and the gate is not asked; nor is it where 2^64 instructions would be completed.
+    pub fn turn<G: Gate, W: Wait>(&mut self, rt: &W, gate: &G, quantum: u64) -> Turn
+        ensures { HasTurned quantum self.old self.new result }
+    {
+        let Run::Running = self.run else {
+            return Turn::Ended;
+        };
+        if self.session.completed() > u64::MAX - quantum || !gate.may_go(self.number) {
+            return Turn::Held;
+        }
+        match run_on(rt, &mut self.session, quantum) {
+            Run::Running => Turn::Ran,
+            run => {
+                self.run = run;
+                gate.stopped(self.number);
+                Turn::Ended
+            }
         }
     }
 
     /// What it printed, how it ended, and how many instructions it completed: over an honest store those of the code's run.
     pub fn into_ended(self) -> Ended
         requires over { self.over ≡ true }
-        ensures { S.honest → IsExecutedOver S.reliable self.entry.objects self.entry.image result }
+        ensures { S.honest → IsExecutedOver S.reliable self.entry.objects (image_at self.entry.programs self.entry.number) result }
     {
         let ProgramRun { session, run, .. } = self;
         let completed = session.completed();

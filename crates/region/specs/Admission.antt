@@ -20,15 +20,21 @@ image_at programs k = image_by (slice_get programs k)
 abbrev pub needed : List Verified → ℕ → ℕ → ℕ
 needed programs evacuators fetchers = scopes_below (image_at programs) (length programs) + evacuators + fetchers
 
+-- how many workers a system may have, and how many instructions of one program a worker may run at once
+abbrev pub IsWithinWork : ℕ → ℕ → Type 0
+IsWithinWork workers quantum = (0 < workers) × (workers ≤ 64) × (0 < quantum) × (quantum ≤ 1000000)
+
 -- in what follows there are so many frames, objects, evacuators and fetchers
 module _ (programs : List Verified) (frames objects evacuators fetchers : ℕ) where
   -- each number is within its limit, and the frames suffice
   abbrev pub IsAdmitted : Type 0
   IsAdmitted = IsWithinLimits (length programs) frames objects evacuators fetchers × (needed programs evacuators fetchers ≤ frames)
 
-  -- why they are not admitted: a number is beyond its limit; or else the frames are too few, and both numbers are told. Memory is no cause
-  abbrev pub IsRefused : AdmitFault → Type 0
-  IsRefused f.TooMany = IsWithinLimits (length programs) frames objects evacuators fetchers → ⊥
-  IsRefused (f.TooSmall need have) =
-      IsWithinLimits (length programs) frames objects evacuators fetchers × (need ≡ needed programs evacuators fetchers) × (have ≡ frames) × (frames < needed programs evacuators fetchers)
-  IsRefused f.OutOfMemory = ⊥
+  -- Why they are not admitted to a system of so many workers that run so many instructions at once: a number is beyond its limit; or else the frames are too
+  -- few, and both numbers are told. Memory is no cause
+  abbrev pub IsRefused : ℕ → ℕ → AdmitFault → Type 0
+  IsRefused workers quantum f.TooMany = IsWithinLimits (length programs) frames objects evacuators fetchers → IsWithinWork workers quantum → ⊥
+  IsRefused workers quantum (f.TooSmall need have) =
+      IsWithinLimits (length programs) frames objects evacuators fetchers × IsWithinWork workers quantum
+      × (need ≡ needed programs evacuators fetchers) × (have ≡ frames) × (frames < needed programs evacuators fetchers)
+  IsRefused workers quantum f.OutOfMemory = ⊥

@@ -1,6 +1,6 @@
 //! Whether there are frames enough.
 ghost use Rattle.object_lock.specs.Fresh.{IsWithinLimits};
-ghost use Rattle.region.specs.Admission.{IsAdmitted, IsRefused, needed};
+ghost use Rattle.region.specs.Admission.{IsAdmitted, IsRefused, IsWithinWork, needed};
 ghost use Rattle.std.specs.Prelude.{◌≡◌, ◌⊎◌, ◌≤◌, MatchResult, false, length, min, true};
 
 use crate::fault::AdmitFault;
@@ -19,6 +19,12 @@ const MOST_OBJECTS: u32 = 16_777_216;
 
 /// The most evacuators of a system, and the most fetchers.
 const MOST_MOVERS: u32 = 64;
+
+/// The most workers of a system.
+const MOST_WORKERS: u32 = 64;
+
+/// The most instructions that a worker runs at once of one program.
+const MOST_QUANTUM: u32 = 1_000_000;
 
 /// How many frames these programs may need at once, with so many evacuators and fetchers: one for each scope that a program may have open, and one for each
 /// evacuator and each fetcher; 2^64 - 1 where they are more than that.
@@ -49,15 +55,29 @@ fn is_within_limits<M: Stores + Drop>(programs: usize, config: &Config<M>) -> bo
         && config.fetchers <= MOST_MOVERS
 }
 
-/// Whether programs are admitted to a system of these numbers. `TooMany` comes first: there is no program, or some number is beyond its limit. `TooSmall`
-/// comes then: there are fewer frames than the programs, evacuators and fetchers may need at once.
+/// Whether there are workers, whose turns have instructions, and both numbers are within their limits.
+fn is_within_work<M: Stores + Drop>(config: &Config<M>) -> bool
+    ensures within { result ≡ true → IsWithinWork config.now.workers config.now.quantum }
+    ensures beyond { result ≡ false → IsWithinWork config.now.workers config.now.quantum → ⊥ }
+{
+    0 < config.workers
+        && config.workers <= MOST_WORKERS
+        && 0 < config.quantum
+        && config.quantum <= MOST_QUANTUM
+}
+
+/// Whether programs are admitted to a system of these numbers. `TooMany` comes first: there is no program or no worker, a worker
+/// would run no instruction at once, or some number is beyond its limit. `TooSmall` comes then: there are fewer frames than the programs, evacuators and fetchers may need at once.
 pub fn fits<M: Stores + Drop>(programs: &[Verified], config: &Config<M>) -> Result<(), AdmitFault>
     ensures { MatchResult result
-        (λ _. IsAdmitted programs.now config.now.frames config.now.objects config.now.evacuators config.now.fetchers)
-        (λ fault. IsRefused programs.now config.now.frames config.now.objects config.now.evacuators config.now.fetchers fault) }
+        (λ _. IsAdmitted programs.now config.now.frames config.now.objects config.now.evacuators config.now.fetchers × IsWithinWork config.now.workers config.now.quantum)
+        (λ fault. IsRefused programs.now config.now.frames config.now.objects config.now.evacuators config.now.fetchers config.now.workers config.now.quantum fault) }
 {
     accepted_is_verified();
     if !is_within_limits(programs.len(), config) {
+        return Err(AdmitFault::TooMany);
+    }
+    if !is_within_work(config) {
         return Err(AdmitFault::TooMany);
     }
     let need = need(programs, config.evacuators, config.fetchers);

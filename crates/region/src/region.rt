@@ -4,7 +4,7 @@ ghost use Rattle.object_lock.specs.Kept.{slot_has, slot_keeps};
 ghost use Rattle.object_lock.specs.NewTable.{BeginsAway};
 ghost use Rattle.object_lock.specs.SeatViews.{IsSeat};
 ghost use Rattle.object_moves.specs.Taken.{AreTaken, ClaimsOne, HasOnly};
-ghost use Rattle.region.specs.Admission.{IsAdmitted, IsRefused};
+ghost use Rattle.region.specs.Admission.{IsAdmitted, IsRefused, IsWithinWork};
 ghost use Rattle.region.specs.Finding.{frame_found};
 ghost use Rattle.region.specs.declared.fault.AdmitFault.TheVariants.{OutOfMemory};
 ghost use Rattle.std.specs.List.{All};
@@ -106,12 +106,13 @@ pub fn admit<S: RawStore, M: Stores<S = S> + Drop>(
     config: Config<M>,
 ) -> Result<(Region<S>, Vec<OwnerSeat<S>>, Vec<MoverSeat<S>>), AdmitFault>
     ensures admitted { IfOk result (λ t. IsAdmitted programs.items config.frames config.objects config.evacuators config.fetchers) }
+    ensures work { IfOk result (λ t. IsWithinWork config.workers config.quantum) }
     ensures region { IfOk result (λ t. (t.0.programs ≡ programs.items) × (t.0.table.sizes ≡ sizes_of config.objects config.frames)) }
     ensures numbers { IfOk result (λ t. (t.0.objects ≡ config.objects / length programs.items * length programs.items) × (t.0.fetchers ≡ config.fetchers)) }
     ensures owners { IfOk result (λ t. AreNumbered 1 (length programs.items) t.1.items × All (IsFreshOwner t.0.table (config.objects / length programs.items)) t.1.items) }
     ensures movers { IfOk result (λ t. AreNumbered (suc (length programs.items)) (config.evacuators + config.fetchers) t.2.items × All (IsFreshMover t.0.table) t.2.items) }
     ensures away { IfOk result (λ t. BeginsAway (slot_keeps S.content) slot_has S.honest t.0.table.sizes (t.1.items ++ t.2.items)) }
-    ensures refused { IfErr result (λ fault. (fault ≡ OutOfMemory) ⊎ IsRefused programs.items config.frames config.objects config.evacuators config.fetchers fault) }
+    ensures refused { IfErr result (λ fault. (fault ≡ OutOfMemory) ⊎ IsRefused programs.items config.frames config.objects config.evacuators config.fetchers config.workers config.quantum fault) }
 {
     fits(&programs, &config)?;
     let count = programs.len() as u32;

@@ -14,12 +14,14 @@ pub trait Stores {
         ensures { IfErr result (λ want. want ≢ Want.NoObjects) };
 }
 
-/// How many frames, objects, evacuators and fetchers a system has, and its stores.
+/// How many frames, objects, evacuators, fetchers and workers a system has, how many instructions a worker runs at once of one program, and its stores.
 #[derive(Drop)]
 pub struct Config<M: Stores + Drop> {
     pub frames: u32,
     pub objects: u32,
     pub evacuators: u32,
     pub fetchers: u32,
+    pub workers: u32,
+    pub quantum: u32,
     pub stores: M,
 }
