@@ -24,6 +24,7 @@ fn asked(words: &[&str]) -> Option<u64> {
         ["away", count] => Some(Word::away(small(count)?).bits),
         ["coming", count, mover] => Some(Word::coming(small(count)?, small(mover)?).bits),
         ["here", count, frame] => Some(Word::here(small(count)?, small(frame)?).bits),
+        ["clean", frame] => Some(Word::clean_here(small(frame)?).bits),
         ["leaving", frame, mover] => Some(Word::leaving(small(frame)?, small(mover)?).bits),
         ["arrives", word, mover, frame] => {
             Some(bits(word)?.wrapping_add(Word::arrival(small(mover)?, small(frame)?)))

@@ -1,5 +1,5 @@
 -- What a round of an evacuator tells, and what it leaves of its seat.
-use Rattle.std.specs.Prelude.{◌≡◌, ◌≢◌, ◌⊎◌, ℕ, suc, ◌+◌, ◌%◌, ◌<◌, false}
+use Rattle.std.specs.Prelude.{◌≡◌, ◌≢◌, ◌⊎◌, ℕ, suc, ◌+◌, ◌%◌, ◌<◌, ◌≤◌, true, false}
 use Rattle.pointer_word.specs.Words.{Here, counted}
 use Rattle.object_lock.specs.Plays.{IsLook}
 use Rattle.object_lock.specs.Seats.{View, with_hand}
@@ -8,11 +8,11 @@ use Rattle.object_moves.specs.declared.moved.Moved.{Moved}
 use Rattle.object_moves.specs.declared.moved.Moved.TheVariants as M
 use Rattle.evacuator.specs.declared.counts.Round.{Round}
 
--- how many objects a round marked
-abbrev pub marks_of : Round → ℕ
-marks_of r = r.left + r.aborted + r.failed
+-- how many objects a round marked, or had leave as they were clean
+abbrev pub moves_of : Round → ℕ
+moves_of r = r.left + r.aborted + r.failed
 
--- the round that marked one object, of which this became
+-- the round that marked one object, or found one clean, of which this became
 abbrev pub one_of : Moved → Round
 one_of M.Left = record { left = 1; aborted = 0; failed = 0 }
 one_of M.Stayed = record { left = 0; aborted = 1; failed = 0 }
@@ -22,19 +22,22 @@ one_of M.Failed = record { left = 0; aborted = 0; failed = 1 }
 abbrev pub both : Round → Round → Round
 both a b = record { left = a.left + b.left; aborted = a.aborted + b.aborted; failed = a.failed + b.failed }
 
--- A round of these counts: by the seat's view each object that left is a commit, each other one an abort, and all are marks; a call was refused through
--- the port, modulo 2^64, for each that failed. Nothing else of the seat changed but which frame was marked last, what was copied of it, the berth that was taken, and its way
--- to the store
+-- A round of these counts: by the seat's view each object that left is a commit or left clean, each other one an abort, and all but those that left clean are marks; a
+-- call was refused through the port, modulo 2^64, for each that failed. Nothing else of the seat changed but which frame was marked last, what was copied of it, the berth that
+-- was taken, and its way to the store
 pub record Evacuates {W C : Type 0} (s t : SeatView W C) (r : Round) : Type 0 where
-  pub marks : t.view.hand.marks ≡ s.view.hand.marks + marks_of r
-  pub commits : t.view.hand.commits ≡ s.view.hand.commits + r.left
+  pub all : t.view.hand.marks + t.view.hand.leaves ≡ s.view.hand.marks + s.view.hand.leaves + moves_of r
+  pub left : t.view.hand.commits + t.view.hand.leaves ≡ s.view.hand.commits + s.view.hand.leaves + r.left
+  pub leaves : s.view.hand.leaves ≤ t.view.hand.leaves
+  pub commits : s.view.hand.commits ≤ t.view.hand.commits
   pub aborts : t.view.hand.aborts ≡ s.view.hand.aborts + (r.aborted + r.failed)
   pub refusals : t.refusals ≡ (s.refusals + r.failed) % 18446744073709551616
-  pub same : t ≡ record s { view = with_hand s.view (record s.view.hand { source = t.view.hand.source; copied = t.view.hand.copied; marks = t.view.hand.marks; commits = t.view.hand.commits; aborts = t.view.hand.aborts }); taken = t.taken; store = t.store; refusals = t.refusals }
+  pub same : t ≡ record s { view = with_hand s.view (record s.view.hand { source = t.view.hand.source; copied = t.view.hand.copied; marks = t.view.hand.marks; commits = t.view.hand.commits; aborts = t.view.hand.aborts; leaves = t.view.hand.leaves }); taken = t.taken; store = t.store; refusals = t.refusals }
 
--- the frame was free at a look, or named an object that was not in it without holds and in no mover's hands at a look behind that
+-- the frame was free at a look, or named an object that was not clean in it without holds at a look behind that, and at a further one was not there otherwise, without
+-- holds and in no mover's hands
 abbrev pub IsPassed : Type 0 → View → ℕ → Type 0
-IsPassed honest v f = IsLook honest v (λ x. x.frame f ≡ 0) ⊎ ((o : ℕ) × IsLook honest v (λ x. x.frame f ≡ suc o) × IsLook honest v (λ x. x.word o ≢ counted 0 (Here f false)))
+IsPassed honest v f = IsLook honest v (λ x. x.frame f ≡ 0) ⊎ ((o : ℕ) × IsLook honest v (λ x. x.frame f ≡ suc o) × IsLook honest v (λ x. x.word o ≢ counted 0 (Here f true)) × IsLook honest v (λ x. x.word o ≢ counted 0 (Here f false)))
 
 -- each of these frames was passed, count of them from the one of this number on, where frame 0 comes behind the last
 abbrev pub Passes : Type 0 → ℕ → ℕ → ℕ → View → Type 0

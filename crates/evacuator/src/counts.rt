@@ -1,13 +1,13 @@
 //! What a round of an evacuator came to.
 ghost use Rattle.std.specs.Prelude.{◌≡◌, ◌+◌, ◌≤◌};
-ghost use Rattle.evacuator.specs.Rounds.{both, marks_of, one_of};
+ghost use Rattle.evacuator.specs.Rounds.{both, moves_of, one_of};
 
 use object_moves::Moved;
 
-/// What a round of an evacuator came to: each object that it marked is counted once.
+/// What a round of an evacuator came to: each object that it marked, or had leave as it was clean, is counted once.
 #[derive(Clone, Copy, PartialEq, Eq, Debug)]
 pub struct Round {
-    /// How many objects left their frames.
+    /// How many objects left their frames: moved out, or clean.
     pub left: u32,
     /// How many stayed, as they were used meanwhile.
     pub aborted: u32,
@@ -16,9 +16,9 @@ pub struct Round {
 }
 
 impl Round {
-    /// Nothing was marked.
+    /// Nothing was marked, and nothing left.
     pub(crate) fn none() -> Round
-        ensures { marks_of result ≡ 0 }
+        ensures { moves_of result ≡ 0 }
     {
         Round {
             left: 0,
@@ -27,7 +27,7 @@ impl Round {
         }
     }
 
-    /// One object was marked, and this became of it.
+    /// One object was marked, or was clean, and this became of it.
     pub(crate) fn of(moved: Moved) -> Round
         ensures { result ≡ one_of moved }
     {
@@ -41,7 +41,7 @@ impl Round {
 
     /// The one and then the other.
     pub(crate) fn and(self, other: Round) -> Round
-        requires room { marks_of self + marks_of other ≤ 4294967295 }
+        requires room { moves_of self + moves_of other ≤ 4294967295 }
         ensures { result ≡ both self other }
     {
         Round {

@@ -1,24 +1,24 @@
 //! Rounds of an evacuator.
 ghost use Rattle.std.specs.Prelude.{◌≡◌, ◌<◌, ◌≤◌, min};
-ghost use Rattle.evacuator.specs.Rounds.{Evacuates, IsPassed, Passes, marks_of};
+ghost use Rattle.evacuator.specs.Rounds.{Evacuates, IsPassed, Passes, moves_of};
 ghost use Rattle.object_lock.specs.SeatViews.{IsSeat};
 ghost use Rattle.pointer_word.specs.Asked.{HasNothing};
 
 use crate::counts::Round;
 use object_lock::{MoverSeat, ObjectTable};
-use object_moves::move_out;
+use object_moves::{Moved, leave_clean, move_out};
 use region::Region;
 use remote_store::RawStore;
 
-/// Looks at the frame, and moves the object out that it names, where that can be marked there.
+/// Looks at the frame, and has the object leave that it names, where that is clean there; else moves it out, where it can be marked there.
 fn visit<S: RawStore>(table: &ObjectTable<S>, seat: &mut MoverSeat<S>, frame: usize) -> Round
     requires table { IsSeat table.now seat.old }
     requires low { frame < table.now.sizes.frames }
     requires empty { HasNothing seat.old.view.hand }
     ensures table { IsSeat table.now seat.new }
     ensures told { Evacuates seat.old seat.new result }
-    ensures once { marks_of result ≤ 1 }
-    ensures passed { marks_of result ≡ 0 → (seat.new ≡ seat.old) × IsPassed S.honest seat.old.view frame }
+    ensures once { moves_of result ≤ 1 }
+    ensures passed { moves_of result ≡ 0 → (seat.new ≡ seat.old) × IsPassed S.honest seat.old.view frame }
     ensures sure { S.reliable → result.failed ≡ 0 }
 {
     // For the proof alone: the count of refusals is one of 64 bits.
@@ -26,6 +26,9 @@ fn visit<S: RawStore>(table: &ObjectTable<S>, seat: &mut MoverSeat<S>, frame: us
     let Some(obj) = table.look(seat, frame) else {
         return Round::none();
     };
+    if leave_clean(table, seat, obj, frame) {
+        return Round::of(Moved::Left);
+    }
     if !table.try_mark(seat, obj, frame) {
         return Round::none();
     }
@@ -33,7 +36,8 @@ fn visit<S: RawStore>(table: &ObjectTable<S>, seat: &mut MoverSeat<S>, frame: us
 }
 
 /// Looks once at each of at most `budget` frames, from frame `from` on, or from frame 0 on where there is no such frame; behind the last comes frame 0. Each
-/// object that it can mark in such a frame it moves out, or gives up: then the object was used meanwhile, or the store refused the put.
+/// object that is clean in such a frame and has no hold leaves it; each other one that it can mark there it moves out, or gives up: then the object was used
+/// meanwhile, or the store refused the put.
 /// The mover's hands are empty before and after. It never waits.
 pub fn round_from<S: RawStore>(
     region: &Region<S>,
@@ -46,9 +50,9 @@ pub fn round_from<S: RawStore>(
     ensures table { IsSeat region.now.table seat.new }
     ensures empty { HasNothing seat.new.view.hand }
     ensures told { Evacuates seat.old seat.new result }
-    ensures within { marks_of result ≤ budget }
-    ensures still { marks_of result ≡ 0 → seat.new ≡ seat.old }
-    ensures passed { marks_of result ≡ 0 → from < region.now.table.sizes.frames → Passes S.honest from (min budget region.now.table.sizes.frames) region.now.table.sizes.frames seat.old.view }
+    ensures within { moves_of result ≤ budget }
+    ensures still { moves_of result ≡ 0 → seat.new ≡ seat.old }
+    ensures passed { moves_of result ≡ 0 → from < region.now.table.sizes.frames → Passes S.honest from (min budget region.now.table.sizes.frames) region.now.table.sizes.frames seat.old.view }
     ensures sure { S.reliable → result.failed ≡ 0 }
 {
     // For the proof alone: the count of refusals is one of 64 bits.
@@ -73,9 +77,9 @@ pub fn round<S: RawStore>(region: &Region<S>, seat: &mut MoverSeat<S>, budget: u
     ensures table { IsSeat region.now.table seat.new }
     ensures empty { HasNothing seat.new.view.hand }
     ensures told { Evacuates seat.old seat.new result }
-    ensures within { marks_of result ≤ budget }
-    ensures still { marks_of result ≡ 0 → seat.new ≡ seat.old }
-    ensures passed { marks_of result ≡ 0 → Passes S.honest 0 (min budget region.now.table.sizes.frames) region.now.table.sizes.frames seat.old.view }
+    ensures within { moves_of result ≤ budget }
+    ensures still { moves_of result ≡ 0 → seat.new ≡ seat.old }
+    ensures passed { moves_of result ≡ 0 → Passes S.honest 0 (min budget region.now.table.sizes.frames) region.now.table.sizes.frames seat.old.view }
     ensures sure { S.reliable → result.failed ≡ 0 }
 {
     round_from(region, seat, 0, budget)

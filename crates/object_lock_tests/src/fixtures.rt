@@ -90,6 +90,8 @@ pub(crate) fn bring_back<S: RawStore>(
     requires table { IsSeat table.now owner.old × (frame < table.now.sizes.frames) }
     requires begun { Owns owner.old.view obj × ((note owner.old.view obj).count ≡ 1) × (owner.old.view.hand.bringing ≡ Some obj) × (owner.old.view.hand.leaving ≡ None) × HasNoFrame owner.old.view.hand }
     ensures table { IsSeat table.now owner.new }
+    ensures here { IfSome result (λ _. Owns owner.new.view obj × ((note owner.new.view obj).count ≡ 1) × ((note owner.new.view obj).frame ≡ Some frame)) }
+    ensures hand { IfSome result (λ _. HasNothing owner.new.view.hand) }
 {
     if !table.try_claim(owner, frame, obj) || !owner.stored(obj) {
         return None;

@@ -31,12 +31,12 @@ fn show<O: Write>(out: &mut O, name: &str, tape: &Tape) -> io::Result<()> {
     writeln!(out)
 }
 
-/// What is told where the first call of the store fails. Nothing where memory ran out.
-fn fails_once(alloc: Global, tape: &mut Tape) {
-    let Ok(stores) = FaultStores::new(alloc, FarHeap, FaultPlan::Only(1)) else {
+/// What is told where calls of the store fail by the plan. Nothing where memory ran out.
+fn play_faults(alloc: Global, scenario: Scenario, plan: FaultPlan, tape: &mut Tape) {
+    let Ok(stores) = FaultStores::new(alloc, FarHeap, plan) else {
         return;
     };
-    play(alloc, Scenario::FailedPut, stores, tape);
+    play(alloc, scenario, stores, tape);
 }
 
 fn main(rt: HostRuntime) -> io::Result<()> {
@@ -47,8 +47,26 @@ fn main(rt: HostRuntime) -> io::Result<()> {
         show(&mut out, name, &tape)?;
     }
     let mut tape = Tape::new();
-    fails_once(rt.alloc(), &mut tape);
+    play_faults(
+        rt.alloc(),
+        Scenario::FailedPut,
+        FaultPlan::Only(1),
+        &mut tape,
+    );
     show(&mut out, "a put that failed", &tape)?;
+    // One put and one get, and no call of the store behind them.
+    let mut tape = Tape::new();
+    play_faults(
+        rt.alloc(),
+        Scenario::MovedOutAndIn,
+        FaultPlan::From(3),
+        &mut tape,
+    );
+    show(
+        &mut out,
+        "moved out and in with two calls of the store",
+        &tape,
+    )?;
     let mut tape = Tape::new();
     parts_among_one(rt.alloc(), &mut tape);
     show(&mut out, "the seats of one program", &tape)?;

@@ -8,8 +8,8 @@ use crate::fetchers::{
 };
 use crate::fixtures::owner_and_mover;
 use crate::moving_out::{
-    copies_anew, is_moved_out_and_in, is_written_meanwhile, marks_again, marks_only_the_unheld,
-    survives_a_failed_put,
+    copies_anew, is_moved_out_and_in, is_written_meanwhile, is_written_when_clean, marks_again,
+    marks_only_the_unheld, survives_a_failed_put,
 };
 use crate::owners::{begins_after_a_close, begins_with_two_holds, holds_again, stores};
 use crate::tape::Tape;
@@ -35,11 +35,12 @@ pub(crate) enum Scenario {
     CopiedAnew,
     WrittenMeanwhile,
     MovedOutAndIn,
+    WrittenWhenClean,
     FailedPut,
 }
 
 /// The scenarios over a store that doesn't fail, each with its name.
-pub(crate) const SCENARIOS: [(&str, Scenario); 15] = [
+pub(crate) const SCENARIOS: [(&str, Scenario); 16] = [
     ("stores of an owner", Scenario::Stores),
     ("a begin with two holds", Scenario::TwoHolds),
     ("a begin after a close", Scenario::AfterClose),
@@ -55,6 +56,7 @@ pub(crate) const SCENARIOS: [(&str, Scenario); 15] = [
     ("a copy after giving up", Scenario::CopiedAnew),
     ("written meanwhile", Scenario::WrittenMeanwhile),
     ("moved out and in", Scenario::MovedOutAndIn),
+    ("written when it was clean", Scenario::WrittenWhenClean),
 ];
 
 /// Plays the scenario on objects 0 and 1 of the owner.
@@ -85,6 +87,7 @@ fn act<S: RawStore>(
         Scenario::CopiedAnew => copies_anew(table, owner, mover, tape),
         Scenario::WrittenMeanwhile => is_written_meanwhile(table, owner, mover, tape),
         Scenario::MovedOutAndIn => is_moved_out_and_in(table, owner, mover, tape),
+        Scenario::WrittenWhenClean => is_written_when_clean(table, owner, mover, tape),
         Scenario::FailedPut => survives_a_failed_put(table, owner, mover, tape),
     }
 }

@@ -102,7 +102,21 @@ pub(crate) fn close<S: RawStore>(
     table.close(owner, obj);
 }
 
-/// Marks the object in the frame, where it is there with no hold.
+/// Has the object leave the frame, where it is clean there with no hold.
+pub(crate) fn leave<S: RawStore>(
+    table: &ObjectTable<S>,
+    mover: &mut MoverSeat<S>,
+    obj: usize,
+    frame: usize,
+) -> bool
+    requires idle { IsIdle table.now mover.old }
+    requires low { (obj < table.now.sizes.objects) × (frame < table.now.sizes.frames) }
+    ensures { MatchBool result (IsFreeing table.now mover.new frame) (IsIdle table.now mover.new) }
+{
+    table.try_leave(mover, obj, frame)
+}
+
+/// Marks the object in the frame, where it is there with no hold and not clean.
 pub(crate) fn mark<S: RawStore>(
     table: &ObjectTable<S>,
     mover: &mut MoverSeat<S>,
@@ -180,7 +194,7 @@ pub(crate) fn release<S: RawStore>(table: &ObjectTable<S>, mover: &mut MoverSeat
     table.release(mover, frame);
 }
 
-/// Moves the object out of the frame, where it is there with no hold, and still has none when it is away.
+/// Moves the object out of the frame, where it is there with no hold and not clean, and still has none when it is away.
 pub(crate) fn move_out<S: RawStore>(
     table: &ObjectTable<S>,
     mover: &mut MoverSeat<S>,

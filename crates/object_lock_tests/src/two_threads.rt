@@ -8,7 +8,7 @@ ghost use Rattle.object_lock.specs.SeatViews.{IsSeat};
 ghost use Rattle.object_lock_tests.specs.Standing.{IsIdle, IsOpen, IsShut};
 
 use crate::fixtures::{fill_words, owner_and_mover};
-use crate::standing::{bring_with, close, move_out, read, write};
+use crate::standing::{bring_with, close, leave, move_out, read, release, write};
 use crate::tape::Tape;
 use object_lock::{Begin, Held, MoverSeat, ObjectTable, OwnerSeat};
 use remote_store::{FarHeap, PIECE_CELLS, RawStore};
@@ -165,14 +165,18 @@ fn count_reads<R: Wait, S: RawStore>(
     same
 }
 
-// Tries to move out the object that a frame's word names, for each frame.
+// Has the object leave that a frame's word names, where it is clean, else tries to move it out, for each frame.
 fn move_each<S: RawStore>(table: &ObjectTable<S>, mover: &mut MoverSeat<S>)
     requires idle { IsIdle table.now mover.old }
     ensures { IsIdle table.now mover.new }
 {
     for frame in 0..table.frames() {
         if let Some(obj) = table.look(mover, frame) {
-            move_out(table, mover, obj, frame);
+            if leave(table, mover, obj, frame) {
+                release(table, mover, frame);
+            } else {
+                move_out(table, mover, obj, frame);
+            }
         }
     }
 }

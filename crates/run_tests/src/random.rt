@@ -61,7 +61,8 @@ impl Numbers {
             0 => Choice::Look(frame),
             1 => Choice::Claim(frame),
             2 => Choice::Mark(object, frame),
-            3 => Choice::Begin(object),
+            3 => Choice::Leave(object, frame),
+            4 => Choice::Begin(object),
             _ => Choice::Next,
         }
     }

@@ -18,11 +18,13 @@ use std::alloc::{AllocError, Global};
 use std::fmt::Write;
 use std::sync::Wait;
 
-/// Takes a hold of the owner's first object, which brings it into a frame, and closes the hold unless it is to stay open. Whether it was brought in.
+/// Takes a hold of the owner's first object, which brings it into a frame, begins to write it if that is asked for, and closes the hold unless it is to stay open. Whether it was
+/// brought in.
 fn bring_in<R: Wait, S: RawStore>(
     rt: &R,
     table: &ObjectTable<S>,
     owner: &mut OwnerSeat<S>,
+    written: bool,
     held: bool,
 ) -> bool
     requires fresh { IsFresh table.now owner.old }
@@ -35,6 +37,9 @@ fn bring_in<R: Wait, S: RawStore>(
     let Some(_frame) = take(rt, table, owner, obj, 0, &mut from) else {
         return false;
     };
+    if written {
+        table.begin_write(owner, obj);
+    }
     if !held {
         table.close(owner, obj);
     }
@@ -111,8 +116,9 @@ fn tell_region<R: Wait, S: RawStore>(
         return String::from_str(alloc, "one program alone");
     };
     let mut told = String::new(alloc);
-    if !bring_in(rt, region.table(), &mut first, setting.held)
-        || !bring_in(rt, region.table(), &mut second, setting.held)
+    let (written, held) = (setting.written, setting.held);
+    if !bring_in(rt, region.table(), &mut first, written, held)
+        || !bring_in(rt, region.table(), &mut second, written, held)
     {
         return String::from_str(alloc, "not brought in");
     }

@@ -26,6 +26,7 @@ pub struct Setting<'a> {
     fetchers: u32,
     plan: FaultPlan,
     pub(crate) held: bool,
+    pub(crate) written: bool,
     pub(crate) numbers: Vec<u64>,
     pub(crate) lines: Vec<Repeated<'a>>,
 }
@@ -76,6 +77,7 @@ impl<'a> Setting<'a> {
             fetchers: 0,
             plan: FaultPlan::Never,
             held: false,
+            written: false,
             numbers: Vec::new(alloc),
             lines: Vec::new(alloc),
         }
@@ -107,6 +109,10 @@ impl<'a> Setting<'a> {
             "loads" | "runs" | "seeds" | "budgets" => self.add_numbers(rest),
             "held" => {
                 self.held = true;
+                Ok(true)
+            }
+            "written" => {
+                self.written = true;
                 Ok(true)
             }
             "fails" => match plan(rest) {

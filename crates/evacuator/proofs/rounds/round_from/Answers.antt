@@ -1,7 +1,7 @@
 use Rattle.std.proofs.Common.{◌≡◌, ◌≤◌, ◌+◌, ◌%◌, ap, arith, sym, ◌∙◌, subst}
 use Rattle.object_lock.specs.SeatViews.{TableView}
 use Rattle.evacuator.specs.declared.counts.Round.{Round}
-use Rattle.evacuator.specs.Rounds.{Evacuates, IsPassed, Passes, marks_of}
+use Rattle.evacuator.specs.Rounds.{Evacuates, IsPassed, Passes, moves_of}
 use Rattle.evacuator.proofs.Adding.{evacuates_both, passes_more}
 use Rattle.evacuator.proofs.rounds.round_from.Goals as goal
 use Rattle.evacuator.proofs.rounds.round_from.Goals.{then-from-frames, else-from-frames}
@@ -15,12 +15,12 @@ loop-i-preserved g c =
     let sum = sym c.and-round.ensures in
     let told = evacuates_both s c.loop-i.seat u c.loop-i.round c.visit.result before.1 c.visit.ensures.told in
     let passed = passes_more h s c.loop-i.seat u c.loop-i.round c.visit.result c.if-from-frames.start c.loop-i.i c.frames-frames.result before.4 c.visit.ensures.passed in
-    let few : marks_of c.loop-i.round + marks_of c.visit.result ≤ c.loop-i.i + 1 = let a = before.2 in let b = c.visit.ensures.once in omega arith in (
+    let few : moves_of c.loop-i.round + moves_of c.visit.result ≤ c.loop-i.i + 1 = let a = before.2 in let b = c.visit.ensures.once in omega arith in (
       c.visit.ensures.table,
       subst (Evacuates s u) sum told,
-      subst (λ (r : Round). marks_of r ≤ c.loop-i.i + 1) sum (omega arith),
+      subst (λ (r : Round). moves_of r ≤ c.loop-i.i + 1) sum (omega arith),
       λ sure. subst (λ (r : Round). r.failed ≡ 0) sum (let a = before.3 sure in let b = c.visit.ensures.sure sure in omega arith),
-      subst (λ (r : Round). marks_of r ≡ 0 → (u ≡ s) × Passes h c.if-from-frames.start (c.loop-i.i + 1) c.frames-frames.result s.view) sum passed,
+      subst (λ (r : Round). moves_of r ≡ 0 → (u ≡ s) × Passes h c.if-from-frames.start (c.loop-i.i + 1) c.frames-frames.result s.view) sum passed,
     )
 
 pub returns-clause-passed : goal.returns-clause-passed

@@ -1,4 +1,4 @@
-use Rattle.std.proofs.Common.{◌≡◌, false, sym, ◌∙◌, subst}
+use Rattle.std.proofs.Common.{◌≡◌, false, sym, ap, ◌∙◌, subst}
 use Rattle.object_lock.specs.Plays.{IsLook}
 use Rattle.object_lock.specs.SeatViews.{SeatView}
 use Rattle.object_lock.specs.Telling.{named}
@@ -12,5 +12,8 @@ returns-then-not-try_mark-clause-passed g c none =
     let same = c.look.ensures.same in
     let no : c.try_mark.result ≡ false = cc in
     let look = subst (λ (s : SeatView g.row.S.Denot g.row.S-Cell.Denot). IsLook h s.view (λ x. c.look.result ≡ named (x.frame c.args.frame))) (sym same) c.look.ensures.step in
-    let passed = unmarked_passed h c.look.new.mover.view c.try_mark.new.mover.view _ c.args.frame c.in-Some.obj c.look.result c.try_mark.result c.in-Some.is no look c.try_mark.ensures.step in
-    (c.if-not-try_mark.ensures.told ∙ same, subst (λ (s : SeatView g.row.S.Denot g.row.S-Cell.Denot). IsPassed h s.view c.args.frame) same passed)
+    let left = c.if-leave_clean.ensures.told in
+    let stayed = c.leave_clean.ensures.stayed c.if-leave_clean.false in
+    let passed = unmarked_passed h c.look.new.mover.view c.leave_clean.new.mover.view c.try_mark.new.mover.view _ c.args.frame c.in-Some.obj c.look.result c.try_mark.result c.in-Some.is no
+        (ap (λ (s : SeatView g.row.S.Denot g.row.S-Cell.Denot). s.view) left) look stayed c.try_mark.ensures.step in
+    (c.if-not-try_mark.ensures.told ∙ left ∙ same, subst (λ (s : SeatView g.row.S.Denot g.row.S-Cell.Denot). IsPassed h s.view c.args.frame) same passed)
