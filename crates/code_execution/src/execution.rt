@@ -220,6 +220,21 @@ impl<'a> Execution<'a> {
         }
     }
 
+    /// What the next instruction touches, where it is one that aims, uses or leaves a scope.
+    #[inline(always)]
+    pub fn next_in_scope(&self) -> Option<Touch>
+        ensures { MatchOption result Unit (λ x. (x ≡ touch_of (effect self.now.image self.now.core))
+            × (is_blocked_in self.now.core ≡ false) × IsWithin (most_scopes self.now.image.functions) self.now.core x) }
+    {
+        match &self.status {
+            Status::Running(calls) => {
+                let decision = calls.decide_in_scope(self.image, &self.allocations, self.fits)?;
+                Some(decision.touch(&self.allocations, calls.count()))
+            }
+            _ => None,
+        }
+    }
+
     /// Does the next instruction, which is no allocation; `loaded` is what the cell holds that it loads, if it loads one. `Err`
     /// where memory is refused for what is printed, or for a call: then nothing is changed.
     #[inline(never)]

@@ -1,10 +1,6 @@
-use Rattle.std.proofs.Common.{◌≡◌, ◌∙◌, ap, subst, sym}
+use Rattle.std.proofs.Common.{subst, sym}
 use Rattle.code_form.specs.Form.{image_of}
-use Rattle.object_lock.specs.Fresh.{IsFresh}
-use Rattle.object_lock.specs.SeatViews.{TableView}
-use Rattle.region.specs.Admission.{image_at, image_by}
 use Rattle.session.specs.Keeping.{IsSession}
-use Rattle.session.specs.State.{State, begin}
 use Rattle.session.proofs.Opening.{fresh_run}
 use Rattle.session.proofs.session.Session.new.Goals as goal
 
