@@ -3,7 +3,8 @@
 //! a name may stand `-d`, for contracts to be checked, and a number of turns in place of 5,000. Behind `-p` it is checked, its tree is printed and
 //! read back, and its image runs with its contracts checked; behind `-f` it runs once for each call of the store, which fails; behind `-h` it runs alone, and a fetcher looks for a hint
 //! then; behind `-m` it runs twice at
-//! once, and both meet with two movers; behind `-t` it is kept, and all that are kept run at once in the end, each of them twice. The status is 1 where a text is refused, or
+//! once, and both meet with two movers; behind `-w` it runs twice on one worker, the first behind the second; behind `-c` it runs by turns of one instruction, and what asks
+//! for them is counted; behind `-t` it is kept, and all that are kept run at once in the end, each of them twice. The status is 1 where a text is refused, or
 //! something is not as it has to be.
 #![tactic(auto)]
 
@@ -14,12 +15,14 @@ mod means;
 mod prints;
 mod runs;
 mod together;
+mod turns;
 
 use crate::failures::fail_each_call;
 use crate::hinted::leave_hints;
 use crate::means::mean;
 use crate::prints::print_back;
 use crate::together::{Together, meet};
+use crate::turns::{one_at_a_time, one_behind_another};
 use std::alloc::Global;
 use std::io::Write;
 use std::process::ExitCode;
@@ -36,6 +39,8 @@ enum Asked {
     Fails,
     Hints,
     Meets,
+    Waits,
+    Counts,
     Joins,
 }
 
@@ -52,15 +57,21 @@ impl Asked {
     fn with(self, word: &str) -> Option<Asked> {
         let (old_checks, old_turns) = match self {
             Asked::Means { checks, turns } => (checks, turns),
-            Asked::Prints | Asked::Fails | Asked::Hints | Asked::Meets | Asked::Joins => (
-                false, 5000,
-            ),
+            Asked::Prints
+            | Asked::Fails
+            | Asked::Hints
+            | Asked::Meets
+            | Asked::Waits
+            | Asked::Counts
+            | Asked::Joins => (false, 5000),
         };
         match word {
             "-p" => Some(Asked::Prints),
             "-f" => Some(Asked::Fails),
             "-h" => Some(Asked::Hints),
             "-m" => Some(Asked::Meets),
+            "-w" => Some(Asked::Waits),
+            "-c" => Some(Asked::Counts),
             "-t" => Some(Asked::Joins),
             "-d" => Some(Asked::Means {
                 checks: true,
@@ -93,6 +104,8 @@ fn tell<R: Threads + Wait + Clock + Sync, O: Write>(
         Asked::Fails => fail_each_call(alloc, rt, name, text, out),
         Asked::Hints => leave_hints(alloc, rt, name, text, out),
         Asked::Meets => meet(alloc, rt, name, text, out),
+        Asked::Waits => one_behind_another(alloc, rt, name, text, out),
+        Asked::Counts => one_at_a_time(alloc, rt, name, text, out),
         Asked::Joins => Ok(together.add(name, text)?),
     }
 }
