@@ -32,6 +32,8 @@ fn ran<R: Wait>(alloc: Global, rt: &R, image: &Image, plan: FaultPlan) -> Option
         objects: 10,
         evacuators: 0,
         fetchers: 0,
+        workers: 4,
+        quantum: 1_000,
         stores,
     };
     let Ok((table, mut owners, _movers)) = ObjectTable::<FaultStore<FarHeap>>::new(

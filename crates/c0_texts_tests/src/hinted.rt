@@ -65,6 +65,8 @@ fn served_behind<R: Wait>(alloc: Global, rt: &R, verified: Verified) -> Option<S
         objects: 10,
         evacuators: 0,
         fetchers: 1,
+        workers: 4,
+        quantum: 1_000,
         stores: FarHeap,
     };
     let Ok((region, mut owners, mut movers)) = admit(alloc, programs, config) else {

@@ -2,7 +2,9 @@
 //! ends, the text is compiled too, its image is written, read again and run, and a line tells whether that printed the same and ended the same way. Before
 //! a name may stand `-d`, for contracts to be checked, and a number of turns in place of 5,000. Behind `-p` it is checked, its tree is printed and
 //! read back, and its image runs with its contracts checked; behind `-f` it runs once for each call of the store, which fails; behind `-h` it runs alone, and a fetcher looks for a hint
-//! then; behind a number and `-o` it runs alone in a world, and opens no more holds than that; behind `-m` it runs twice at once, and both meet with two movers; behind `-t` it is kept, and all that are kept run at once in the end, each of them twice. The status is 1 where a text is refused, or
+//! then; behind a number and `-o` it runs alone in a world, and opens no more holds than that; behind `-m` it runs twice at once, and both meet with two movers;
+//! behind `-w` it runs twice on one worker, the first behind the second; behind `-c` it runs by turns of one instruction, and what asks
+//! for them is counted; behind `-t` it is kept, and all that are kept run at once in the end, each of them twice. The status is 1 where a text is refused, or
 //! something is not as it has to be.
 #![tactic(auto)]
 
@@ -14,6 +16,7 @@ mod opens;
 mod prints;
 mod runs;
 mod together;
+mod turns;
 
 use crate::failures::fail_each_call;
 use crate::hinted::leave_hints;
@@ -21,6 +24,7 @@ use crate::means::mean;
 use crate::opens::open_few;
 use crate::prints::print_back;
 use crate::together::{Together, meet};
+use crate::turns::{one_at_a_time, one_behind_another};
 use std::alloc::Global;
 use std::io::Write;
 use std::process::ExitCode;
@@ -38,6 +42,8 @@ enum Asked {
     Hints,
     Opens { most: u64 },
     Meets,
+    Waits,
+    Counts,
     Joins,
 }
 
@@ -62,6 +68,8 @@ impl Asked {
             "-h" => Some(Asked::Hints),
             "-o" => Some(Asked::Opens { most: old_turns }),
             "-m" => Some(Asked::Meets),
+            "-w" => Some(Asked::Waits),
+            "-c" => Some(Asked::Counts),
             "-t" => Some(Asked::Joins),
             "-d" => Some(Asked::Means {
                 checks: true,
@@ -95,6 +103,8 @@ fn tell<R: Threads + Wait + Clock + Sync, O: Write>(
         Asked::Hints => leave_hints(alloc, rt, name, text, out),
         Asked::Opens { most } => open_few(alloc, most, name, text, out),
         Asked::Meets => meet(alloc, rt, name, text, out),
+        Asked::Waits => one_behind_another(alloc, rt, name, text, out),
+        Asked::Counts => one_at_a_time(alloc, rt, name, text, out),
         Asked::Joins => Ok(together.add(name, text)?),
     }
 }

@@ -13,6 +13,8 @@ use std::time::Clock;
 pub(crate) struct Sizes {
     pub(crate) frames: u32,
     pub(crate) objects: u32,
+    pub(crate) workers: u32,
+    pub(crate) quantum: u32,
 }
 
 /// The ends of these programs, run side by side beside so many evacuators and fetchers. None where they are not admitted, or memory ran out.
@@ -29,6 +31,8 @@ pub(crate) fn run_together<R: Threads + Wait + Clock + Sync, G: Gate>(
         objects: sizes.objects,
         evacuators: movers,
         fetchers: movers,
+        workers: sizes.workers,
+        quantum: sizes.quantum,
         stores: FarHeap,
     };
     run_all(alloc, rt, programs, config, gate).ok()
@@ -45,6 +49,8 @@ pub(crate) fn execute<R: Threads + Wait + Clock + Sync>(
     let sizes = Sizes {
         frames: 64,
         objects: 65_536,
+        workers: 4,
+        quantum: 1_000,
     };
     let Some(mut ends) = run_together(alloc, rt, programs, sizes, 1, &OpenGate) else {
         return Err(AllocError);

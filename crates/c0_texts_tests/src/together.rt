@@ -78,7 +78,7 @@ impl Gate for Meeting {
 }
 
 /// The compiled text, so many times.
-fn compiled(alloc: Global, text: &[u8], count: usize) -> Option<Vec<Verified>> {
+pub(crate) fn compiled(alloc: Global, text: &[u8], count: usize) -> Option<Vec<Verified>> {
     let mut programs = Vec::new(alloc);
     for _ in 0..count {
         let program = compile(alloc, text, false).ok()?;
@@ -87,7 +87,7 @@ fn compiled(alloc: Global, text: &[u8], count: usize) -> Option<Vec<Verified>> {
     Some(programs)
 }
 
-/// Runs this text twice at once, each over six frames, and tells whether both met with an evacuator and a fetcher, and how each ended. False where one did
+/// Runs this text twice at once on two workers, each over six frames, and tells whether both met with an evacuator and a fetcher, and how each ended. False where one did
 /// not come.
 pub(crate) fn meet<R: Threads + Wait + Clock + Sync, O: Write>(
     alloc: Global,
@@ -100,6 +100,8 @@ pub(crate) fn meet<R: Threads + Wait + Clock + Sync, O: Write>(
     let sizes = Sizes {
         frames: 12,
         objects: 4_000,
+        workers: 2,
+        quantum: 1_000,
     };
     let Some(programs) = compiled(alloc, text, 2) else {
         return Ok(false);
@@ -164,6 +166,8 @@ impl Together {
         let sizes = Sizes {
             frames: 192,
             objects: 30_000,
+            workers: 4,
+            quantum: 1_000,
         };
         let Some(ends) = run_together(alloc, rt, programs, sizes, 2, &OpenGate) else {
             return Ok(false);

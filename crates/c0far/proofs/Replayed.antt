@@ -52,7 +52,7 @@ module _ (h i r s : Type 0) (honest : i → h) (reliable : s → r) where
   pub replays_less : (asked : Replayed) (files : List (List ℕ)) (held : List ℕ → Known) (out err : Writes) (result : ℕ) → ReplaysOver h r asked files held out err result → ReplaysOver i s asked files held out err result
   replays_less asked files held out err result (inl (inl did)) = inl (inl (record {
     programs = did.programs;
-    admits = record { codes = did.admits.codes; admitted = did.admits.admitted };
+    admits = record { codes = did.admits.codes; admitted = did.admits.admitted; work = did.admits.work };
     lines = did.lines;
     read = did.read;
     ends = did.ends;
@@ -62,7 +62,7 @@ module _ (h i r s : Type 0) (honest : i → h) (reliable : s → r) where
   }))
   replays_less asked files held out err result (inl (inr (inl did))) = inl (inr (inl (record {
     programs = did.programs;
-    admits = record { codes = did.admits.codes; admitted = did.admits.admitted };
+    admits = record { codes = did.admits.codes; admitted = did.admits.admitted; work = did.admits.work };
     lines = did.lines;
     read = did.read;
     line = did.line;

@@ -3,7 +3,7 @@ use Rattle.std.specs.Prelude.{◌≡◌, ◌⊎◌, ℕ, List, ◌++◌, length,
 use Rattle.cells.specs.declared.ending.Ended.{Ended}
 use Rattle.clap.specs.Words.{Text}
 use Rattle.command_line.specs.Shell.{Replayed}
-use Rattle.region.specs.Admission.{IsAdmitted, IsRefused, image_at}
+use Rattle.region.specs.Admission.{IsAdmitted, IsRefused, IsWithinWork, image_at}
 use Rattle.region.specs.declared.fault.AdmitFault.{AdmitFault}
 use Rattle.schedule_replay.specs.Replayed.{IsReplayed, StopsAt}
 use Rattle.scope_verifier.specs.declared.acceptance.Verified.{Verified}
@@ -22,17 +22,18 @@ module _ (h r : Type 0) (asked : Replayed) (files : List Text) (held : Text → 
   abbrev pub sizes : ℕ → Sizes
   sizes programs = sizes_of programs asked.memory.frames asked.memory.objects asked.evacuators asked.fetchers
 
-  -- these programs are the codes of the files, and are admitted
+  -- these programs are the codes of the files, and are admitted, and so is the work that is asked for
   pub record Admits (programs : List Verified) : Type 0 where
     pub codes : AreCodes asked.checks held files programs
     pub admitted : IsAdmitted programs asked.memory.frames asked.memory.objects asked.evacuators asked.fetchers
+    pub work : IsWithinWork asked.work.workers asked.work.quantum
 
   -- the programs of the files are not admitted: it is told why
   pub record LacksRoom (out err : Writes) (result : ℕ) : Type 0 where
     pub programs : List Verified
     pub codes : AreCodes asked.checks held files programs
     pub fault : AdmitFault
-    pub cause : IsRefused programs asked.memory.frames asked.memory.objects asked.evacuators asked.fetchers fault
+    pub cause : IsRefused programs asked.memory.frames asked.memory.objects asked.evacuators asked.fetchers asked.work.workers asked.work.quantum fault
     pub shown : SaysFault fault err result
     pub quiet : IsQuiet out
 

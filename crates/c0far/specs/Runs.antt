@@ -50,7 +50,7 @@ module _ (h : Type 0) (asked : Started) (files : List Text) (held : Text → Kno
     pub programs : List Verified
     pub codes : AreCodes asked.checks held files programs
     pub fault : AdmitFault
-    pub cause : (fault ≡ admit.OutOfMemory) ⊎ IsRefused programs asked.memory.frames asked.memory.objects asked.evacuators asked.fetchers fault
+    pub cause : (fault ≡ admit.OutOfMemory) ⊎ IsRefused programs asked.memory.frames asked.memory.objects asked.evacuators asked.fetchers asked.work.workers asked.work.quantum fault
     pub shown : SaysFault fault err result
     pub quiet : IsQuiet out
 

@@ -1,7 +1,7 @@
 //! The command `replay`: the codes of files in one world, by a schedule.
 ghost use Rattle.std.specs.Prelude.{◌≡◌, ◌++◌, ℕ, List, codes, decimal, length, map};
 ghost use Rattle.command_line.specs.Shell.{replayed_of};
-ghost use Rattle.region.specs.Admission.{IsAdmitted};
+ghost use Rattle.region.specs.Admission.{IsAdmitted, IsWithinWork};
 ghost use Rattle.c0far.specs.FileTexts.{HasText, Known};
 ghost use Rattle.c0far.specs.FileCode.{AreCodes};
 ghost use Rattle.c0far.specs.Replays.{Admits, Replays, ReplaysLines, ReplaysOver};
@@ -39,7 +39,9 @@ fn replay_lines<M: Stores + Drop, O: Stream, E: Stream>(
     err: &mut E,
 ) -> u8
     requires numbers { (config.now.frames ≡ asked.memory.frames) × (config.now.objects ≡ asked.memory.objects) × (config.now.evacuators ≡ asked.evacuators) × (config.now.fetchers ≡ asked.fetchers) }
+    requires turns { (config.now.workers ≡ asked.work.workers) × (config.now.quantum ≡ asked.work.quantum) }
     requires admitted { IsAdmitted programs.items config.now.frames config.now.objects config.now.evacuators config.now.fetchers }
+    requires work { IsWithinWork config.now.workers config.now.quantum }
     ensures { (names : List (List ℕ)) (held : List ℕ → Known) → AreCodes asked.entry.checks held names programs.items → HasText (held asked.entry.schedule.now) lines.now
         → ReplaysLines M.S.honest M.S.reliable (replayed_of asked.entry) names held (writes O.contents O.failures out.old out.new) (writes E.contents E.failures err.old err.new) result }
 {
@@ -71,6 +73,8 @@ fn replay_with<M: Stores + Drop, F: Files, O: Stream, E: Stream>(
         objects: asked.memory.objects,
         evacuators: asked.evacuators,
         fetchers: asked.fetchers,
+        workers: asked.work.workers,
+        quantum: asked.work.quantum,
         stores,
     };
     if let Err(fault) = fits(&programs, &config) {

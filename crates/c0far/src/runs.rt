@@ -31,13 +31,15 @@ fn run_with<W: Wait + Threads + Clock + Sync, M: Stores + Drop>(
     stores: M,
 ) -> Result<Vec<Ended>, AdmitFault>
     ensures ended { IfOk result (λ v. AreEnds M.S.honest M.S.reliable (asked.entry.memory.objects / length programs.items) programs.items v.items) }
-    ensures refused { IfErr result (λ fault. (fault ≡ AdmitFault.OutOfMemory) ⊎ IsRefused programs.items asked.entry.memory.frames asked.entry.memory.objects asked.entry.evacuators asked.entry.fetchers fault) }
+    ensures refused { IfErr result (λ fault. (fault ≡ AdmitFault.OutOfMemory) ⊎ IsRefused programs.items asked.entry.memory.frames asked.entry.memory.objects asked.entry.evacuators asked.entry.fetchers asked.entry.work.workers asked.entry.work.quantum fault) }
 {
     let config = Config {
         frames: asked.memory.frames,
         objects: asked.memory.objects,
         evacuators: asked.evacuators,
         fetchers: asked.fetchers,
+        workers: asked.work.workers,
+        quantum: asked.work.quantum,
         stores,
     };
     run_all(alloc, rt, programs, config, &OpenGate)
@@ -52,7 +54,7 @@ fn run_over<W: Wait + Threads + Clock + Sync, M: Stores + Drop>(
     stores: M,
 ) -> Result<Vec<Ended>, AdmitFault>
     ensures ended { IfOk result (λ v. AreEnds M.S.honest (M.S.reliable × (asked.entry.memory.fail_from ≡ 0)) (asked.entry.memory.objects / length programs.items) programs.items v.items) }
-    ensures refused { IfErr result (λ fault. (fault ≡ AdmitFault.OutOfMemory) ⊎ IsRefused programs.items asked.entry.memory.frames asked.entry.memory.objects asked.entry.evacuators asked.entry.fetchers fault) }
+    ensures refused { IfErr result (λ fault. (fault ≡ AdmitFault.OutOfMemory) ⊎ IsRefused programs.items asked.entry.memory.frames asked.entry.memory.objects asked.entry.evacuators asked.entry.fetchers asked.entry.work.workers asked.entry.work.quantum fault) }
 {
     if asked.memory.fail_from == 0 {
         return run_with(alloc, rt, programs, asked, stores);
@@ -72,7 +74,7 @@ fn run_programs<W: Wait + Threads + Clock + Sync, F: Files>(
     files: &F,
 ) -> Result<Vec<Ended>, AdmitFault>
     ensures ended { IfOk result (λ v. RanOver F.Place.honest (memory_of asked.entry.memory) programs.items v.items) }
-    ensures refused { IfErr result (λ fault. (fault ≡ AdmitFault.OutOfMemory) ⊎ IsRefused programs.items asked.entry.memory.frames asked.entry.memory.objects asked.entry.evacuators asked.entry.fetchers fault) }
+    ensures refused { IfErr result (λ fault. (fault ≡ AdmitFault.OutOfMemory) ⊎ IsRefused programs.items asked.entry.memory.frames asked.entry.memory.objects asked.entry.evacuators asked.entry.fetchers asked.entry.work.workers asked.entry.work.quantum fault) }
 {
     match asked.memory.store {
         None => run_over(alloc, rt, programs, asked, FarHeap),

@@ -18,7 +18,7 @@ use Rattle.clap.specs.declared.parser.matches.SubCommand.{SubCommand}
 use Rattle.command_line.specs.declared.words.Line.{Line}
 use Rattle.command_line.specs.declared.words.Usage.{Usage}
 use Rattle.command_line.specs.declared.words.Usage.TheVariants as usage
-use Rattle.command_line.specs.Shell.{Build, Command, Names, command_of, Mean, Memory, Replay, Replayed, Run, build_command, command_in, has_checks, Started, mean_command, memory_in, named_command, number_in, number_or, replay_command, replayed_in, run_command, shell, short_option, started_in}
+use Rattle.command_line.specs.Shell.{Build, Command, Names, command_of, Mean, Memory, Replay, Replayed, Run, build_command, command_in, has_checks, Started, mean_command, memory_in, named_command, number_in, number_or, replay_command, replayed_in, run_command, shell, short_option, started_in, Work, work_in}
 use Rattle.clap.specs.declared.parser.matches.Found.{Found}
 use Rattle.clap.specs.declared.parser.matches.MatchedArg.{MatchedArg}
 
@@ -84,40 +84,51 @@ memory_is f frames objects from o of_frames of_objects of_from told =
     ∙ ap (option_and_then (λ m. option_and_then (λ n. option_map (λ k. over m n k store) calls) many)) of_frames
 
 -- a run
-abbrev pub started : Bool → Memory → (evacuators fetchers : ℕ) → Started
-started checks memory evacuators fetchers = record { checks = checks; memory = memory; evacuators = evacuators; fetchers = fetchers }
+abbrev pub started : Bool → Memory → (evacuators fetchers : ℕ) → Work → Started
+started checks memory evacuators fetchers work = record { checks = checks; memory = memory; evacuators = evacuators; fetchers = fetchers; work = work }
+
+-- what was found of its options tells the work
+pub work_is : (f : Found) (workers quantum : ℕ) → Some workers ≡ short_option (codes "workers") 4 (rows_of f) → Some quantum ≡ short_option (codes "quantum") 1000 (rows_of f)
+    → Some (record { workers = workers; quantum = quantum }) ≡ work_in (rows_of f)
+work_is f workers quantum of_workers of_quantum =
+    ap (option_map (λ n. record { workers = workers; quantum = n })) of_quantum
+    ∙ ap (option_and_then (λ w. option_map (λ n. record { workers = w; quantum = n }) (short_option (codes "quantum") 1000 (rows_of f)))) of_workers
 
 -- what was found of its options tells the run
-pub started_is : (f : Found) (b : Bool) (memory : Memory) (evacuators fetchers : ℕ) → b ≡ has_checks (rows_of f) → Some memory ≡ memory_in (rows_of f) → Some evacuators ≡ short_option (codes "evacuators") 1 (rows_of f)
-    → Some fetchers ≡ short_option (codes "fetchers") 1 (rows_of f) → Some (started b memory evacuators fetchers) ≡ started_in (rows_of f)
-started_is f b memory evacuators fetchers checked of_memory of_evacuators of_fetchers =
+pub started_is : (f : Found) (b : Bool) (memory : Memory) (evacuators fetchers : ℕ) (work : Work) → b ≡ has_checks (rows_of f) → Some memory ≡ memory_in (rows_of f) → Some evacuators ≡ short_option (codes "evacuators") 1 (rows_of f)
+    → Some fetchers ≡ short_option (codes "fetchers") 1 (rows_of f) → Some work ≡ work_in (rows_of f) → Some (started b memory evacuators fetchers work) ≡ started_in (rows_of f)
+started_is f b memory evacuators fetchers work checked of_memory of_evacuators of_fetchers of_work =
     let rows : List Row = rows_of f in
     let checks : Bool = has_checks rows in
     let ahead : Option ℕ = short_option (codes "fetchers") 1 rows in
     let out : Option ℕ = short_option (codes "evacuators") 1 rows in
-    ap (λ (x : Bool). Some (started x memory evacuators fetchers)) checked
-    ∙ ap (option_map (λ q. started checks memory evacuators q)) of_fetchers
-    ∙ ap (option_and_then (λ e. option_map (λ q. started checks memory e q) ahead)) of_evacuators
-    ∙ ap (option_and_then (λ m. option_and_then (λ e. option_map (λ q. started checks m e q) ahead) out)) of_memory
+    let turns : Option Work = work_in rows in
+    ap (λ (x : Bool). Some (started x memory evacuators fetchers work)) checked
+    ∙ ap (option_map (λ w. started checks memory evacuators fetchers w)) of_work
+    ∙ ap (option_and_then (λ q. option_map (λ w. started checks memory evacuators q w) turns)) of_fetchers
+    ∙ ap (option_and_then (λ e. option_and_then (λ q. option_map (λ w. started checks memory e q w) turns) ahead)) of_evacuators
+    ∙ ap (option_and_then (λ m. option_and_then (λ e. option_and_then (λ q. option_map (λ w. started checks m e q w) turns) ahead) out)) of_memory
 
 -- a replay
-abbrev pub by : Bool → Memory → (evacuators fetchers : ℕ) → (schedule : Text) → Replayed
-by checks memory evacuators fetchers schedule = record { checks = checks; memory = memory; evacuators = evacuators; fetchers = fetchers; schedule = schedule }
+abbrev pub by : Bool → Memory → (evacuators fetchers : ℕ) → Work → (schedule : Text) → Replayed
+by checks memory evacuators fetchers work schedule = record { checks = checks; memory = memory; evacuators = evacuators; fetchers = fetchers; work = work; schedule = schedule }
 
 -- what was found of its options tells the replay
-pub replayed_is : (f : Found) (memory : Memory) (evacuators fetchers : ℕ) (o : Option Text) → Some memory ≡ memory_in (rows_of f) → Some evacuators ≡ short_option (codes "evacuators") 1 (rows_of f)
-    → Some fetchers ≡ short_option (codes "fetchers") 1 (rows_of f) → o ≡ first_value f (codes "schedule")
-    → option_map (λ s. by (has_checks (rows_of f)) memory evacuators fetchers s) o ≡ replayed_in (rows_of f)
-replayed_is f memory evacuators fetchers o of_memory of_evacuators of_fetchers told =
+pub replayed_is : (f : Found) (memory : Memory) (evacuators fetchers : ℕ) (work : Work) (o : Option Text) → Some memory ≡ memory_in (rows_of f) → Some evacuators ≡ short_option (codes "evacuators") 1 (rows_of f)
+    → Some fetchers ≡ short_option (codes "fetchers") 1 (rows_of f) → Some work ≡ work_in (rows_of f) → o ≡ first_value f (codes "schedule")
+    → option_map (λ s. by (has_checks (rows_of f)) memory evacuators fetchers work s) o ≡ replayed_in (rows_of f)
+replayed_is f memory evacuators fetchers work o of_memory of_evacuators of_fetchers of_work told =
     let rows : List Row = rows_of f in
     let checks : Bool = has_checks rows in
     let lines : Option Text = first_of (codes "schedule") rows in
     let ahead : Option ℕ = short_option (codes "fetchers") 1 rows in
     let out : Option ℕ = short_option (codes "evacuators") 1 rows in
-    ap (option_map (λ s. by checks memory evacuators fetchers s)) (told ∙ sym (first_is f (codes "schedule")))
-    ∙ ap (option_and_then (λ q. option_map (λ s. by checks memory evacuators q s) lines)) of_fetchers
-    ∙ ap (option_and_then (λ e. option_and_then (λ q. option_map (λ s. by checks memory e q s) lines) ahead)) of_evacuators
-    ∙ ap (option_and_then (λ m. option_and_then (λ e. option_and_then (λ q. option_map (λ s. by checks m e q s) lines) ahead) out)) of_memory
+    let turns : Option Work = work_in rows in
+    ap (option_map (λ s. by checks memory evacuators fetchers work s)) (told ∙ sym (first_is f (codes "schedule")))
+    ∙ ap (option_and_then (λ w. option_map (λ s. by checks memory evacuators fetchers w s) lines)) of_work
+    ∙ ap (option_and_then (λ q. option_and_then (λ w. option_map (λ s. by checks memory evacuators q w s) lines) turns)) of_fetchers
+    ∙ ap (option_and_then (λ e. option_and_then (λ q. option_and_then (λ w. option_map (λ s. by checks memory e q w s) lines) turns) ahead)) of_evacuators
+    ∙ ap (option_and_then (λ m. option_and_then (λ e. option_and_then (λ q. option_and_then (λ w. option_map (λ s. by checks m e q w s) lines) turns) ahead) out)) of_memory
 
 -- all values of an id among entries
 abbrev values_in : List Entry → Text → Option (List Text)

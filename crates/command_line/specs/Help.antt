@@ -47,9 +47,13 @@ begins word start = starts_with (λ a b. a == b) word start
 abbrev pub is_memory_option : Text → Bool
 is_memory_option word = begins word (codes "--frames") || (begins word (codes "--objects") || (begins word (codes "--store") || begins word (codes "--fail-from")))
 
+-- the word begins an option of a command's work
+abbrev pub is_work_option : Text → Bool
+is_work_option word = begins word (codes "--workers") || begins word (codes "--quantum")
+
 -- the word begins an option of `run`, but for `-d`
 abbrev pub is_run_option : Text → Bool
-is_run_option word = is_memory_option word || (begins word (codes "--evacuators") || begins word (codes "--fetchers"))
+is_run_option word = is_memory_option word || (begins word (codes "--evacuators") || (begins word (codes "--fetchers") || is_work_option word))
 
 -- the word begins an option of `replay`, but for `-d`
 abbrev pub is_replay_option : Text → Bool

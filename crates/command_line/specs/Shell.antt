@@ -12,6 +12,7 @@ use Rattle.clap.specs.declared.builder.command.Command.TheViews.{out-Command}
 use Rattle.command_line.specs.declared.words.Memory.{Memory as Written}
 use Rattle.command_line.specs.declared.words.Replay.{Replay as Asked}
 use Rattle.command_line.specs.declared.words.Run.{Run as AskedRun}
+use Rattle.command_line.specs.declared.words.Work.{Work as AskedWork}
 use Rattle.command_line.specs.declared.words.Line.{Line}
 use Rattle.command_line.specs.declared.words.Line.TheVariants as line
 
@@ -48,6 +49,10 @@ abbrev pub with_memory : App → App
 with_memory a =
     with_rule (with_rule (with_rule (with_rule a (option_rule (codes "frames"))) (option_rule (codes "objects"))) (option_rule (codes "store"))) (option_rule (codes "fail-from"))
 
+-- [--workers W] [--quantum N]
+abbrev pub with_work : App → App
+with_work a = with_rule (with_rule a (option_rule (codes "workers"))) (option_rule (codes "quantum"))
+
 -- build [-d] -o OUT FILE
 abbrev pub build_shape : Shape
 build_shape = (with_rule (with_rule (with_rule (new_app (codes "build")) checks_rule) out_rule) file_rule).top
@@ -60,15 +65,16 @@ file_shape name = (with_rule (new_app name) file_rule).top
 abbrev pub mean_shape : Shape
 mean_shape = (with_rule (with_rule (with_rule (new_app (codes "mean")) checks_rule) turns_rule) file_rule).top
 
--- run [-d] [--frames F] [--objects N] [--store DIR] [--fail-from K] [--evacuators E] [--fetchers Q] FILE...
+-- run [-d] [--frames F] [--objects N] [--store DIR] [--fail-from K] [--evacuators E] [--fetchers Q] [--workers W] [--quantum N] FILE...
 abbrev pub run_shape : Shape
 run_shape =
-    (with_rule (with_rule (with_rule (with_memory (with_rule (new_app (codes "run")) checks_rule)) (option_rule (codes "evacuators"))) (option_rule (codes "fetchers"))) files_rule).top
+    (with_rule (with_work (with_rule (with_rule (with_memory (with_rule (new_app (codes "run")) checks_rule)) (option_rule (codes "evacuators"))) (option_rule (codes "fetchers")))) files_rule).top
 
--- replay [-d] [--frames F] [--objects N] [--store DIR] [--fail-from K] [--evacuators E] [--fetchers Q] --schedule S FILE...
+-- replay [-d] [--frames F] [--objects N] [--store DIR] [--fail-from K] [--evacuators E] [--fetchers Q] [--workers W] [--quantum N]
+-- --schedule S FILE...
 abbrev pub replay_shape : Shape
 replay_shape =
-    (with_rule (with_rule (with_rule (with_rule (with_memory (with_rule (new_app (codes "replay")) checks_rule)) (option_rule (codes "evacuators"))) (option_rule (codes "fetchers"))) schedule_rule) files_rule).top
+    (with_rule (with_rule (with_work (with_rule (with_rule (with_memory (with_rule (new_app (codes "replay")) checks_rule)) (option_rule (codes "evacuators"))) (option_rule (codes "fetchers")))) schedule_rule) files_rule).top
 
 -- c0far, which wants a command
 abbrev pub top_shape : Shape
@@ -90,12 +96,18 @@ pub record Memory : Type 0 where
   pub store : Option Text
   pub fail_from : ℕ
 
+-- how many threads programs share, and how many instructions of one are run at once
+pub record Work : Type 0 where
+  pub workers : ℕ
+  pub quantum : ℕ
+
 -- how programs are run
 pub record Started : Type 0 where
   pub checks : Bool
   pub memory : Memory
   pub evacuators : ℕ
   pub fetchers : ℕ
+  pub work : Work
 
 -- how programs are replayed
 pub record Replayed : Type 0 where
@@ -103,6 +115,7 @@ pub record Replayed : Type 0 where
   pub memory : Memory
   pub evacuators : ℕ
   pub fetchers : ℕ
+  pub work : Work
   pub schedule : Text
 
 -- a command, with its file; `build` and `mean` with whether contracts are checked, `build` with the file that it writes, `mean` with its turns;
@@ -158,11 +171,15 @@ memory_in rows =
     option_and_then (λ f. option_and_then (λ n. option_map (λ k. record { frames = f; objects = n; store = first_of (codes "store") rows; fail_from = k })
     (number_or number_in 0 (first_of (codes "fail-from") rows))) (short_option (codes "objects") 65536 rows)) (short_option (codes "frames") 64 rows)
 
+-- the work of the rows: 4 threads and 1,000 instructions where they tell no other number
+abbrev pub work_in : List Row → Option Work
+work_in rows = option_and_then (λ w. option_map (λ n. record { workers = w; quantum = n }) (short_option (codes "quantum") 1000 rows)) (short_option (codes "workers") 4 rows)
+
 -- how the rows say that programs are run: beside one evacuator and one fetcher where they tell no other number
 abbrev pub started_in : List Row → Option Started
 started_in rows =
-    option_and_then (λ m. option_and_then (λ e. option_map (λ q. record { checks = has_checks rows; memory = m; evacuators = e; fetchers = q })
-    (short_option (codes "fetchers") 1 rows)) (short_option (codes "evacuators") 1 rows)) (memory_in rows)
+    option_and_then (λ m. option_and_then (λ e. option_and_then (λ q. option_map (λ w. record { checks = has_checks rows; memory = m; evacuators = e; fetchers = q; work = w })
+    (work_in rows)) (short_option (codes "fetchers") 1 rows)) (short_option (codes "evacuators") 1 rows)) (memory_in rows)
 
 -- the run of the files of the rows
 abbrev pub run_command : List Row → Option Command
@@ -171,8 +188,8 @@ run_command rows = option_and_then (λ asked. option_map (λ files. Run asked fi
 -- how the rows say that programs are replayed: with one evacuator and one fetcher where they tell no other number
 abbrev pub replayed_in : List Row → Option Replayed
 replayed_in rows =
-    option_and_then (λ m. option_and_then (λ e. option_and_then (λ q. option_map (λ s. record { checks = has_checks rows; memory = m; evacuators = e; fetchers = q; schedule = s })
-    (first_of (codes "schedule") rows)) (short_option (codes "fetchers") 1 rows)) (short_option (codes "evacuators") 1 rows)) (memory_in rows)
+    option_and_then (λ m. option_and_then (λ e. option_and_then (λ q. option_and_then (λ w. option_map (λ s. record { checks = has_checks rows; memory = m; evacuators = e; fetchers = q; work = w; schedule = s })
+    (first_of (codes "schedule") rows)) (work_in rows)) (short_option (codes "fetchers") 1 rows)) (short_option (codes "evacuators") 1 rows)) (memory_in rows)
 
 -- the replay of the files of the rows
 abbrev pub replay_command : List Row → Option Command
@@ -197,13 +214,17 @@ command_in (Some p) =
 abbrev pub memory_of : Written → Memory
 memory_of m = record { frames = m.frames; objects = m.objects; store = option_map (λ s. s.now) m.store; fail_from = m.fail_from }
 
+-- work as code has it
+abbrev pub work_of : AskedWork → Work
+work_of w = record { workers = w.workers; quantum = w.quantum }
+
 -- a run as code has it
 abbrev pub started_of : AskedRun → Started
-started_of r = record { checks = r.checks; memory = memory_of r.memory; evacuators = r.evacuators; fetchers = r.fetchers }
+started_of r = record { checks = r.checks; memory = memory_of r.memory; evacuators = r.evacuators; fetchers = r.fetchers; work = work_of r.work }
 
 -- a replay as code has it
 abbrev pub replayed_of : Asked → Replayed
-replayed_of r = record { checks = r.checks; memory = memory_of r.memory; evacuators = r.evacuators; fetchers = r.fetchers; schedule = r.schedule.now }
+replayed_of r = record { checks = r.checks; memory = memory_of r.memory; evacuators = r.evacuators; fetchers = r.fetchers; work = work_of r.work; schedule = r.schedule.now }
 
 -- a command as code has it
 abbrev pub command_of : Line → Command

@@ -1,7 +1,7 @@
 //! What is told of words that are no command line: what is refused, and a page of help.
 ghost use Rattle.std.specs.Prelude.{◌≡◌, ◌==◌, map, option_map};
 ghost use Rattle.std.specs.List.{starts_with};
-ghost use Rattle.command_line.specs.Help.{asks_help, behind, complaint_of, complaint_text, ask_help as asked_in, is_command, is_memory_option, is_option, is_replay_option, is_run_option, is_stray, page_named, page_of, stray, topic};
+ghost use Rattle.command_line.specs.Help.{asks_help, behind, complaint_of, complaint_text, ask_help as asked_in, is_command, is_memory_option, is_option, is_replay_option, is_run_option, is_stray, is_work_option, page_named, page_of, stray, topic};
 
 use crate::complaint::Complaint;
 
@@ -89,10 +89,11 @@ docs/LANGUAGE.md tells what is accepted, docs/LIMITS.md how deep calls nest";
 
 /// The page of `run`.
 pub const RUN_PAGE: &str = "usage: c0far run [-d] [--frames F] [--objects N] [--store DIR]
-                 [--fail-from K] [--evacuators E] [--fetchers Q] FILE..
+                 [--fail-from K] [--evacuators E] [--fetchers Q]
+                 [--workers W] [--quantum N] FILE..
 
 Compiles the text in each FILE, or takes the image there, and runs these programs
-side by side, each on a thread of its own. Their objects move between local memory
+side by side, by turns on the threads of W workers. Their objects move between local memory
 and a store, which evacuators and fetchers see to on threads of theirs. When all
 have ended it prints of each its output and then how it ended: `result: N`,
 `assertion failed`, `error: TEXT`, `null fault`, `bounds fault`, `length fault`,
@@ -109,6 +110,9 @@ options:
   --fail-from K   each call of the store fails from call K on; none where K is 0 (0)
   --evacuators E  E movers bring objects out of frames (1), at most 64
   --fetchers Q    Q movers bring objects into frames (1), at most 64
+  --workers W     W threads run the programs (4), at least 1 and at most 64
+  --quantum N     a thread runs N instructions of a program at once (1000), at
+                  least 1 and at most 1,000,000
 
 status: 0 where each ended with a result; 1 where one stopped otherwise; 2 where a
   text or an image is refused, or cannot be read, or there are too few frames or
@@ -119,7 +123,7 @@ docs/LIMITS.md tells how many objects there are, docs/LANGUAGE.md what is accept
 /// The page of `replay`.
 pub const REPLAY_PAGE: &str = "usage: c0far replay [-d] [--frames F] [--objects N] [--store DIR]
                     [--fail-from K] [--evacuators E] [--fetchers Q]
-                    --schedule S FILE..
+                    [--workers W] [--quantum N] --schedule S FILE..
 
 Compiles the text in each FILE, or takes the image there, and does the steps that
 the file S lists, one a line, for programs that share local memory and its movers.
@@ -135,6 +139,8 @@ options:
   --fail-from K   each call of the store fails from call K on; none where K is 0 (0)
   --evacuators E  E movers bring objects out of frames (1), at most 64
   --fetchers Q    Q movers bring objects into frames (1), at most 64
+  --workers W     not used, but within the limits of run: 1 to 64 (4)
+  --quantum N     not used, but within the limits of run: 1 to 1,000,000 (1000)
   --schedule S    the steps
 
 status: 0 where each program ended with a result, or runs; 1 where one stopped
@@ -215,11 +221,21 @@ fn is_of_memory(word: &str) -> bool
         || begins(word, "--fail-from")
 }
 
+/// Whether the word begins an option of a command's work.
+fn is_of_work(word: &str) -> bool
+    ensures { result ≡ is_work_option word.now }
+{
+    begins(word, "--workers") || begins(word, "--quantum")
+}
+
 /// Whether the word begins an option of `run`, but for `-d`.
 fn is_of_run(word: &str) -> bool
     ensures { result ≡ is_run_option word.now }
 {
-    is_of_memory(word) || begins(word, "--evacuators") || begins(word, "--fetchers")
+    is_of_memory(word)
+        || begins(word, "--evacuators")
+        || begins(word, "--fetchers")
+        || is_of_work(word)
 }
 
 /// Whether the word begins an option of `replay`, but for `-d`.

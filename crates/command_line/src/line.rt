@@ -1,9 +1,9 @@
 //! From words to a command.
 ghost use Rattle.std.specs.Prelude.{◌≡◌, [], codes, false, IfErr, IfOk, List, MatchResult, None, Some, ℕ, map, option_and_then, option_map, true};
 ghost use Rattle.clap.specs.Words.{all_of, app_of, first_of, found_of, kind_of, rows_of, rule_of, subcommand_rows_of};
-ghost use Rattle.command_line.specs.Shell.{Command as Asked, IsLocal, Names, build_command, build_shape, checks_rule, command_in, command_of, file_rule, file_shape, has_checks, is_signed, mean_command, mean_shape, memory_in, memory_of, named_command, number_in, number_or, option_rule, replay_command, replay_shape, replayed_in, replayed_of, run_command, run_shape, shell, short_number_in, short_option, started_in, started_of, with_memory};
+ghost use Rattle.command_line.specs.Shell.{Command as Asked, IsLocal, Names, build_command, build_shape, checks_rule, command_in, command_of, file_rule, file_shape, has_checks, is_signed, mean_command, mean_shape, memory_in, memory_of, named_command, number_in, number_or, option_rule, replay_command, replay_shape, replayed_in, replayed_of, run_command, run_shape, shell, short_number_in, short_option, started_in, started_of, with_memory, with_work, work_in, work_of};
 
-use crate::words::{Line, Memory, Replay, Run, Usage};
+use crate::words::{Line, Memory, Replay, Run, Usage, Work};
 use clap::error::ErrorKind;
 use clap::{Arg, ArgAction, ArgMatches, Command, Error};
 use std::alloc::{AllocError, Global};
@@ -81,6 +81,16 @@ fn over_memory<'a>(alloc: Global, command: Command<'a>) -> Result<Command<'a>, A
         .arg(option(alloc, "fail-from"))
 }
 
+/// A command with the options of its work.
+fn with_workers<'a>(alloc: Global, command: Command<'a>) -> Result<Command<'a>, AllocError>
+    ensures shape { IfOk result (λ c. app_of c ≡ with_work (app_of command.entry)) }
+    ensures local { IsLocal command.entry → IfOk result IsLocal }
+{
+    command
+        .arg(option(alloc, "workers"))?
+        .arg(option(alloc, "quantum"))
+}
+
 /// The run, with its options and its files.
 fn run<'a>(alloc: Global) -> Result<Command<'a>, AllocError>
     ensures shape { IfOk result (λ c. app_of c ≡ record { top = run_shape; subs = [] }) }
@@ -93,10 +103,13 @@ fn run<'a>(alloc: Global) -> Result<Command<'a>, AllocError>
         .required(true)
         .action(ArgAction::Append);
     let command = Command::new(alloc, "run").arg(checks)?;
-    over_memory(alloc, command)?
-        .arg(option(alloc, "evacuators"))?
-        .arg(option(alloc, "fetchers"))?
-        .arg(files)
+    with_workers(
+        alloc,
+        over_memory(alloc, command)?
+            .arg(option(alloc, "evacuators"))?
+            .arg(option(alloc, "fetchers"))?,
+    )?
+    .arg(files)
 }
 
 /// The replay of a schedule, with its options and its files.
@@ -111,11 +124,14 @@ fn replay<'a>(alloc: Global) -> Result<Command<'a>, AllocError>
         .required(true)
         .action(ArgAction::Append);
     let command = Command::new(alloc, "replay").arg(checks)?;
-    over_memory(alloc, command)?
-        .arg(option(alloc, "evacuators"))?
-        .arg(option(alloc, "fetchers"))?
-        .arg(option(alloc, "schedule").required(true))?
-        .arg(files)
+    with_workers(
+        alloc,
+        over_memory(alloc, command)?
+            .arg(option(alloc, "evacuators"))?
+            .arg(option(alloc, "fetchers"))?,
+    )?
+    .arg(option(alloc, "schedule").required(true))?
+    .arg(files)
 }
 
 /// The commands that there are.
@@ -257,6 +273,19 @@ fn written<'a>(matches: &ArgMatches<'a>, file: &'a str) -> Option<Line<'a>>
     Some(Line::Build { checks, out, file })
 }
 
+/// The work that the options say that clap found.
+fn work(matches: &ArgMatches<'_>) -> Option<Work>
+    ensures { option_map work_of result ≡ work_in (rows_of (found_of matches.now)) }
+{
+    let Some(workers) = short_option(matches, "workers", 4) else {
+        return None;
+    };
+    let Some(quantum) = short_option(matches, "quantum", 1_000) else {
+        return None;
+    };
+    Some(Work { workers, quantum })
+}
+
 /// How programs are run, by the options that clap found.
 fn started<'a>(matches: &ArgMatches<'a>) -> Option<Run<'a>>
     ensures { option_map started_of result ≡ started_in (rows_of (found_of matches.now)) }
@@ -270,12 +299,16 @@ fn started<'a>(matches: &ArgMatches<'a>) -> Option<Run<'a>>
     let Some(fetchers) = short_option(matches, "fetchers", 1) else {
         return None;
     };
+    let Some(work) = work(matches) else {
+        return None;
+    };
     let checks = checks(matches);
     Some(Run {
         checks,
         memory,
         evacuators,
         fetchers,
+        work,
     })
 }
 
@@ -292,6 +325,9 @@ fn replayed<'a>(matches: &ArgMatches<'a>) -> Option<Replay<'a>>
     let Some(fetchers) = short_option(matches, "fetchers", 1) else {
         return None;
     };
+    let Some(work) = work(matches) else {
+        return None;
+    };
     let Some(schedule) = matches.get_str("schedule") else {
         return None;
     };
@@ -301,6 +337,7 @@ fn replayed<'a>(matches: &ArgMatches<'a>) -> Option<Replay<'a>>
         memory,
         evacuators,
         fetchers,
+        work,
         schedule,
     })
 }

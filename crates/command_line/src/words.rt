@@ -11,22 +11,32 @@ pub struct Memory<'a> {
     pub fail_from: u64,
 }
 
-/// How programs are run: with contracts checked or not, over this memory, beside so many evacuators and fetchers.
+/// On how many threads programs share, and how many instructions of one are run at once.
+#[derive(Clone, Copy, Debug, PartialEq, Eq)]
+pub struct Work {
+    pub workers: u32,
+    pub quantum: u32,
+}
+
+/// How programs are run: with contracts checked or not, over this memory, beside so many evacuators and fetchers, by turns of workers.
 #[derive(Clone, Copy, Debug, PartialEq, Eq)]
 pub struct Run<'a> {
     pub checks: bool,
     pub memory: Memory<'a>,
     pub evacuators: u32,
     pub fetchers: u32,
+    pub work: Work,
 }
 
-/// How programs are replayed: with contracts checked or not, over this memory, with so many evacuators and fetchers, by the schedule of this file.
+/// How programs are replayed: with contracts checked or not, over this memory, with so many evacuators and fetchers, by the schedule of this file. The
+/// work only has to be within its limits.
 #[derive(Clone, Copy, Debug, PartialEq, Eq)]
 pub struct Replay<'a> {
     pub checks: bool,
     pub memory: Memory<'a>,
     pub evacuators: u32,
     pub fetchers: u32,
+    pub work: Work,
     pub schedule: &'a str,
 }
 

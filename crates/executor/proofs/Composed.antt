@@ -1,30 +1,28 @@
--- Ends of programs, put together.
-use Rattle.std.proofs.Common.{◌≡◌, ◌<◌, ◌+◌, refl, ℕ, zero, suc, true, List, [], ◌∷◌, ◌++◌, length, sym, ap, ◌∙◌, subst, slice_index_or, take, arith, length-append, append_assoc, append-nil}
+-- Tasks, seats and ends of programs, put together.
+use Rattle.std.proofs.Common.{◌≡◌, ◌<◌, ◌+◌, ◌⊎◌, refl, ℕ, zero, suc, List, [], ◌∷◌, ◌++◌, Option, Some, None, length, sym, ap, ◌∙◌, subst, slice_get, slice_index_or, take, set, inl, inr, ⊎_elim, arith, length-append, append_assoc, append-nil}
 use Rattle.std.proofs.Math.Seq.{take-length}
-use Rattle.std.proofs.lemmas.List.{length-map}
+use Rattle.std.proofs.lemmas.List.{length-map, length-set}
 use Rattle.std.proofs.lemmas.List.FromFn.{length-range_with_len}
-use Rattle.std.specs.List.{All, AllZip}
+use Rattle.std.specs.List.{All, AllZip, remove}
 use Rattle.cells.specs.declared.ending.Ended.{Ended}
 use Rattle.code_form.specs.Form.{image_of}
 use Rattle.program_run.specs.Executed.{IsExecutedOver}
-use Rattle.program_run.specs.Runs.{RunView, begun, ended}
+use Rattle.program_run.specs.Runs.{RunView}
 use Rattle.scope_verifier.specs.declared.acceptance.Verified.{Verified}
 use Rattle.object_lock.specs.Fresh.{AreNumbered, IsFreshMover}
 use Rattle.object_lock.specs.SeatViews.{SeatView, TableView}
 use Rattle.pointer_word.specs.Asked.{HasNothing}
 use Rattle.region.specs.Admission.{image_at}
-use Rattle.executor.specs.Ends.{AreBegun, AreEnded, AreEnds, HaveEnds, IsEndOf, IsSeatOf}
+use Rattle.task_queue.specs.Queues.{QueueView}
+use Rattle.task_queue.specs.Tasked.{IsTask}
+use Rattle.task_queue.specs.declared.rule.Roster.{Roster}
+use Rattle.executor.specs.Ends.{AreEnds, AreFiled, AreSame, IsDone, IsEndOf, IsSeatOf}
+use Rattle.executor.specs.declared.workers.Done.{Done}
 
 zip_more : {A B : Type 0} (R : A → B → Type 0) (xs : List A) (ys : List B) (x : A) (y : B) → length ys < length xs → x ≡ slice_index_or xs (length ys) x → AllZip R (take (length ys) xs) ys → R x y → AllZip R (take (suc (length ys)) xs) (ys ++ y ∷ [])
 zip_more R [] ys x y l at h r = absurd (omega arith)
 zip_more R (a ∷ xs) [] x y l at h r = (subst (λ b. R b y) at r, tt)
 zip_more R (a ∷ xs) (b ∷ ys) x y l at h r = (h.0, zip_more R xs ys x y (omega arith) at h.1 r)
-
-zip_push : {A B : Type 0} (R : A → B → Type 0) (xs : List A) (ys : List B) (x : A) (y : B) → AllZip R xs ys → R x y → AllZip R (xs ++ x ∷ []) (ys ++ y ∷ [])
-zip_push R [] [] x y h r = (r, tt)
-zip_push R [] (b ∷ ys) x y h r = absurd h
-zip_push R (a ∷ xs) [] x y h r = absurd h
-zip_push R (a ∷ xs) (b ∷ ys) x y h r = (h.0, zip_push R xs ys x y h.1 r)
 
 -- what is done and what is left, with one more done
 pub more : {A : Type 0} (done left rest all : List A) (x : A) → done ++ left ≡ all → left ≡ x ∷ rest → (done ++ x ∷ []) ++ rest ≡ all
@@ -34,30 +32,6 @@ more done left rest all x e is = append_assoc done (x ∷ []) rest ∙ ap (λ l.
 pub none : {A : Type 0} (done left all : List A) → done ++ left ≡ all → length left ≡ 0 → done ≡ all
 none done [] all e is = sym (append-nil done) ∙ e
 none done (x ∷ left) all e is = absurd (omega arith)
-
--- a run more that is at its beginning
-pub begun_more : (objects : ℕ) (programs : List Verified) (runs new : List RunView) (p : RunView) (v : Verified) → length runs < length programs → v ≡ slice_index_or programs (length runs) v → new ≡ runs ++ p ∷ []
-    → AreBegun objects (take (length runs) programs) runs → p ≡ begun (image_of v.image) objects → AreBegun objects (take (length new) programs) new
-begun_more objects programs runs new p v l at is h b =
-    let n : suc (length runs) ≡ length new = omega (arith, ap length is, length-append runs (p ∷ [])) in
-    subst (λ (k : ℕ × List RunView). AreBegun objects (take k.0 programs) k.1) (λ i. (n i, sym is i)) (zip_more (λ v p. p ≡ begun (image_of v.image) objects) programs runs v p l at h b)
-
--- an end more
-pub ends_more : (honest reliable : Type 0) (runs : List RunView) (ends new : List Ended) (p : RunView) (e : Ended) → new ≡ ends ++ e ∷ [] → HaveEnds honest reliable runs ends → IsEndOf honest reliable p e → HaveEnds honest reliable (runs ++ p ∷ []) new
-ends_more honest reliable runs ends new p e is h f = subst (λ l. HaveEnds honest reliable (runs ++ p ∷ []) l) (sym is) (zip_push (IsEndOf honest reliable) runs ends p e h f)
-
--- runs that were run to their ends, place by place
-ended_zip : (old new : List RunView) → length new ≡ length old → ((k : ℕ) (d : RunView) → k < length old → slice_index_or new k d ≡ ended (slice_index_or old k d)) → AllZip (λ p q. q ≡ ended p) old new
-ended_zip [] [] e h = tt
-ended_zip [] (y ∷ ys) e h = absurd (omega arith)
-ended_zip (x ∷ xs) [] e h = absurd (omega arith)
-ended_zip (x ∷ xs) (y ∷ ys) e h = (h 0 x (omega arith), ended_zip xs ys (omega arith) (λ k d l. h (suc k) d (omega arith)))
-
--- each of them is over
-pub are_over : (old new : List RunView) → AreEnded old new → All (λ p. p.over ≡ true) new
-are_over old new h k p low =
-    let at : k < length old = let same = h.count in omega arith in
-    ap (λ (q : RunView). q.over) (h.each k p at)
 
 -- what holds of all holds of the first, and of the others
 pub all_first : {X : Type 0} (P : X → Type 0) (xs rest : List X) (x : X) → xs ≡ x ∷ rest → All P xs → P x
@@ -93,39 +67,69 @@ seat_is_free t s fresh = let hand = fresh.0.1 in (fresh.0.0, subst HasNothing (s
 pub numbered_count : {W C : Type 0} (a n : ℕ) (seats : List (SeatView W C)) → AreNumbered a n seats → length seats ≡ n
 numbered_count a n seats e = sym (length-map seats (λ s. s.view.number)) ∙ ap length e ∙ length-range_with_len a n
 
--- as many runs as programs
-pub begun_count : (objects : ℕ) (programs : List Verified) (runs : List RunView) → AreBegun objects programs runs → length runs ≡ length programs
-begun_count objects [] [] b = refl
-begun_count objects [] (p ∷ ps) b = absurd b
-begun_count objects (v ∷ vs) [] b = absurd b
-begun_count objects (v ∷ vs) (p ∷ ps) b = ap suc (begun_count objects vs ps b.1)
-
--- the runs of all programs
-pub begun_all : (objects k : ℕ) (programs : List Verified) (runs : List RunView) → k ≡ length programs → AreBegun objects (take k programs) runs → AreBegun objects programs runs
-begun_all objects k programs runs e b =
-    let whole : take k programs ≡ programs = ap (λ n. take n programs) e ∙ take-length programs in
-    subst (λ vs. AreBegun objects vs runs) whole b
-
 -- the program of a number, and its image
 pub image_there : (programs : List Verified) (k : ℕ) → k < length programs → (v : Verified) × (v ≡ slice_index_or programs k v) × (image_at programs k ≡ image_of v.image)
 image_there [] k low = absurd (omega arith)
 image_there (v ∷ vs) zero low = (v, refl, refl)
 image_there (v ∷ vs) (suc k) low = image_there vs k (omega arith)
 
-zip_all : (honest reliable : Type 0) (objects : ℕ) (programs : List Verified) (runs done : List RunView) (ends : List Ended)
-    → AreBegun objects programs runs → AllZip (λ p q. q ≡ ended p) runs done → HaveEnds honest reliable done ends → AreEnds honest reliable objects programs ends
-zip_all honest reliable objects [] [] [] [] b o e = tt
-zip_all honest reliable objects [] [] [] (e ∷ es) b o h = absurd h
-zip_all honest reliable objects [] [] (q ∷ qs) ends b o h = absurd o
-zip_all honest reliable objects [] (p ∷ ps) done ends b o h = absurd b
-zip_all honest reliable objects (v ∷ vs) [] done ends b o h = absurd b
-zip_all honest reliable objects (v ∷ vs) (p ∷ ps) [] ends b o h = absurd o
-zip_all honest reliable objects (v ∷ vs) (p ∷ ps) (q ∷ qs) [] b o h = absurd h
-zip_all honest reliable objects (v ∷ vs) (p ∷ ps) (q ∷ qs) (e ∷ es) b o h =
-    let is : q ≡ ended (begun (image_of v.image) objects) = o.0 ∙ ap ended b.0 in
-    (λ good. subst (λ (x : RunView). IsExecutedOver reliable x.objects x.image e) is (h.0 good), zip_all honest reliable objects vs ps qs es b.1 o.1 h.1)
+-- ends so far, and one more
+pub ends_more : (honest reliable : Type 0) (objects : ℕ) (programs : List Verified) (ends new : List Ended) (e : Ended) → length ends < length programs → new ≡ ends ++ e ∷ []
+    → AreEnds honest reliable objects (take (length ends) programs) ends → (honest → IsExecutedOver reliable objects (image_at programs (length ends)) e)
+    → AreEnds honest reliable objects (take (length new) programs) new
+ends_more honest reliable objects programs ends new e low is h f =
+    let there = image_there programs (length ends) low in
+    let n : suc (length ends) ≡ length new = omega (arith, ap length is, length-append ends (e ∷ [])) in
+    let this : honest → IsExecutedOver reliable objects (image_of there.0.image) e = λ good. subst (λ C. IsExecutedOver reliable objects C e) there.2 (f good) in
+    subst (λ (k : ℕ × List Ended). AreEnds honest reliable objects (take k.0 programs) k.1) (λ i. (n i, sym is i)) (zip_more (λ v e. honest → IsExecutedOver reliable objects (image_of v.image) e) programs ends there.0 e low there.1 h this)
 
--- runs at their beginning, run to their ends, whose ends are these: these are the programs' ends
-pub composed : (honest reliable : Type 0) (objects : ℕ) (programs : List Verified) (runs done : List RunView) (ends : List Ended)
-    → AreBegun objects programs runs → AreEnded runs done → HaveEnds honest reliable done ends → AreEnds honest reliable objects programs ends
-composed honest reliable objects programs runs done ends b o e = zip_all honest reliable objects programs runs done ends b (ended_zip runs done o.count o.each) e
+-- the ends of all programs
+pub ends_all : (honest reliable : Type 0) (objects k : ℕ) (programs : List Verified) (ends : List Ended) → k ≡ length programs → AreEnds honest reliable objects (take k programs) ends → AreEnds honest reliable objects programs ends
+ends_all honest reliable objects k programs ends e b =
+    let whole : take k programs ≡ programs = ap (λ n. take n programs) e ∙ take-length programs in
+    subst (λ vs. AreEnds honest reliable objects vs ends) whole b
+
+-- what is read of places of which one was filled
+set_at : (places : List (Option Ended)) (n k : ℕ) (end e : Ended) → slice_get (set places n (Some end)) k ≡ Some (Some e) → ((k ≡ n) × (end ≡ e)) ⊎ (slice_get places k ≡ Some (Some e))
+set_at [] n k end e at = inr at
+set_at (p ∷ ps) zero zero end e at = inl (refl, let same : end ≡ e = cc at in same)
+set_at (p ∷ ps) zero (suc k) end e at = inr at
+set_at (p ∷ ps) (suc n) zero end e at = inr at
+set_at (p ∷ ps) (suc n) (suc k) end e at = ⊎_elim (λ (x : (k ≡ n) × (end ≡ e)). inl (ap suc x.0, x.1)) (λ (x : slice_get ps k ≡ Some (Some e)). inr x) (set_at ps n k end e at)
+
+-- an end is filed
+pub filed : (honest reliable : Type 0) (r : Roster) (places : List (Option Ended)) (d : Done) → IsDone honest reliable r d → AreFiled honest reliable r places → AreFiled honest reliable r (set places d.number (Some d.end))
+filed honest reliable r places d done all = record {
+  count = length-set places d.number (Some d.end) ∙ all.count;
+  each = λ k e at.
+      ⊎_elim
+        (λ (x : (k ≡ d.number) × (d.end ≡ e)). subst (λ (n : ℕ × Ended). IsEndOf honest reliable r n.0 n.1) (λ i. (sym x.0 i, x.1 i)) done.1)
+        (λ (x : slice_get places k ≡ Some (Some e)). all.each k e x)
+        (set_at places d.number k d.end e at);
+}
+
+-- no place has an end yet
+pub unfiled : (honest reliable : Type 0) (r : Roster) (places : List (Option Ended)) → length places ≡ length r.programs → All (λ p. p ≡ None) places → AreFiled honest reliable r places
+unfiled honest reliable r places count none = record { count = count; each = λ k e at. absurd (empty places k e none at) }
+  where
+    empty : (places : List (Option Ended)) (k : ℕ) (e : Ended) → All (λ p. p ≡ None) places → slice_get places k ≡ Some (Some e) → ⊥
+    empty [] k e none at = let no : ⊥ = cc at in no
+    empty (p ∷ ps) zero e none at = let is = none 0 p (omega arith) in let no : ⊥ = cc (at, is) in no
+    empty (p ∷ ps) (suc k) e none at = empty ps k e (λ j d l. none (suc j) d (omega arith)) at
+
+-- the place behind those that were read
+pub place_there : (done rest all : List (Option Ended)) (p : Option Ended) → done ++ p ∷ rest ≡ all → slice_get all (length done) ≡ Some p
+place_there done rest all p is = subst (λ l. slice_get l (length done) ≡ Some p) is (here done rest p)
+  where
+    here : (done rest : List (Option Ended)) (p : Option Ended) → slice_get (done ++ p ∷ rest) (length done) ≡ Some p
+    here [] rest p = refl
+    here (d ∷ ds) rest p = here ds rest p
+
+-- the first of some tasks, and the others
+pub first_task : (r : Roster) (tasks : List RunView) (x : RunView) → 0 < length tasks → x ≡ slice_index_or tasks 0 x → All (IsTask r) tasks → IsTask r x × All (IsTask r) (remove tasks 0)
+first_task r [] x some at all = absurd (omega arith)
+first_task r (t ∷ ts) x some at all = (subst (IsTask r) (sym at) (all 0 t (omega arith)), λ k d low. all (suc k) d (omega arith))
+
+-- all workers are with the queue with which they were
+pub all_same : (q : QueueView) (old new : List QueueView) → AreSame old new → All (λ w. w ≡ q) old → All (λ w. w ≡ q) new
+all_same q old new same all = λ k d low. let count = same.count in same.each k d (omega arith) ∙ all k d (omega arith)

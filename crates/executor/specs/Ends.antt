@@ -1,34 +1,59 @@
 -- How all programs of a region end.
-use Rattle.std.specs.Prelude.{◌≡◌, ℕ, ◌<◌, ◌≤◌, ◌/◌, List, length, slice_index_or, true}
-use Rattle.std.specs.List.{AllZip}
+use Rattle.std.specs.Prelude.{◌≡◌, ℕ, ◌<◌, ◌≤◌, ◌+◌, IfSome, List, Option, Some, None, length, slice_index_or, slice_get}
+use Rattle.std.specs.List.{All, AllZip}
 use Rattle.cells.specs.declared.ending.Ended.{Ended}
 use Rattle.code_form.specs.Form.{image_of}
 use Rattle.object_lock.specs.SeatViews.{IsSeat, SeatView, TableView}
 use Rattle.pointer_word.specs.Asked.{HasNothing}
 use Rattle.program_run.specs.Executed.{IsExecutedOver}
-use Rattle.program_run.specs.Runs.{RunView, begun, ended}
+use Rattle.program_run.specs.Runs.{RunView}
+use Rattle.region.specs.Admission.{image_at}
 use Rattle.scope_verifier.specs.declared.acceptance.Verified.{Verified}
+use Rattle.task_queue.specs.Queues.{PassView, QueueView}
+use Rattle.task_queue.specs.Tasked.{IsTask}
+use Rattle.task_queue.specs.declared.rule.Roster.{Roster}
+use Rattle.executor.specs.declared.workers.Done.{Done}
 
 -- a seat of the table, with empty hands
 abbrev pub IsSeatOf : {W C : Type 0} → TableView → SeatView W C → Type 0
 IsSeatOf t s = IsSeat t s × HasNothing s.view.hand
 
--- each program was run to its end, in its place
-pub record AreEnded (old new : List RunView) : Type 0 where
+-- how many tasks these are
+abbrev pub in_hand : Option RunView → ℕ
+in_hand None = 0
+in_hand (Some t) = 1
+
+-- an end is that of program k of the roster, where the store is honest
+abbrev pub IsEndOf : Type 0 → Type 0 → Roster → ℕ → Ended → Type 0
+IsEndOf honest reliable r k e = honest → IsExecutedOver reliable r.objects (image_at r.programs k) e
+
+-- an end is that of the program of its number
+abbrev pub IsDone : Type 0 → Type 0 → Roster → Done → Type 0
+IsDone honest reliable r d = (d.number < length r.programs) × IsEndOf honest reliable r d.number d.end
+
+-- each of these ends is that of the program of its number
+abbrev pub AreDone : Type 0 → Type 0 → Roster → List Done → Type 0
+AreDone honest reliable r = All (IsDone honest reliable r)
+
+-- A worker of this queue, whose pass is this, which keeps this task, and has so many of these ends and room for so many: each task that is in hand with it has
+-- ended or is kept
+pub record Works (honest reliable : Type 0) (q : QueueView) (p : PassView) (kept : Option RunView) (done : List Done) (count most : ℕ) : Type 0 where
+  pub queue : p.queue ≡ q
+  pub hand : p.in_hand ≡ count + in_hand kept
+  pub few : p.in_hand ≤ length q.roster.programs
+  pub room : length q.roster.programs ≤ most
+  pub task : IfSome kept (λ t. IsTask q.roster t)
+  pub ends : AreDone honest reliable q.roster done
+
+-- there is a place for each program, and an end in it is that of the program
+pub record AreFiled (honest reliable : Type 0) (r : Roster) (places : List (Option Ended)) : Type 0 where
+  pub count : length places ≡ length r.programs
+  pub each : (k : ℕ) (e : Ended) → slice_get places k ≡ Some (Some e) → IsEndOf honest reliable r k e
+
+-- each worker is with the queue with which it was
+pub record AreSame (old new : List QueueView) : Type 0 where
   pub count : length new ≡ length old
-  pub each : (k : ℕ) (p : RunView) → k < length old → slice_index_or new k p ≡ ended (slice_index_or old k p)
-
--- there is a run of each program, at its beginning and with so many objects
-abbrev pub AreBegun : ℕ → List Verified → List RunView → Type 0
-AreBegun objects = AllZip (λ v p. p ≡ begun (image_of v.image) objects)
-
--- an end is that of this run, where the store is honest
-abbrev pub IsEndOf : Type 0 → Type 0 → RunView → Ended → Type 0
-IsEndOf honest reliable p e = honest → IsExecutedOver reliable p.objects p.image e
-
--- there is an end of each run, in its place
-abbrev pub HaveEnds : Type 0 → Type 0 → List RunView → List Ended → Type 0
-HaveEnds honest reliable = AllZip (IsEndOf honest reliable)
+  pub each : (k : ℕ) (q : QueueView) → k < length old → slice_index_or new k q ≡ slice_index_or old k q
 
 -- There is an end of each program, at the program's place: over an honest store it is that of the code's run with so many objects
 abbrev pub AreEnds : Type 0 → Type 0 → ℕ → List Verified → List Ended → Type 0

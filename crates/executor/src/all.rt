@@ -6,7 +6,8 @@ ghost use Rattle.object_lock.specs.Fresh.{AreNumbered, IsFreshMover, IsFreshOwne
 ghost use Rattle.region.specs.Admission.{IsRefused};
 ghost use Rattle.remote_store.specs.Kept.{piece_cells};
 
-use crate::hiring::{begin_all, end_all, hire};
+use crate::filing::{all_ends, file_all, no_ends};
+use crate::hiring::{begin_all, enqueue, hire, staff};
 use crate::places::run_beside;
 use cells::Ended;
 use fetcher::Hints;
@@ -17,6 +18,7 @@ use remote_store::{Config, RawStore, Stores};
 use scope_verifier::Verified;
 use std::alloc::{AllocError, Global};
 use std::sync::Wait;
+use std::sync::atomic::AtomicUsize;
 use std::thread::Threads;
 use std::time::Clock;
 
@@ -30,6 +32,8 @@ fn run_region<S: RawStore + Send, G: Gate, R: Threads + Wait + Clock + Sync>(
     evacuators: usize,
     movers: Vec<MoverSeat<S>>,
     share: usize,
+    workers: usize,
+    quantum: u64,
 ) -> Result<Vec<Ended>, AllocError>
     requires numbers { AreNumbered 1 (length region.now.programs) owners.items }
     requires owners { All (IsFreshOwner region.now.table share) owners.items }
@@ -41,18 +45,24 @@ fn run_region<S: RawStore + Send, G: Gate, R: Threads + Wait + Clock + Sync>(
     let Ok((hints, mut passes)) = Hints::new(alloc, region) else {
         return Err(AllocError);
     };
-    let ends = Vec::with_capacity(alloc, region.programs())?;
-    let runs = begin_all(alloc, region, &hints, &mut passes, owners, share)?;
+    let count = region.programs();
+    let ends = Vec::with_capacity(alloc, count)?;
+    let tasks = begin_all(alloc, region, &hints, &mut passes, owners, share)?;
+    let (queue, mut pass) = enqueue(alloc, rt, region, share, tasks)?;
+    let places = no_ends(alloc, &queue, count)?;
+    let workers = staff(alloc, &queue, &mut pass, workers, count)?;
     let movers = hire(alloc, region, &hints, evacuators, movers, passes)?;
-    let runs = run_beside(rt, gate, movers, runs);
-    Ok(end_all(runs, ends))
+    let left = AtomicUsize::new(count);
+    let workers = run_beside(rt, gate, &left, quantum, movers, workers);
+    all_ends(&queue, file_all(&queue, workers, places), ends)
 }
 
-/// Runs the programs to their ends over a region of these numbers, each program, evacuator and fetcher on a thread of its own. The ends stand in the programs'
-/// order: over an honest store each is that of the code's run with an equal share of the objects, whatever the others do. The gate is asked before every 1,000
-/// instructions of a program, and told of each end and of each turn of a mover. Movers go on until every program has ended. A program whose thread cannot be
-/// made is run by the calling thread; a mover whose thread cannot be made is not run. The faults are those of `admit`; `OutOfMemory` also where a growth for the
-/// programs, the movers or the hints was refused before any of them ran.
+/// Runs the programs to their ends over a region of these numbers, by turns on the threads of so many workers, beside evacuators and fetchers on threads of
+/// theirs. A worker takes the program that waits longest, asks the gate once whether it may go, runs it for `quantum` instructions where it may, and puts it
+/// back. The ends stand in the programs' order: over an honest store each is that of the code's run with an equal share of the objects, whatever the others
+/// do. The gate is told of each end and of each turn of a mover. Movers go on until every program has ended. A worker or a mover whose thread cannot be made is
+/// not run; where none can be made the calling thread is the one worker. The faults are those of `admit`; `OutOfMemory` also where a growth for the programs,
+/// the workers, the movers or the queues was refused before any of them ran.
 pub fn run_all<
     S: RawStore + Send,
     M: Stores<S = S> + Drop,
@@ -66,13 +76,15 @@ pub fn run_all<
     gate: &G,
 ) -> Result<Vec<Ended>, AdmitFault>
     ensures ends { IfOk result (λ v. AreEnds S.honest S.reliable (config.objects / length programs.items) programs.items v.items) }
-    ensures refused { IfErr result (λ fault. (fault ≡ AdmitFault.OutOfMemory) ⊎ IsRefused programs.items config.frames config.objects config.evacuators config.fetchers fault) }
+    ensures refused { IfErr result (λ fault. (fault ≡ AdmitFault.OutOfMemory) ⊎ IsRefused programs.items config.frames config.objects config.evacuators config.fetchers config.workers config.quantum fault) }
 {
     let objects = config.objects as usize;
     let evacuators = config.evacuators as usize;
+    let workers = config.workers as usize;
+    let quantum = u64::from(config.quantum);
     let (region, owners, movers) = admit(alloc, programs, config)?;
     let share = objects / region.programs().max(1);
-    match run_region(alloc, rt, gate, &region, owners, evacuators, movers, share) {
+    match run_region(alloc, rt, gate, &region, owners, evacuators, movers, share, workers, quantum) {
         Ok(ends) => Ok(ends),
         Err(_refused) => Err(AdmitFault::OutOfMemory),
     }

@@ -1,18 +1,20 @@
-//! What a region's run begins and ends with: programs at their beginning, movers at their seats, and the ends of programs.
+//! What a region's run begins with: programs at their beginning in the queue of tasks, workers with passes of it, and movers at their seats.
 ghost use Rattle.std.specs.List.{All};
-ghost use Rattle.std.specs.Prelude.{◌≡◌, [], ◌+◌, ◌<◌, ◌≤◌, IfOk, length, true, vec_capacity, vec_len};
-ghost use Rattle.executor.specs.Ends.{AreBegun, HaveEnds};
+ghost use Rattle.std.specs.Prelude.{◌≡◌, ◌+◌, ◌<◌, ◌≤◌, IfOk, OnOk, length};
 ghost use Rattle.object_lock.specs.Fresh.{AreNumbered, IsFreshMover, IsFreshOwner};
 ghost use Rattle.remote_store.specs.Kept.{piece_cells};
+ghost use Rattle.task_queue.specs.Tasked.{IsTask, roster};
 
 use crate::movers::{Evacuator, Fetcher, Mover};
-use cells::Ended;
+use crate::workers::Worker;
 use fetcher::{HintPass, Hints};
 use object_lock::{MoverSeat, OwnerSeat};
 use program_run::ProgramRun;
 use region::Region;
 use remote_store::RawStore;
 use std::alloc::{AllocError, Global};
+use std::sync::Wait;
+use task_queue::{TaskPass, TaskQueue};
 
 /// The last of these passes.
 fn take_pass(hints: &Hints, passes: &mut Vec<HintPass>) -> HintPass
@@ -42,7 +44,8 @@ pub(crate) fn begin_all<'a, S: RawStore>(
     requires passes { All (λ p. p ≡ hints.now) passes.old.items }
     requires enough { length region.now.programs ≤ length passes.old.items }
     requires cells { region.now.table.sizes.cells ≡ piece_cells }
-    ensures begun { IfOk result (λ v. AreBegun share region.now.programs v.items) }
+    ensures tasks { IfOk result (λ v. All (IsTask (roster region.now.programs share)) v.items) }
+    ensures count { IfOk result (λ v. length v.items ≡ length region.now.programs) }
     ensures passes { All (λ p. p ≡ hints.now) passes.new.items }
     ensures left { IfOk result (λ v. length passes.new.items + length region.now.programs ≡ length passes.old.items) }
 {
@@ -59,17 +62,68 @@ pub(crate) fn begin_all<'a, S: RawStore>(
     Ok(runs)
 }
 
-/// The ends of programs whose runs are over, in their order. `ends` has room for them.
-pub(crate) fn end_all<S: RawStore>(runs: Vec<ProgramRun<'_, S>>, mut ends: Vec<Ended>) -> Vec<Ended>
-    requires over { All (λ p. p.over ≡ true) runs.items }
-    requires empty { (vec_len ends ≡ 0) × (ends.items ≡ []) }
-    requires room { length runs.items ≤ vec_capacity ends }
-    ensures { HaveEnds S.honest S.reliable runs.entry.items result.items }
+/// Puts these tasks into the queue, which are those in hand with the pass. A refusal where the queue is full.
+fn fill<'a, S: RawStore, W: Wait>(
+    rt: &W,
+    queue: &TaskQueue<'a, S>,
+    pass: &mut TaskPass<ProgramRun<'a, S>>,
+    tasks: Vec<ProgramRun<'a, S>>,
+) -> Result<(), AllocError>
+    requires pass { pass.old.queue ≡ queue.now }
+    requires tasks { All (IsTask queue.now.roster) tasks.items }
+    requires in_hand { pass.old.in_hand ≡ length tasks.items }
+    ensures { OnOk result ((pass.new.queue ≡ queue.now) × (pass.new.in_hand ≡ 0)) }
 {
-    for run in runs {
-        ends.push_reserved(run.into_ended());
+    for task in tasks {
+        if queue.put(rt, pass, task).is_some() {
+            return Err(AllocError);
+        }
     }
-    ends
+    Ok(())
+}
+
+/// A queue of these tasks, which are all programs of the region, and a pass of it with nothing in hand.
+pub(crate) fn enqueue<'a, S: RawStore, W: Wait>(
+    alloc: Global,
+    rt: &W,
+    region: &'a Region<S>,
+    share: usize,
+    mut tasks: Vec<ProgramRun<'a, S>>,
+) -> Result<(TaskQueue<'a, S>, TaskPass<ProgramRun<'a, S>>), AllocError>
+    requires tasks { All (IsTask (roster region.now.programs share)) tasks.items }
+    requires count { length tasks.items ≡ length region.now.programs }
+    ensures queue { IfOk result (λ r. r.0.roster ≡ roster region.now.programs share) }
+    ensures pass { IfOk result (λ r. (r.1.queue ≡ r.0) × (r.1.in_hand ≡ 0)) }
+{
+    if tasks.is_empty() {
+        return Err(AllocError);
+    }
+    let first = tasks.remove(0);
+    let (queue, mut pass) = TaskQueue::new(alloc, region, share, first)?;
+    fill(rt, &queue, &mut pass, tasks)?;
+    Ok((queue, pass))
+}
+
+/// So many workers of this queue, each with room for the ends of so many programs.
+pub(crate) fn staff<'q, 'a, S: RawStore>(
+    alloc: Global,
+    queue: &'q TaskQueue<'a, S>,
+    pass: &mut TaskPass<ProgramRun<'a, S>>,
+    count: usize,
+    room: usize,
+) -> Result<Vec<Worker<'q, 'a, S>>, AllocError>
+    requires pass { pass.old.queue ≡ queue.now }
+    requires room { length queue.now.roster.programs ≤ room }
+    ensures { IfOk result (λ v. All (λ w. w ≡ queue.now) v.items) }
+{
+    let mut workers = Vec::with_capacity(alloc, count)?;
+    for _hired in 0..count {
+        let Ok(worker) = Worker::new(alloc, queue, queue.another(pass), room) else {
+            return Err(AllocError);
+        };
+        workers.push_reserved(worker);
+    }
+    Ok(workers)
 }
 
 /// An evacuator at each of the first seats, so many, and a fetcher with a pass of its own at each other one. They are numbered on from the programs.

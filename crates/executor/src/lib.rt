@@ -1,10 +1,12 @@
-//! The running system: each program of a region on a thread of its own, beside evacuators and fetchers.
+//! The running system: the programs of a region by turns on the threads of a few workers, beside evacuators and fetchers.
 #![tactic(auto)]
 
 mod all;
+mod filing;
 mod hiring;
 mod movers;
 mod places;
+mod workers;
 
 pub use all::run_all;
 pub use program_run::{Gate, OpenGate};

@@ -13,7 +13,7 @@ use remote_store::RawStore;
 use std::hint::spin_loop;
 use std::marker::Model;
 use std::sync::Wait;
-use std::sync::atomic::{AtomicBool, Ordering};
+use std::sync::atomic::{AtomicUsize, Ordering};
 use std::thread;
 use std::thread::Threads;
 use std::time::{Clock, Duration};
@@ -24,13 +24,13 @@ const BUDGET: u32 = 16;
 /// Evacuators make rounds only while fewer than one frame in so many is free.
 const SHARE: usize = 8;
 
-/// After so many turns with nothing to do a mover yields its processor at each turn.
+/// After so many turns with nothing to do a mover or a worker yields its processor at each turn.
 const SPINS: u32 = 16;
 
-/// After so many turns with nothing to do a mover sleeps at each turn.
+/// After so many turns with nothing to do a mover or a worker sleeps at each turn.
 const YIELDS: u32 = 64;
 
-/// How long a mover sleeps, in microseconds.
+/// How long a mover or a worker sleeps, in microseconds.
 const SLEEP_MICROS: u64 = 1_000;
 
 /// An evacuator at its seat, which goes round the frames like the hand of a clock. Its hands are empty.
@@ -167,8 +167,8 @@ impl<'a, S: RawStore> Fetcher<'a, S> {
     }
 }
 
-/// Waits a little, the longer the more turns there were with nothing to do: an idle mover takes next to no processor.
-fn rest<C: Clock>(clock: &C, idle: u32) {
+/// Waits a little, the longer the more turns there were with nothing to do: who is idle takes next to no processor.
+pub(crate) fn rest<C: Clock>(clock: &C, idle: u32) {
     if idle > YIELDS {
         thread::sleep(clock, Duration::from_micros(SLEEP_MICROS));
     } else if idle > SPINS {
@@ -195,11 +195,11 @@ impl<'a, S: RawStore> Mover<'a, S> {
         }
     }
 
-    /// Goes on until every program has ended.
-    fn go_on<R: Wait + Clock, G: Gate>(&mut self, rt: &R, gate: &G, over: &AtomicBool) {
+    /// Goes on until every program has ended, when none is left.
+    fn go_on<R: Wait + Clock, G: Gate>(&mut self, rt: &R, gate: &G, left: &AtomicUsize) {
         let mut idle = 0u32;
         for _ in rt.forever() {
-            if over.load(Ordering::SeqCst) {
+            if left.load(Ordering::SeqCst) == 0 {
                 break;
             }
             idle = if self.turn(rt, gate) {
@@ -216,11 +216,11 @@ impl<'a, S: RawStore> Mover<'a, S> {
 pub(crate) fn move_all<S: RawStore + Send, G: Gate, R: Threads + Wait + Clock + Sync>(
     rt: &R,
     gate: &G,
-    over: &AtomicBool,
+    left: &AtomicUsize,
     movers: &mut [Mover<'_, S>],
 ) {
     let count = movers.len();
     if count > 0 {
-        thread::for_each_mut(rt, movers, count, &|_, mover| mover.go_on(rt, gate, over));
+        thread::for_each_mut(rt, movers, count, &|_, mover| mover.go_on(rt, gate, left));
     }
 }

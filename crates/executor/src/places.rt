@@ -1,65 +1,70 @@
-//! All programs, each on a thread of its own, in its place of a list.
+//! All workers, each on a thread of its own, beside the movers.
 ghost use Rattle.std.specs.Prelude.{◌≡◌};
-ghost use Rattle.executor.specs.Ends.{AreEnded};
+ghost use Rattle.executor.specs.Ends.{AreSame};
 
 use crate::movers::{Mover, move_all};
-use program_run::{Gate, ProgramRun};
+use crate::workers::Worker;
+use program_run::Gate;
 use remote_store::RawStore;
 use std::sync::Wait;
-use std::sync::atomic::{AtomicBool, Ordering};
+use std::sync::atomic::AtomicUsize;
 use std::thread;
 use std::thread::Threads;
 use std::time::Clock;
 
-/// Runs each program to its end in its place, on a thread of its own where one can be made, else on the calling thread.
-fn run_in_places<S: RawStore + Send, G: Gate, R: Threads + Wait + Sync>(
+/// Has each worker go on until no program is left, on a thread of its own where one can be made. One whose thread can't be made finds that none is left; but
+/// where none can be made the calling thread is the one worker.
+fn work_all<S: RawStore + Send, G: Gate, R: Threads + Wait + Clock + Sync>(
     rt: &R,
     gate: &G,
-    programs: &mut [ProgramRun<'_, S>],
+    left: &AtomicUsize,
+    quantum: u64,
+    workers: &mut [Worker<'_, '_, S>],
 )
-    ensures { AreEnded programs.old programs.new }
+    ensures { AreSame workers.old workers.new }
 {
-    let count = programs.len();
+    let count = workers.len();
     if count == 0 {
         return;
     }
     thread::for_each_mut(
         rt,
-        programs,
+        workers,
         count,
-        &|_, program| program.run_to_end(rt, gate),
+        &|_, worker| worker.go_on(rt, gate, left, quantum),
     );
 }
 
-/// Runs each program to its end, and then tells that all have ended.
-fn run_each<'a, S: RawStore + Send, G: Gate, R: Threads + Wait + Sync>(
+/// Has each worker go on until no program is left.
+fn work_each<'q, 'a, S: RawStore + Send, G: Gate, R: Threads + Wait + Clock + Sync>(
     rt: &R,
     gate: &G,
-    over: &AtomicBool,
-    mut programs: Vec<ProgramRun<'a, S>>,
-) -> Vec<ProgramRun<'a, S>>
-    ensures { AreEnded programs.entry.items result.items }
+    left: &AtomicUsize,
+    quantum: u64,
+    mut workers: Vec<Worker<'q, 'a, S>>,
+) -> Vec<Worker<'q, 'a, S>>
+    ensures { AreSame workers.entry.items result.items }
 {
-    run_in_places(rt, gate, programs.as_mut_slice());
-    over.store(true, Ordering::SeqCst);
-    programs
+    work_all(rt, gate, left, quantum, workers.as_mut_slice());
+    workers
 }
 
-/// Runs each program to its end, beside the movers, which go on until then. A mover for which no thread can be made finds that all have ended, and is not run.
-pub(crate) fn run_beside<'a, S: RawStore + Send, G: Gate, R: Threads + Wait + Clock + Sync>(
+/// Has each worker go on until no program is left, beside the movers, which go on until then. A mover for which no thread can be made finds that none is left, and
+/// is not run.
+pub(crate) fn run_beside<'q, 'a, S: RawStore + Send, G: Gate, R: Threads + Wait + Clock + Sync>(
     rt: &R,
     gate: &G,
+    left: &AtomicUsize,
+    quantum: u64,
     mut movers: Vec<Mover<'a, S>>,
-    programs: Vec<ProgramRun<'a, S>>,
-) -> Vec<ProgramRun<'a, S>>
-    ensures { AreEnded programs.entry.items result.items }
+    workers: Vec<Worker<'q, 'a, S>>,
+) -> Vec<Worker<'q, 'a, S>>
+    ensures { AreSame workers.entry.items result.items }
 {
-    let flag = AtomicBool::new(false);
-    let over = &flag;
-    let ((), programs) = thread::join(
+    let ((), workers) = thread::join(
         rt,
-        move || move_all(rt, gate, over, movers.as_mut_slice()),
-        move || run_each(rt, gate, over, programs),
+        move || move_all(rt, gate, left, movers.as_mut_slice()),
+        move || work_each(rt, gate, left, quantum, workers),
     );
-    programs
+    workers
 }

@@ -56,6 +56,8 @@ pub(crate) fn region<M: Stores + Drop>(
         objects: 3,
         evacuators: 1,
         fetchers: 1,
+        workers: 4,
+        quantum: 1_000,
         stores,
     };
     match admit(alloc, programs, config) {

@@ -156,6 +156,8 @@ pub(crate) fn owner_and_mover<M: Stores + Drop>(
         objects,
         evacuators: 1,
         fetchers: 0,
+        workers: 4,
+        quantum: 1_000,
         stores,
     };
     let Ok((table, mut owners, mut movers)) = ObjectTable::<M::S>::new(alloc, 1, &config) else {

@@ -32,6 +32,8 @@ pub(crate) fn parts_among_one(alloc: Global, tape: &mut Tape) {
         objects: 1,
         evacuators: 1,
         fetchers: 0,
+        workers: 4,
+        quantum: 1_000,
         stores: FarHeap,
     };
     parts(alloc, 1, &config, tape);
@@ -44,6 +46,8 @@ pub(crate) fn parts_among_two(alloc: Global, tape: &mut Tape) {
         objects: 7,
         evacuators: 1,
         fetchers: 2,
+        workers: 4,
+        quantum: 1_000,
         stores: FarHeap,
     };
     parts(alloc, 2, &config, tape);

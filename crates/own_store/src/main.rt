@@ -39,6 +39,8 @@ fn run<R: Threads + Wait + Clock + Sync>(
         objects: 2_000,
         evacuators: 1,
         fetchers: 1,
+        workers: 4,
+        quantum: 1_000,
         stores,
     };
     let programs = programs_of(alloc, bytes)?;

@@ -24,6 +24,8 @@ pub struct Setting<'a> {
     objects: u32,
     evacuators: u32,
     fetchers: u32,
+    workers: u32,
+    quantum: u32,
     plan: FaultPlan,
     pub(crate) held: bool,
     pub(crate) written: bool,
@@ -67,7 +69,7 @@ fn line_of<'a>(word: &str, line: &'a str) -> Option<Repeated<'a>> {
 }
 
 impl<'a> Setting<'a> {
-    /// One frame, one object, no evacuator and no fetcher, a store that does not fail, and no hold that stays open.
+    /// One frame, one object, no evacuator and no fetcher, one worker that runs one instruction at once, a store that does not fail, and no hold that stays open.
     fn new(alloc: Global) -> Setting<'a> {
         Setting {
             names: Vec::new(alloc),
@@ -75,6 +77,8 @@ impl<'a> Setting<'a> {
             objects: 1,
             evacuators: 0,
             fetchers: 0,
+            workers: 1,
+            quantum: 1,
             plan: FaultPlan::Never,
             held: false,
             written: false,
@@ -106,6 +110,8 @@ impl<'a> Setting<'a> {
             "objects" => Ok(set(&mut self.objects, rest)),
             "evacuators" => Ok(set(&mut self.evacuators, rest)),
             "fetchers" => Ok(set(&mut self.fetchers, rest)),
+            "workers" => Ok(set(&mut self.workers, rest)),
+            "quantum" => Ok(set(&mut self.quantum, rest)),
             "loads" | "runs" | "seeds" | "budgets" => self.add_numbers(rest),
             "held" => {
                 self.held = true;
@@ -170,6 +176,8 @@ impl<'a> Setting<'a> {
             objects: self.objects,
             evacuators: self.evacuators,
             fetchers: self.fetchers,
+            workers: self.workers,
+            quantum: self.quantum,
             stores,
         })
     }
@@ -199,6 +207,8 @@ impl<'a> Setting<'a> {
             objects,
             evacuators,
             fetchers,
+            workers: self.workers,
+            quantum: self.quantum,
             stores,
         })
     }

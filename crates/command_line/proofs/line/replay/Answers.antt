@@ -1,7 +1,7 @@
 use Rattle.std.proofs.Common.{rules, ◌≡◌, ◌∙◌, ap, ap₂, false}
 use Rattle.std.proofs.lemmas.Result.{IfOk-weaker}
 use Rattle.clap.specs.Words.{rule_of, with_rule}
-use Rattle.command_line.specs.Shell.{checks_rule, files_rule, schedule_rule, with_memory}
+use Rattle.command_line.specs.Shell.{checks_rule, files_rule, schedule_rule, with_memory, with_work}
 use Rattle.command_line.proofs.Found.{still_local}
 use Rattle.command_line.proofs.line.replay.Goals as goal
 
@@ -13,7 +13,8 @@ returns-clause-shape c =
     let first = c.in_ok-command.ensures.shape (search rules) ∙ ap₂ with_rule c.new-3.ensures.app checks in
     let second = c.in_ok-over_memory.ensures.shape ∙ ap with_memory first in
     let third = c.in_ok-arg.ensures.shape c.option.ensures.own ∙ ap₂ with_rule second c.option.ensures.rule in
-    let fourth = c.in_ok-arg-2.ensures.shape c.option-2.ensures.own ∙ ap₂ with_rule third c.option-2.ensures.rule in
+    let both = c.in_ok-arg-2.ensures.shape c.option-2.ensures.own ∙ ap₂ with_rule third c.option-2.ensures.rule in
+    let fourth = c.in_ok-with_workers.ensures.shape ∙ ap with_work both in
     let fifth = c.in_ok-arg-3.ensures.shape (search rules) ∙ ap₂ with_rule fourth lines in
     IfOk-weaker c.arg-5.result _ _ (λ r h. h.shape (search rules) ∙ ap₂ with_rule fifth files) c.arg-5.ensures
 
@@ -21,6 +22,6 @@ pub returns-clause-local : goal.returns-clause-local
 returns-clause-local c =
     let first = still_local _ _ _ c.in_ok-command.ensures.globals c.new-3.ensures.local (search rules) in
     let third = still_local _ _ _ c.in_ok-arg.ensures.globals (c.in_ok-over_memory.ensures.local first) c.option.ensures.own in
-    let fourth = still_local _ _ _ c.in_ok-arg-2.ensures.globals third c.option-2.ensures.own in
+    let fourth = c.in_ok-with_workers.ensures.local (still_local _ _ _ c.in_ok-arg-2.ensures.globals third c.option-2.ensures.own) in
     let fifth = still_local _ _ _ c.in_ok-arg-3.ensures.globals fourth (search rules) in
     IfOk-weaker c.arg-5.result _ _ (λ r h. still_local _ _ _ h.globals fifth (search rules)) c.arg-5.ensures

@@ -1,10 +1,11 @@
 use Rattle.std.proofs.Common.{rules, arith, ◌≡◌, ◌∙◌, ◌+◌, ◌++◌, ◌-◌, ◌<◌, ◌∷◌, [], ap, length, length-append, subst, sym}
+use Rattle.std.proofs.lemmas.List.Elements.{All-push}
 use Rattle.std.specs.List.{All}
 use Rattle.std.specs.Vec.Iter.{into_iter_items}
 use Rattle.object_lock.specs.Fresh.{AreNumbered, IsFreshOwner}
-use Rattle.program_run.specs.Runs.{begun}
-use Rattle.region.specs.Admission.{image_at}
-use Rattle.executor.proofs.Composed.{all_at, begun_all, begun_more, image_there, more, none, numbered_at, numbered_count}
+use Rattle.program_run.specs.Runs.{RunView}
+use Rattle.task_queue.specs.Tasked.{IsTask, roster, roster_of}
+use Rattle.executor.proofs.Composed.{all_at, more, none, numbered_at, numbered_count}
 use Rattle.executor.proofs.hiring.begin_all.Goals as goal
 
 pub loop-seat-init : goal.loop-seat-init
@@ -70,10 +71,14 @@ loop-seat-preserved g c =
     let number = at.0 in
     let end = fresh.2 in
     let below : length runs < n = omega arith in
-    let there = image_there c.args.region.now.programs (length runs) below in
-    let place : seat.view.number - 1 ≡ length runs = omega arith in
     let many : seat.view.high - seat.view.low ≡ share = omega arith in
-    let is = c.in-Ok.ensures.begun ∙ ap (λ k. begun (image_at c.args.region.now.programs k) (seat.view.high - seat.view.low)) place ∙ ap (λ k. begun (image_at c.args.region.now.programs (length runs)) k) many ∙ ap (λ C. begun C share) there.2 in
+    let place : seat.view.number - 1 < n = omega arith in
+    let is = c.in-Ok.ensures.begun in
+    let task : IsTask (roster c.args.region.now.programs share) run = record {
+      of = ap roster_of is ∙ ap (roster c.args.region.now.programs) many;
+      named = subst (λ k. k < n) (sym (ap (λ (p : RunView). p.number) is)) place;
+      going = ap (λ (p : RunView). p.over) is;
+    } in
     let longer = length-append c.loop-seat.yielded (seat ∷ []) in
     let grown = ap length pushed ∙ length-append runs (run ∷ []) in
     let passes = c.take_pass-pass.ensures.count in
@@ -83,18 +88,18 @@ loop-seat-preserved g c =
       more c.loop-seat.yielded (into_iter_items c.loop-seat.seat-iterator) (into_iter_items c.next.new.self) _ seat before.2 took,
       omega arith,
       search rules,
-      begun_more share c.args.region.now.programs runs c.push_reserved.new.self.items run there.0 below there.1 pushed before.5 is,
+      subst (All (IsTask (roster c.args.region.now.programs share))) (sym pushed) (All-push (IsTask (roster c.args.region.now.programs share)) runs run before.5 task),
       c.take_pass-pass.ensures.passes,
       omega arith,
     )
 
--- ---- all programs are begun
+-- ---- all programs are at their beginning
 
-pub returns-clause-begun : goal.returns-clause-begun
-returns-clause-begun g c =
+pub returns-clause-count : goal.returns-clause-count
+returns-clause-count g c =
     let seats = none c.loop-seat.yielded (into_iter_items c.loop-seat.seat-iterator) c.args.seats.items c.loop-seat.invariant.2 (search rules) in
     let many = numbered_count 1 (length c.args.region.now.programs) c.args.seats.items c.requires.numbers in
-    begun_all c.args.share (length c.loop-seat.runs.items) c.args.region.now.programs c.loop-seat.runs.items (sym c.loop-seat.invariant.3 ∙ ap length seats ∙ many) c.loop-seat.invariant.5
+    sym c.loop-seat.invariant.3 ∙ ap length seats ∙ many
 
 pub returns-clause-left : goal.returns-clause-left
 returns-clause-left g c =

@@ -1,7 +1,7 @@
-use Rattle.std.proofs.Common.{◌≡◌, ◌+◌, ◌++◌, ◌≤◌, length, take, vec_capacity, vec_len}
+use Rattle.std.proofs.Common.{◌≡◌, ◌+◌, ◌++◌, ◌≤◌, length, vec_capacity, vec_len}
 use Rattle.std.specs.List.{All}
 use Rattle.std.specs.Vec.Iter.{into_iter_items}
-use Rattle.executor.specs.Ends.{AreBegun}
+use Rattle.task_queue.specs.Tasked.{IsTask, roster}
 use Rattle.executor.proofs.hiring.begin_all.Given as goal
 
 abbrev pub invariant-loop-seat : goal.invariant-loop-seat
@@ -10,6 +10,6 @@ invariant-loop-seat g l =
     × (l.yielded ++ into_iter_items l.seat-iterator ≡ l.fn.seats.items)
     × (length l.yielded ≡ length l.runs.items)
     × (vec_len l.runs + length (into_iter_items l.seat-iterator) ≤ vec_capacity l.runs)
-    × AreBegun l.share (take (length l.runs.items) l.region.programs) l.runs.items
+    × All (IsTask (roster l.region.programs l.share)) l.runs.items
     × All (λ p. p ≡ l.hints) l.passes.items
     × (length l.passes.items + length l.runs.items ≡ length l.initial.passes.items)

@@ -1,0 +1,142 @@
+//! Workers, which take programs in turn from the queue of tasks.
+ghost use Rattle.std.specs.Prelude.{◌≡◌, ◌≤◌, IfOk, length};
+ghost use Rattle.executor.specs.Ends.{AreDone};
+
+use crate::movers::rest;
+use cells::Ended;
+use program_run::{Gate, ProgramRun, Turn};
+use remote_store::RawStore;
+use std::alloc::{AllocError, Global};
+use std::marker::Model;
+use std::mem::ManuallyDrop;
+use std::sync::Wait;
+use std::sync::atomic::{AtomicUsize, Ordering};
+use std::time::Clock;
+use task_queue::{TaskPass, TaskQueue};
+
+/// The end of a program, with the program's number.
+#[derive(Drop)]
+pub(crate) struct Done {
+    pub(crate) number: usize,
+    pub(crate) end: Ended,
+}
+
+// The pass has no bytes, and nothing to drop: a type that borrows and has a pass as it is has no proof of its drop.
+/// A worker: the queue from which it takes tasks, with a pass of it; a task that the queue refused; and the ends of the programs that ended with it. Each
+/// task that it took it put back, or it has ended, or is kept.
+#[derive(Drop)]
+pub(crate) struct Worker<'q, 'a, S: RawStore> {
+    queue: &'q TaskQueue<'a, S>,
+    pass: ManuallyDrop<TaskPass<ProgramRun<'a, S>>>,
+    kept: Option<ProgramRun<'a, S>>,
+    done: Vec<Done>,
+}
+
+impl<'q, 'a, S: RawStore> Model for Worker<'q, 'a, S> {
+    ghost use Rattle.executor.specs.Ends.{Works};
+    ghost use Rattle.std.specs.Mem.{manually_drop_value};
+    ghost use Rattle.std.specs.Prelude.{vec_capacity, vec_len};
+    ghost use Rattle.task_queue.specs.Queues.{QueueView};
+
+    ghost Value = { QueueView };
+
+    ghost view = { λ w. w.queue.now };
+
+    ghost invariant = { λ w. Works S.honest S.reliable w.queue.now (manually_drop_value w.pass) w.kept w.done.items (vec_len w.done) (vec_capacity w.done) };
+}
+
+impl<'q, 'a, S: RawStore> Worker<'q, 'a, S> {
+    /// A worker with this pass of the queue, and room for so many ends.
+    pub(crate) fn new(
+        alloc: Global,
+        queue: &'q TaskQueue<'a, S>,
+        pass: TaskPass<ProgramRun<'a, S>>,
+        room: usize,
+    ) -> Result<Worker<'q, 'a, S>, AllocError>
+        requires pass { pass.queue ≡ queue.now }
+        requires none { pass.in_hand ≡ 0 }
+        requires room { length queue.now.roster.programs ≤ room }
+        ensures { IfOk result (λ w. w ≡ queue.now) }
+    {
+        Ok(Worker {
+            queue,
+            pass: ManuallyDrop::new(pass),
+            kept: None,
+            done: Vec::with_capacity(alloc, room)?,
+        })
+    }
+
+    /// Takes a task where it keeps none.
+    fn take<R: Wait>(&mut self, rt: &R)
+        ensures { self.new ≡ self.old }
+    {
+        if self.kept.is_none() {
+            self.kept = self.queue.take(rt, &mut self.pass);
+        }
+    }
+
+    /// Gives the task that it keeps a turn, and puts it back unless it has ended. False where there was nothing to do.
+    fn turn<G: Gate, R: Wait>(
+        &mut self,
+        rt: &R,
+        gate: &G,
+        left: &AtomicUsize,
+        quantum: u64,
+    ) -> bool
+        ensures { self.new ≡ self.old }
+    {
+        let Some(mut task) = self.kept.take() else {
+            return false;
+        };
+        match task.turn(rt, gate, quantum) {
+            Turn::Held => {
+                self.kept = self.queue.put(rt, &mut self.pass, task);
+                false
+            }
+            Turn::Ran => {
+                self.kept = self.queue.put(rt, &mut self.pass, task);
+                true
+            }
+            Turn::Ended => {
+                self.done.push_reserved(Done {
+                    number: task.number() as usize,
+                    end: task.into_ended(),
+                });
+                left.fetch_sub(1, Ordering::SeqCst);
+                true
+            }
+        }
+    }
+
+    /// Goes on until every program has ended.
+    pub(crate) fn go_on<G: Gate, R: Wait + Clock>(
+        &mut self,
+        rt: &R,
+        gate: &G,
+        left: &AtomicUsize,
+        quantum: u64,
+    )
+        ensures { self.new ≡ self.old }
+    {
+        let mut idle = 0u32;
+        for _ in rt.forever() {
+            self.take(rt);
+            if self.kept.is_none() && left.load(Ordering::SeqCst) == 0 {
+                break;
+            }
+            idle = if self.turn(rt, gate, left, quantum) {
+                0
+            } else {
+                idle.saturating_add(1)
+            };
+            rest(rt, idle);
+        }
+    }
+
+    /// The ends of the programs that ended with it.
+    pub(crate) fn into_done(self) -> Vec<Done>
+        ensures { AreDone S.honest S.reliable self.entry.roster result.items }
+    {
+        self.done
+    }
+}
