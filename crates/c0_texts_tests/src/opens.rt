@@ -72,6 +72,8 @@ pub(crate) fn open_few<O: Write>(
         objects: FRAMES,
         evacuators: 0,
         fetchers: 0,
+        workers: 1,
+        quantum: 1,
         stores: FarHeap,
     };
     let world: Result<World<'_, FarHeap>, Want> = World::new(alloc, &images, &config);
