@@ -126,7 +126,6 @@ module _ (g : Setting) (s : State) (p : Program) (a : Answer) where
   seeks_so o (choice.Mark v f) e =
       let t : State = act s (Marks g.mover v f) in
       chosen t (holds (t.hand g.mover).leaving v) _ _ (λ _. tt) (λ _. subst (IsCaused g p a) (sym e) tt)
-
   seeks_so o (choice.Leave v f) e =
       let t : State = act s (Leaves g.mover v f) in
       chosen t (holds (t.hand g.mover).freed f) _ _ (λ _. tt) (λ _. subst (IsCaused g p a) (sym e) tt)

@@ -296,7 +296,6 @@ module _ (g : Setting) (s : State) (p : Program) (a : Answer) where
       chosen t (holds (t.hand g.mover).leaving v) _ _
       (λ _. stays t (in_mode p (Evicting o (Copying v f []))) refl refl (same_call c refl) (aiming_on _ o aiming))
       (λ _. stays t p refl refl (same_call c refl) (subst (AimsIn g p) (sym e) aiming))
-
   seeks_to o (choice.Leave v f) aiming e =
       let c : Call = Leaves g.mover v f in
       let t : State = act s c in

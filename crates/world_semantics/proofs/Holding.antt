@@ -189,7 +189,6 @@ module _ (g : Setting) (s : State) (p : Program) (a : Answer) (there : (k : ℕ)
   seeks_h o (choice.Mark v f) =
       let c : Call = Marks g.mover v f in
       chosen (act s c) (holds ((act s c).hand g.mover).leaving v) _ _ (by_call c _ refl refl) (by_call c _ refl refl)
-
   seeks_h o (choice.Leave v f) =
       let c : Call = Leaves g.mover v f in
       chosen (act s c) (holds ((act s c).hand g.mover).freed f) _ _ (by_call c _ refl refl) (by_call c _ refl refl)

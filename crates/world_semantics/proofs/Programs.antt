@@ -219,7 +219,6 @@ module _ (h : Type 0) (n : ℕ) (s : State) (m : ℕ) where
               | inr e ↦ subst HasNothing (sym e) has
             ]),
       )
-
   idle_ok (choice.Leave o f) has =
       let t : State = act s (Leaves m o f) in
       let tried = leaves s m o f in (

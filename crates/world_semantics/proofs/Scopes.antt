@@ -303,7 +303,6 @@ module _ (laws : Laws) (g : Setting) (some : 0 < g.size) (s : State) (p : Progra
     seeks_s (choice.Mark v f) m =
         let t : State = act s (Marks g.mover v f) in
         chosen t (holds (t.hand g.mover).leaving v) (in_mode p (Evicting o (Copying v f []))) p (λ _. carried (Evicting o (Copying v f []))) (λ _. stays_s t m)
-
     seeks_s (choice.Leave v f) m =
         let t : State = act s (Leaves g.mover v f) in
         chosen t (holds (t.hand g.mover).freed f) (in_mode p (Evicting o (Freed f))) p (λ _. carried (Evicting o (Freed f))) (λ _. stays_s t m)

@@ -185,7 +185,6 @@ module _ (h : Type 0) (g : Setting) (s : State) (p : Program) (a : Answer) (inv 
     seeks_t (choice.Mark v f) m =
         let c : Call = Marks g.mover v f in
         chosen (act s c) (holds ((act s c).hand g.mover).leaving v) (in_mode p (Evicting o (Copying v f []))) p (λ _. on c) (λ _. refused c m)
-
     seeks_t (choice.Leave v f) m =
         let c : Call = Leaves g.mover v f in
         chosen (act s c) (holds ((act s c).hand g.mover).freed f) (in_mode p (Evicting o (Freed f))) p (λ _. on c) (λ _. refused c m)

@@ -15,5 +15,5 @@ returns-then-not-try_mark-clause-passed g c none =
     let left = c.if-leave_clean.ensures.told in
     let stayed = c.leave_clean.ensures.stayed c.if-leave_clean.false in
     let passed = unmarked_passed h c.look.new.mover.view c.leave_clean.new.mover.view c.try_mark.new.mover.view _ c.args.frame c.in-Some.obj c.look.result c.try_mark.result c.in-Some.is no
-        (ap (λ (s : SeatView g.row.S.Denot g.row.S-Cell.Denot). s.view) left) look stayed c.try_mark.ensures.step in
+    (ap (λ (s : SeatView g.row.S.Denot g.row.S-Cell.Denot). s.view) left) look stayed c.try_mark.ensures.step in
     (c.if-not-try_mark.ensures.told ∙ left ∙ same, subst (λ (s : SeatView g.row.S.Denot g.row.S-Cell.Denot). IsPassed h s.view c.args.frame) same passed)
