@@ -23,6 +23,7 @@ knows r n = record { roster = Some r; in_hand = n }
 abbrev pub unknown : Knows
 unknown = record { roster = None; in_hand = 0 }
 
+-- this roster, or one without programs
 abbrev pub roster_or_none : Option Roster → Roster
 roster_or_none None = roster [] 0
 roster_or_none (Some r) = r

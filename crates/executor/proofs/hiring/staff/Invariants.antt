@@ -3,5 +3,5 @@ use Rattle.std.specs.List.{All}
 use Rattle.executor.proofs.hiring.staff.Given as goal
 
 -- each worker so far is with this queue
-abbrev pub invariant-loop-_hired : goal.invariant-loop-_hired
-invariant-loop-_hired g l = (l.pass.queue ≡ l.queue) × All (λ w. w ≡ l.queue) l.workers.items
+abbrev pub invariant-loop-hired : goal.invariant-loop-hired
+invariant-loop-hired g l = (l.pass.queue ≡ l.queue) × All (λ w. w ≡ l.queue) l.workers.items

@@ -1,0 +1,52 @@
+-- What a worker keeps, call by call.
+use Rattle.std.proofs.Common.{◌≡◌, ◌<◌, ◌≤◌, ◌+◌, ℕ, List, [], ◌∷◌, ◌++◌, Option, Some, None, IfSome, MatchOption, ◌∙◌, ap, length, sym, subst, arith, true}
+use Rattle.std.proofs.lemmas.List.Elements.{All-push}
+use Rattle.cells.specs.declared.ending.Ended.{Ended}
+use Rattle.program_run.specs.Executed.{IsExecutedOver}
+use Rattle.program_run.specs.Runs.{RunView}
+use Rattle.region.specs.Admission.{image_at}
+use Rattle.task_queue.specs.Queues.{PassView, QueueView}
+use Rattle.task_queue.specs.Tasked.{IsTask, roster_of}
+use Rattle.task_queue.specs.declared.rule.Roster.{Roster}
+use Rattle.executor.specs.Ends.{AreDone, IsDone, Works}
+use Rattle.executor.specs.declared.workers.Done.{Done}
+
+-- a task that was run and goes on is the same task
+pub still_task : (r : Roster) (p q : RunView) (n : ℕ) → IsTask r p → q ≡ record p { completed = p.completed + n } → IsTask r q
+still_task r p q n t is = subst (IsTask r) (sym is) (record { of = t.of; named = t.named; going = t.going })
+
+-- the end of a task whose run is over is that of its program
+pub ended_task : (honest reliable : Type 0) (r : Roster) (p q : RunView) (k : ℕ) (e : Ended) → IsTask r p → q ≡ record p { completed = q.completed; over = true } → k ≡ q.number
+    → (honest → IsExecutedOver reliable q.objects (image_at q.programs q.number) e) → IsDone honest reliable r (record { number = k; end = e })
+ended_task honest reliable r p q k e t is same told =
+    let of : roster_of q ≡ r = ap roster_of is ∙ t.of in
+    let number : k ≡ p.number = same ∙ ap (λ (x : RunView). x.number) is in (
+      subst (λ n. n < length r.programs) (sym number) t.named,
+      λ good. subst (λ (x : Roster × ℕ). IsExecutedOver reliable x.0.objects (image_at x.0.programs x.1) e) (λ i. (of i, sym same i)) (told good),
+    )
+
+module _ (honest reliable : Type 0) (q : QueueView) where
+  -- a task in hand was put, or is kept
+  pub works_put : (p after : PassView) (u t : RunView) (kept : Option RunView) (done : List Done) (count most : ℕ) → Works honest reliable q p (Some u) done count most → after.queue ≡ q
+      → MatchOption kept (after.in_hand + 1 ≡ p.in_hand) (λ b. (b ≡ t) × (after ≡ p)) → IsTask q.roster t → Works honest reliable q after kept done count most
+  works_put p after u t None done count most w same put task =
+      let hand = w.hand in
+      let few = w.few in
+      record { queue = same; hand = omega arith; few = omega arith; room = w.room; task = tt; ends = w.ends }
+  works_put p after u t (Some b) done count most w same put task =
+      let back : IsTask q.roster b = subst (IsTask q.roster) (sym put.0) task in
+      subst (λ (x : PassView). Works honest reliable q x (Some b) done count most) (sym put.1) (record { queue = w.queue; hand = w.hand; few = w.few; room = w.room; task = back; ends = w.ends })
+
+  -- the end of a task in hand was filed
+  pub works_filed : (p : PassView) (u : RunView) (done new : List Done) (d : Done) (count more most : ℕ) → Works honest reliable q p (Some u) done count most → new ≡ done ++ d ∷ [] → more ≡ count + 1
+      → IsDone honest reliable q.roster d → Works honest reliable q p None new more most
+  works_filed p u done new d count more most w is one end =
+      let hand = w.hand in
+      record {
+        queue = w.queue;
+        hand = omega arith;
+        few = w.few;
+        room = w.room;
+        task = tt;
+        ends = subst (AreDone honest reliable q.roster) (sym is) (All-push (IsDone honest reliable q.roster) done d w.ends end);
+      }
