@@ -1,5 +1,5 @@
 -- Tasks, seats and ends of programs, put together.
-use Rattle.std.proofs.Common.{◌≡◌, ◌<◌, ◌+◌, ◌⊎◌, refl, ℕ, zero, suc, List, [], ◌∷◌, ◌++◌, Option, Some, None, length, sym, ap, ◌∙◌, subst, slice_get, slice_index_or, take, set, inl, inr, ⊎_elim, arith, length-append, append_assoc, append-nil}
+use Rattle.std.proofs.Common.{◌≡◌, ◌<◌, ◌+◌, ◌⊎◌, refl, ℕ, zero, suc, List, [], ◌∷◌, ◌++◌, Option, Some, None, is_some, false, length, sym, ap, ◌∙◌, subst, slice_get, slice_index_or, take, set, inl, inr, ⊎_elim, arith, length-append, append_assoc, append-nil}
 use Rattle.std.proofs.Math.Seq.{take-length}
 use Rattle.std.proofs.lemmas.List.{length-map, length-set}
 use Rattle.std.proofs.lemmas.List.FromFn.{length-range_with_len}
@@ -103,9 +103,9 @@ filed honest reliable r places d done all = record {
   count = length-set places d.number (Some d.end) ∙ all.count;
   each = λ k e at.
       ⊎_elim
-        (λ (x : (k ≡ d.number) × (d.end ≡ e)). subst (λ (n : ℕ × Ended). IsEndOf honest reliable r n.0 n.1) (λ i. (sym x.0 i, x.1 i)) done.1)
-        (λ (x : slice_get places k ≡ Some (Some e)). all.each k e x)
-        (set_at places d.number k d.end e at);
+      (λ (x : (k ≡ d.number) × (d.end ≡ e)). subst (λ (n : ℕ × Ended). IsEndOf honest reliable r n.0 n.1) (λ i. (sym x.0 i, x.1 i)) done.1)
+      (λ (x : slice_get places k ≡ Some (Some e)). all.each k e x)
+      (set_at places d.number k d.end e at);
 }
 
 -- no place has an end yet
@@ -133,3 +133,8 @@ first_task r (t ∷ ts) x some at all = (subst (IsTask r) (sym at) (all 0 t (ome
 -- all workers are with the queue with which they were
 pub all_same : (q : QueueView) (old new : List QueueView) → AreSame old new → All (λ w. w ≡ q) old → All (λ w. w ≡ q) new
 all_same q old new same all = λ k d low. let count = same.count in same.each k d (omega arith) ∙ all k d (omega arith)
+
+-- what is not there
+pub not_some : {A : Type 0} (o : Option A) → is_some o ≡ false → o ≡ None
+not_some None e = refl
+not_some (Some x) e = absurd (let no : ⊥ = cc e in no)

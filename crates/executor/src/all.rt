@@ -84,7 +84,9 @@ pub fn run_all<
     let quantum = u64::from(config.quantum);
     let (region, owners, movers) = admit(alloc, programs, config)?;
     let share = objects / region.programs().max(1);
-    match run_region(alloc, rt, gate, &region, owners, evacuators, movers, share, workers, quantum) {
+    match run_region(
+        alloc, rt, gate, &region, owners, evacuators, movers, share, workers, quantum,
+    ) {
         Ok(ends) => Ok(ends),
         Err(_refused) => Err(AdmitFault::OutOfMemory),
     }

@@ -28,11 +28,7 @@ pub(crate) fn no_ends<S: RawStore>(
 }
 
 /// Files each end under its program's number.
-fn file_done<S: RawStore>(
-    queue: &TaskQueue<'_, S>,
-    done: Vec<Done>,
-    places: &mut [Option<Ended>],
-)
+fn file_done<S: RawStore>(queue: &TaskQueue<'_, S>, done: Vec<Done>, places: &mut [Option<Ended>])
     requires done { AreDone S.honest S.reliable queue.now.roster done.items }
     requires filed { AreFiled S.honest S.reliable queue.now.roster places.old }
     ensures { AreFiled S.honest S.reliable queue.now.roster places.new }

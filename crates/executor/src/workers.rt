@@ -76,13 +76,7 @@ impl<'q, 'a, S: RawStore> Worker<'q, 'a, S> {
     }
 
     /// Gives the task that it keeps a turn, and puts it back unless it has ended. False where there was nothing to do.
-    fn turn<G: Gate, R: Wait>(
-        &mut self,
-        rt: &R,
-        gate: &G,
-        left: &AtomicUsize,
-        quantum: u64,
-    ) -> bool
+    fn turn<G: Gate, R: Wait>(&mut self, rt: &R, gate: &G, left: &AtomicUsize, quantum: u64) -> bool
         ensures { self.new ≡ self.old }
     {
         let Some(mut task) = self.kept.take() else {

@@ -1,11 +1,16 @@
-//! Queues of hints without a region.
-ghost use Rattle.std.specs.Prelude.{◌≡◌, IfSome};
+//! Queues of hints of a region in which nothing is moved.
+ghost use Rattle.std.specs.Prelude.{◌≡◌, ◌≤◌, IfSome};
 
+use crate::regions::region;
 use hint_queue::{HintPass, Hints};
+use remote_store::FarHeap;
 use std::alloc::Global;
 use std::sync::Wait;
 use std::thread;
 use std::thread::Threads;
+
+/// How many objects hints may name.
+const OBJECTS: u32 = 300;
 
 /// How many hints were taken out of a queue, the first of them and the last, and what was taken then.
 #[derive(Clone, Copy, Debug)]
@@ -16,13 +21,17 @@ pub(crate) struct Taken {
     then: Option<usize>,
 }
 
-/// A queue of hints for 300 objects, and two passes of it.
+/// A queue of hints for so many objects at least, and two passes of it.
 fn queue(alloc: Global) -> Option<(Hints, HintPass, HintPass)>
-    ensures { IfSome result (λ t. (t.0.objects ≡ 300) × (t.1 ≡ t.0) × (t.2 ≡ t.0)) }
+    ensures { IfSome result (λ t. (300 ≤ t.0.objects) × (t.1 ≡ t.0) × (t.2 ≡ t.0)) }
 {
-    let Ok((hints, mut passes)) = Hints::new(alloc, 300, 2) else {
+    let (region, _owners, _movers) = region(alloc, OBJECTS, FarHeap)?;
+    let Ok((hints, mut passes)) = Hints::new(alloc, &region) else {
         return None;
     };
+    if hints.objects() < OBJECTS as usize {
+        return None;
+    }
     let theirs = passes.pop()?;
     let mine = passes.pop()?;
     Some((hints, mine, theirs))

@@ -41,10 +41,11 @@ fn programs(alloc: Global) -> Option<Vec<Verified>> {
     vec![in alloc; program].ok()
 }
 
-/// A region of two frames, and of a program with three objects; the program's seat, and those of an evacuator and a fetcher. `None` where
+/// A region of two frames, and of a program with so many objects; the program's seat, and those of an evacuator and a fetcher. `None` where
 /// memory runs out, or the store can't be made.
 pub(crate) fn region<M: Stores + Drop>(
     alloc: Global,
+    objects: u32,
     stores: M,
 ) -> Option<(Region<M::S>, Vec<OwnerSeat<M::S>>, Vec<MoverSeat<M::S>>)>
     ensures owners { IfSome result (λ t. All (IsFresh t.0.table) t.1.items) }
@@ -53,7 +54,7 @@ pub(crate) fn region<M: Stores + Drop>(
     let programs = programs(alloc)?;
     let config = Config {
         frames: 2,
-        objects: 3,
+        objects,
         evacuators: 1,
         fetchers: 1,
         workers: 4,

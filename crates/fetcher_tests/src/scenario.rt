@@ -71,7 +71,7 @@ pub(crate) fn play<R: Wait, M: Stores + Drop>(
     scenario: Scenario,
     stores: M,
 ) -> Option<Story> {
-    let (region, mut owners, mut movers) = region(alloc, stores)?;
+    let (region, mut owners, mut movers) = region(alloc, 3, stores)?;
     let Ok((hints, mut passes)) = Hints::new(alloc, &region) else {
         return None;
     };

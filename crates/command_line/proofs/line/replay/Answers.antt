@@ -20,7 +20,8 @@ returns-clause-shape c =
 
 pub returns-clause-local : goal.returns-clause-local
 returns-clause-local c =
-    let first = still_local _ _ _ c.in_ok-command.ensures.globals c.new-3.ensures.local (search rules) in
+    let plain : c.action-checks.result.global ≡ false = search (c.action-checks.ensures, c.short.ensures, c.new.ensures.optional) in
+    let first = still_local _ _ _ c.in_ok-command.ensures.globals c.new-3.ensures.local plain in
     let third = still_local _ _ _ c.in_ok-arg.ensures.globals (c.in_ok-over_memory.ensures.local first) c.option.ensures.own in
     let fourth = c.in_ok-with_workers.ensures.local (still_local _ _ _ c.in_ok-arg-2.ensures.globals third c.option-2.ensures.own) in
     let fifth = still_local _ _ _ c.in_ok-arg-3.ensures.globals fourth (search rules) in

@@ -41,4 +41,4 @@ invariant_of-self-in-Ended g c =
     let filed = works_filed h r q p c.in-Some.task items c.push_reserved.new.self.items _ long (vec_len c.push_reserved.new.self) most w c.push_reserved.ensures.items (search rules) end in
     let room : vec_capacity c.push_reserved.new.self ≡ most = c.push_reserved.ensures.capacity in
     subst (λ (k : Option RunView). Works h r q p k c.push_reserved.new.self.items (vec_len c.push_reserved.new.self) (vec_capacity c.push_reserved.new.self)) (sym none)
-      (subst (λ m. Works h r q p None c.push_reserved.new.self.items (vec_len c.push_reserved.new.self) m) (sym room) filed)
+    (subst (λ m. Works h r q p None c.push_reserved.new.self.items (vec_len c.push_reserved.new.self) m) (sym room) filed)

@@ -1,0 +1,37 @@
+use Rattle.std.proofs.Common.{rules, arith, ◌≡◌, ◌∙◌, ◌+◌, ◌≤◌, IfOk, ap, length, subst, sym}
+use Rattle.task_queue.specs.declared.rule.Roster.{Roster}
+use Rattle.executor.specs.Ends.{AreEnds}
+use Rattle.executor.proofs.Composed.{all_same}
+use Rattle.executor.proofs.all.run_region.Goals as goal
+
+pub no_ends-requires-after_bounds : goal.no_ends-requires-after_bounds
+no_ends-requires-after_bounds g c κs within = c.programs-count.ensures.programs ∙ sym (ap (λ (r : Roster). length r.programs) c.in_ok-queue.ensures.queue)
+
+pub staff-requires-clause-room : goal.staff-requires-clause-room
+staff-requires-clause-room g c κs within =
+    let many = c.programs-count.ensures.programs ∙ sym (ap (λ (r : Roster). length r.programs) c.in_ok-queue.ensures.queue) in
+    omega arith
+
+pub hire-requires-clause-enough : goal.hire-requires-clause-enough
+hire-requires-clause-enough g c κs within =
+    let left = c.in_ok-tasks.ensures.left in
+    let passes = c.in-Ok.ensures.passes.0 in
+    let enough = c.requires.enough in
+    omega arith
+
+pub hire-requires-clause-hints : goal.hire-requires-clause-hints
+hire-requires-clause-hints g c κs within = c.in-Ok.ensures.objects
+
+pub file_all-requires-clause-workers : goal.file_all-requires-clause-workers
+file_all-requires-clause-workers g c κs within = all_same c.in_ok-queue.queue c.in_ok-workers.workers.items c.run_beside-workers.result.items c.run_beside-workers.ensures c.in_ok-workers.ensures
+
+pub all_ends-requires-clause-room : goal.all_ends-requires-clause-room
+all_ends-requires-clause-room g c κs within =
+    let many = c.programs-count.ensures.programs ∙ sym (ap (λ (r : Roster). length r.programs) c.in_ok-queue.ensures.queue) in
+    let filed = c.file_all.ensures.count in
+    let room = c.in_ok-ends.ensures.capacity in
+    omega arith
+
+pub returns : goal.returns
+returns g c =
+    subst (λ (r : Roster). IfOk c.all_ends.result (λ v. AreEnds g.S.RawStore.honest g.S.RawStore.reliable r.objects r.programs v.items)) c.in_ok-queue.ensures.queue c.all_ends.ensures
