@@ -80,7 +80,10 @@ pub(crate) fn one_behind_another<R: Threads + Wait + Clock + Sync, O: Write>(
     };
     let held = gate.held.load(Ordering::SeqCst);
     let waited = held > 0 && held < PATIENCE;
-    writeln!(out, "{name} twice on one worker, the first behind the second: {waited}")?;
+    writeln!(
+        out,
+        "{name} twice on one worker, the first behind the second: {waited}"
+    )?;
     for end in &ends {
         let run = &end.run;
         writeln!(out, "{run}")?;
@@ -115,7 +118,10 @@ pub(crate) fn one_at_a_time<R: Threads + Wait + Clock + Sync, O: Write>(
     for end in &ends {
         let run = &end.run;
         let same = asked == end.completed;
-        writeln!(out, "{name} one instruction at a time: asked for each: {same}")?;
+        writeln!(
+            out,
+            "{name} one instruction at a time: asked for each: {same}"
+        )?;
         writeln!(out, "{run}")?;
     }
     Ok(ends.len() == 1)

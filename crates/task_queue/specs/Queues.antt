@@ -12,4 +12,3 @@ pub record QueueView : Type 0 where
 pub record PassView : Type 0 where
   pub queue : QueueView
   pub in_hand : ℕ
-

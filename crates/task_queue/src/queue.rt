@@ -105,7 +105,11 @@ impl<'a, S: RawStore> TaskQueue<'a, S> {
     }
 
     /// Takes the task that waits longest. It is in hand then, with no more than there are programs.
-    pub fn take<R: Wait>(&self, rt: &R, pass: &mut TaskPass<ProgramRun<'a, S>>) -> Option<ProgramRun<'a, S>>
+    pub fn take<R: Wait>(
+        &self,
+        rt: &R,
+        pass: &mut TaskPass<ProgramRun<'a, S>>,
+    ) -> Option<ProgramRun<'a, S>>
         requires { pass.old.queue ≡ self.now }
         ensures queue { pass.new.queue ≡ self.now }
         ensures taken { MatchOption result (pass.new ≡ pass.old) (λ t. IsTask self.now.roster t × (pass.new.in_hand ≡ pass.old.in_hand + 1) × (pass.new.in_hand ≤ length self.now.roster.programs)) }

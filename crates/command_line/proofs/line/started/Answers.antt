@@ -6,4 +6,4 @@ use Rattle.command_line.proofs.line.started.Goals as goal
 pub returns : goal.returns
 returns c =
     started_is (found_of c.args.matches.now) _ (memory_of c.in-Some.memory) c.in-Some-short_option.evacuators c.in-Some-short_option-2.fetchers (work_of c.in-Some-work.work)
-        c.checks-checks.ensures c.in-Some.ensures c.in-Some-short_option.ensures c.in-Some-short_option-2.ensures c.in-Some-work.ensures
+    c.checks-checks.ensures c.in-Some.ensures c.in-Some-short_option.ensures c.in-Some-short_option-2.ensures c.in-Some-work.ensures
