@@ -149,11 +149,11 @@ def run_of_its_own(log):
 
 
 def run_of_another(folder):
-    """Watches what runs in a folder until no prover has run there for half a minute, or this is interrupted."""
+    """Watches what runs in a folder, which begins within five minutes, until no prover has run there for half a minute, or this is interrupted."""
     watch, begun, last = Watch(folder), time.monotonic(), time.monotonic()
     signal.signal(signal.SIGTERM, signal.default_int_handler)
     try:
-        while time.monotonic() - last < 30:
+        while time.monotonic() - last < (30 if watch.used else 300):
             if watch.look():
                 last = time.monotonic()
             time.sleep(PAUSE)
