@@ -81,6 +81,9 @@ pub(crate) fn open_few<O: Write>(
         return Ok(false);
     };
     let opens = count_opens(&mut world);
+    if world.programs() == 0 {
+        return Ok(false);
+    }
     let run = world.ended(alloc, 0)?.run;
     if opens > most {
         writeln!(out, "{name}: {run}, with {opens} opens")?;

@@ -22,7 +22,7 @@ run_alone-requires-clause-program g c =
 
 pub run_alone-requires-clause-pass : goal.run_alone-requires-clause-pass
 run_alone-requires-clause-pass g c =
-    last_of_all (λ p. p ≡ c.in-Ok-hints_for.hints) c.in-Ok-hints_for.passes.items c.pop-3.new.self.items c.in-Some-Some-2.first c.in-Some-Some-2.ensures.items c.in-Ok-hints_for.ensures.passes.1
+    last_of_all (λ p. p ≡ c.in-Ok-new.hints) c.in-Ok-new.passes.items c.pop-3.new.self.items c.in-Some-Some-2.first c.in-Some-Some-2.ensures.items c.in-Ok-new.ensures.passes.1
 
 pub serve-requires-clause-seat : goal.serve-requires-clause-seat
 serve-requires-clause-seat g c =
@@ -30,5 +30,5 @@ serve-requires-clause-seat g c =
 
 pub serve-requires-clause-pass : goal.serve-requires-clause-pass
 serve-requires-clause-pass g c =
-    let left = all_before (λ p. p ≡ c.in-Ok-hints_for.hints) c.in-Ok-hints_for.passes.items c.pop-3.new.self.items c.in-Some-Some-2.first c.in-Some-Some-2.ensures.items c.in-Ok-hints_for.ensures.passes.1 in
-    last_of_all (λ p. p ≡ c.in-Ok-hints_for.hints) c.pop-3.new.self.items c.pop-4.new.self.items c.in-Some-Some-2.second c.in-Some-Some-2.ensures'.items left
+    let left = all_before (λ p. p ≡ c.in-Ok-new.hints) c.in-Ok-new.passes.items c.pop-3.new.self.items c.in-Some-Some-2.first c.in-Some-Some-2.ensures.items c.in-Ok-new.ensures.passes.1 in
+    last_of_all (λ p. p ≡ c.in-Ok-new.hints) c.pop-3.new.self.items c.pop-4.new.self.items c.in-Some-Some-2.second c.in-Some-Some-2.ensures'.items left
