@@ -55,7 +55,8 @@ fn count_opens<S: RawStore>(world: &mut World<'_, S>) -> u64 {
     opens
 }
 
-/// Runs the text alone in a world, and tells how it ends, and whether it opened no more holds than `most`. False where it is refused, or memory ran out.
+/// Runs the text alone in a world, and tells how it ends, and whether it opened a hold, and no more than `most`. False where it did not, where it is refused, or
+/// where memory ran out.
 pub(crate) fn open_few<O: Write>(
     alloc: Global,
     most: u64,
@@ -85,7 +86,7 @@ pub(crate) fn open_few<O: Write>(
         return Ok(false);
     }
     let run = world.ended(alloc, 0)?.run;
-    if opens > most {
+    if opens == 0 || opens > most {
         writeln!(out, "{name}: {run}, with {opens} opens")?;
         return Ok(false);
     }

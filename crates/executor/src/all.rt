@@ -7,8 +7,8 @@ ghost use Rattle.region.specs.Admission.{IsRefused};
 ghost use Rattle.remote_store.specs.Kept.{piece_cells};
 
 use crate::filing::{all_ends, file_all, no_ends};
-use crate::hiring::{begin_all, enqueue, hire, staff};
 use crate::places::run_beside;
+use crate::starting::{begin_all, enqueue, start_movers, start_workers};
 use cells::Ended;
 use fetcher::Hints;
 use object_lock::{MoverSeat, OwnerSeat};
@@ -50,8 +50,8 @@ fn run_region<S: RawStore + Send, G: Gate, R: Threads + Wait + Clock + Sync>(
     let tasks = begin_all(alloc, region, &hints, &mut passes, owners, share)?;
     let (queue, mut pass) = enqueue(alloc, rt, region, share, tasks)?;
     let places = no_ends(alloc, &queue, count)?;
-    let workers = staff(alloc, &queue, &mut pass, workers, count)?;
-    let movers = hire(alloc, region, &hints, evacuators, movers, passes)?;
+    let workers = start_workers(alloc, &queue, &mut pass, workers, count)?;
+    let movers = start_movers(alloc, region, &hints, evacuators, movers, passes)?;
     let left = AtomicUsize::new(count);
     let workers = run_beside(rt, gate, &left, quantum, movers, workers);
     all_ends(&queue, file_all(&queue, workers, places), ends)

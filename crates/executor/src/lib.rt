@@ -3,9 +3,9 @@
 
 mod all;
 mod filing;
-mod hiring;
 mod movers;
 mod places;
+mod starting;
 mod workers;
 
 pub use all::run_all;

@@ -1,7 +1,7 @@
 //! Programs that run over far memory: each a session at one seat of a table of objects.
 #![tactic(auto)]
 
-mod hinter;
+mod hint_sender;
 mod hold;
 mod kinds;
 mod program;

@@ -15,7 +15,7 @@ ghost use Rattle.object_lock.specs.Seats.{Owns, note};
 ghost use Rattle.remote_store.specs.Kept.{piece_cells};
 ghost use Rattle.std.specs.Prelude.{◌≡◌, ◌≢◌, ◌⊎◌, ◌+◌, ◌-◌, ◌/◌, ◌%◌, ◌<◌, ◌≤◌, ◌^◌, ℕ, IfOk, MatchBool, MatchOption, MatchResult, None, Some, length, option_map, slice_index, true};
 
-use crate::hinter::Hinter;
+use crate::hint_sender::HintSender;
 use crate::hold::Hold;
 use cells::{Stop, Want};
 use code_execution::{Execution, Hinted, Stretch};
@@ -43,7 +43,7 @@ pub(crate) struct Program<'a, S: RawStore> {
     completed: u64,
     want: Option<Want>,
     // None where nobody serves hints.
-    hinter: Option<Hinter<'a>>,
+    sender: Option<HintSender<'a>>,
     hinted: Hinted,
 }
 
@@ -65,7 +65,7 @@ impl<'a, S: RawStore> Program<'a, S> {
         table: &'a ObjectTable<S>,
         image: &'a Image,
         owner: OwnerSeat<S>,
-        hinter: Option<Hinter<'a>>,
+        sender: Option<HintSender<'a>>,
     ) -> Result<Program<'a, S>, AllocError>
         requires table { IsSeat table.now owner }
         ensures { IfOk result (λ m. m ≡ begin (image_of image.now) owner.view owner.refusals) }
@@ -73,7 +73,7 @@ impl<'a, S: RawStore> Program<'a, S> {
         let execution = Execution::new(alloc, image)?;
         let holds = Vec::from_elem(alloc, None, 4)?;
         let next = owner.low() as u64;
-        let hinted = Hinted::new(hinter.is_some());
+        let hinted = Hinted::new(sender.is_some());
         Ok(Program {
             alloc,
             table,
@@ -85,7 +85,7 @@ impl<'a, S: RawStore> Program<'a, S> {
             next_frame: 0,
             completed: 0,
             want: None,
-            hinter,
+            sender,
             hinted,
         })
     }
@@ -447,11 +447,11 @@ impl<'a, S: RawStore> Program<'a, S> {
         let word = Word {
             bits: self.table.word(&mut self.owner, object),
         };
-        let Some(hinter) = &mut self.hinter else {
+        let Some(sender) = &mut self.sender else {
             return;
         };
         if let WordState::Away = word.state() {
-            hinter.hint(rt, object);
+            sender.hint(rt, object);
         }
     }
 

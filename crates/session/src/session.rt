@@ -11,7 +11,7 @@ ghost use Rattle.object_lock.specs.Fresh.{IsFresh};
 ghost use Rattle.region.specs.Admission.{image_at};
 ghost use Rattle.std.specs.Prelude.{◌≡◌, ◌≢◌, ◌⊎◌, ◌+◌, ◌<◌, ◌≤◌, ◌^◌, ◌-◌, IfOk, MatchResult, Some, length};
 
-use crate::hinter::Hinter;
+use crate::hint_sender::HintSender;
 use crate::program::Program;
 use cells::{Run, Want};
 use code_form::{Image, effect_laws, heap_laws, run_laws};
@@ -63,8 +63,8 @@ impl<'a, S: RawStore> Session<'a, S> {
     {
         accepted_is_verified();
         let image = region.image(seat.number() as usize - 1).image();
-        let hinter = Some(Hinter::new(hints, pass));
-        match Program::new(alloc, region.table(), image, seat, hinter) {
+        let sender = Some(HintSender::new(hints, pass));
+        match Program::new(alloc, region.table(), image, seat, sender) {
             Ok(program) => Ok(Session { program }),
             Err(_) => Err(Want::OutOfMemory),
         }

@@ -7,20 +7,20 @@ use Rattle.executor.proofs.all.run_region.Goals as goal
 pub no_ends-requires-after_bounds : goal.no_ends-requires-after_bounds
 no_ends-requires-after_bounds g c κs within = c.programs-count.ensures.programs ∙ sym (ap (λ (r : Roster). length r.programs) c.in_ok-queue.ensures.queue)
 
-pub staff-requires-clause-room : goal.staff-requires-clause-room
-staff-requires-clause-room g c κs within =
+pub start_workers-requires-clause-room : goal.start_workers-requires-clause-room
+start_workers-requires-clause-room g c κs within =
     let many = c.programs-count.ensures.programs ∙ sym (ap (λ (r : Roster). length r.programs) c.in_ok-queue.ensures.queue) in
     omega arith
 
-pub hire-requires-clause-enough : goal.hire-requires-clause-enough
-hire-requires-clause-enough g c κs within =
+pub start_movers-requires-clause-enough : goal.start_movers-requires-clause-enough
+start_movers-requires-clause-enough g c κs within =
     let left = c.in_ok-tasks.ensures.left in
     let passes = c.in-Ok.ensures.passes.0 in
     let enough = c.requires.enough in
     omega arith
 
-pub hire-requires-clause-hints : goal.hire-requires-clause-hints
-hire-requires-clause-hints g c κs within = c.in-Ok.ensures.objects
+pub start_movers-requires-clause-hints : goal.start_movers-requires-clause-hints
+start_movers-requires-clause-hints g c κs within = c.in-Ok.ensures.objects
 
 pub file_all-requires-clause-workers : goal.file_all-requires-clause-workers
 file_all-requires-clause-workers g c κs within = all_same c.in_ok-queue.queue c.in_ok-workers.workers.items c.run_beside-workers.result.items c.run_beside-workers.ensures c.in_ok-workers.ensures

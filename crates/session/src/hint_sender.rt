@@ -7,12 +7,12 @@ use std::sync::Wait;
 
 /// A queue of hints with a pass of it.
 #[derive(Drop)]
-pub(crate) struct Hinter<'a> {
+pub(crate) struct HintSender<'a> {
     hints: &'a Hints,
     pass: HintPass,
 }
 
-impl<'a> Model for Hinter<'a> {
+impl<'a> Model for HintSender<'a> {
     ghost use Rattle.hint_queue.specs.Queues.{HintsView};
     ghost use Rattle.std.specs.Prelude.{◌≡◌};
 
@@ -23,13 +23,13 @@ impl<'a> Model for Hinter<'a> {
     ghost invariant = { λ h. h.pass ≡ h.hints.now };
 }
 
-impl<'a> Hinter<'a> {
+impl<'a> HintSender<'a> {
     /// Nothing has been hinted yet.
-    pub(crate) fn new(hints: &'a Hints, pass: HintPass) -> Hinter<'a>
+    pub(crate) fn new(hints: &'a Hints, pass: HintPass) -> HintSender<'a>
         requires { pass ≡ hints.now }
         ensures { result ≡ hints.now }
     {
-        Hinter { hints, pass }
+        HintSender { hints, pass }
     }
 
     /// Hints the object. One that the queue is not for is not hinted.

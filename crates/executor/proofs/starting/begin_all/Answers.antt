@@ -6,7 +6,7 @@ use Rattle.object_lock.specs.Fresh.{AreNumbered, IsFreshOwner}
 use Rattle.program_run.specs.Runs.{RunView}
 use Rattle.task_queue.specs.Tasked.{IsTask, roster, roster_of}
 use Rattle.executor.proofs.Composed.{all_at, more, none, numbered_at, numbered_count}
-use Rattle.executor.proofs.hiring.begin_all.Goals as goal
+use Rattle.executor.proofs.starting.begin_all.Goals as goal
 
 pub loop-seat-init : goal.loop-seat-init
 loop-seat-init g c =

@@ -4,7 +4,7 @@ use Rattle.std.specs.List.{All}
 use Rattle.std.specs.Vec.Iter.{into_iter_items}
 use Rattle.task_queue.specs.Tasked.{IsTask}
 use Rattle.executor.proofs.Composed.{all_first, all_rest, not_some}
-use Rattle.executor.proofs.hiring.fill.Goals as goal
+use Rattle.executor.proofs.starting.fill.Goals as goal
 
 pub loop-task-init : goal.loop-task-init
 loop-task-init g c =

@@ -3,7 +3,7 @@ use Rattle.std.specs.List.{All}
 use Rattle.task_queue.specs.Tasked.{IsTask, roster}
 use Rattle.task_queue.specs.declared.rule.Roster.{Roster}
 use Rattle.executor.proofs.Composed.{first_task}
-use Rattle.executor.proofs.hiring.enqueue.Goals as goal
+use Rattle.executor.proofs.starting.enqueue.Goals as goal
 
 pub new-requires-after_bounds : goal.new-requires-after_bounds
 new-requires-after_bounds g c κs within =

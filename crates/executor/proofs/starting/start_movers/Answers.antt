@@ -6,8 +6,8 @@ use Rattle.std.specs.declared.vec.Vec.{Vec}
 use Rattle.hint_queue.specs.Queues.{HintsView}
 use Rattle.object_lock.specs.Fresh.{IsFreshMover}
 use Rattle.executor.proofs.Composed.{all_first, all_rest, seat_is_free}
-use Rattle.executor.proofs.hiring.hire.Goals as goal
-use Rattle.executor.proofs.hiring.hire.Goals.{then-at-evacuators, else-at-evacuators}
+use Rattle.executor.proofs.starting.start_movers.Goals as goal
+use Rattle.executor.proofs.starting.start_movers.Goals.{then-at-evacuators, else-at-evacuators}
 
 pub loop-seat-init : goal.loop-seat-init
 loop-seat-init g c =

@@ -2,7 +2,7 @@ use Rattle.std.proofs.Common.{◌≡◌, length}
 use Rattle.std.specs.List.{All}
 use Rattle.std.specs.Vec.Iter.{into_iter_items}
 use Rattle.task_queue.specs.Tasked.{IsTask}
-use Rattle.executor.proofs.hiring.fill.Given as goal
+use Rattle.executor.proofs.starting.fill.Given as goal
 
 -- the tasks that are left are in hand
 abbrev pub invariant-loop-task : goal.invariant-loop-task

@@ -105,7 +105,7 @@ pub(crate) fn enqueue<'a, S: RawStore, W: Wait>(
 }
 
 /// So many workers of this queue, each with room for the ends of so many programs.
-pub(crate) fn staff<'q, 'a, S: RawStore>(
+pub(crate) fn start_workers<'q, 'a, S: RawStore>(
     alloc: Global,
     queue: &'q TaskQueue<'a, S>,
     pass: &mut TaskPass<ProgramRun<'a, S>>,
@@ -117,7 +117,7 @@ pub(crate) fn staff<'q, 'a, S: RawStore>(
     ensures { IfOk result (λ v. All (λ w. w ≡ queue.now) v.items) }
 {
     let mut workers = Vec::with_capacity(alloc, count)?;
-    for _hired in 0..count {
+    for _started in 0..count {
         let Ok(worker) = Worker::new(alloc, queue, queue.another(pass), room) else {
             return Err(AllocError);
         };
@@ -127,7 +127,7 @@ pub(crate) fn staff<'q, 'a, S: RawStore>(
 }
 
 /// An evacuator at each of the first seats, so many, and a fetcher with a pass of its own at each other one. They are numbered on from the programs.
-pub(crate) fn hire<'a, S: RawStore>(
+pub(crate) fn start_movers<'a, S: RawStore>(
     alloc: Global,
     region: &'a Region<S>,
     hints: &'a Hints,
