@@ -127,20 +127,47 @@ fn code(alloc: Global, text: &str) -> Result<Option<ScopedCode>, AllocError> {
     Ok(parts.pop())
 }
 
+/// The only text of a program.
+fn texts(alloc: Global) -> Result<Vec<String>, AllocError> {
+    let mut texts = Vec::with_capacity(alloc, 1)?;
+    texts.push_reserved(String::from_str(alloc, "no")?);
+    Ok(texts)
+}
+
+/// The only layout of a program, of one number.
+fn layouts(alloc: Global) -> Result<Vec<Vec<Kind>>, AllocError> {
+    let mut layouts = Vec::with_capacity(alloc, 1)?;
+    layouts.push_reserved(vec![in alloc; Kind::Int]?);
+    Ok(layouts)
+}
+
 /// `main` alone, with so many scopes and this code: register 0 is its result, 1 is a truth, 2 a number, and 3 a pointer to a number.
-fn program(alloc: Global, scopes: u8, body: ScopedCode) -> Result<Scoped, AllocError> {
-    let main = ScopedFunction {
+fn functions(
+    alloc: Global,
+    scopes: u8,
+    body: ScopedCode,
+) -> Result<Vec<ScopedFunction>, AllocError> {
+    let kinds = vec![in alloc; Kind::Int, Kind::Bool, Kind::Int, Kind::Ptr(0)]?;
+    let mut functions = Vec::with_capacity(alloc, 1)?;
+    functions.push_reserved(ScopedFunction {
         result: Some(Kind::Int),
         parameters: 0,
-        kinds: vec![in alloc; Kind::Int, Kind::Bool, Kind::Int, Kind::Ptr(0)]?,
+        kinds,
         scopes,
         body,
         value: 0,
-    };
+    });
+    Ok(functions)
+}
+
+/// A program of `main` alone, with so many scopes and this code.
+fn program(alloc: Global, scopes: u8, body: ScopedCode) -> Result<Scoped, AllocError> {
+    let functions = functions(alloc, scopes, body)?;
+    let texts = texts(alloc)?;
     Ok(Scoped {
-        texts: vec![in alloc; String::from_str(alloc, "no")?]?,
-        layouts: vec![in alloc; vec![in alloc; Kind::Int]?]?,
-        functions: vec![in alloc; main]?,
+        texts,
+        layouts: layouts(alloc)?,
+        functions,
     })
 }
 

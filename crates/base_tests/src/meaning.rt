@@ -7,21 +7,28 @@ use std::fmt::Write;
 
 /// `int main() { bool b; int x; return .. }`, which returns what the local of this number holds.
 fn main_with(alloc: Global, local: u32) -> Result<Function, AllocError> {
+    let mut locals = Vec::with_capacity(alloc, 2)?;
+    locals.push_reserved(ValueType::Bool);
+    locals.push_reserved(ValueType::Int);
+    let mut body = Vec::with_capacity(alloc, 1)?;
+    body.push_reserved(Statement::ReturnValue(Expression::Local(local)));
     Ok(Function {
         result: ValueType::Int,
         parameters: Vec::new(alloc),
-        locals: vec![in alloc; ValueType::Bool, ValueType::Int]?,
+        locals,
         preconditions: Vec::new(alloc),
         postconditions: Vec::new(alloc),
-        body: vec![in alloc; Statement::ReturnValue(Expression::Local(local))]?,
+        body,
     })
 }
 
 /// The program that is this function.
 fn program(alloc: Global, main: Function) -> Result<Typed, AllocError> {
+    let mut functions = Vec::with_capacity(alloc, 1)?;
+    functions.push_reserved(main);
     Ok(Typed {
         structs: Vec::new(alloc),
-        functions: vec![in alloc; main]?,
+        functions,
         texts: Vec::new(alloc),
         main: 0,
     })

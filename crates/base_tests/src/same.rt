@@ -36,19 +36,25 @@ const CONSTANTS: [Constant; 5] = [
     Constant::Text(1),
 ];
 
+/// Puts the type behind others.
+fn put_type(types: &mut Vec<ValueType>, added: ValueType) -> Result<(), AllocError> {
+    types.push(added)?;
+    Ok(())
+}
+
 /// Some types, of which the last is the fourth again.
 fn types(alloc: Global) -> Result<Vec<ValueType>, AllocError> {
+    let mut types = Vec::new(alloc);
+    put_type(&mut types, ValueType::Int)?;
+    put_type(&mut types, ValueType::Struct(0))?;
+    put_type(&mut types, ValueType::Struct(1))?;
+    let of_truths = ValueType::Array(Box::new(alloc, ValueType::Bool)?);
+    put_type(&mut types, of_truths)?;
     let pointer = ValueType::Pointer(Box::new(alloc, ValueType::Int)?);
-    let array = ValueType::Array(Box::new(alloc, ValueType::Bool)?);
+    put_type(&mut types, pointer)?;
     let again = ValueType::Array(Box::new(alloc, ValueType::Bool)?);
-    Ok(vec![in alloc;
-        ValueType::Int,
-        ValueType::Struct(0),
-        ValueType::Struct(1),
-        array,
-        pointer,
-        again,
-    ]?)
+    put_type(&mut types, again)?;
+    Ok(types)
 }
 
 /// A 1 for each of these that is the same as this one, else a 0.

@@ -10,35 +10,46 @@ use remote_store::{Config, RawStore, Stores};
 use scope_verifier::{Verified, verify};
 use std::alloc::{AllocError, Global};
 
+/// The blocks of a program that ends at once.
+fn blocks(alloc: Global) -> Result<Vec<Block>, AllocError> {
+    let mut code = Vec::with_capacity(alloc, 2)?;
+    code.push_reserved(Instruction::Simple(Operation::Const { to: 0, value: 0 }));
+    code.push_reserved(Instruction::Return { from: 0 });
+    let mut blocks = Vec::with_capacity(alloc, 1)?;
+    let facts = Vec::new(alloc);
+    blocks.push_reserved(Block { facts, code });
+    Ok(blocks)
+}
+
 /// The function of a program that ends at once.
 fn function(alloc: Global) -> Result<Function, AllocError> {
-    let code = vec![in alloc;
-        Instruction::Simple(Operation::Const { to: 0, value: 0 }),
-        Instruction::Return { from: 0 },
-    ]?;
-    let block = Block {
-        facts: Vec::new(alloc),
-        code,
-    };
+    let kinds = vec![in alloc; Kind::Int]?;
     Ok(Function {
         result: Some(Kind::Int),
         parameters: 0,
-        kinds: vec![in alloc; Kind::Int]?,
+        kinds,
         scopes: 0,
-        blocks: vec![in alloc; block]?,
+        blocks: blocks(alloc)?,
     })
+}
+
+/// The functions of a program that ends at once.
+fn functions(alloc: Global) -> Result<Vec<Function>, AllocError> {
+    let mut functions = Vec::with_capacity(alloc, 1)?;
+    functions.push_reserved(function(alloc)?);
+    Ok(functions)
 }
 
 /// The only program. `None` where memory runs out.
 fn programs(alloc: Global) -> Option<Vec<Verified>> {
-    let function = function(alloc).ok()?;
+    let mut programs = Vec::with_capacity(alloc, 1).ok()?;
     let image = Image {
         texts: Vec::new(alloc),
         layouts: Vec::new(alloc),
-        functions: vec![in alloc; function].ok()?,
+        functions: functions(alloc).ok()?,
     };
-    let program = verify(alloc, image).ok()?;
-    vec![in alloc; program].ok()
+    programs.push_reserved(verify(alloc, image).ok()?);
+    Some(programs)
 }
 
 /// A region of two frames, and of a program with so many objects; the program's seat, and those of an evacuator and a fetcher. `None` where
