@@ -80,6 +80,7 @@ fn make_stale(scopes: &mut [Scope], register: u32)
 }
 
 /// Makes each scope from number `first` on stale whose aim is by this register.
+#[cold]
 #[inline(never)]
 pub(crate) fn make_stale_from(scopes: &mut [Scope], first: usize, register: u32)
     requires { first ≤ length scopes.old }

@@ -1,10 +1,10 @@
 //! The scopes of all calls, those of each behind those of its caller.
-ghost use Rattle.code_form.specs.Code.{written};
+ghost use Rattle.code_form.specs.Code.{all_shut, written};
 ghost use Rattle.code_execution.specs.Aimed.{scope_of};
 ghost use Rattle.code_execution.specs.Marked.{IsMarked, is_marked};
 ghost use Rattle.std.specs.Prelude.{◌≡◌, ◌++◌, ◌≤◌, ℕ, IfOk, MatchResult, drop, false, length, map, replicate, slice_set, take, true};
 
-use crate::aims::{Scope, make_stale_from, put_scope};
+use crate::aims::{Scope, are_shut, make_stale_from, put_scope};
 use std::alloc::{AllocError, Global};
 use std::marker::Model;
 
@@ -33,8 +33,7 @@ impl Model for Scopes {
 }
 
 /// Puts so many copies of a value behind the items. `Err` where memory is refused: then nothing is changed.
-#[inline(always)]
-pub(crate) fn grow<T: Copy>(items: &mut Vec<T>, count: usize, value: T) -> Result<(), AllocError>
+fn grow<T: Copy>(items: &mut Vec<T>, count: usize, value: T) -> Result<(), AllocError>
     ensures { MatchResult result (λ _. items.new.items ≡ items.old.items ++ replicate count value) (λ _. items.new.items ≡ items.old.items) }
 {
     match items.len().checked_add(count) {
@@ -96,10 +95,23 @@ impl Scopes {
         &self.items[first..]
     }
 
+    /// Whether those from number `first` on are all shut.
+    #[inline(always)]
+    pub(crate) fn are_shut(&self, first: usize) -> bool
+        requires { first ≤ length self.now }
+        ensures { result ≡ all_shut (map scope_of (drop first self.now)) }
+    {
+        first == self.items.len() || are_shut(self.from(first))
+    }
+
     /// Adds so many that are shut. `Err` where memory is refused: then nothing is changed.
+    #[inline(always)]
     pub(crate) fn grow(&mut self, count: usize) -> Result<(), AllocError>
         ensures { MatchResult result (λ _. self.new ≡ self.old ++ replicate count Scope.Shut) (λ _. self.new ≡ self.old) }
     {
+        if count == 0 {
+            return Ok(());
+        }
         match grow(&mut self.items, count, Scope::Shut) {
             Ok(()) => Ok(()),
             Err(error) => Err(error),
