@@ -1,6 +1,6 @@
 //! The cells of which hints were given last.
 ghost use Rattle.code_execution.specs.Hinting.{has_cell, has_one, is_hinted};
-ghost use Rattle.std.specs.Prelude.{◌≡◌, ◌%◌, ℕ, not, slice_set};
+ghost use Rattle.std.specs.Prelude.{◌≡◌, ◌∷◌, ℕ, not, take};
 
 /// How many stretches are kept in mind that came last: a loop may come to a few arrays by turns.
 const RECENT: usize = 8;
@@ -13,13 +13,11 @@ pub struct Stretch {
     pub end: u64,
 }
 
-/// The stretches of which hints were given last, and whether anybody listens to hints.
+/// The stretches of which hints were given last, the newest first, and whether anybody listens to hints.
 #[derive(Clone, Copy)]
 pub struct Hinted {
     listens: bool,
     stretches: [Stretch; RECENT],
-    // Where in `stretches` the next one stands, which forgets the one there.
-    next: usize,
 }
 
 impl Stretch {
@@ -57,7 +55,6 @@ impl Hinted {
                 first: 0,
                 end: 0,
             }; RECENT],
-            next: 0,
         }
     }
 
@@ -69,12 +66,12 @@ impl Hinted {
         !self.listens || have(&self.stretches, reference, index)
     }
 
-    /// Keeps in mind that a hint was given of a stretch, and forgets the one before the last others.
+    /// Keeps in mind that a hint was given of a stretch, and forgets the oldest. The newest is looked at first: a loop comes to its cells again and again.
     pub fn add(&mut self, stretch: Stretch)
         ensures listens { self.new.listens ≡ self.old.listens }
-        ensures kept { self.new.stretches ≡ slice_set self.old.stretches (self.old.next % 8) stretch }
+        ensures kept { self.new.stretches ≡ stretch ∷ take 7 self.old.stretches }
     {
-        self.stretches[self.next % RECENT] = stretch;
-        self.next = self.next.wrapping_add(1);
+        self.stretches.rotate_right(1);
+        self.stretches[0] = stretch;
     }
 }

@@ -51,15 +51,13 @@ fn output_named(name: &str) -> Option<Output>
 pub(crate) fn output_takes(alloc: Global, output: Output) -> Result<Vec<ResolvedType>, AllocError>
     ensures { IfOk result (λ r. map resolved_of r.items ≡ t.output_takes (output_of output)) }
 {
-    let mut types = Vec::with_capacity(alloc, 1)?;
     match output {
-        Output::Print | Output::Println => types.push_reserved(ResolvedType::Text),
-        Output::Printint => types.push_reserved(ResolvedType::Int),
-        Output::Printbool => types.push_reserved(ResolvedType::Bool),
-        Output::Printchar => types.push_reserved(ResolvedType::Char),
-        Output::Flush => (),
+        Output::Print | Output::Println => Ok(vec![in alloc; ResolvedType::Text]?),
+        Output::Printint => Ok(vec![in alloc; ResolvedType::Int]?),
+        Output::Printbool => Ok(vec![in alloc; ResolvedType::Bool]?),
+        Output::Printchar => Ok(vec![in alloc; ResolvedType::Char]?),
+        Output::Flush => Ok(Vec::new(alloc)),
     }
-    Ok(types)
 }
 
 /// The first local of a name.
