@@ -116,7 +116,7 @@ extra_names (s.Choose r a d) b next exits h n k o =
 extra_names (s.Loop test r body) b next exits h n k o =
     let i = image.Jump b ∷ [] in
     let xs = onward (suc b) next ∷ exits in
-    let ways = (onward_names (suc b) next k, o) in
+    let ways : Each (Each NamesNumbers) xs = (onward_names (suc b) next k, o) in
     let j = tested r body b next exits in
     let m = suc (suc (suc b) + g.count body) in (
       first_names test m j xs h.0 n.0 (tt, tt) ways,
