@@ -1,10 +1,9 @@
 -- The image of a well-typed program is consistent.
-use Rattle.std.proofs.Common.{◌≡◌, ℕ, zero, suc, ◌+◌, ◌<◌, ◌≤◌, Bool, true, false, cond, List, [], ◌∷◌, ◌++◌, length, map, take, Option, Some, refl, sym, subst, arith}
+use Rattle.std.proofs.Common.{◌≡◌, ℕ, suc, ◌+◌, ◌<◌, Bool, true, List, [], ◌∷◌, ◌++◌, length, map, take, Option, Some, refl, sym, subst, arith}
 use Rattle.std.specs.Prelude.{◌&&◌, nat_lt, All, slice_get}
 use Rattle.std.specs.List.{list_all}
 use Rattle.std.proofs.lemmas.List.{length-append, length-map}
 use Rattle.c0_typed.specs.Trees.{Ty, VoidTy, IntTy, BoolTy, CharTy, TextTy, StructTy, PointerTy, ArrayTy}
-use Rattle.c0_typed.specs.Typing.{FitsProgram}
 use Rattle.c0_typed.specs.Views.{function_of as typed_function, program_of, struct_of, texts_of, type_of}
 use Rattle.c0_typed.specs.declared.tree.Constant.{Constant as ConstantValue}
 use Rattle.c0_typed.specs.declared.tree.Constant.TheVariants as c
@@ -15,7 +14,6 @@ use Rattle.c0_typed.specs.declared.tree.Expression.{Expression, Row_of-Expressio
 use Rattle.c0_typed.specs.declared.tree.Place.{Place, Deref', Index', Field'}
 use Rattle.c0_typed.specs.declared.tree.Statement.{Statement, Row_of-Statement, end_of-Statement, more_of-Statement, Block', Set, Update, Store, StoreUpdate, Do, If', Loop', Return, ReturnValue, Assert, Error, Check}
 use Rattle.c0_typed.specs.declared.tree.Function.{Function}
-use Rattle.c0_typed.specs.declared.tree.Typed.{Typed}
 use Rattle.code_form.specs.declared.form.Fact.{Fact}
 use Rattle.code_form.specs.declared.form.Kind.{Kind}
 use Rattle.code_form.specs.Counts.{has_few_items, is_few}
@@ -41,7 +39,7 @@ use Rattle.prefetch_pass.proofs.Scopes as hints
 use Rattle.codegen.specs.Generated.{blocks, blocks_with, facts_of, function_of}
 use Rattle.c0_well_formed.specs.Images.{image_of_tree}
 use Rattle.scope_verifier_laws.specs.Numbers.{is_result_kind, names_layout}
-use Rattle.c0_well_formed.specs.Laws.{ImagesAreConsistent, IsConsistent, IsConsistentFunction, NamesNumbers, TellsNumber}
+use Rattle.c0_well_formed.specs.Laws.{ImagesAreConsistent, IsConsistentFunction, NamesNumbers, TellsNumber}
 use Rattle.c0_well_formed.proofs.Functions.{lowered_ok}
 use Rattle.c0_well_formed.proofs.Images.{images_ok}
 use Rattle.c0_well_formed.proofs.Near.{Near, whole_near}

@@ -1,5 +1,5 @@
 -- The numbers that instructions name.
-use Rattle.std.proofs.Common.{ℕ, suc, ◌+◌, Bool, true, false, List, [], ◌∷◌, ◌++◌, length, Option, Some, None}
+use Rattle.std.proofs.Common.{ℕ, suc, ◌+◌, Bool, true, false, List, [], ◌∷◌, ◌++◌, length}
 use Rattle.c0_typed.specs.Trees.{Program, Ty, IntTy, BoolTy, TextTy, StructTy, PointerTy, ArrayTy}
 use Rattle.c0_typed.specs.Typing.{AllBool, Fits, FitsFunction, Has, HasAll, Holds, local_types, output_types, unary_type}
 use Rattle.c0_typed.specs.Views.{block_of, block_row, exp_of, exps_of, function_of, output_of, place_of, program_of, row_of, stmt_of, texts_of, type_of, unary_of}

@@ -1,5 +1,5 @@
 -- The numbers that the instructions of an image name are those that its code names.
-use Rattle.std.proofs.Common.{ℕ, suc, ◌+◌, Bool, true, false, cond, List, [], ◌∷◌, ◌++◌, Option, Some, None}
+use Rattle.std.proofs.Common.{ℕ, zero, suc, ◌+◌, Bool, true, false, cond, List, [], ◌∷◌, ◌++◌, Option, Some, None}
 use Rattle.std.proofs.lemmas.Bool.{ltb-true}
 use Rattle.code_form.specs.declared.form.Kind.{Kind}
 use Rattle.code_form.specs.Form as image
@@ -10,7 +10,7 @@ use Rattle.middle_form.specs.Scoped as s
 use Rattle.middle_form.specs.Scoped.{plain}
 use Rattle.scope_placement.specs.Placed.{Open, in_order, leaves, leaves_from, open_behind, placed, whole}
 use Rattle.codegen.specs.Generated as g
-use Rattle.codegen.specs.Generated.{blocks, extra, first, last}
+use Rattle.codegen.specs.Generated.{blocks, exit_from, extra, first, is_passed, last, onward, tested}
 use Rattle.c0_well_formed.specs.Laws.{NamesNumbers}
 use Rattle.c0_well_formed.proofs.CellKinds.{Each, each_append}
 use Rattle.c0_well_formed.proofs.Numbers.{CodeNames}
@@ -60,57 +60,74 @@ whole_names a h = closed_names a (placed_names a [] h)
 
 -- ---- the image
 
-first_names : (a : s.Code) (b : ℕ) (next : List Instruction) (exits : List ℕ) → ScopedNames a → Near a → Each NamesNumbers next → Each NamesNumbers (first a b next exits)
-first_names s.Nothing b next exits h n k = k
-first_names (s.Do x) b next exits h n k = (h, k)
-first_names (s.Load to z r off disp) b next exits h n k = (ltb-true disp 4294967296 n, (tt, k))
-first_names (s.Store z r off disp from) b next exits h n k = (ltb-true disp 4294967296 n, (tt, k))
-first_names (s.LoadBy to z r off disp) b next exits h n k = (tt, k)
-first_names (s.StoreBy z r off disp from) b next exits h n k = (tt, k)
-first_names (s.Aim z r off disp) b next exits h n k = (ltb-true disp 4294967296 n, k)
-first_names (s.Leave z) b next exits h n k = (tt, k)
-first_names (s.Loose z) b next exits h n k = k
-first_names (s.Call to i args) b next exits h n k = (tt, k)
-first_names (s.Fail a) b next exits h n k = (tt, tt)
-first_names (s.Then a d) b next exits h n k = first_names a (b + g.count d) (first d b next exits) exits h.0 n.0 (first_names d b next exits h.1 n.1 k)
-first_names (s.Choose r a d) b next exits h n k = (tt, tt)
-first_names (s.Loop test r body) b next exits h n k = (tt, tt)
-first_names (s.Block a) b next exits h n k = first_names a (suc b) (image.Jump b ∷ []) (b ∷ exits) h n (tt, tt)
-first_names (s.Exit i) b next exits h n k = (tt, tt)
+onward_names : (b : ℕ) (next : List Instruction) → Each NamesNumbers next → Each NamesNumbers (onward b next)
+onward_names b next h = by (is_passed next)
+  where
+    by : (passed : Bool) → Each NamesNumbers (cond passed next (image.Jump b ∷ []))
+    by true = h
+    by false = (tt, tt)
 
-extra_names : (a : s.Code) (b : ℕ) (next : List Instruction) (exits : List ℕ) → ScopedNames a → Near a → Each NamesNumbers next → Each (Each NamesNumbers) (extra a b next exits)
-extra_names s.Nothing b next exits h n k = tt
-extra_names (s.Do x) b next exits h n k = tt
-extra_names (s.Load to z r off disp) b next exits h n k = tt
-extra_names (s.Store z r off disp from) b next exits h n k = tt
-extra_names (s.LoadBy to z r off disp) b next exits h n k = tt
-extra_names (s.StoreBy z r off disp from) b next exits h n k = tt
-extra_names (s.Aim z r off disp) b next exits h n k = tt
-extra_names (s.Leave z) b next exits h n k = tt
-extra_names (s.Loose z) b next exits h n k = tt
-extra_names (s.Call to i args) b next exits h n k = tt
-extra_names (s.Fail a) b next exits h n k = tt
-extra_names (s.Then a d) b next exits h n k =
-    each_append (Each NamesNumbers) (extra d b next exits) (extra a (b + g.count d) (first d b next exits) exits) (extra_names d b next exits h.1 n.1 k) (extra_names a (b + g.count d) (first d b next exits) exits h.0 n.0 (first_names d b next exits h.1 n.1 k))
-extra_names (s.Choose r a d) b next exits h n k = (
-  k,
-  each_append (Each NamesNumbers) (extra a (suc b) (image.Jump b ∷ []) exits) _ (extra_names a (suc b) (image.Jump b ∷ []) exits h.0 n.0 (tt, tt)) (
-    first_names a (suc b) (image.Jump b ∷ []) exits h.0 n.0 (tt, tt),
-    each_append (Each NamesNumbers) (extra d (suc (suc b + g.count a)) (image.Jump b ∷ []) exits) _ (extra_names d (suc (suc b + g.count a)) (image.Jump b ∷ []) exits h.1 n.1 (tt, tt)) (first_names d (suc (suc b + g.count a)) (image.Jump b ∷ []) exits h.1 n.1 (tt, tt), tt),
-  ),
-)
-extra_names (s.Loop test r body) b next exits h n k = (
-  first_names test (suc (suc (suc b) + g.count body)) (image.Branch r (suc (suc b) + g.count body) (suc b) ∷ []) (suc b ∷ exits) h.0 n.0 (tt, tt),
-  (
-    k,
-    each_append (Each NamesNumbers) (extra body (suc (suc b)) (image.Jump b ∷ []) (suc b ∷ exits)) _ (extra_names body (suc (suc b)) (image.Jump b ∷ []) (suc b ∷ exits) h.1 n.1 (tt, tt)) (
-      first_names body (suc (suc b)) (image.Jump b ∷ []) (suc b ∷ exits) h.1 n.1 (tt, tt),
-      extra_names test (suc (suc (suc b) + g.count body)) (image.Branch r (suc (suc b) + g.count body) (suc b) ∷ []) (suc b ∷ exits) h.0 n.0 (tt, tt),
-    ),
-  ),
-)
-extra_names (s.Block a) b next exits h n k = (k, extra_names a (suc b) (image.Jump b ∷ []) (b ∷ exits) h n (tt, tt))
-extra_names (s.Exit i) b next exits h n k = tt
+exit_names : (exits : List (List Instruction)) (i : ℕ) → Each (Each NamesNumbers) exits → Each NamesNumbers (exit_from exits i)
+exit_names [] i h = (tt, tt)
+exit_names (x ∷ exits) zero h = h.0
+exit_names (x ∷ exits) (suc i) h = exit_names exits i h.1
+
+first_names : (a : s.Code) (b : ℕ) (next : List Instruction) (exits : List (List Instruction)) → ScopedNames a → Near a → Each NamesNumbers next → Each (Each NamesNumbers) exits → Each NamesNumbers (first a b next exits)
+first_names s.Nothing b next exits h n k o = k
+first_names (s.Do x) b next exits h n k o = (h, k)
+first_names (s.Load to z r off disp) b next exits h n k o = (ltb-true disp 4294967296 n, (tt, k))
+first_names (s.Store z r off disp from) b next exits h n k o = (ltb-true disp 4294967296 n, (tt, k))
+first_names (s.LoadBy to z r off disp) b next exits h n k o = (tt, k)
+first_names (s.StoreBy z r off disp from) b next exits h n k o = (tt, k)
+first_names (s.Aim z r off disp) b next exits h n k o = (ltb-true disp 4294967296 n, k)
+first_names (s.Leave z) b next exits h n k o = (tt, k)
+first_names (s.Loose z) b next exits h n k o = k
+first_names (s.Call to i args) b next exits h n k o = (tt, k)
+first_names (s.Fail a) b next exits h n k o = (tt, tt)
+first_names (s.Then a d) b next exits h n k o = first_names a (b + g.count d) (first d b next exits) exits h.0 n.0 (first_names d b next exits h.1 n.1 k o) o
+first_names (s.Choose r a d) b next exits h n k o = (tt, tt)
+first_names (s.Loop test r body) b next exits h n k o = (tt, tt)
+first_names (s.Block a) b next exits h n k o = let w = onward_names b next k in first_names a (suc b) (onward b next) (onward b next ∷ exits) h n w (w, o)
+first_names (s.Exit i) b next exits h n k o = exit_names exits i o
+
+extra_names : (a : s.Code) (b : ℕ) (next : List Instruction) (exits : List (List Instruction)) → ScopedNames a → Near a → Each NamesNumbers next → Each (Each NamesNumbers) exits → Each (Each NamesNumbers) (extra a b next exits)
+extra_names s.Nothing b next exits h n k o = tt
+extra_names (s.Do x) b next exits h n k o = tt
+extra_names (s.Load to z r off disp) b next exits h n k o = tt
+extra_names (s.Store z r off disp from) b next exits h n k o = tt
+extra_names (s.LoadBy to z r off disp) b next exits h n k o = tt
+extra_names (s.StoreBy z r off disp from) b next exits h n k o = tt
+extra_names (s.Aim z r off disp) b next exits h n k o = tt
+extra_names (s.Leave z) b next exits h n k o = tt
+extra_names (s.Loose z) b next exits h n k o = tt
+extra_names (s.Call to i args) b next exits h n k o = tt
+extra_names (s.Fail a) b next exits h n k o = tt
+extra_names (s.Then a d) b next exits h n k o =
+    let rest = first_names d b next exits h.1 n.1 k o in
+    each_append (Each NamesNumbers) (extra d b next exits) (extra a (b + g.count d) (first d b next exits) exits) (extra_names d b next exits h.1 n.1 k o) (extra_names a (b + g.count d) (first d b next exits) exits h.0 n.0 rest o)
+extra_names (s.Choose r a d) b next exits h n k o =
+    let j = onward b next in
+    let w = onward_names b next k in
+    let m = suc (suc b + g.count a) in (
+      k,
+      each_append (Each NamesNumbers) (extra a (suc b) j exits) _ (extra_names a (suc b) j exits h.0 n.0 w o)
+          (first_names a (suc b) j exits h.0 n.0 w o, each_append (Each NamesNumbers) (extra d m j exits) _ (extra_names d m j exits h.1 n.1 w o) (first_names d m j exits h.1 n.1 w o, tt)),
+    )
+extra_names (s.Loop test r body) b next exits h n k o =
+    let i = image.Jump b ∷ [] in
+    let xs = onward (suc b) next ∷ exits in
+    let ways : Each (Each NamesNumbers) xs = (onward_names (suc b) next k, o) in
+    let j = tested r body b next exits in
+    let m = suc (suc (suc b) + g.count body) in (
+      first_names test m j xs h.0 n.0 (tt, tt) ways,
+      (
+        k,
+        each_append (Each NamesNumbers) (extra body (suc (suc b)) i xs) _ (extra_names body (suc (suc b)) i xs h.1 n.1 (tt, tt) ways)
+            (first_names body (suc (suc b)) i xs h.1 n.1 (tt, tt) ways, extra_names test m j xs h.0 n.0 (tt, tt) ways),
+      ),
+    )
+extra_names (s.Block a) b next exits h n k o = let w = onward_names b next k in (k, extra_names a (suc b) (onward b next) (onward b next ∷ exits) h n w (w, o))
+extra_names (s.Exit i) b next exits h n k o = tt
 
 last_names : (x : s.Function) → Each NamesNumbers (last x)
 last_names x = by x.result
@@ -120,4 +137,4 @@ last_names x = by x.result
     by (Some k) = (tt, tt)
 
 pub blocks_names : (x : s.Function) → ScopedNames x.body → Near x.body → Each (Each NamesNumbers) (blocks x)
-blocks_names x h n = (first_names x.body 1 (last x) [] h n (last_names x), extra_names x.body 1 (last x) [] h n (last_names x))
+blocks_names x h n = (first_names x.body 1 (last x) [] h n (last_names x) tt, extra_names x.body 1 (last x) [] h n (last_names x) tt)

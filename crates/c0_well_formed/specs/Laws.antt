@@ -6,7 +6,6 @@ use Rattle.c0_typed.specs.Views.{program_of}
 use Rattle.c0_typed.specs.declared.tree.Typed.{Typed}
 use Rattle.code_form.specs.declared.form.Fact.{Fact}
 use Rattle.code_form.specs.declared.form.Fact.TheVariants as fact
-use Rattle.code_form.specs.declared.form.Kind.{Kind}
 use Rattle.code_form.specs.declared.form.Operation.{Operation}
 use Rattle.code_form.specs.declared.form.Operation.TheVariants as op
 use Rattle.code_form.specs.Counts.{has_few_items}

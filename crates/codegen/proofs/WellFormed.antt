@@ -1,6 +1,6 @@
 -- What is generated of scoped code that keeps the discipline is verified, where the code without its scopes is well formed and checks each place.
-use Rattle.std.proofs.Common.{◌≡◌, ◌≤◌, ◌+◌, ℕ, zero, suc, true, Option, Some, None, List, [], ◌∷◌, ◌++◌, length, refl, sym, ap, ◌∙◌, subst, arith, append_assoc, length-append}
-use Rattle.std.specs.Prelude.{◌&&◌, ◌<◌, All, is_none, map, nat_lt, slice_get, slice_index}
+use Rattle.std.proofs.Common.{◌≡◌, ◌≤◌, ◌+◌, ℕ, zero, suc, Bool, true, false, cond, inl, inr, Option, Some, None, List, [], ◌∷◌, ◌++◌, length, refl, sym, ap, ◌∙◌, subst, arith, append_assoc, length-append}
+use Rattle.std.specs.Prelude.{◌&&◌, ◌<◌, All, is_none, map, nat_lt, slice_get}
 use Rattle.std.specs.List.{list_all}
 use Rattle.std.specs.Option.{option_map}
 use Rattle.std.proofs.lemmas.Bool.{ltb-true}
@@ -25,12 +25,12 @@ use Rattle.middle_form.specs.Discipline as table
 use Rattle.middle_form.specs.Form as middle
 use Rattle.middle_form.specs.WellFormed.{all_fit, code_fits, function_fits, is_well_formed, main_fits, result_fits}
 use Rattle.middle_form.specs.WellFormed as form
-use Rattle.codegen.specs.Generated.{block_with, blocks, blocks_with, count, extra, facts_of, first, function_of, generated, last, listed, scope_fact}
+use Rattle.codegen.specs.Generated.{block_with, blocks, blocks_with, count, extra, facts_of, exit_from, first, function_of, generated, is_passed, last, listed, onward, scope_fact, target, tested}
 use Rattle.middle_form.specs.Guarded.{asked_before, asks, is_by_pointer, is_guarded, is_guarded_function, is_guarded_program, is_kept, is_nothing_asked, joined, place_check, uses_pointers, with_check}
 use Rattle.code_verification.specs.Verified.{AreGuarded, IsGuardedBlock, IsGuardedFunction, IsVerified, NamesFact, NamesFacts}
 use Rattle.code_verification.specs.WellFormed.{IsRest, IsWellFormed, IsWellFormedBlock, IsWellFormedFunction}
 use Rattle.code_verification.specs.WellFormed as here
-use Rattle.codegen.proofs.Generates.{length-extra}
+use Rattle.codegen.proofs.Generates.{Led, led, length-extra}
 use Rattle.codegen.proofs.Entries.{Entry, FitsKnows, FitsTable, entries_inside, facts_at, facts_together, fits_after, fits_join, length-entries}
 use Rattle.codegen.proofs.Knowing.{AllFit, FitsCheck, Holds, and_left, and_right, append_known, brings_join, brings_same, checked, checks_after, checks_at_scope, checks_kept_some, entry_checks, entry_holds, fit_before, fit_joined, fit_place, fit_with, holds_after, holds_brings, holds_less, holds_load, holds_scope, holds_store, holds_wrote_some, joined_known, same_scope, with_known}
 use Rattle.codegen.proofs.Paired.{AllPaired, paired_all, paired_append}
@@ -96,10 +96,38 @@ module _ (P : Program) (f : image.Function) where
   jumps : (b : ℕ) (t u : Table) (w : List Fact) → FitsTable f.kinds t → AllFit f.kinds w → Brings t u → HasFacts f b (u, w) → R (t, w) (Jump b ∷ [])
   jumps b t u w named fit brings x = ((named, fit), λ k h c. ((((λ n. absurd (cc n)), entered_at b u w x k (holds_brings f.scopes t u k brings h) c), refl), (tt, tt)))
 
-  branches : (a b c : ℕ) (t u v : Table) (x y : List Fact) → FitsTable f.kinds t → AllFit f.kinds x → AllFit f.kinds y → has f.kinds a kind.Bool ≡ true → Brings t u → Brings t v → HasFacts f b (u, x) → HasFacts f c (v, y)
-      → R (t, joined x y) (Branch a b c ∷ [])
-  branches a b c t u v x y named fx fy e bu bv hb hc =
-      ((named, fit_joined f.kinds x y fx fy), λ k h z. let q = joined_known k x y z in ((((λ n. absurd (cc n)), (e, entered_at b u x hb k (holds_brings f.scopes t u k bu h) q.0, entered_at c v y hc k (holds_brings f.scopes t v k bv h) q.1)), refl), (tt, tt)))
+  -- what is right where less is known is right where more is
+  brought : (t u : Table) (w : List Fact) (is : List Instruction) → FitsTable f.kinds t → Brings t u → R (u, w) is → R (t, w) is
+  brought t u w is named brings n = ((named, n.0.1), λ k h c. n.1 k (holds_brings f.scopes t u k brings h) c)
+
+  -- how code goes on at a block
+  goes_on : (b : ℕ) (t u : Table) (w : List Fact) (is : List Instruction) → FitsTable f.kinds t → Brings t u → R (u, w) is → HasFacts f b (u, w) → R (t, w) (onward b is)
+  goes_on b t u w is named brings n x = by (is_passed is)
+    where
+      by : (passed : Bool) → R (t, w) (cond passed is (Jump b ∷ []))
+      by true = brought t u w is named brings n
+      by false = jumps b t u w named n.0.1 brings x
+
+  -- where a branch leads
+  leads : (b : ℕ) (u : Table) (w : List Fact) (is : List Instruction) → R (u, w) is → HasFacts f b (u, w) → (k : Known) → Holds f.scopes u k → AreKnown k w → Enters C f k (target b is)
+  leads b u w is n x k h c = by (led is)
+    where
+      by : Led is → Enters C f k (target b is)
+      by (inl (j, e)) =
+          let jump : R (u, w) (Jump j ∷ []) = subst (λ (z : List Instruction). R (u, w) z) e n in
+          subst (λ (z : List Instruction). Enters C f k (target b z)) (sym e) (jump.1 k h c).0.0.1
+      by (inr (t, p)) = subst (λ (z : ℕ). Enters C f k z) (sym (t b)) (entered_at b u w x k h c)
+
+  branches : (a b c : ℕ) (t u v : Table) (x y : List Fact) (is js : List Instruction) → FitsTable f.kinds t → has f.kinds a kind.Bool ≡ true → Brings t u → Brings t v → R (u, x) is → R (v, y) js → HasFacts f b (u, x) → HasFacts f c (v, y)
+      → R (t, joined x y) (Branch a (target b is) (target c js) ∷ [])
+  branches a b c t u v x y is js named e bu bv m n hb hc = (
+    (named, fit_joined f.kinds x y m.0.1 n.0.1),
+    λ k h z.
+        let q = joined_known k x y z in
+        let one = leads b u x is m hb k (holds_brings f.scopes t u k bu h) q.0 in
+        let other = leads c v y js n hc k (holds_brings f.scopes t v k bv h) q.1 in
+        ((((λ n. absurd (cc n)), (e, one, other)), refl), (tt, tt)),
+  )
 
   simple : (o : Operation) (t : Table) (w : List Fact) (next : List Instruction) → FitsTable f.kinds t → op_fits P.head f.kinds o ≡ true → (needs_shut (image.Simple o) ≡ true → AreShut f.scopes t) → is_kept (written_by o) (asked_before o w) ≡ true
       → R (table.wrote (written_by o) t, w) next → R (t, asked_before o w) (image.Simple o ∷ next)
@@ -212,24 +240,24 @@ module _ (P : Program) (f : image.Function) where
   unasked_at : (b : ℕ) (t : Table) (w : List Fact) → w ≡ [] → HasFacts f b (t, w) → HasFacts f b (t, [])
   unasked_at b t w e h = subst (λ (v : List Fact). HasFacts f b (t, v)) e h
 
-  -- each way out leads to a block that asks for what has to be known there, and for no check
-  abbrev Leads : List Table → List ℕ → Type 0
+  -- each way out is right where is known what has to be, and no check
+  abbrev Leads : List Table → List (List Instruction) → Type 0
   Leads [] [] = Unit {0}
-  Leads (e ∷ es) (b ∷ bs) = HasFacts f b (e, []) × Leads es bs
+  Leads (e ∷ es) (w ∷ ws) = R (e, []) w × Leads es ws
   Leads _ _ = ⊥
 
-  exit_at : (es : List Table) (bs : List ℕ) (j : ℕ) → Leads es bs → j < length bs → (e : Table) × (slice_get es j ≡ Some e) × HasFacts f (slice_index bs j) (e, [])
+  exit_at : (es : List Table) (ws : List (List Instruction)) (j : ℕ) → Leads es ws → j < length ws → (e : Table) × (slice_get es j ≡ Some e) × R (e, []) (exit_from ws j)
   exit_at [] [] j h l = absurd (let z : ⊥ = omega arith in z)
-  exit_at [] (b ∷ bs) j h l = absurd h
+  exit_at [] (w ∷ ws) j h l = absurd h
   exit_at (e ∷ es) [] j h l = absurd h
-  exit_at (e ∷ es) (b ∷ bs) zero h l = (e, refl, h.0)
-  exit_at (e ∷ es) (b ∷ bs) (suc j) h l = exit_at es bs j h.1 (omega arith)
+  exit_at (e ∷ es) (w ∷ ws) zero h l = (e, refl, h.0)
+  exit_at (e ∷ es) (w ∷ ws) (suc j) h l = exit_at es ws j h.1 (omega arith)
 
   -- code is right before what is right, and so are its other blocks
-  abbrev Right : Code → Table → List Fact → ℕ → List Instruction → List ℕ → Type 0
+  abbrev Right : Code → Table → List Fact → ℕ → List Instruction → List (List Instruction) → Type 0
   Right a t w b next exits = R (t, asks (plain a) w) (first a b next exits) × AllPaired R (entries_inside a t w) (extra a b next exits)
 
-  code_formed : (a : Code) (t : Table) (w : List Fact) (b : ℕ) (next : List Instruction) (exits : List ℕ) (es : List Table) → FitsTable f.kinds t → code_fits Q f.kinds (length exits) (plain a) ≡ true → is_guarded (plain a) w ≡ true → uses_pointers f.kinds (plain a) ≡ true
+  code_formed : (a : Code) (t : Table) (w : List Fact) (b : ℕ) (next : List Instruction) (exits : List (List Instruction)) (es : List Table) → FitsTable f.kinds t → code_fits Q f.kinds (length exits) (plain a) ≡ true → is_guarded (plain a) w ≡ true → uses_pointers f.kinds (plain a) ≡ true
       → IsDisciplined f.kinds f.scopes es a t → Leads es exits → R (after a t, w) next → BeginsWith f b (entries_inside a t w) → Right a t w b next exits
   code_formed Nothing t w b next exits es named fits g u d out n has' = (n, tt)
   code_formed (Do o) t w b next exits es named fits g u d out n has' = (simple o t w next named fits d g n, tt)
@@ -255,20 +283,20 @@ module _ (P : Program) (f : image.Function) where
       (whole.0, paired_append R inside (entries_inside a t v) (extra c b next exits) (extra a (b + count c) (first c b next exits) exits) behind.1 whole.1)
   code_formed (Choose r a c) t w b next exits es named fits g u d out n has' =
       let h = join (Choose r a c) t in
-      let j = Jump b ∷ [] in
+      let j = onward b next in
       let m = suc (suc b + count a) in
       let va = asks (plain a) w in
       let vc = asks (plain c) w in
       let both = and_right (has f.kinds r kind.Bool) _ fits in
       let side : List (List Instruction) = first c m j exits ∷ [] in
       let told_side : List Entry = (t, vc) ∷ [] in
-      let end_a : R (after a t, w) j = jumps b (after a t) h w (fits_after f.kinds f.scopes es a t d.0 named) n.0.1 d.1 has'.0 in
-      let end_c : R (after c t, w) j = jumps b (after c t) h w (fits_after f.kinds f.scopes es c t d.2 named) n.0.1 d.3 has'.0 in
+      let end_a : R (after a t, w) j = goes_on b (after a t) h w next (fits_after f.kinds f.scopes es a t d.0 named) d.1 n has'.0 in
+      let end_c : R (after c t, w) j = goes_on b (after c t) h w next (fits_after f.kinds f.scopes es c t d.2 named) d.3 n has'.0 in
       let behind_a = begins_back f (suc b) (entries_inside a t w) ((t, va) ∷ (entries_inside c t w ++ told_side)) (suc b + count a) (ap (λ k. suc b + k) (sym (length-entries a t w))) has'.1 in
       let behind_c = begins_back f m (entries_inside c t w) told_side (m + count c) (ap (λ k. m + k) (sym (length-entries c t w))) behind_a.1 in
       let x = code_formed a t w (suc b) j exits es named (and_left _ _ both) (and_left _ _ g) (and_left _ _ u) d.0 out end_a (begins_front f (suc b) (entries_inside a t w) _ has'.1) in
       let y = code_formed c t w m j exits es named (and_right (code_fits Q f.kinds (length exits) (plain a)) _ both) (and_right (is_guarded (plain a) w) _ g) (and_right (uses_pointers f.kinds (plain a)) _ u) d.2 out end_c (begins_front f m (entries_inside c t w) _ behind_a.1) in (
-        branches r (suc b + count a) (m + count c) t t t va vc named x.0.0.1 y.0.0.1 (and_left _ _ fits) (brings_same t) (brings_same t) behind_a.0 behind_c.0,
+        branches r (suc b + count a) (m + count c) t t t va vc (first a (suc b) j exits) (first c m j exits) named (and_left _ _ fits) (brings_same t) (brings_same t) x.0 y.0 behind_a.0 behind_c.0,
         (n, paired_append R (entries_inside a t w) ((t, va) ∷ (entries_inside c t w ++ told_side)) (extra a (suc b) j exits) (first a (suc b) j exits ∷ (extra c m j exits ++ side)) x.1 (x.0, paired_append R (entries_inside c t w) told_side (extra c m j exits) side y.1 (y.0, tt))),
       )
   code_formed (Loop test r body) t w b next exits es named fits g u d out n has' =
@@ -276,9 +304,9 @@ module _ (P : Program) (f : image.Function) where
       let e = after test h in
       let k = suc (suc b) in
       let i = Jump b ∷ [] in
-      let xs = suc b ∷ exits in
+      let xs = onward (suc b) next ∷ exits in
       let m = suc (suc (suc b) + count body) in
-      let j = Branch r (suc (suc b) + count body) (suc b) ∷ [] in
+      let j = tested r body b next exits in
       let both = and_right (has f.kinds r kind.Bool) _ fits in
       let none : AllFit f.kinds [] = All-nil (FitsCheck f.kinds) in
       let g1 = and_right (is_nothing_asked w) _ g in
@@ -287,28 +315,31 @@ module _ (P : Program) (f : image.Function) where
       let named_h = fits_join f.kinds (Loop test r body) t named in
       let named_e = fits_after f.kinds f.scopes (h ∷ es) test h d.0 named_h in
       let behind : HasFacts f (suc b) (h, []) = unasked_at (suc b) h w (none_asked w (and_left _ _ g)) has'.1.0 in
-      let inside : Leads (h ∷ es) xs = (behind, out) in
+      let follows : R (h, []) next = unasked h w next (none_asked w (and_left _ _ g)) n in
+      let inside : Leads (h ∷ es) xs = (goes_on (suc b) h h [] next named_h (brings_same h) follows behind, out) in
       let behind_body = begins_back f k (entries_inside body e []) ((e, asks (plain body) []) ∷ entries_inside test h []) (k + count body) (ap (λ z. k + z) (sym (length-entries body e []))) has'.1.1 in
       let enter : R (t, []) i = jumps b t h [] named none (brings_join (Loop test r body) t) has'.0 in
       let turn : R (after body e, []) i = jumps b (after body e) h [] (fits_after f.kinds f.scopes (h ∷ es) body e d.2 named_e) none d.3 has'.0 in
       let begin : HasFacts f (k + count body) (e, []) = unasked_at (k + count body) e (asks (plain body) []) (none_asked (asks (plain body) []) (and_left _ _ g2)) behind_body.0 in
-      let end : R (e, []) j = branches r (k + count body) (suc b) e e h [] [] named_e none none (and_left _ _ fits) (brings_same e) d.1 begin behind in
       let x = code_formed body e [] k i xs (h ∷ es) named_e (and_right (code_fits Q f.kinds (suc (length exits)) (plain test)) _ both) (and_right (is_guarded (plain test) []) _ g3) (and_right (uses_pointers f.kinds (plain test)) _ u) d.2 inside turn (begins_front f k (entries_inside body e []) _ has'.1.1) in
+      let enters : R (e, []) (first body k i xs) = unasked e (asks (plain body) []) (first body k i xs) (none_asked (asks (plain body) []) (and_left _ _ g2)) x.0 in
+      let end : R (e, []) j = branches r (k + count body) (suc b) e e h [] [] (first body k i xs) next named_e (and_left _ _ fits) (brings_same e) d.1 enters follows begin behind in
       let y = code_formed test h [] m j xs (h ∷ es) named_h (and_left _ _ both) (and_left _ _ g3) (and_left _ _ u) d.0 inside end behind_body.1 in (
         enter,
         (unasked h (asks (plain test) []) (first test m j xs) (none_asked (asks (plain test) []) (and_left _ _ g1)) y.0, (n, paired_append R (entries_inside body e []) ((e, asks (plain body) []) ∷ entries_inside test h []) (extra body k i xs) (first body k i xs ∷ extra test m j xs) x.1 (x.0, y.1))),
       )
   code_formed (Block a) t w b next exits es named fits g u d out n has' =
       let h = join (Block a) t in
-      let none : AllFit f.kinds [] = All-nil (FitsCheck f.kinds) in
       let behind : HasFacts f b (h, []) = unasked_at b h w (none_asked w (and_left _ _ g)) has'.0 in
-      let inside : Leads (h ∷ es) (b ∷ exits) = (behind, out) in
-      let end : R (after a t, []) (Jump b ∷ []) = jumps b (after a t) h [] (fits_after f.kinds f.scopes (h ∷ es) a t d.0 named) none d.1 behind in
-      let x = code_formed a t [] (suc b) (Jump b ∷ []) (b ∷ exits) (h ∷ es) named fits (and_right (is_nothing_asked w) _ g) u d.0 inside end has'.1 in
+      let follows : R (h, []) next = unasked h w next (none_asked w (and_left _ _ g)) n in
+      let way = onward b next in
+      let inside : Leads (h ∷ es) (way ∷ exits) = (goes_on b h h [] next n.0.0 (brings_same h) follows behind, out) in
+      let end : R (after a t, []) way = goes_on b (after a t) h [] next (fits_after f.kinds f.scopes (h ∷ es) a t d.0 named) d.1 follows behind in
+      let x = code_formed a t [] (suc b) way (way ∷ exits) (h ∷ es) named fits (and_right (is_nothing_asked w) _ g) u d.0 inside end has'.1 in
       (x.0, (n, x.1))
   code_formed (Exit k) t w b next exits es named fits g u d out n has' =
       let at = exit_at es exits k out (ltb-true k (length exits) fits) in
-      (jumps (slice_index exits k) t at.0 [] named (All-nil (FitsCheck f.kinds)) (d at.0 at.1) at.2, tt)
+      (brought t at.0 [] (exit_from exits k) named (d at.0 at.1) at.2, tt)
 
 -- the facts at the entry of a block name what is there
 entry_named : (ks : List Kind) (m n : ℕ) (t : Table) (w : List Fact) → n ≤ m → FitsTable ks t → AllFit ks w → All (NamesFact ks m) (listed n t ++ w)

@@ -13,11 +13,11 @@ use Rattle.code_form.specs.Effects.{Wrong, run_effect}
 use Rattle.code_form.specs.Code.{Core, Frame, Running, begins, call_fits, code, enters_at, has, int_of, on_kind, returns}
 use Rattle.code_form.specs.Code as machine
 use Rattle.middle_form.specs.Scoped.{Function, Program}
-use Rattle.middle_form.specs.Meaning.{Outcome, Done, Stopped, Cut, Stuck, State, opening, told, turn, where_so}
+use Rattle.middle_form.specs.Meaning.{Outcome, Done, Stopped, Cut, Stuck, State, opening, then_do, told, turn, where_so}
 use Rattle.middle_form.specs.ScopedMeaning.{Left, Local, call, entered, entry, gives, result_of, run, scoped_means}
 use Rattle.codegen.specs.Generated.{block_with, blocks_with, extra, facts_of, first, function_of, generated, last}
-use Rattle.codegen.proofs.Lands.{Halts, HasBlocks, Lands, Lasts, Machine, at, frame_of, moves, then_lands}
-use Rattle.codegen.proofs.Generates.{code_lands, there, turn_lands}
+use Rattle.codegen.proofs.Lands.{Halts, HasBlocks, Lands, Lasts, Machine, at, frame_of, lands_after, moves, then_lands}
+use Rattle.codegen.proofs.Generates.{code_lands, settled, settles, there, turn_lands}
 
 get_seam : (ws : List (List Fact)) (pre : List (List Instruction)) (x : List Instruction) (xs : List (List Instruction)) → (w : List Fact) × (slice_get (blocks_with ws (pre ++ x ∷ xs)) (length pre) ≡ Some (block_with w x))
 get_seam [] [] x xs = ([], refl)
@@ -63,7 +63,7 @@ module _ (P : Program) where
 
   -- the end of a function, by its result
   return_lands : (T : ℕ → State → Machine) (g : Function) (to : Option ℕ) (st : List Frame) → Back T to st → (l : Local) (s : State) (o : Option Kind) → g.result ≡ o
-      → Lands (generated P) T (at (function_of g) to st (elim o [ None ↦ ReturnVoid ∷ [] | Some k ↦ Return g.value ∷ [] ]) l s) s.turns
+      → Lands (generated P) T (settled (generated P) (function_of g) to st (elim o [ None ↦ ReturnVoid ∷ [] | Some k ↦ Return g.value ∷ [] ]) l s) s.turns
       (elim o as (λ k. Outcome ℕ) [ None ↦ Done 0 s | Some k ↦ where_so (has g.kinds g.value k) (Done (slice_index l.registers g.value) s) ])
   return_lands T g to st back l s None e =
       let c : Core = (at (function_of g) to st (ReturnVoid ∷ []) l s).0 in
@@ -95,10 +95,13 @@ module _ (P : Program) where
   body_lands : (depth : ℕ) → CallsLand depth → (T : ℕ → State → Machine) (g : Function) (to : Option ℕ) (st : List Frame) → Back T to st → (args : List ℕ) (s : State) → s.turns ≤ depth
       → Lands (generated P) T (at (function_of g) to st (first g.body 1 (last g) []) (entry g args) s) s.turns (entered P (call P depth) (Some g) args s)
   body_lands depth deeper T g to st back args s le =
-      then_lands (generated P) (there (generated P) (function_of g) to st (last g) []) T _ s.turns (run P (call P depth) g.kinds g.body (entry g args) s) (result_of g)
+      let begin : List Instruction = first g.body 1 (last g) [] in
+      let run_it = run P (call P depth) g.kinds g.body (entry g args) s in
+      lands_after (generated P) T _ (settled (generated P) (function_of g) to st begin (entry g args) s) s.turns s.turns (then_do run_it (result_of g)) (settles (generated P) (function_of g) to st begin (entry g args) s)
+      (then_lands (generated P) (there (generated P) (function_of g) to st (last g) []) T _ s.turns run_it (result_of g)
       (code_lands (generated P) (function_of g) to st P refl (call P depth) depth (deeper (function_of g) to st) g.body 1 (last g) []
       (has_all (function_of g) (facts_of g) (extra g.body 1 (last g) []) (first g.body 1 (last g) [] ∷ []) refl) (entry g args) s le)
-      (λ x t less. result_lands T g to st back x t)
+      (λ x t less. result_lands T g to st back x t))
 
   call_lands : (depth : ℕ) → CallsLand depth
   call_lands zero fn dest st to f args g h fit next l s le = record { many = 0; least = le; runs = refl }

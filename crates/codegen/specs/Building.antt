@@ -4,11 +4,13 @@ use Rattle.std.specs.declared.vec.Vec.{Vec}
 use Rattle.std.specs.declared.alloc.Global.{Global}
 use Rattle.code_form.specs.declared.form.Fact.{Fact}
 use Rattle.code_form.specs.declared.form.Instruction.{Instruction as RustInstruction}
-use Rattle.code_form.specs.Form.{Instruction, instruction_of}
+use Rattle.code_form.specs.Form.{Instruction, Jump, Return, ReturnVoid, instruction_of}
 use Rattle.code_form.specs.Known as known
 use Rattle.middle_form.specs.Scoped.{Code, Nothing, Do, Load, Store, LoadBy, StoreBy, Aim, Leave, Loose, Call, Fail, Then, Choose, Loop, Block, Exit}
 use Rattle.middle_form.specs.Discipline.{Table, after, join}
 use Rattle.codegen.specs.declared.emit.Exits.{Exits, Nowhere, Around'}
+use Rattle.codegen.specs.declared.emit.Way.{Way}
+use Rattle.codegen.specs.declared.emit.Way.TheVariants as way
 use Rattle.codegen.specs.declared.known.Knows.{Knows}
 use Rattle.codegen.specs.declared.known.Knows.TheVariants.{Unknown, Shut, Aimed}
 use Rattle.codegen.specs.Generated.{scope_fact}
@@ -25,10 +27,16 @@ backs bs = map (λ (b : Vec RustInstruction Global). back b.items) bs
 abbrev pub lists : List (Vec Fact Global) → List (List Fact)
 lists ws = map (λ (w : Vec Fact Global). w.items) ws
 
--- the numbers of the blocks to which exits lead, the innermost first
-abbrev pub exits_of : Exits → List ℕ
+-- the instruction by which code goes on so
+abbrev pub way_of : Way → List Instruction
+way_of (way.Jump b) = Jump b ∷ []
+way_of (way.Return a) = Return a ∷ []
+way_of way.ReturnVoid = ReturnVoid ∷ []
+
+-- the ways out that exits are, the innermost first
+abbrev pub exits_of : Exits → List (List Instruction)
 exits_of Nowhere = []
-exits_of (Around' out p outer) = out ∷ exits_of outer
+exits_of (Around' w p outer) = way_of w ∷ exits_of outer
 
 -- what is known of a scope
 abbrev pub knows_of : Knows → known.Knows

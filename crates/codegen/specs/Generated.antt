@@ -1,6 +1,6 @@
 -- The image of scoped code. Code is taken from behind: `first` is the instructions that come in its place and in that of `next`, which follows it,
--- and `extra` are the blocks that it needs beside them, from number b on. `exits` are the blocks behind the loops and blocks round it, the innermost first.
-use Rattle.std.specs.Prelude.{ℕ, zero, suc, ◌+◌, List, [], ◌∷◌, ◌++◌, map, slice_index, Some, None}
+-- and `extra` are the blocks that it needs beside them, from number b on. `exits` are the ways out of the loops and blocks round it, the innermost first.
+use Rattle.std.specs.Prelude.{ℕ, zero, suc, ◌+◌, Bool, true, false, cond, List, [], ◌∷◌, ◌++◌, map, Some, None}
 use Rattle.code_form.specs.declared.form.Fact.{Fact}
 use Rattle.code_form.specs.declared.form.Fact.TheVariants as fact
 use Rattle.code_form.specs.Known.{Knows, Unknown, KnownShut, KnownAimed}
@@ -30,8 +30,30 @@ count (Loop test r body) = suc (suc (count body + suc (count test)))
 count (Block a) = suc (count a)
 count (Exit k) = 0
 
+-- instructions that are one jump or one return
+abbrev pub is_passed : List Instruction → Bool
+is_passed (Jump k ∷ []) = true
+is_passed (Return a ∷ []) = true
+is_passed (ReturnVoid ∷ []) = true
+is_passed _ = false
+
+-- how to go on at block b, in which these instructions stand: one jump or one return stands for itself
+abbrev pub onward : ℕ → List Instruction → List Instruction
+onward b is = cond (is_passed is) is (Jump b ∷ [])
+
+-- where a branch leads that would lead to block b, in which these instructions stand: where they are one jump, to where that goes
+abbrev pub target : ℕ → List Instruction → ℕ
+target b (Jump k ∷ []) = k
+target b _ = b
+
+-- the way out by exit k; to the first block where nothing is round it
+abbrev pub exit_from : List (List Instruction) → ℕ → List Instruction
+exit_from [] k = Jump 0 ∷ []
+exit_from (x ∷ exits) zero = x
+exit_from (x ∷ exits) (suc k) = exit_from exits k
+
 -- The instructions in place of code and of what follows it. A load or a store that aims its scope itself has an aim in front
-abbrev pub first : Code → ℕ → List Instruction → List ℕ → List Instruction
+abbrev pub first : Code → ℕ → List Instruction → List (List Instruction) → List Instruction
 first Nothing b next exits = next
 first (Do o) b next exits = Simple o ∷ next
 first (scoped.Load to s r off disp) b next exits = Aim s r off disp ∷ Load to s ∷ next
@@ -44,14 +66,20 @@ first (Loose s) b next exits = next
 first (scoped.Call to f args) b next exits = Call to f args ∷ next
 first (Fail a) b next exits = Error a ∷ []
 first (Then a c) b next exits = first a (b + count c) (first c b next exits) exits
-first (Choose r a c) b next exits = Branch r (suc b + count a) (suc (suc b + count a) + count c) ∷ []
+first (Choose r a c) b next exits =
+    Branch r (target (suc b + count a) (first a (suc b) (onward b next) exits)) (target (suc (suc b + count a) + count c) (first c (suc (suc b + count a)) (onward b next) exits)) ∷ []
 first (Loop test r body) b next exits = Jump b ∷ []
-first (Block a) b next exits = first a (suc b) (Jump b ∷ []) (b ∷ exits)
-first (Exit k) b next exits = Jump (slice_index exits k) ∷ []
+first (Block a) b next exits = first a (suc b) (onward b next) (onward b next ∷ exits)
+first (Exit k) b next exits = exit_from exits k
+
+-- behind the test of a loop: a branch to its body or to what follows
+abbrev pub tested : ℕ → Code → ℕ → List Instruction → List (List Instruction) → List Instruction
+tested r body b next exits =
+    Branch r (target (suc (suc b) + count body) (first body (suc (suc b)) (Jump b ∷ []) (onward (suc b) next ∷ exits))) (target (suc b) next) ∷ []
 
 -- The blocks that code needs beside them. Of a choice: what follows, and each side behind its own blocks. Of a loop: the test, which is where the
 -- loop begins and where each turn of its body goes back to, what follows, and the body
-abbrev pub extra : Code → ℕ → List Instruction → List ℕ → List (List Instruction)
+abbrev pub extra : Code → ℕ → List Instruction → List (List Instruction) → List (List Instruction)
 extra Nothing b next exits = []
 extra (Do o) b next exits = []
 extra (scoped.Load to s r off disp) b next exits = []
@@ -66,17 +94,17 @@ extra (Fail a) b next exits = []
 extra (Then a c) b next exits = extra c b next exits ++ extra a (b + count c) (first c b next exits) exits
 extra (Choose r a c) b next exits =
     next
-    ∷ (extra a (suc b) (Jump b ∷ []) exits
-    ++ (first a (suc b) (Jump b ∷ []) exits
-    ∷ (extra c (suc (suc b + count a)) (Jump b ∷ []) exits
-    ++ first c (suc (suc b + count a)) (Jump b ∷ []) exits ∷ [])))
+    ∷ (extra a (suc b) (onward b next) exits
+    ++ (first a (suc b) (onward b next) exits
+    ∷ (extra c (suc (suc b + count a)) (onward b next) exits
+    ++ first c (suc (suc b + count a)) (onward b next) exits ∷ [])))
 extra (Loop test r body) b next exits =
-    first test (suc (suc (suc b) + count body)) (Branch r (suc (suc b) + count body) (suc b) ∷ []) (suc b ∷ exits)
+    first test (suc (suc (suc b) + count body)) (tested r body b next exits) (onward (suc b) next ∷ exits)
     ∷ next
-    ∷ (extra body (suc (suc b)) (Jump b ∷ []) (suc b ∷ exits)
-    ++ (first body (suc (suc b)) (Jump b ∷ []) (suc b ∷ exits)
-    ∷ extra test (suc (suc (suc b) + count body)) (Branch r (suc (suc b) + count body) (suc b) ∷ []) (suc b ∷ exits)))
-extra (Block a) b next exits = next ∷ extra a (suc b) (Jump b ∷ []) (b ∷ exits)
+    ∷ (extra body (suc (suc b)) (Jump b ∷ []) (onward (suc b) next ∷ exits)
+    ++ (first body (suc (suc b)) (Jump b ∷ []) (onward (suc b) next ∷ exits)
+    ∷ extra test (suc (suc (suc b) + count body)) (tested r body b next exits) (onward (suc b) next ∷ exits)))
+extra (Block a) b next exits = next ∷ extra a (suc b) (onward b next) (onward b next ∷ exits)
 extra (Exit k) b next exits = []
 
 -- the last instruction of a function: it returns with its result, where it has one

@@ -48,7 +48,8 @@ fibonacci = record {
 -- prints 0, 1, 2 and leaves its loop at 3
 abbrev pub counting : Program
 counting = program_of (main_of 0 (in_order (
-    Loop (in_order (Do (Const 2 (pos 3)) ∷ Do (Compare relation.Less 1 0 2) ∷ Choose 1 Nothing (Exit 0) ∷ [])) 1
+    Do (Const 0 (pos 0))
+    ∷ Loop (in_order (Do (Const 2 (pos 3)) ∷ Do (Compare relation.Less 1 0 2) ∷ Choose 1 Nothing (Exit 0) ∷ [])) 1
     (in_order (Do (Printint 0) ∷ Do (Const 2 (pos 1)) ∷ Do (Binary Add 0 0 2) ∷ []))
     ∷ [])))
 

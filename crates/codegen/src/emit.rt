@@ -1,32 +1,69 @@
 //! The blocks of scoped code. A block under construction holds its instructions last first.
-ghost use Rattle.code_form.specs.Form.{Aim, Branch, Call, Jump, Leave, Load, Store, instruction_of};
-ghost use Rattle.codegen.specs.Building.{back, backs, exits_of, is_access, is_straight};
-ghost use Rattle.codegen.specs.Generated.{extra, first};
+ghost use Rattle.code_form.specs.Form.{Aim, Branch, Call, Instruction as FormInstruction, Jump, Leave, Load, Store, instruction_of};
+ghost use Rattle.codegen.specs.Building.{back, backs, exits_of, is_access, is_straight, way_of};
+ghost use Rattle.codegen.specs.Generated.{exit_from, extra, first, onward, target};
 ghost use Rattle.middle_form.specs.ScopedViews.{scoped_code_of};
-ghost use Rattle.std.specs.Prelude.{◌≡◌, ◌++◌, ◌∷◌, ℕ, [], IfOk, List, OnOk, length, slice_index, true};
+ghost use Rattle.std.specs.Prelude.{◌≡◌, ◌++◌, ◌∷◌, ℕ, [], IfOk, List, OnOk, length, true};
 
 use code_form::Instruction;
 use middle_form::ScopedCode;
 use std::alloc::{AllocError, Global};
 
-/// The blocks behind the loops and blocks round some code, the innermost first.
+/// How code goes on: at a block, or by a return.
+#[derive(Clone, Copy)]
+pub(crate) enum Way {
+    Jump(u32),
+    Return(u32),
+    ReturnVoid,
+}
+
+/// The ways out of the loops and blocks round some code, the innermost first.
 #[derive(Drop)]
 pub(crate) enum Exits<'a> {
     Nowhere,
-    Around(u32, &'a Exits<'a>),
+    Around(Way, &'a Exits<'a>),
 }
 
-/// Where an exit leads; to the first block where nothing is round it.
-fn exit_at(exits: &Exits, out: u32) -> u32
-    ensures { result ≡ slice_index (exits_of exits.now) out }
+/// A block that was added: its number, and how to go on at it.
+#[derive(Clone, Copy)]
+pub(crate) struct Finished {
+    number: u32,
+    way: Way,
+}
+
+/// The way out by an exit; to the first block where nothing is round it.
+fn exit_at(exits: &Exits, out: u32) -> Way
+    ensures { way_of result ≡ exit_from (exits_of exits.now) out }
 {
     match exits {
-        Exits::Nowhere => 0,
-        Exits::Around(block, outer) => if out == 0 {
-            *block
+        Exits::Nowhere => Way::Jump(0),
+        Exits::Around(way, outer) => if out == 0 {
+            *way
         } else {
             exit_at(outer, out - 1)
         },
+    }
+}
+
+/// How to go on at a block with this number and these instructions.
+fn way_to(number: u32, block: &[Instruction]) -> Way
+    ensures { way_of result ≡ onward number (back block.now) }
+{
+    match block {
+        [Instruction::Jump { block }] => Way::Jump(*block),
+        [Instruction::Return { from }] => Way::Return(*from),
+        [Instruction::ReturnVoid] => Way::ReturnVoid,
+        _ => Way::Jump(number),
+    }
+}
+
+/// Where a branch leads that would lead to a block.
+fn led_to(block: Finished) -> u32
+    ensures { result ≡ target block.number (way_of block.way) }
+{
+    match block.way {
+        Way::Jump(block) => block,
+        Way::Return(_) | Way::ReturnVoid => block.number,
     }
 }
 
@@ -54,6 +91,17 @@ fn jump(alloc: Global, block: u32) -> Result<Vec<Instruction>, AllocError>
     ensures { IfOk result (λ v. back v.items ≡ Jump block ∷ []) }
 {
     one(alloc, Instruction::Jump { block })
+}
+
+/// A block that goes on so.
+fn go_on(alloc: Global, way: Way) -> Result<Vec<Instruction>, AllocError>
+    ensures { IfOk result (λ v. back v.items ≡ way_of way) }
+{
+    match way {
+        Way::Jump(block) => jump(alloc, block),
+        Way::Return(from) => one(alloc, Instruction::Return { from }),
+        Way::ReturnVoid => one(alloc, Instruction::ReturnVoid),
+    }
 }
 
 /// A block that goes on at one of two.
@@ -133,25 +181,27 @@ fn call(
     })
 }
 
-/// One more block, and its number. More than numbers of 32 bits tell apart can't be had.
+/// One more block. More than numbers of 32 bits tell apart can't be had.
 #[tactic(auto, using(crate::proofs::Emits::backs_push, crate::proofs::Emits::length_backs))]
 pub(crate) fn finish(
     blocks: &mut Vec<Vec<Instruction>>,
     block: Vec<Instruction>,
-) -> Result<u32, AllocError>
-    ensures number { IfOk result (λ n. n ≡ length (backs blocks.old.items)) }
+) -> Result<Finished, AllocError>
+    ensures number { IfOk result (λ f. f.number ≡ length (backs blocks.old.items)) }
+    ensures way { IfOk result (λ f. way_of f.way ≡ onward (length (backs blocks.old.items)) (back block.items)) }
     ensures added { OnOk result (backs blocks.new.items ≡ backs blocks.old.items ++ back block.items ∷ []) }
 {
     let Ok(number) = u32::try_from(blocks.len()) else {
         return Err(AllocError);
     };
+    let way = way_to(number, &block);
     blocks.push(block)?;
-    Ok(number)
+    Ok(Finished { number, way })
 }
 
 /// The instructions that come in place of an access or an aim, and of what follows it.
 fn emit_access(code: &ScopedCode, next: Vec<Instruction>) -> Result<Vec<Instruction>, AllocError>
-    ensures { IfOk result (λ v. is_access (scoped_code_of code.now) ≡ true → (b : ℕ) (exits : List ℕ) → back v.items ≡ first (scoped_code_of code.now) b (back next.items) exits) }
+    ensures { IfOk result (λ v. is_access (scoped_code_of code.now) ≡ true → (b : ℕ) (exits : List (List FormInstruction)) → back v.items ≡ first (scoped_code_of code.now) b (back next.items) exits) }
 {
     match code {
         ScopedCode::Load {
@@ -211,7 +261,7 @@ fn emit_straight(
             arguments,
         } => put(next, call(alloc, *to, *function, arguments)?),
         ScopedCode::Fail { text } => one(alloc, Instruction::Error { text: *text }),
-        ScopedCode::Exit(out) => jump(alloc, exit_at(exits, *out)),
+        ScopedCode::Exit(out) => go_on(alloc, exit_at(exits, *out)),
         _ => emit_access(code, next),
     }
 }
@@ -240,30 +290,30 @@ pub(crate) fn emit(
             else_code,
         } => {
             let join = finish(blocks, next)?;
-            let then_part = emit(alloc, blocks, then_code, jump(alloc, join)?, exits)?;
+            let then_part = emit(alloc, blocks, then_code, go_on(alloc, join.way)?, exits)?;
             let then_block = finish(blocks, then_part)?;
-            let else_part = emit(alloc, blocks, else_code, jump(alloc, join)?, exits)?;
+            let else_part = emit(alloc, blocks, else_code, go_on(alloc, join.way)?, exits)?;
             let else_block = finish(blocks, else_part)?;
-            branch(alloc, *condition, then_block, else_block)
+            branch(alloc, *condition, led_to(then_block), led_to(else_block))
         }
         ScopedCode::Loop {
             test,
             condition,
             body,
         } => {
-            let head = finish(blocks, Vec::new(alloc))?;
+            let head = finish(blocks, Vec::new(alloc))?.number;
             let out = finish(blocks, next)?;
-            let inside = Exits::Around(out, &*exits);
+            let inside = Exits::Around(out.way, &*exits);
             let turn = emit(alloc, blocks, body, jump(alloc, head)?, &inside)?;
             let turn_block = finish(blocks, turn)?;
-            let end = branch(alloc, *condition, turn_block, out)?;
+            let end = branch(alloc, *condition, led_to(turn_block), led_to(out))?;
             blocks[head as usize] = emit(alloc, blocks, test, end, &inside)?;
             jump(alloc, head)
         }
         ScopedCode::Block(inner) => {
             let out = finish(blocks, next)?;
-            let inside = Exits::Around(out, &*exits);
-            emit(alloc, blocks, inner, jump(alloc, out)?, &inside)
+            let inside = Exits::Around(out.way, &*exits);
+            emit(alloc, blocks, inner, go_on(alloc, out.way)?, &inside)
         }
         _ => emit_straight(alloc, code, next, exits),
     }

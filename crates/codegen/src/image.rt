@@ -72,7 +72,7 @@ fn function_blocks(
     ensures { IfOk result (λ v. backs v.items ≡ all_blocks (scoped_function_of function.now)) }
 {
     let mut blocks = Vec::new(alloc);
-    let _number = finish(&mut blocks, Vec::new(alloc))?;
+    let _start = finish(&mut blocks, Vec::new(alloc))?;
     let last = end(alloc, function)?;
     let start = emit(alloc, &mut blocks, &function.body, last, &Exits::Nowhere)?;
     blocks[0] = start;

@@ -40,16 +40,17 @@ pub index_mut-requires : goal.index_mut-requires
 index_mut-requires t c =
     let blocks = c.emit-in-Loop-2.new.blocks in
     let long : vec_len blocks ≡ length blocks.items = search rules in
-    let inside : c.in_ok-head-in-Loop.head < length (backs blocks.items) =
+    let inside : c.in_ok-head-in-Loop.field-0.number < length (backs blocks.items) =
     head_inside _ _ _ _ _ _ _ _ _ _ _ _ c.in_ok-head-in-Loop.ensures.number c.in_ok-head-in-Loop.ensures.added c.in_ok-out-in-Loop.ensures.added c.in_ok-turn-in-Loop.ensures.added c.in_ok-turn_block-in-Loop.ensures.added c.in_ok-blocks-in-Loop.ensures.added in
     omega (arith, length_backs blocks.items)
 
 pub returns-in_ok-else_block-in-Choose-clause-instructions :
     goal.returns-in_ok-else_block-in-Choose-clause-instructions
 returns-in_ok-else_block-in-Choose-clause-instructions t c =
-    IfOk-weaker c.branch-alloc.result _ _ (λ v h. choose_first _ (scoped_code_of c.deref.result.now) (scoped_code_of c.deref-in-Choose.result.now) c.in-Choose.condition _ _ _ _ _ _ _ _ _ _ _ _ _
+    IfOk-weaker c.branch-alloc.result _ _ (λ v h. choose_first _ (scoped_code_of c.deref.result.now) (scoped_code_of c.deref-in-Choose.result.now) c.in-Choose.condition _ _ _ _ _ _ _ _ _ _ _ _ _ _ _ _ _ _ _
     (ap scoped_code_of c.in-Choose.is ∙ ap (λ x. m.Choose c.in-Choose.condition (scoped_code_of x) (scoped_code_of c.in-Choose.else_code.value)) (sym c.deref.ensures) ∙ ap (λ x. m.Choose c.in-Choose.condition (scoped_code_of c.deref.result.now) (scoped_code_of x)) (sym c.deref-in-Choose.ensures))
-    c.in_ok-join-in-Choose.ensures.added c.in_ok-then_part-in-Choose.ensures.added c.in_ok-then_block-in-Choose.ensures.number c.in_ok-then_block-in-Choose.ensures.added c.in_ok-else_part-in-Choose.ensures.added c.in_ok-else_block-in-Choose.ensures.number h)
+    c.in_ok-join-in-Choose.ensures.way c.in_ok-join-in-Choose.ensures.added c.in_ok-go_on-in-Choose.ensures c.in_ok-then_part-in-Choose.ensures.added c.in_ok-then_part-in-Choose.ensures.instructions c.in_ok-then_block-in-Choose.ensures.number c.in_ok-then_block-in-Choose.ensures.way c.in_ok-then_block-in-Choose.ensures.added
+    c.in_ok-go_on-in-Choose-2.ensures c.in_ok-else_part-in-Choose.ensures.added c.in_ok-else_part-in-Choose.ensures.instructions c.in_ok-else_block-in-Choose.ensures.number c.in_ok-else_block-in-Choose.ensures.way c.led_to.ensures c.led_to-in-Choose.ensures h)
     c.branch-alloc.ensures
 
 pub returns-in_ok-else_block-in-Choose-clause-added :
@@ -57,13 +58,15 @@ pub returns-in_ok-else_block-in-Choose-clause-added :
 returns-in_ok-else_block-in-Choose-clause-added t c =
     IfOk-weaker c.branch-alloc.result _ _ (λ v h. choose_added _ (scoped_code_of c.deref.result.now) (scoped_code_of c.deref-in-Choose.result.now) c.in-Choose.condition _ _ _ _ _ _ _ _ _ _ _ _ _
     (ap scoped_code_of c.in-Choose.is ∙ ap (λ x. m.Choose c.in-Choose.condition (scoped_code_of x) (scoped_code_of c.in-Choose.else_code.value)) (sym c.deref.ensures) ∙ ap (λ x. m.Choose c.in-Choose.condition (scoped_code_of c.deref.result.now) (scoped_code_of x)) (sym c.deref-in-Choose.ensures))
-    c.in_ok-join-in-Choose.ensures.number c.in_ok-join-in-Choose.ensures.added c.in_ok-jump-in-Choose.ensures c.in_ok-then_part-in-Choose.ensures.added c.in_ok-then_part-in-Choose.ensures.instructions c.in_ok-then_block-in-Choose.ensures.added c.in_ok-jump-in-Choose-2.ensures c.in_ok-else_part-in-Choose.ensures.added c.in_ok-else_part-in-Choose.ensures.instructions c.in_ok-else_block-in-Choose.ensures.added)
+    c.in_ok-join-in-Choose.ensures.way c.in_ok-join-in-Choose.ensures.added c.in_ok-go_on-in-Choose.ensures c.in_ok-then_part-in-Choose.ensures.added c.in_ok-then_part-in-Choose.ensures.instructions c.in_ok-then_block-in-Choose.ensures.added
+    c.in_ok-go_on-in-Choose-2.ensures c.in_ok-else_part-in-Choose.ensures.added c.in_ok-else_part-in-Choose.ensures.instructions c.in_ok-else_block-in-Choose.ensures.added)
     c.branch-alloc.ensures
 
 pub returns-in_ok-blocks-in-Loop-clause-added : goal.returns-in_ok-blocks-in-Loop-clause-added
 returns-in_ok-blocks-in-Loop-clause-added t c =
-    IfOk-weaker c.jump-in-Loop-2.result _ _ (λ v h. backs_set c.emit-in-Loop-2.new.blocks.items c.in_ok-head-in-Loop.head c.in_ok-blocks-in-Loop.field-0
-    ∙ loop_added _ (scoped_code_of c.deref-in-Loop.result.now) (scoped_code_of c.deref-in-Loop-2.result.now) c.in-Loop.condition _ _ _ _ _ _ _ _ _ _ _ _ _ _ _ _
+    IfOk-weaker c.jump-in-Loop.result _ _ (λ v h. backs_set c.emit-in-Loop-2.new.blocks.items c.in_ok-head-in-Loop.field-0.number c.in_ok-blocks-in-Loop.field-0
+    ∙ loop_added _ (scoped_code_of c.deref-in-Loop.result.now) (scoped_code_of c.deref-in-Loop-2.result.now) c.in-Loop.condition _ _ _ _ _ _ _ _ _ _ _ _ _ _ _ _ _ _ _ _
     (ap scoped_code_of c.in-Loop.is ∙ ap (λ x. m.Loop (scoped_code_of c.in-Loop.test.value) c.in-Loop.condition (scoped_code_of x)) (sym c.deref-in-Loop.ensures) ∙ ap (λ x. m.Loop (scoped_code_of x) c.in-Loop.condition (scoped_code_of c.deref-in-Loop.result.now)) (sym c.deref-in-Loop-2.ensures))
-    c.in_ok-head-in-Loop.ensures.number c.in_ok-head-in-Loop.ensures.added c.in_ok-out-in-Loop.ensures.number c.in_ok-out-in-Loop.ensures.added c.in_ok-jump-in-Loop.ensures c.in_ok-turn-in-Loop.ensures.added c.in_ok-turn-in-Loop.ensures.instructions c.in_ok-turn_block-in-Loop.ensures.number c.in_ok-turn_block-in-Loop.ensures.added c.in_ok-end-in-Loop.ensures c.in_ok-blocks-in-Loop.ensures.added c.in_ok-blocks-in-Loop.ensures.instructions)
-    c.jump-in-Loop-2.ensures
+    c.in_ok-head-in-Loop.ensures.number c.in_ok-head-in-Loop.ensures.added c.in_ok-out-in-Loop.ensures.number c.in_ok-out-in-Loop.ensures.way c.in_ok-out-in-Loop.ensures.added c.in_ok-jump-in-Loop.ensures c.in_ok-turn-in-Loop.ensures.added c.in_ok-turn-in-Loop.ensures.instructions
+    c.in_ok-turn_block-in-Loop.ensures.number c.in_ok-turn_block-in-Loop.ensures.way c.in_ok-turn_block-in-Loop.ensures.added c.led_to-in-Loop.ensures c.led_to-in-Loop-2.ensures c.in_ok-end-in-Loop.ensures c.in_ok-blocks-in-Loop.ensures.added c.in_ok-blocks-in-Loop.ensures.instructions)
+    c.jump-in-Loop.ensures
