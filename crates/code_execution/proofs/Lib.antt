@@ -1,3 +1,4 @@
+mod Apart
 mod Completed
 mod Entering
 mod Few

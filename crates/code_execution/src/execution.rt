@@ -1,7 +1,7 @@
 //! The execution of an image up to its heap.
 ghost use Rattle.cells.specs.Stops.{stop_of as stop_read};
-ghost use Rattle.code_execution.specs.Decisions.{decided, growth_touch, is_simple, makes, refuses};
-ghost use Rattle.code_execution.specs.Plain.{ArePassed, EndsPlain, is_by_scope, plain_run};
+ghost use Rattle.code_execution.specs.Decisions.{decided, growth_touch, is_simple, makes, refuses, uses_scope};
+ghost use Rattle.code_execution.specs.Plain.{ArePassed, EndsPlain, plain_run};
 ghost use Rattle.code_execution.specs.Statuses.{allocated, core_of, followed};
 ghost use Rattle.code_form.specs.Code.{Frame, Running, Stuck, begins, code, effect, most_scopes, output_of, stop_of, is_blocked as is_blocked_in};
 ghost use Rattle.code_form.specs.declared.allocation.Allocation.{Allocation};
@@ -223,7 +223,7 @@ impl<'a> Execution<'a> {
     /// What the next instruction touches, where it is one that aims, uses or leaves a scope.
     #[inline(always)]
     pub fn next_in_scope(&self) -> Option<Touch>
-        ensures { MatchOption result (is_by_scope (rest_of self.now.core) ≡ false) (λ x. (x ≡ touch_of (effect self.now.image self.now.core))
+        ensures { MatchOption result (uses_scope (touch_of (effect self.now.image self.now.core)) ≡ false) (λ x. (x ≡ touch_of (effect self.now.image self.now.core))
             × (is_blocked_in self.now.core ≡ false) × IsWithin (most_scopes self.now.image.functions) self.now.core x) }
     {
         match &self.status {

@@ -5,7 +5,7 @@ use Rattle.cells.specs.declared.ending.Want.TheVariants.{OutOfMemory, NoObjects,
 use Rattle.cells.specs.declared.ending.Run.{Run}
 use Rattle.cells.specs.declared.ending.Run.TheVariants.{Running, Stopped, Wanted}
 use Rattle.cells.specs.Stops.{stop_of as stop_read}
-pub use Rattle.code_execution.specs.Decisions.{is_simple}
+pub use Rattle.code_execution.specs.Decisions.{is_simple, uses_scope}
 use Rattle.code_execution.specs.Plain.{plain_run}
 use Rattle.code_form.specs.Effects.{upd}
 use Rattle.code_form.specs.Code.{effect, stop_of, is_blocked, most_scopes}

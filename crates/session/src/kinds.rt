@@ -2,7 +2,7 @@
 ghost use Rattle.code_form.specs.declared.touch.Touch.TheVariants.{Aims, Allocs, Ends, Hints, Leaves, Loads, Plain, Stores};
 ghost use Rattle.code_form.specs.Growth.{may_grow, rest_of};
 ghost use Rattle.code_form.specs.Placed.{pieces as pieces_of};
-ghost use Rattle.session.specs.Keeping.{Allocated, IsHolding, IsNext, IsSafe, Made, Moves, is_simple};
+ghost use Rattle.session.specs.Keeping.{Allocated, IsHolding, IsNext, IsSafe, Made, Moves, uses_scope};
 ghost use Rattle.session.specs.State.{next_touch};
 ghost use Rattle.std.specs.Prelude.{◌≡◌, ◌+◌, ◌%◌, ◌<◌, ◌^◌, MatchResult, true};
 
@@ -50,7 +50,7 @@ impl<'a, S: RawStore> Program<'a, S> {
 
     /// Completes an instruction that tells a cell: its object is hinted.
     #[inline(always)]
-    fn hints<R: Wait>(&mut self, rt: &R, wanted: Option<Cell>)
+    pub(crate) fn hints<R: Wait>(&mut self, rt: &R, wanted: Option<Cell>)
         requires safe { IsSafe self.old }
         requires next { IsNext (Hints wanted) self.old }
         requires room { self.old.completed + 1 < 2 ^ 64 }
@@ -156,12 +156,12 @@ impl<'a, S: RawStore> Program<'a, S> {
         }
     }
 
-    /// Completes an instruction that uses a scope, or tells a cell. False where the store failed.
+    /// Completes an instruction that aims, uses or leaves a scope. False where the store failed.
     #[inline(always)]
     pub(crate) fn make<R: Wait>(&mut self, rt: &R, touch: Touch) -> bool
         requires safe { IsSafe self.old }
         requires next { IsNext touch self.old }
-        requires simple { is_simple touch ≡ true }
+        requires uses { uses_scope touch ≡ true }
         requires room { self.old.completed + 1 < 2 ^ 64 }
         ensures { Made S.honest S.reliable touch self.old self.new result }
     {
@@ -170,7 +170,7 @@ impl<'a, S: RawStore> Program<'a, S> {
             Touch::Loads(scope, cell) => self.loads(scope, cell),
             Touch::Stores(scope, cell, value) => self.stores(scope, cell, value),
             Touch::Leaves(scope) => self.leaves(scope),
-            Touch::Hints(wanted) => self.hints(rt, wanted),
+            Touch::Hints(_) => unreachable!(),
             Touch::Plain => unreachable!(),
             Touch::Allocs(_) => unreachable!(),
             Touch::Ends => unreachable!(),

@@ -7,7 +7,7 @@ ghost use Rattle.code_form.specs.Placed.{pieces as pieces_of};
 ghost use Rattle.code_form.specs.Touches.{IsCell, IsCellOrNone, IsWithin, resumed};
 ghost use Rattle.code_form.specs.declared.touch.Touch.TheVariants.{Allocs, Ends, Plain};
 ghost use Rattle.cells.specs.Stops.{stop_of as stop_read};
-ghost use Rattle.session.specs.Keeping.{Changes, Closes, Fails, HasWriter, Holds, HoldsObject, IsHolding, IsNext, cleared, count_of, extended, finished, first_of, has_object, is_simple, Misses, ran_on, shut, shut_at, wants, written};
+ghost use Rattle.session.specs.Keeping.{Changes, Closes, Fails, HasWriter, Holds, HoldsObject, IsHolding, IsNext, cleared, count_of, extended, finished, first_of, has_object, is_simple, Misses, ran_on, shut, shut_at, uses_scope, wants, written};
 ghost use Rattle.session.specs.State.{AllShut, Matches, State, begin, hold_at, latest_in, next_touch, object_of};
 ghost use Rattle.object_moves.specs.Taken.{IsQuiet};
 ghost use Rattle.object_lock.specs.SeatViews.{IsSeat};
@@ -152,7 +152,7 @@ impl<'a, S: RawStore> Program<'a, S> {
     /// What the next instruction touches, where it is one that aims, uses or leaves a scope.
     #[inline(always)]
     pub(crate) fn touch_in_scope(&self) -> Option<Touch>
-        ensures { MatchOption result Unit (λ x. IsNext x self.now) }
+        ensures { MatchOption result (uses_scope (next_touch self.now) ≡ false) (λ x. IsNext x self.now) }
     {
         self.execution.next_in_scope()
     }

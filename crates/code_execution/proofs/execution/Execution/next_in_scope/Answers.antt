@@ -4,6 +4,9 @@ use Rattle.code_form.specs.Form.{image_of}
 use Rattle.code_form.specs.Touches.{touch_of}
 use Rattle.code_execution.specs.declared.execution.Status.{Status}
 use Rattle.code_execution.specs.Statuses.{core_of}
+use Rattle.code_form.specs.Growth.{rest_of}
+use Rattle.code_execution.specs.Plain.{is_by_scope}
+use Rattle.code_execution.proofs.Apart.{none_touched}
 use Rattle.code_execution.proofs.Grounds.{known_top}
 use Rattle.code_execution.proofs.Within.{next_within}
 use Rattle.code_execution.proofs.execution.Execution.next_in_scope.Goals as goal
@@ -30,3 +33,12 @@ returns-in_ok-decision-in-Running c =
       ap (λ (s : Status). is_blocked (core_of s al o)) c.in-Running.is ∙ decided.1,
       next_within image e.status calls al o (most_scopes image.functions) c.touch.result c.in-Running.is c.self.invariant.0.0 same,
     )
+
+pub returns-in_err-decision-in-Running : goal.returns-in_err-decision-in-Running
+returns-in_err-decision-in-Running c =
+    let e = c.self.inside in
+    let image = image_of e.image.now in
+    let al = e.allocations in
+    let o = e.output.items in
+    let other = ap (λ (s : Status). is_by_scope (rest_of (core_of s al o))) c.in-Running.is ∙ c.in_err-decision-in-Running.ensures in
+    rw (← c.self.view_is) (rw c.from_residual.ensures (none_touched image (core_of e.status al o) other))
