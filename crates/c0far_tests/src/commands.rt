@@ -167,7 +167,7 @@ fn first_line(bytes: &[u8]) -> &[u8] {
     }
 }
 
-/// Tells what was written to a stream, or the first line of that, behind the stream's name.
+/// Tells what was written to a stream, or the first line of that, behind the stream's name. Of the whole it tells where its last line has no end.
 fn tell<O: Write>(
     name: &str,
     stream: CountedWriter<FailsOnce>,
@@ -188,5 +188,9 @@ fn tell<O: Write>(
     if shown.last() == Some(&b'\n') {
         return Ok(());
     }
-    writeln!(told)
+    if first_alone {
+        writeln!(told)
+    } else {
+        writeln!(told, " (and no end of line)")
+    }
 }
