@@ -18,23 +18,66 @@ fn bits(word: &str) -> Option<u64> {
     u64::from_str_radix(word, 16).ok()
 }
 
+/// What these bits are where only some of them stay.
+fn kept(name: &str, bits: u64) -> Option<u64> {
+    match name {
+        "is-written" => Some(bits & KEEP_PLAIN),
+        "stays" => Some(bits & KEEP_HERE),
+        "retreats" => Some(bits & KEEP_COMING),
+        "of" => Some(bits),
+        _ => None,
+    }
+}
+
+/// The bits of the pointer word of a name and one word.
+fn of_one(name: &str, word: &str) -> Option<u64> {
+    match name {
+        "away" => Some(Word::away(small(word)?).bits),
+        "clean" => Some(Word::clean_here(small(word)?).bits),
+        _ => kept(name, bits(word)?),
+    }
+}
+
+/// The bits of the pointer word of a name and two numbers.
+fn of_two(name: &str, first: &str, second: &str) -> Option<u64> {
+    let first = small(first)?;
+    let second = small(second)?;
+    match name {
+        "coming" => Some(Word::coming(first, second).bits),
+        "here" => Some(Word::here(first, second).bits),
+        "leaving" => Some(Word::leaving(first, second).bits),
+        _ => None,
+    }
+}
+
+/// The bits of a pointer word whose object this mover brings into this frame.
+fn arrived(word: &str, mover: &str, frame: &str) -> Option<u64> {
+    let arrival = Word::arrival(small(mover)?, small(frame)?);
+    Some(bits(word)?.wrapping_add(arrival))
+}
+
 /// The bits of the pointer word of these words.
 fn asked(words: &[&str]) -> Option<u64> {
     match words {
-        ["away", count] => Some(Word::away(small(count)?).bits),
-        ["coming", count, mover] => Some(Word::coming(small(count)?, small(mover)?).bits),
-        ["here", count, frame] => Some(Word::here(small(count)?, small(frame)?).bits),
-        ["clean", frame] => Some(Word::clean_here(small(frame)?).bits),
-        ["leaving", frame, mover] => Some(Word::leaving(small(frame)?, small(mover)?).bits),
-        ["arrives", word, mover, frame] => {
-            Some(bits(word)?.wrapping_add(Word::arrival(small(mover)?, small(frame)?)))
-        }
-        ["is-written", word] => Some(bits(word)? & KEEP_PLAIN),
-        ["stays", word] => Some(bits(word)? & KEEP_HERE),
-        ["retreats", word] => Some(bits(word)? & KEEP_COMING),
-        ["of", word] => bits(word),
+        [name, word] => of_one(name, word),
+        [name, first, second] => of_two(name, first, second),
+        ["arrives", word, mover, frame] => arrived(word, mover, frame),
         _ => None,
     }
+}
+
+/// What a pointer word is besides its state.
+fn put_marks(word: Word, told: &mut String) -> Result<(), AllocError> {
+    if word.marked() {
+        told.push_str(", marked")?;
+    }
+    if word.out() {
+        told.push_str(", out")?;
+    }
+    if word.clean() {
+        told.push_str(", clean")?;
+    }
+    Ok(())
 }
 
 /// The bits of the pointer word of these words, and what they say.
@@ -51,14 +94,5 @@ pub(crate) fn put_word(words: &[&str], told: &mut String) -> Result<(), AllocErr
         told,
         "{bits:x}: {state:?}, frame {frame}, mover {mover}, count {count}"
     )?;
-    if word.marked() {
-        told.push_str(", marked")?;
-    }
-    if word.out() {
-        told.push_str(", out")?;
-    }
-    if word.clean() {
-        told.push_str(", clean")?;
-    }
-    Ok(())
+    put_marks(word, told)
 }

@@ -3,6 +3,7 @@ ghost use Rattle.std.specs.Prelude.{◌≡◌, ◌≤◌, IfSome};
 
 use crate::regions::region;
 use hint_queue::{HintPass, Hints};
+use region::Region;
 use remote_store::FarHeap;
 use std::alloc::Global;
 use std::sync::Wait;
@@ -21,12 +22,11 @@ pub(crate) struct Taken {
     then: Option<usize>,
 }
 
-/// A queue of hints for so many objects at least, and two passes of it.
-fn queue(alloc: Global) -> Option<(Hints, HintPass, HintPass)>
+/// The region's queue of hints, where that is for so many objects at least, and two passes of it.
+fn queue_of(alloc: Global, region: &Region<FarHeap>) -> Option<(Hints, HintPass, HintPass)>
     ensures { IfSome result (λ t. (300 ≤ t.0.objects) × (t.1 ≡ t.0) × (t.2 ≡ t.0)) }
 {
-    let (region, _owners, _movers) = region(alloc, OBJECTS, FarHeap)?;
-    let Ok((hints, mut passes)) = Hints::new(alloc, &region) else {
+    let Ok((hints, mut passes)) = Hints::new(alloc, region) else {
         return None;
     };
     if hints.objects() < OBJECTS as usize {
@@ -35,6 +35,14 @@ fn queue(alloc: Global) -> Option<(Hints, HintPass, HintPass)>
     let theirs = passes.pop()?;
     let mine = passes.pop()?;
     Some((hints, mine, theirs))
+}
+
+/// A queue of hints for so many objects at least, and two passes of it.
+fn queue(alloc: Global) -> Option<(Hints, HintPass, HintPass)>
+    ensures { IfSome result (λ t. (300 ≤ t.0.objects) × (t.1 ≡ t.0) × (t.2 ≡ t.0)) }
+{
+    let (region, _owners, _movers) = region(alloc, OBJECTS, FarHeap)?;
+    queue_of(alloc, &region)
 }
 
 /// Takes 256 hints, where there are so many, and tries to take one more.

@@ -64,6 +64,54 @@ fn last_pass(hints: &Hints, passes: &mut Vec<HintPass>) -> Option<HintPass>
     passes.pop()
 }
 
+/// Plays the scenario with these seats of the region. `None` where memory runs out.
+fn play_with<R: Wait, S: RawStore>(
+    rt: &R,
+    alloc: Global,
+    scenario: Scenario,
+    region: &Region<S>,
+    owner: &mut OwnerSeat<S>,
+    evacuator: &mut MoverSeat<S>,
+    fetcher: &mut MoverSeat<S>,
+) -> Option<Story>
+    requires owner { IsFresh region.now.table owner.old }
+    requires movers { IsFresh region.now.table evacuator.old × IsFresh region.now.table fetcher.old }
+{
+    let Ok((hints, mut passes)) = Hints::new(alloc, region) else {
+        return None;
+    };
+    let mut pass = last_pass(&hints, &mut passes)?;
+    Some(act(
+        rt, scenario, region, &hints, &mut pass, owner, evacuator, fetcher,
+    ))
+}
+
+/// Plays the scenario with the last of these seats of the region. `None` where there are too few, or memory runs out.
+fn play_in<R: Wait, S: RawStore>(
+    rt: &R,
+    alloc: Global,
+    scenario: Scenario,
+    region: &Region<S>,
+    owners: &mut Vec<OwnerSeat<S>>,
+    movers: &mut Vec<MoverSeat<S>>,
+) -> Option<Story>
+    requires owners { All (IsFresh region.now.table) owners.old.items }
+    requires movers { All (IsFresh region.now.table) movers.old.items }
+{
+    let mut owner = last_seat(region, owners)?;
+    let mut fetcher = last_seat(region, movers)?;
+    let mut evacuator = last_seat(region, movers)?;
+    play_with(
+        rt,
+        alloc,
+        scenario,
+        region,
+        &mut owner,
+        &mut evacuator,
+        &mut fetcher,
+    )
+}
+
 /// Plays the scenario over these stores. `None` where memory runs out, or the store can't be made.
 pub(crate) fn play<R: Wait, M: Stores + Drop>(
     rt: &R,
@@ -72,21 +120,5 @@ pub(crate) fn play<R: Wait, M: Stores + Drop>(
     stores: M,
 ) -> Option<Story> {
     let (region, mut owners, mut movers) = region(alloc, 3, stores)?;
-    let Ok((hints, mut passes)) = Hints::new(alloc, &region) else {
-        return None;
-    };
-    let mut owner = last_seat(&region, &mut owners)?;
-    let mut fetcher = last_seat(&region, &mut movers)?;
-    let mut evacuator = last_seat(&region, &mut movers)?;
-    let mut pass = last_pass(&hints, &mut passes)?;
-    Some(act(
-        rt,
-        scenario,
-        &region,
-        &hints,
-        &mut pass,
-        &mut owner,
-        &mut evacuator,
-        &mut fetcher,
-    ))
+    play_in(rt, alloc, scenario, &region, &mut owners, &mut movers)
 }

@@ -35,6 +35,24 @@ fn admitted<M: Stores + Drop>(
     Ok((region.programs(), owners.len(), movers.len()))
 }
 
+/// What is told where programs need so many frames, and this came of admitting them.
+fn tell_admission(
+    alloc: Global,
+    need: u64,
+    admitted: Result<(usize, usize, usize), AdmitFault>,
+) -> Result<String, AllocError> {
+    let mut told = String::new(alloc);
+    writeln!(told, "need {need}")?;
+    match admitted {
+        Ok((programs, owners, movers)) => writeln!(
+            told,
+            "admitted: {programs} programs, {owners} owners, {movers} movers"
+        )?,
+        Err(fault) => writeln!(told, "{fault}")?,
+    }
+    Ok(told)
+}
+
 /// What is told of a row.
 pub(crate) fn tell(
     alloc: Global,
@@ -51,14 +69,5 @@ pub(crate) fn tell(
         return Err(AllocError);
     };
     let need = need(&programs, config.evacuators, config.fetchers);
-    let mut told = String::new(alloc);
-    writeln!(told, "need {need}")?;
-    match admitted(alloc, programs, config) {
-        Ok((programs, owners, movers)) => writeln!(
-            told,
-            "admitted: {programs} programs, {owners} owners, {movers} movers"
-        )?,
-        Err(fault) => writeln!(told, "{fault}")?,
-    }
-    Ok(told)
+    tell_admission(alloc, need, admitted(alloc, programs, config))
 }

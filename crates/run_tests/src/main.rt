@@ -1,7 +1,12 @@
-//! Goes through files of rows about runs: what is told of each must be what stands beside it. Each row of which something else is told is shown, and
+//! Goes through files of rows about images and their runs: what is told of each must be what stands beside it. Each row of which something else is told is shown, and
 //! then how many rows there were; the status is 1 where one was shown.
 //!
 //! Before the name of a file stands what its rows and those of the files behind it are:
+//! - `list`: an image's bytes, and its listing, or `fault` and its number; the bytes of what is read must be the same again;
+//! - `verify`: `scopes` and the number of scopes of an image that is verified, `verify fault` and its number of another, `fault` and its number where there
+//!   is none;
+//! - `change`: how many beginnings of the bytes are refused since they are too short, and how many of all changes of one byte go through: they are
+//!   refused by a number, or are an image with these bytes, which is verified or refused by a number;
 //! - `images`: an image's bytes, under its name, and its listing; the rows behind it name it;
 //! - `touches`: a line for each instruction of a run tells what it touches, whether it is blocked, and whether the run has stopped, with plain ones in a row on one
 //!   line; then how the run stopped, and what it printed. `loads` has what its loads are given, in order;
@@ -21,6 +26,8 @@
 #![tactic(auto)]
 
 mod admissions;
+mod changes;
+mod listings;
 mod random;
 mod rounds;
 mod schedules;
@@ -54,6 +61,7 @@ enum Asked {
 /// What the rows of a file are.
 #[derive(Clone, Copy)]
 enum Kind {
+    Bytes(listings::Asked),
     Images,
     Runs(Asked),
 }
@@ -62,6 +70,9 @@ impl Kind {
     /// What this word says that rows are, if it is no name of a file.
     fn of(word: &str) -> Option<Kind> {
         match word {
+            "list" => Some(Kind::Bytes(listings::Asked::Listing)),
+            "verify" => Some(Kind::Bytes(listings::Asked::Verdict)),
+            "change" => Some(Kind::Bytes(listings::Asked::Changes)),
             "images" => Some(Kind::Images),
             "touches" => Some(Kind::Runs(Asked::Touches)),
             "session" => Some(Kind::Runs(Asked::Session)),
@@ -106,6 +117,7 @@ fn tell<R: Wait>(
     shelf: &mut Shelf,
 ) -> Result<String, AllocError> {
     match kind {
+        Kind::Bytes(asked) => listings::tell(alloc, asked, &row.given),
         Kind::Images => shelf.put(alloc, &row.title, &row.given),
         Kind::Runs(asked) => tell_run(rt, alloc, asked, &row.given, shelf),
     }
@@ -130,6 +142,12 @@ fn go_through<R: Wait, O: Write>(
     Ok(all)
 }
 
+/// The rows of the file of this name.
+fn rows_of(rt: &HostRuntime, name: &str) -> io::Result<Vec<Row>> {
+    let text = fs::read(rt, name)?;
+    Ok(rows(rt.alloc(), &text)?)
+}
+
 fn main(rt: HostRuntime) -> io::Result<ExitCode> {
     let words: Vec<String> = env::args(&rt)?.collect(rt.alloc())?;
     let mut out = io::writer(&rt);
@@ -141,8 +159,7 @@ fn main(rt: HostRuntime) -> io::Result<ExitCode> {
             kind = other;
             continue;
         }
-        let text = fs::read(&rt, word.as_str())?;
-        let rows = rows(rt.alloc(), &text)?;
+        let rows = rows_of(&rt, word.as_str())?;
         if !go_through(&rt, rt.alloc(), kind, &rows, &mut shelf, &mut out)? {
             status = 1;
         }

@@ -1,9 +1,9 @@
 //! Schedules that a generator makes.
 ghost use Rattle.std.specs.Prelude.{◌<◌, ◌≤◌, length};
 
-use crate::schedules::put_ended;
 use crate::setting::Setting;
 use crate::shelf::Shelf;
+use crate::steps::put_ends;
 use cells::Run;
 use code_form::Image;
 use remote_store::{FarHeap, FaultStore, RawStore};
@@ -104,6 +104,19 @@ fn go_on<S: RawStore>(
 }
 
 /// The ends of the programs, behind the steps that the generator chooses by this seed.
+fn put_steps<S: RawStore>(
+    alloc: Global,
+    text: &mut String,
+    world: &mut World<'_, S>,
+    numbers: Numbers,
+    seed: u64,
+) -> Result<(), AllocError> {
+    let mut generator = Generator { state: seed };
+    go_on(alloc, world, numbers, &mut generator)?;
+    put_ends(alloc, text, world)
+}
+
+/// The same of a world of these images.
 fn put_seed(
     alloc: Global,
     text: &mut String,
@@ -116,9 +129,6 @@ fn put_seed(
     let Some(config) = setting.config(alloc) else {
         return text.push_str("numbers out of range\n");
     };
-    let Ok(mut world) = World::<FaultStore<FarHeap>>::new(alloc, images, &config) else {
-        return Err(AllocError);
-    };
     let numbers = Numbers {
         programs: images.len() as u32,
         evacuators: config.evacuators,
@@ -126,12 +136,10 @@ fn put_seed(
         frames: config.frames,
         objects: config.objects,
     };
-    let mut generator = Generator { state: seed };
-    go_on(alloc, &mut world, numbers, &mut generator)?;
-    for program in 0..world.programs() {
-        put_ended(text, program, &world.ended(alloc, program)?)?;
+    match World::<FaultStore<FarHeap>>::new(alloc, images, &config) {
+        Ok(mut world) => put_steps(alloc, text, &mut world, numbers, seed),
+        Err(_) => Err(AllocError),
     }
-    Ok(())
 }
 
 /// What is told of a row: for each of its seeds the ends of its programs.

@@ -60,16 +60,17 @@ fn free_frames<S: RawStore>(table: &ObjectTable<S>, seat: &mut MoverSeat<S>) -> 
     free
 }
 
-/// Makes a round of each of these budgets, and tells what it came to, and how many frames are free then.
-fn put_rounds<S: RawStore>(
+/// Makes a round of each of these budgets: what it came to, and how many frames are free then.
+fn tell_rounds<S: RawStore>(
+    alloc: Global,
     region: &Region<S>,
     seat: &mut MoverSeat<S>,
     budgets: &[u64],
-    told: &mut String,
-) -> Result<(), AllocError>
+) -> Result<String, AllocError>
     requires table { IsSeat region.now.table seat.old }
     requires empty { HasNothing seat.old.view.hand }
 {
+    let mut told = String::new(alloc);
     for budget in budgets {
         let budget = u32::try_from(*budget).unwrap_or(u32::MAX);
         let round = round(region, seat, budget);
@@ -80,7 +81,7 @@ fn put_rounds<S: RawStore>(
             "{left} left, {aborted} aborted, {failed} failed, {free} frames free"
         )?;
     }
-    Ok(())
+    Ok(told)
 }
 
 /// The last of these seats of the region, where there is one.
@@ -115,15 +116,13 @@ fn tell_region<R: Wait, S: RawStore>(
     let Some(mut first) = last_seat(region, owners) else {
         return String::from_str(alloc, "one program alone");
     };
-    let mut told = String::new(alloc);
     let (written, held) = (setting.written, setting.held);
     if !bring_in(rt, region.table(), &mut first, written, held)
         || !bring_in(rt, region.table(), &mut second, written, held)
     {
         return String::from_str(alloc, "not brought in");
     }
-    put_rounds(region, &mut seat, &setting.numbers, &mut told)?;
-    Ok(told)
+    tell_rounds(alloc, region, &mut seat, &setting.numbers)
 }
 
 /// What is told of rounds of a region into which these programs are admitted.

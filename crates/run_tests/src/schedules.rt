@@ -29,11 +29,12 @@ pub(crate) fn put_ended(text: &mut String, number: usize, ended: &Ended) -> Resu
 }
 
 /// The ends of programs.
-fn put_ends(text: &mut String, ends: &[Ended]) -> Result<(), AllocError> {
+fn tell_ends(alloc: Global, ends: &[Ended]) -> Result<String, AllocError> {
+    let mut told = String::new(alloc);
     for (number, ended) in ends.iter().enumerate() {
-        put_ended(text, number, ended)?;
+        put_ended(&mut told, number, ended)?;
     }
-    Ok(())
+    Ok(told)
 }
 
 /// What is told of a row.
@@ -53,11 +54,7 @@ pub(crate) fn tell(
     };
     let schedule = schedule(alloc, setting)?;
     match replay(alloc, images, &config, schedule.as_bytes()) {
-        Ok(report) => {
-            let mut told = String::new(alloc);
-            put_ends(&mut told, &report.ended)?;
-            Ok(told)
-        }
+        Ok(report) => tell_ends(alloc, &report.ended),
         Err(refused) => format!(in alloc; "{refused}"),
     }
 }

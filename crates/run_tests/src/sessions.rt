@@ -1,13 +1,14 @@
 //! Runs over far memory.
 ghost use Rattle.code_form.specs.Code.{most_scopes};
 ghost use Rattle.code_form.specs.Form.{function_of, image_of};
+ghost use Rattle.object_lock.specs.Fresh.{IsFresh};
 ghost use Rattle.std.specs.Prelude.{◌≡◌, ◌≤◌, map};
 
 use crate::setting::Setting;
 use crate::shelf::Shelf;
 use crate::touches::put_output;
 use code_form::{Function, Image};
-use object_lock::ObjectTable;
+use object_lock::{ObjectTable, OwnerSeat};
 use remote_store::{FarHeap, FaultStore, RawStore};
 use session::Session;
 use std::alloc::{AllocError, Global};
@@ -41,16 +42,37 @@ fn put_run<R: Wait, S: RawStore>(
 }
 
 /// Runs the session with each of these limits, and tells what it answers.
-fn put_runs<R: Wait, S: RawStore>(
+fn tell_runs<R: Wait, S: RawStore>(
     rt: &R,
+    alloc: Global,
     session: &mut Session<'_, S>,
     limits: &[u64],
-    told: &mut String,
-) -> Result<(), AllocError> {
+) -> Result<String, AllocError> {
+    let mut told = String::new(alloc);
     for limit in limits {
-        put_run(rt, session, *limit, told)?;
+        put_run(rt, session, *limit, &mut told)?;
     }
-    put_output(told, session.output())
+    put_output(&mut told, session.output())?;
+    Ok(told)
+}
+
+/// What is told of an image's runs with this seat of the table.
+fn tell_seat<R: Wait, S: RawStore>(
+    rt: &R,
+    alloc: Global,
+    table: &ObjectTable<S>,
+    image: &Image,
+    seat: OwnerSeat<S>,
+    limits: &[u64],
+) -> Result<String, AllocError>
+    requires fresh { IsFresh table.now seat }
+    requires own { seat.view.low ≤ seat.view.high }
+    requires image { most_scopes (image_of image.now).functions ≤ 4 }
+{
+    match Session::over(alloc, table, image, seat) {
+        Ok(mut session) => tell_runs(rt, alloc, &mut session, limits),
+        Err(_) => Err(AllocError),
+    }
 }
 
 /// What is told of an image's runs.
@@ -65,20 +87,13 @@ fn tell_image<R: Wait>(
     let Some(config) = setting.config(alloc) else {
         return String::from_str(alloc, "numbers out of range");
     };
-    let Ok((table, mut owners, _movers)) = ObjectTable::<FaultStore<FarHeap>>::new(
-        alloc, 1, &config,
-    ) else {
-        return Err(AllocError);
-    };
-    let Some(seat) = owners.pop() else {
-        return Err(AllocError);
-    };
-    let Ok(mut session) = Session::over(alloc, &table, image, seat) else {
-        return Err(AllocError);
-    };
-    let mut told = String::new(alloc);
-    put_runs(rt, &mut session, &setting.numbers, &mut told)?;
-    Ok(told)
+    match ObjectTable::<FaultStore<FarHeap>>::new(alloc, 1, &config) {
+        Ok((table, mut owners, _movers)) => match owners.pop() {
+            Some(seat) => tell_seat(rt, alloc, &table, image, seat, &setting.numbers),
+            None => Err(AllocError),
+        },
+        Err(_) => Err(AllocError),
+    }
 }
 
 /// What is told of a row.

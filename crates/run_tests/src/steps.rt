@@ -52,7 +52,7 @@ fn put_line<S: RawStore>(
 }
 
 /// The ends of the programs.
-fn put_ends<S: RawStore>(
+pub(crate) fn put_ends<S: RawStore>(
     alloc: Global,
     text: &mut String,
     world: &World<'_, S>,
@@ -61,6 +61,23 @@ fn put_ends<S: RawStore>(
         put_ended(text, number, &world.ended(alloc, number)?)?;
     }
     Ok(())
+}
+
+/// Takes the steps of these lines, of which each comes so many more times than its least: where object 0 is before and behind each, and how the programs end.
+fn tell_steps<S: RawStore>(
+    alloc: Global,
+    world: &mut World<'_, S>,
+    lines: &[Repeated<'_>],
+    more: u32,
+) -> Result<String, AllocError> {
+    let mut told = String::new(alloc);
+    put_object(&mut told, world)?;
+    for repeated in lines {
+        let count = repeated.least.saturating_add(more).min(repeated.most);
+        put_line(alloc, &mut told, world, repeated.line, count)?;
+    }
+    put_ends(alloc, &mut told, world)?;
+    Ok(told)
 }
 
 /// What is told of these images where a line that comes in several numbers comes in its least and so many more.
@@ -75,17 +92,10 @@ fn tell_images(
     let Some(config) = setting.config(alloc) else {
         return String::from_str(alloc, "numbers out of range");
     };
-    let Ok(mut world) = World::<FaultStore<FarHeap>>::new(alloc, images, &config) else {
-        return Err(AllocError);
-    };
-    let mut told = String::new(alloc);
-    put_object(&mut told, &world)?;
-    for repeated in &setting.lines {
-        let count = repeated.least.saturating_add(more).min(repeated.most);
-        put_line(alloc, &mut told, &mut world, repeated.line, count)?;
+    match World::<FaultStore<FarHeap>>::new(alloc, images, &config) {
+        Ok(mut world) => tell_steps(alloc, &mut world, &setting.lines, more),
+        Err(_) => Err(AllocError),
     }
-    put_ends(alloc, &mut told, &world)?;
-    Ok(told)
 }
 
 /// How many numbers the line comes in, but for one.

@@ -2,7 +2,6 @@
 
 use crate::setting::Setting;
 use crate::shelf::Shelf;
-use cells::Stop;
 use code_execution::Execution;
 use code_form::{Cell, Image, Touch};
 use std::alloc::{AllocError, Global};
@@ -146,12 +145,12 @@ fn follow(
 }
 
 /// How a run stopped, and what it printed.
-fn put_end(text: &mut String, stop: Option<Stop>, output: &[u8]) -> Result<(), AllocError> {
-    match stop {
+fn put_end(alloc: Global, execution: &Execution<'_>, text: &mut String) -> Result<(), AllocError> {
+    match execution.stop(alloc)? {
         Some(stop) => writeln!(text, "{stop}")?,
         None => text.push_str("no stop\n")?,
     }
-    put_output(text, output)
+    put_output(text, execution.output())
 }
 
 /// What was printed more.
@@ -166,18 +165,26 @@ pub(crate) fn put_output(text: &mut String, output: &[u8]) -> Result<(), AllocEr
     text.push('\n')
 }
 
-/// What is told of an image's run.
-fn tell_image(alloc: Global, image: &Image, loads: &[u64]) -> Result<String, AllocError> {
-    let mut execution = Execution::new(alloc, image)?;
+/// What is told of a run.
+fn tell_run(
+    alloc: Global,
+    execution: &mut Execution<'_>,
+    loads: &[u64],
+) -> Result<String, AllocError> {
     let mut tape = Tape {
         told: String::new(alloc),
         plain: 0,
     };
-    follow(alloc, &mut execution, loads, &mut tape)?;
+    follow(alloc, execution, loads, &mut tape)?;
     tape.finish()?;
-    let stop = execution.stop(alloc)?;
-    put_end(&mut tape.told, stop, execution.output())?;
+    put_end(alloc, execution, &mut tape.told)?;
     Ok(tape.told)
+}
+
+/// What is told of an image's run.
+fn tell_image(alloc: Global, image: &Image, loads: &[u64]) -> Result<String, AllocError> {
+    let mut execution = Execution::new(alloc, image)?;
+    tell_run(alloc, &mut execution, loads)
 }
 
 /// What is told of a row.

@@ -10,24 +10,12 @@ use scope_verifier::verify;
 use std::alloc::{AllocError, Global};
 use test_rows::without_blanks;
 
-/// What is asked of a row.
+/// What is asked of the bytes of an image.
 #[derive(Clone, Copy)]
 pub enum Asked {
     Listing,
     Verdict,
     Changes,
-}
-
-impl Asked {
-    /// What a word asks for, if it is no name of a file.
-    pub(crate) fn of(word: &str) -> Option<Asked> {
-        match word {
-            "list" => Some(Asked::Listing),
-            "verify" => Some(Asked::Verdict),
-            "change" => Some(Asked::Changes),
-            _ => None,
-        }
-    }
 }
 
 /// The listing of the image that has these bytes.
