@@ -174,15 +174,6 @@ module _ (env : Environment) where
       inr (sym (if_else_is env c a d s) ∙ so_none (expression_as env BoolType s c) _ (λ z.
       ap (λ o. and_so o (λ v. and_so (in_scope env d v.scope) (λ u. next (t.If z v.statement u.statement) u.scope))) k ∙ ap (λ o. and_so o (λ u. next (t.If z x.statement u.statement) u.scope)) h))
 
-  pub while_gives : (c : Expression) (notes : List (List Spec)) (a : Statement) (s : Scope) (z : t.Exp) (xs : t.Exps) (x : Checked) (b : t.Stmt) → expression_as env BoolType s c ≡ Some z
-      → conditions_of_all env Invariant (within s) (specs_in notes) ≡ Some xs → in_scope env a s ≡ Some x → b ≡ t.Loop xs z x.statement t.Skip → typed_statement env (While c notes a) s ≡ Some (record { statement = b; scope = x.scope })
-  while_gives c notes a s z xs x b e i k same =
-      sym (while_is env c notes a s)
-      ∙ ap (λ o. and_so o (λ w. and_so (conditions_of_all env Invariant (within s) (specs_in notes)) (λ ws. and_so (in_scope env a s) (λ v. next (t.Loop ws w v.statement t.Skip) v.scope)))) e
-      ∙ ap (λ o. and_so o (λ ws. and_so (in_scope env a s) (λ v. next (t.Loop ws z v.statement t.Skip) v.scope))) i
-      ∙ ap (λ o. and_so o (λ v. next (t.Loop xs z v.statement t.Skip) v.scope)) k
-      ∙ ap (λ w. Some (record { statement = w; scope = x.scope })) (sym same)
-
   pub while_none : {K : Type 0} (c : Expression) (notes : List (List Spec)) (a : Statement) (s : Scope) → K ⊎ (in_scope env a s ≡ None) → K ⊎ (typed_statement env (While c notes a) s ≡ None)
   while_none c notes a s (inl k) = inl k
   while_none c notes a s (inr h) =

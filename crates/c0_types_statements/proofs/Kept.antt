@@ -28,6 +28,11 @@ pub first_alone : {K A B : Type 0} → K ⊎ A → K ⊎ A ⊎ B
 first_alone (inl k) = inl k
 first_alone (inr h) = inr (inl h)
 
+pub first_two : {K A B C : Type 0} → K ⊎ A ⊎ B → K ⊎ A ⊎ B ⊎ C
+first_two (inl k) = inl k
+first_two (inr (inl h)) = inr (inl h)
+first_two (inr (inr h)) = inr (inr (inl h))
+
 pub second_of : {K A B C : Type 0} → K ⊎ B → (B → C) → K ⊎ A ⊎ C
 second_of (inl k) f = inl k
 second_of (inr h) f = inr (inr (f h))

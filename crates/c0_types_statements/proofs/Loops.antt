@@ -4,7 +4,7 @@ use Rattle.std.specs.Prelude.{◌⊎◌, IfErr, IfOk, MatchResult, not}
 use Rattle.std.specs.declared.alloc.Global.{Global}
 use Rattle.std.specs.declared.vec.Vec.{Vec}
 use Rattle.c0_source.specs.declared.fault.Fault.{Fault}
-use Rattle.c0_syntax.specs.Trees.{Expression, Spec, SimpleStatement, Declare, Initialize, Assign, Update, Step, Evaluate, Statement, For}
+use Rattle.c0_syntax.specs.Trees.{Expression, Spec, SimpleStatement, Declare, Initialize, Assign, Update, Step, Evaluate, Statement, For, While}
 use Rattle.c0_typed.specs.Trees as t
 use Rattle.c0_typed.specs.Views.{exp_of, exps_of, stmt_of}
 use Rattle.c0_typed.specs.declared.tree.Expression.{Expression as TypedExpression}
@@ -18,7 +18,7 @@ use Rattle.c0_rules.specs.Mentions.{as_variable, specs_in}
 use Rattle.c0_rules.specs.Statements.{Invariant, Scope, Checked, leave, within, Destination, ToLocal, ToPlace, change_of, step_of, declares, one, expression_as, conditions_of_all, destination, destination_by, assigned, updated, evaluated, next, typed_part, typed_statement}
 use Rattle.c0_rules.specs.Types.{and_so, provided, same_type, is_small, Name, IntType, BoolType, Environment}
 use Rattle.c0_rules.proofs.Rules.{some_has}
-use Rattle.c0_types_statements.proofs.Branches.{so_assoc, so_none, so_same}
+use Rattle.c0_types_statements.proofs.Branches.{so_assoc, so_none, so_same, while_is}
 use Rattle.c0_types_statements.proofs.Scopes.{Keeps, keeps_on, left, loop_keeps, part_keeps, stays}
 
 -- the parts of a loop beside its body
@@ -163,6 +163,17 @@ module _ (env : Environment) where
   pub loop_none : {K : Type 0} (c : Expression) (third : Option SimpleStatement) (notes : List (List Spec)) (a : Statement) (s : Scope) → K ⊎ (in_scope env a s ≡ None) → K ⊎ (loop_behind env c third notes a s ≡ None)
   loop_none c third notes a s (inl k) = inl k
   loop_none c third notes a s (inr h) = inr (so_none (loop_head env c third notes s) _ (λ z. ap (λ o. and_so o (λ x. next (t.Loop z.invariants z.condition x.statement z.third) x.scope)) h))
+
+  -- ---- a `while` is a loop with no third part
+
+  pub while_behind : (c : Expression) (notes : List (List Spec)) (a : Statement) (s : Scope) → loop_behind env c None notes a s ≡ typed_statement env (While c notes a) s
+  while_behind c notes a s =
+      so_assoc (expression_as env BoolType s c) _ _
+      ∙ so_same (expression_as env BoolType s c) _ _ (λ z. so_assoc (conditions_of_all env Invariant (within s) (specs_in notes)) (λ xs. made z t.Skip xs) (λ h. and_so (in_scope env a s) (λ x. next (t.Loop h.invariants h.condition x.statement h.third) x.scope)))
+      ∙ while_is env c notes a s
+
+  pub while_headless : {K : Type 0} (c : Expression) (notes : List (List Spec)) (a : Statement) (s : Scope) → K ⊎ (loop_head env c None notes s ≡ None) → K ⊎ (typed_statement env (While c notes a) s ≡ None)
+  while_headless {K = K} c notes a s h = subst (λ o. K ⊎ (o ≡ None)) (while_behind c notes a s) (head_none c None notes a s h)
 
   -- ---- a head is its parts
 

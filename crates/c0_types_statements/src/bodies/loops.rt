@@ -1,16 +1,16 @@
 // The parts of loops beside their bodies.
 
-ghost use Rattle.std.specs.Prelude.{◌≡◌, ◌⊎◌, List, Err, IfErr, IfOk, IsOkAnd, MatchResult, Ok, box_value, is_err, map, option_map};
+ghost use Rattle.std.specs.Prelude.{◌≡◌, ◌⊎◌, List, Err, IfErr, IfOk, IsOkAnd, MatchResult, None, Ok, box_value, is_err, map, option_map};
 ghost use Rattle.c0_source.specs.declared.fault.FaultKind.TheVariants.{OutOfMemory};
 ghost use Rattle.c0_syntax.specs.Views.{annotation_of, expression_of, simple_of};
 ghost use Rattle.c0_typed.specs.Trees as y;
 ghost use Rattle.c0_typed.specs.Views.{exp_of, exps_of, stmt_of};
 ghost use Rattle.c0_types_statements.specs.Bodies.{Gives, InHead, PartHasTexts, SpecsHaveTexts, head_of, loop_head, scope_of, step_of};
 ghost use Rattle.c0_rules.specs.Answers.{Answers};
-ghost use Rattle.c0_rules.specs.FaultStatements.{InPart, ThirdCause};
+ghost use Rattle.c0_rules.specs.FaultStatements.{InAnnotations, InPart, InWanted, ThirdCause};
 ghost use Rattle.c0_rules.specs.Mentions.{specs_in};
-ghost use Rattle.c0_rules.specs.Statements.{declares, typed_part};
-ghost use Rattle.c0_rules.specs.Types.{Environment, Name};
+ghost use Rattle.c0_rules.specs.Statements.{Invariant, declares, typed_part, within};
+ghost use Rattle.c0_rules.specs.Types.{BoolType, Environment, Name};
 ghost use Rattle.c0_types_tables.specs.Views.{environment_of};
 ghost use Rattle.c0_types_expressions.specs.Terms.{HasTexts};
 
@@ -50,7 +50,7 @@ fn repetition_of_boxed(
 }
 
 // A loop.
-pub(super) fn repetition(
+fn repetition(
     alloc: Global,
     invariants: Vec<TypedExpression>,
     condition: TypedExpression,
@@ -162,7 +162,22 @@ impl<'a> Body<'a> {
         self.part(third)
     }
 
-    /// The parts of a loop beside its body, in the order of the text. What is in scope behind an `Err` is not told.
+    /// The parts of a `while` beside its body, in the order of the text; its third part does nothing.
+    pub(super) fn while_head(
+        &self,
+        condition: &Expression,
+        annotations: &[Annotation],
+    ) -> Result<LoopHead, Fault>
+        requires { HasTexts self.now.texts.now (expression_of condition.now) × SpecsHaveTexts self.now.texts.now (specs_in (map annotation_of annotations.now)) }
+        ensures answers { Answers (head_of self.now.texts.now) result (loop_head (environment_of self.now.environment.now) (expression_of condition.now) None (map annotation_of annotations.now) (scope_of self.now.scope)) }
+        ensures cause { IfErr result (λ f. (f.kind ≡ OutOfMemory) ⊎ InWanted (environment_of self.now.environment.now) f (scope_of self.now.scope) BoolType condition.now ⊎ InAnnotations (environment_of self.now.environment.now) f Invariant (within (scope_of self.now.scope)) annotations.now) }
+    {
+        let condition = self.wanted(&ResolvedType::Bool, condition)?;
+        let invariants = self.invariants(annotations);
+        headed(condition, skip(self.alloc), invariants)
+    }
+
+    /// The parts of the loop of a `for` beside its body, in the order of the text. What is in scope behind an `Err` is not told.
     pub(super) fn head(
         &mut self,
         condition: &Expression,

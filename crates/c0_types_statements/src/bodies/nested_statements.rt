@@ -16,7 +16,7 @@ ghost use Rattle.c0_types_expressions.specs.Terms.{HasTexts};
 ghost use Rattle.c0_rules.specs.Types.{BoolType, Environment, Name};
 ghost use Rattle.c0_types_tables.specs.Views.{environment_of};
 
-use super::loops::{repeated, repetition};
+use super::loops::repeated;
 use super::{Body, skip};
 use c0_source::fault::{Fault, FaultKind, Span};
 use c0_syntax::expression::Expression;
@@ -304,11 +304,9 @@ impl<'a> Body<'a> {
         ensures answers { Gives self.old.texts.now self.new.scope result (typed_statement (environment_of self.old.environment.now) (t.While (expression_of condition.now) (map annotation_of annotations.now) (statement_of body.now)) (scope_of self.old.scope)) }
         ensures cause { IfErr result (λ f. (f.kind ≡ OutOfMemory) ⊎ InWanted (environment_of self.old.environment.now) f (scope_of self.old.scope) BoolType condition.now ⊎ InAnnotations (environment_of self.old.environment.now) f Invariant (within (scope_of self.old.scope)) annotations.now ⊎ InStatement (environment_of self.old.environment.now) f (scope_of self.old.scope) body.now.kind body.now.span) }
     {
-        let condition = self.wanted(&ResolvedType::Bool, condition)?;
-        let invariants = self.invariants(annotations)?;
-        let inside = self.inner(body)?;
-        let third = skip(self.alloc);
-        Ok(repetition(self.alloc, invariants, condition, inside, third)?)
+        let head = self.while_head(condition, annotations)?;
+        let inside = self.inner(body);
+        repeated(self.alloc, head, inside)
     }
 
     // The loop of a `for`, behind its first part.

@@ -17,9 +17,9 @@ use Rattle.c0_rules.specs.Types.{BoolType}
 use Rattle.c0_types_tables.specs.Views.{environment_of}
 use Rattle.c0_types_statements.specs.Bodies.{Gives, InFor, InLoop, PartHasTexts, SpecsHaveTexts, StatementHasTexts, StatementsHaveTexts, head_of, in_scope, loop_behind, scope_of}
 use Rattle.c0_types_statements.proofs.BodyRows.{block_is, block_told, typed_block_is}
-use Rattle.c0_types_statements.proofs.Branches.{after_all, after_none, block_gives, body_cause, body_has, body_step, else_none, if_else_gives, if_else_none, if_gives, if_none, nested_gives, scope_cause, statement_more, statement_none, statements_done, third_of, while_gives, while_none}
-use Rattle.c0_types_statements.proofs.Kept.{at_start, block_none, body_told, first_alone, head_told, in_texts, loop_told, scope_none, second_of, third_alone}
-use Rattle.c0_types_statements.proofs.Loops.{first_none, for_gives, for_none, head_none, loop_gives, loop_none}
+use Rattle.c0_types_statements.proofs.Branches.{after_all, after_none, block_gives, body_cause, body_has, body_step, else_none, if_else_gives, if_else_none, if_gives, if_none, nested_gives, scope_cause, statement_more, statement_none, statements_done, third_of, while_none}
+use Rattle.c0_types_statements.proofs.Kept.{at_start, block_none, body_told, first_alone, first_two, head_told, in_texts, loop_told, scope_none, second_of, third_alone}
+use Rattle.c0_types_statements.proofs.Loops.{first_none, for_gives, for_none, head_none, loop_gives, loop_none, while_behind, while_headless}
 use Rattle.c0_types_statements.proofs.Made.{made_gives, made_told}
 use Rattle.c0_types_statements.proofs.Sizes.{size_in, size_statement}
 use Rattle.c0_types_statements.proofs.bodies.Body.+statement.Goals as goal
@@ -176,26 +176,36 @@ statement-returns-in-If-clause-cause t c =
 
 -- ---- a `while`
 
-pub while_loop-returns-in_err-inside-clause-answers : goal.while_loop-returns-in_err-inside-clause-answers
-while_loop-returns-in_err-inside-clause-answers t c =
-    let p = err_from_is_err_and c.from_residual-in_err-inside.result c.from_residual-in_err-inside.ensures.1 in
-    rw (p.1, p.2) (while_none (environment_of c.args.self.now.environment.now) (expression_of c.args.condition.now) (map annotation_of c.args.annotations.now) (statement_of c.args.body.now) (scope_of c.args.self.now.scope) c.in_err-inside.ensures.answers)
+pub while_loop-returns-in_err-head-clause-answers : goal.while_loop-returns-in_err-head-clause-answers
+while_loop-returns-in_err-head-clause-answers t c =
+    let p = err_from_is_err_and c.from_residual.result c.from_residual.ensures.1 in
+    rw (p.1, p.2) (while_headless (environment_of c.args.self.now.environment.now) (expression_of c.args.condition.now) (map annotation_of c.args.annotations.now) (statement_of c.args.body.now) (scope_of c.args.self.now.scope) c.in_err-head.ensures.answers)
 
-pub while_loop-returns-in_err-inside-clause-cause : goal.while_loop-returns-in_err-inside-clause-cause
-while_loop-returns-in_err-inside-clause-cause t c =
-    let p = err_from_is_err_and c.from_residual-in_err-inside.result c.from_residual-in_err-inside.ensures.1 in
-    rw (p.1, p.2) (third_alone c.in_err-inside.ensures.cause)
+pub while_loop-returns-in_err-head-clause-cause : goal.while_loop-returns-in_err-head-clause-cause
+while_loop-returns-in_err-head-clause-cause t c =
+    let p = err_from_is_err_and c.from_residual.result c.from_residual.ensures.1 in
+    rw (p.1, p.2) (first_two c.in_err-head.ensures.cause)
+
+pub while_loop-inner-inside-requires : goal.while_loop-inner-inside-requires
+while_loop-inner-inside-requires t c = (omega (arith, c.decreases), c.requires.2)
 
 pub while_loop-returns-clause-answers : goal.while_loop-returns-clause-answers
 while_loop-returns-clause-answers t c =
+    let env = environment_of c.args.self.now.environment.now in
     let texts = c.args.self.now.texts.now in
-    let z = exp_of texts c.in_ok-condition.condition in
-    let xs = exps_of texts c.in_ok-invariants.invariants.items in
-    let x = stmt_of texts c.in_ok-inside.inside in
-    while_gives (environment_of c.args.self.now.environment.now) (expression_of c.args.condition.now) (map annotation_of c.args.annotations.now) (statement_of c.args.body.now) (scope_of c.args.self.now.scope) z xs (record { statement = x; scope = scope_of c.inner.new.self.scope }) _ c.in_ok-condition.ensures.answers c.in_ok-invariants.ensures.answers c.in_ok-inside.ensures.answers (c.in_ok-repetition.ensures texts ∙ ap (y.Loop xs z x) (c.skip-third.ensures texts))
+    let at = scope_of c.args.self.now.scope in
+    let behind = c.inner-inside.new.self.scope in
+    let last = c.inner-inside.result in
+    let condition = expression_of c.args.condition.now in
+    let notes = map annotation_of c.args.annotations.now in
+    let a = statement_of c.args.body.now in
+    let head = c.in_ok-head.head in
+    made_gives (λ w b. y.Loop (exps_of w head.invariants.items) (exp_of w head.condition) b (stmt_of w head.third)) texts behind behind last c.repeated.result (in_scope env a at) (typed_statement env (tree.While condition notes a) at) c.repeated.ensures.answers c.repeated.ensures.cause c.inner-inside.ensures.answers
+    (λ b h. sym (while_behind env condition notes a at) ∙ loop_gives env condition None notes a at (head_of texts head) (record { statement = b; scope = scope_of behind }) c.in_ok-head.ensures.answers h)
+    (λ K h. while_none env condition notes a at h)
 
-pub while_loop-inner-requires : goal.while_loop-inner-requires
-while_loop-inner-requires t c = (omega (arith, c.decreases), c.requires.2)
+pub while_loop-returns-clause-cause : goal.while_loop-returns-clause-cause
+while_loop-returns-clause-cause t c = made_told c.inner-inside.result c.repeated.result c.repeated.ensures.cause c.inner-inside.ensures.cause (λ f h. third_alone h)
 
 pub statement-while_loop-requires : goal.statement-while_loop-requires
 statement-while_loop-requires t c =
