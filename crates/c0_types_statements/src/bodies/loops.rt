@@ -20,7 +20,7 @@ use c0_syntax::expression::Expression;
 use c0_syntax::statement::{Annotation, SimpleKind, SimpleStatement};
 use c0_typed::{Expression as TypedExpression, Statement as TypedStatement};
 use c0_types_tables::resolved::ResolvedType;
-use std::alloc::{AllocError, Global};
+use std::alloc::Global;
 
 /// The parts of a loop beside its body.
 #[derive(Drop)]
@@ -30,6 +30,19 @@ pub(super) struct LoopHead {
     pub(super) invariants: Vec<TypedExpression>,
 }
 
+/// A fault for which these parts of a statement end here.
+pub(super) fn refused_with(
+    condition: TypedExpression,
+    statement: TypedStatement,
+    fault: Fault,
+) -> Fault
+    ensures { result ≡ fault }
+{
+    drop(condition);
+    drop(statement);
+    fault
+}
+
 // A loop whose body is boxed.
 fn repetition_of_boxed(
     alloc: Global,
@@ -37,8 +50,9 @@ fn repetition_of_boxed(
     condition: TypedExpression,
     body: Box<TypedStatement>,
     third: TypedStatement,
-) -> Result<TypedStatement, AllocError>
-    ensures { IfOk result (λ b. (texts : List Name) → stmt_of texts b ≡ y.Loop (exps_of texts invariants.items) (exp_of texts condition) (stmt_of texts (box_value body)) (stmt_of texts third)) }
+) -> Result<TypedStatement, Fault>
+    ensures answers { IfOk result (λ b. (texts : List Name) → stmt_of texts b ≡ y.Loop (exps_of texts invariants.items) (exp_of texts condition) (stmt_of texts (box_value body)) (stmt_of texts third)) }
+    ensures cause { IfErr result (λ f. f.kind ≡ OutOfMemory) }
 {
     match Box::new(alloc, third) {
         Ok(third) => Ok(TypedStatement::Loop(invariants, condition, body, third)),
@@ -56,16 +70,13 @@ fn repetition(
     condition: TypedExpression,
     body: TypedStatement,
     third: TypedStatement,
-) -> Result<TypedStatement, AllocError>
-    ensures { IfOk result (λ b. (texts : List Name) → stmt_of texts b ≡ y.Loop (exps_of texts invariants.items) (exp_of texts condition) (stmt_of texts body) (stmt_of texts third)) }
+) -> Result<TypedStatement, Fault>
+    ensures answers { IfOk result (λ b. (texts : List Name) → stmt_of texts b ≡ y.Loop (exps_of texts invariants.items) (exp_of texts condition) (stmt_of texts body) (stmt_of texts third)) }
+    ensures cause { IfErr result (λ f. f.kind ≡ OutOfMemory) }
 {
     match Box::new(alloc, body) {
         Ok(body) => repetition_of_boxed(alloc, invariants, condition, body, third),
-        Err(error) => {
-            drop(condition);
-            drop(third);
-            Err(error.into())
-        }
+        Err(error) => Err(refused_with(condition, third, error.into())),
     }
 }
 
@@ -83,11 +94,7 @@ fn headed(
             third,
             invariants,
         }),
-        Err(fault) => {
-            drop(condition);
-            drop(third);
-            Err(fault)
-        }
+        Err(fault) => Err(refused_with(condition, third, fault)),
     }
 }
 
@@ -107,7 +114,7 @@ pub(super) fn repeated(
                 third,
                 invariants,
             } = head;
-            Ok(repetition(alloc, invariants, condition, body, third)?)
+            repetition(alloc, invariants, condition, body, third)
         }
         Err(fault) => {
             drop(head);

@@ -16,7 +16,7 @@ ghost use Rattle.c0_types_expressions.specs.Terms.{HasTexts};
 ghost use Rattle.c0_rules.specs.Types.{BoolType, Environment, Name};
 ghost use Rattle.c0_types_tables.specs.Views.{environment_of};
 
-use super::loops::repeated;
+use super::loops::{refused_with, repeated};
 use super::{Body, skip};
 use c0_source::fault::{Fault, FaultKind, Span};
 use c0_syntax::expression::Expression;
@@ -74,11 +74,7 @@ fn chosen(
 {
     match second {
         Ok(second) => Ok(choice(alloc, condition, first, second)?),
-        Err(fault) => {
-            drop(condition);
-            drop(first);
-            Err(fault)
-        }
+        Err(fault) => Err(refused_with(condition, first, fault)),
     }
 }
 
