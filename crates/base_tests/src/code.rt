@@ -1,5 +1,6 @@
 //! Code with scopes, and the blocks that it becomes.
 
+use cells::Piece;
 use code_form::{Kind, Operation, Relation};
 use codegen::generate;
 use middle_form::{Scoped, ScopedCode, ScopedFunction};
@@ -178,7 +179,7 @@ fn put_image(
     body: ScopedCode,
     told: &mut String,
 ) -> Result<(), AllocError> {
-    let image = generate(alloc, &program(alloc, scopes, body)?)?;
+    let image = generate(alloc, &program(alloc, scopes, body)?, Piece::Cells64)?;
     let Some(main) = image.functions.first() else {
         return Ok(());
     };

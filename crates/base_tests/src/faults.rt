@@ -9,7 +9,7 @@ use std::fmt::Write as FmtWrite;
 use std::io;
 use std::io::Write;
 
-const KINDS: [FaultKind; 25] = [
+const KINDS: [FaultKind; 26] = [
     FaultKind::BadByte,
     FaultKind::BadToken,
     FaultKind::OpenComment,
@@ -34,6 +34,7 @@ const KINDS: [FaultKind; 25] = [
     FaultKind::DeclMismatch,
     FaultKind::StepDeclares,
     FaultKind::BadUse,
+    FaultKind::NotInLoop,
     FaultKind::OutOfMemory,
 ];
 

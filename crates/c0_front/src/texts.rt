@@ -34,7 +34,7 @@ pub fn read_text(alloc: Global, text: &[u8], level: Level) -> Result<Program, Fa
 }
 
 /// The typed tree of the program that a text is the text of. The fault is of the first stage that finds one: as `read_text` has it, or 22
-/// and 30 to 47 of the static rules, with its cause at its place; or 50, where memory runs out.
+/// and 30 to 48 of the static rules, with its cause at its place; or 50, where memory runs out.
 pub fn check_text(alloc: Global, text: &[u8], level: Level) -> Result<Typed, Fault>
     ensures typed { IfOk result (λ p. IsTypedAs (has_loops level) text.now (typed_of p)) }
     ensures refused { IfErr result (λ f. (f.kind ≡ OutOfMemory) ⊎ IsRefusedText (has_loops level) text.now f) }

@@ -29,6 +29,8 @@ pub enum Question {
     PrintAgain,
     /// Whether it is a well-typed program.
     Check,
+    /// The same, where loops may be left so.
+    CheckLoops,
     /// Its typed tree.
     Typed,
     /// Of a line of names, and a line of names that are looked for: the number of each of these.
@@ -49,6 +51,7 @@ impl Question {
             "print" => Some(Question::Print),
             "print-again" => Some(Question::PrintAgain),
             "check" => Some(Question::Check),
+            "check-loops" => Some(Question::CheckLoops),
             "typed" => Some(Question::Typed),
             "numbers" => Some(Question::Numbers),
             "pointer" => Some(Question::Pointer),
@@ -130,6 +133,10 @@ fn answer(alloc: Global, question: Question, text: &[u8]) -> Result<Vec<u8>, Fau
         Question::PrintAgain => printed_again(alloc, text),
         Question::Check => {
             check_text(alloc, text, Level::C0)?;
+            accepted(alloc)
+        }
+        Question::CheckLoops => {
+            check_text(alloc, text, Level::Loops)?;
             accepted(alloc)
         }
         Question::Typed => typed(alloc, text),

@@ -1,5 +1,5 @@
 -- The image of a text.
-use Rattle.std.specs.Prelude.{◌≡◌, ℕ, Bool, false, List}
+use Rattle.std.specs.Prelude.{◌≡◌, ℕ, Bool, List}
 use Rattle.c0_front.specs.Texts.{IsTypedAs}
 use Rattle.c0_typed.specs.Trees.{Program}
 use Rattle.c0_typed.specs.Views.{program_of}
@@ -12,16 +12,17 @@ use Rattle.c0_well_formed.specs.Images.{image_of_tree}
 use Rattle.c0_well_formed.specs.Laws.{IsConsistent}
 use Rattle.c0_image.specs.Correct.{Behaves}
 
--- the image is that of the one program that the text is the text of: it does what that means, both ways
-pub record IsCompiled (text : List ℕ) (checks : Bool) (C : Image) : Type 0 where
+-- the image, for pieces of so many cells, is that of the one program that the text is the text of: it does what that means, both ways; `loops`: whether there
+-- are `break` and `continue`
+pub record IsCompiled (loops : Bool) (text : List ℕ) (checks : Bool) (cells : ℕ) (C : Image) : Type 0 where
   pub program : Program
-  pub typed : IsTypedAs false text program
+  pub typed : IsTypedAs loops text program
   -- and of no other program
-  pub only : (other : Program) → IsTypedAs false text other → other ≡ program
+  pub only : (other : Program) → IsTypedAs loops text other → other ≡ program
   -- it is the image that the definitions give of a typed tree of that program
   pub tree : Typed
   pub read_as : program_of tree ≡ program
-  pub made : C ≡ image_of_tree checks tree
+  pub made : C ≡ image_of_tree checks cells tree
   pub behaves : Behaves program checks C
   -- no function has more than four scopes, none of its runs gets stuck or allocates, calls or returns with a scope open
   pub covered : Covered C
@@ -29,10 +30,10 @@ pub record IsCompiled (text : List ℕ) (checks : Bool) (C : Image) : Type 0 whe
   pub verified : IsVerified C
   pub consistent : IsConsistent C
 
--- a text has one image: any two are the same, whichever typed trees of its program they were made of
+-- at each level and for pieces of each size a text has one image: any two are the same, whichever typed trees of its program they were made of
 abbrev pub OneImage : Type 0
-OneImage = (text : List ℕ) (checks : Bool) (C D : Image) → IsCompiled text checks C → IsCompiled text checks D → C ≡ D
+OneImage = (loops : Bool) (text : List ℕ) (checks : Bool) (cells : ℕ) (C D : Image) → IsCompiled loops text checks cells C → IsCompiled loops text checks cells D → C ≡ D
 
 -- whenever a run of an image of a text enters a block, the block's entry facts hold
 abbrev pub FactsOfImagesHold : Type 0
-FactsOfImagesHold = (text : List ℕ) (checks : Bool) (C : Image) → IsCompiled text checks C → EntryFactsHold C
+FactsOfImagesHold = (loops : Bool) (text : List ℕ) (checks : Bool) (cells : ℕ) (C : Image) → IsCompiled loops text checks cells C → EntryFactsHold C

@@ -4,7 +4,7 @@ ghost use Rattle.c0_image.specs.Compiled.{FactsOfImagesHold, OneImage};
 use code_verification::verified_is_covered;
 use lower::same_program_same_code;
 
-/// A text has one image, with its contracts checked, and one without.
+/// At each level and for pieces of each size a text has one image, with its contracts checked, and one without.
 pub fn one_image()
     ensures { OneImage }
 {

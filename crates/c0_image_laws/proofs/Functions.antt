@@ -61,12 +61,15 @@ image_fits C verified consistent =
     let texts = AllPass-from_list_all is_few C.head.texts few.each_text in
     let layouts = AllPass-from_list_all is_few C.head.layouts few.each_layout in
     let functions = AllPass-from_list_all few_in_function C.functions few.each_function in (
-      (count_fits C.head.texts few.texts, recursion_from_All TextFits C.head.texts (λ i d l. text_fits C few (slice_index_or C.head.texts i d) (texts i d l) (consistent.texts i d l))),
+      consistent.pieces,
       (
-        (count_fits C.head.layouts few.layouts, recursion_from_All LayoutFits C.head.layouts (λ i d l. layout_fits C few (slice_index_or C.head.layouts i d) (layouts i d l) (consistent.layouts i d l))),
+        (count_fits C.head.texts few.texts, recursion_from_All TextFits C.head.texts (λ i d l. text_fits C few (slice_index_or C.head.texts i d) (texts i d l) (consistent.texts i d l))),
         (
-          count_fits C.functions few.functions,
-          recursion_from_All FunctionFits C.functions (λ i d l. function_fits C few (slice_index_or C.functions i d) (verified.formed.functions i d l) (consistent.functions i d l) (verified.facts i d l) (functions i d l)),
+          (count_fits C.head.layouts few.layouts, recursion_from_All LayoutFits C.head.layouts (λ i d l. layout_fits C few (slice_index_or C.head.layouts i d) (layouts i d l) (consistent.layouts i d l))),
+          (
+            count_fits C.functions few.functions,
+            recursion_from_All FunctionFits C.functions (λ i d l. function_fits C few (slice_index_or C.functions i d) (verified.formed.functions i d l) (consistent.functions i d l) (verified.facts i d l) (functions i d l)),
+          ),
         ),
       ),
     )

@@ -14,8 +14,8 @@ ConsistentIsEncodable = (C : Image) → IsVerified C → IsConsistent C → IsEn
 
 -- the format has bytes for each number of an image of a text, and for the count of each of its lists
 abbrev pub ImagesAreEncodable : Type 0
-ImagesAreEncodable = (text : List ℕ) (checks : Bool) (C : Image) → IsCompiled text checks C → IsEncodable C
+ImagesAreEncodable = (loops : Bool) (text : List ℕ) (checks : Bool) (cells : ℕ) (C : Image) → IsCompiled loops text checks cells C → IsEncodable C
 
 -- its bytes are read as that image
 abbrev pub ImagesAreReadAgain : Type 0
-ImagesAreReadAgain = (text : List ℕ) (checks : Bool) (C : Image) → IsCompiled text checks C → reads (image_bytes C) ≡ Ok C
+ImagesAreReadAgain = (loops : Bool) (text : List ℕ) (checks : Bool) (cells : ℕ) (C : Image) → IsCompiled loops text checks cells C → reads (image_bytes C) ≡ Ok C

@@ -133,6 +133,8 @@ calling_all c k d vs ps es f s = all_of (m.evals (structs_in c) (calls_at c d) (
 -- it was not left by a return
 abbrev IsNext : m.Outcome m.Way → Type 0
 IsNext (o.Done m.Returned s) = ⊥
+IsNext (o.Done m.Broken s) = ⊥
+IsNext (o.Done m.Continued s) = ⊥
 IsNext _ = Unit {0}
 
 -- conditions of a contract return nothing
@@ -161,6 +163,8 @@ module _ (c : Context) (tasks : List Task) (d n : ℕ) (vs : List v.Value) (ps :
   call_ends : (w : m.Outcome m.Way) → IsNext w → then_do (then_do w (λ way x. ends x)) goes ≡ then_do w (λ way x. behind c (task.EndCall outer d ∷ tasks) way n vs ps x)
   call_ends (o.Done m.Next x) h = refl
   call_ends (o.Done m.Returned x) h = absurd h
+  call_ends (o.Done m.Broken x) h = absurd h
+  call_ends (o.Done m.Continued x) h = absurd h
   call_ends (o.Stopped x out) h = refl
   call_ends (o.Cut out) h = refl
 
@@ -172,6 +176,8 @@ module _ (c : Context) (tasks : List Task) (d n : ℕ) (vs : List v.Value) (ps :
       ≡ then_do w (λ way s. behind c (task.EndBody ∷ task.Check post ∷ task.EndCall outer d ∷ tasks) way n vs ps s)
   body_ends (o.Done m.Next s) = call_ends (post_holds s) (checked_next c.checks (structs_in c) (calls_at c n) (exps_of (texts_in c) post.now) s)
   body_ends (o.Done m.Returned s) = call_ends (post_holds s) (checked_next c.checks (structs_in c) (calls_at c n) (exps_of (texts_in c) post.now) s)
+  body_ends (o.Done m.Broken s) = call_ends (post_holds s) (checked_next c.checks (structs_in c) (calls_at c n) (exps_of (texts_in c) post.now) s)
+  body_ends (o.Done m.Continued s) = call_ends (post_holds s) (checked_next c.checks (structs_in c) (calls_at c n) (exps_of (texts_in c) post.now) s)
   body_ends (o.Stopped x out) = refl
   body_ends (o.Cut out) = refl
 
@@ -180,6 +186,8 @@ module _ (c : Context) (tasks : List Task) (d n : ℕ) (vs : List v.Value) (ps :
       ≡ then_do w (λ way s. behind c (task.ExecuteAll body ∷ task.EndBody ∷ task.Check post ∷ task.EndCall outer d ∷ tasks) way n vs ps s)
   body_begins body (o.Done m.Next s) = body_ends (executes c n (block_of (texts_in c) body.now) s)
   body_begins body (o.Done m.Returned s) = body_ends (o.Done m.Returned s)
+  body_begins body (o.Done m.Broken s) = body_ends (o.Done m.Broken s)
+  body_begins body (o.Done m.Continued s) = body_ends (o.Done m.Continued s)
   body_begins body (o.Stopped x out) = refl
   body_begins body (o.Cut out) = refl
 

@@ -46,7 +46,7 @@ Rest = m.Way → ℕ → List v.Value → List v.Spot → m.State → m.Outcome 
 abbrev pub tested : (m.State → m.Outcome m.Way) → (m.State → m.Outcome v.Value) → (m.State → m.Outcome m.Way) → (m.State → m.Outcome m.Way) → ℕ → v.Value → m.State → m.Outcome m.Way
 tested invariants condition body step zero v s = m.if_true v (Cut s.output) (Done m.Next s)
 tested invariants condition body step (suc n) v s =
-    m.if_true v (m.turn s (λ t. m.and_then (body t) (λ u. m.and_then (step u) (m.loop invariants condition body step n)))) (Done m.Next s)
+    m.if_true v (m.turn s (λ t. m.after_body (body t) (λ u. m.and_then (step u) (m.loop invariants condition body step n)))) (Done m.Next s)
 
 -- Over a context
 module _ (c : Context) where
@@ -137,6 +137,11 @@ module _ (c : Context) where
   tests (t.Loop es e x y) n k d (a ∷ vs) ps s = leaving k d vs ps (tested (checked d es) (evaluates d e) (executes d x) (executes d y) n a s)
   tests _ n k d vs ps s = Cut []
 
+  -- of a loop behind its body, with at most n turns more
+  abbrev pub rounds : t.Stmt → ℕ → Rest → ℕ → List v.Value → List v.Spot → m.State → m.Outcome v.Value
+  rounds (t.Loop es e x y) n k d vs ps s = leaving k d vs ps (m.and_then (executes d y s) (m.loop (checked d es) (evaluates d e) (executes d x) (executes d y) n))
+  rounds _ n k d vs ps s = Cut []
+
   -- what comes of a run with this task next, and then the rest
   abbrev pub does : Task → Rest → ℕ → List v.Value → List v.Spot → m.State → m.Outcome v.Value
   does (task.Evaluate e) k d vs ps s = giving k d vs ps (evaluates d (exp_of (texts_in c) e.now) s)
@@ -147,6 +152,7 @@ module _ (c : Context) where
   does (task.Execute a progress.Given) k d vs ps s = completes (stmt_of (texts_in c) a.now) k d vs ps s
   does (task.Execute a (progress.Again n)) k d vs ps s = loops (stmt_of (texts_in c) a.now) n k d vs ps s
   does (task.Execute a (progress.Tested n)) k d vs ps s = tests (stmt_of (texts_in c) a.now) n k d vs ps s
+  does (task.Execute a (progress.Turned n)) k d vs ps s = rounds (stmt_of (texts_in c) a.now) n k d vs ps s
   does (task.ExecuteAll all) k d vs ps s = leaving k d vs ps (executes d (block_of (texts_in c) all.now) s)
   does (task.Check es) k d vs ps s = leaving k d vs ps (checked d (exps_of (texts_in c) es.now) s)
   does task.Assert k d (a ∷ vs) ps s = leaving k d vs ps (m.holds a s)
@@ -156,16 +162,19 @@ module _ (c : Context) where
   does (task.EndCall locals n) k d vs ps s = k m.Next n (m.local 0 s ∷ vs) ps (record s { locals = values_of (texts_in c) locals })
   does _ k d vs ps s = Cut []
 
-  -- The same behind a return: what stands before the end of the function's body is not done
-  abbrev pub skips : Task → Rest → ℕ → List v.Value → List v.Spot → m.State → m.Outcome v.Value
-  skips task.EndBody k d vs ps s = k m.Next d vs ps s
-  skips _ k d vs ps s = k m.Returned d vs ps s
+  -- The same where a statement was left otherwise: what stands before the end of the function's body is not done, or before the end of the
+  -- body of a loop, which `break` ends
+  abbrev pub skips : m.Way → Task → Rest → ℕ → List v.Value → List v.Spot → m.State → m.Outcome v.Value
+  skips way task.EndBody k d vs ps s = k m.Next d vs ps s
+  skips m.Broken (task.Execute a (progress.Turned n)) k d vs ps s = k m.Next d vs ps s
+  skips m.Continued (task.Execute a (progress.Turned n)) k d vs ps s = rounds (stmt_of (texts_in c) a.now) n k d vs ps s
+  skips way _ k d vs ps s = k way d vs ps s
 
   -- what comes of tasks
   abbrev pub behind : List Task → Rest
   behind [] way d vs ps s = ending way d vs ps s
   behind (a ∷ rest) m.Next d vs ps s = does a (behind rest) d vs ps s
-  behind (a ∷ rest) m.Returned d vs ps s = skips a (behind rest) d vs ps s
+  behind (a ∷ rest) way d vs ps s = skips way a (behind rest) d vs ps s
 
   -- the state
   abbrev pub state_in : Pending → m.State

@@ -1,6 +1,8 @@
 //! The plain run of statements.
 ghost use Rattle.std.specs.Prelude.{[], ◌∷◌};
-ghost use Rattle.c0_meaning.specs.Pendings.{Extends, Performs};
+ghost use Rattle.c0_meaning.specs.Pendings.{Extends, Performs, Steps, left_by, means, pending_of};
+ghost use Rattle.c0_typed.specs.Meaning.{Broken, Continued};
+ghost use Rattle.std.specs.Prelude.{◌≡◌};
 ghost use Rattle.c0_meaning.specs.declared.context.Context.{Context as ContextOf};
 ghost use Rattle.c0_meaning.specs.declared.task.Progress.TheVariants as progress;
 ghost use Rattle.c0_meaning.specs.declared.task.Task.TheVariants as task;
@@ -44,6 +46,11 @@ impl<'p> PlainRun<'p> {
                 self.leave_body();
                 Ok(())
             }
+            Statement::Break => {
+                self.leave_loop();
+                Ok(())
+            }
+            Statement::Continue => self.leave_turn(),
             Statement::Check(conditions) => self.then(Task::Check(conditions)),
         }
     }
@@ -70,6 +77,7 @@ impl<'p> PlainRun<'p> {
             Progress::Given => self.complete(context, statement),
             Progress::Again(left) => self.again(statement, left),
             Progress::Tested(left) => self.test(statement, left),
+            Progress::Turned(left) => self.round(statement, left),
         }
     }
 
@@ -138,7 +146,7 @@ impl<'p> PlainRun<'p> {
     fn test(&mut self, statement: &'p Statement, left: u64) -> Result<(), Halt>
         ensures { (c : ContextOf) → Performs c (task.Execute statement.entry (progress.Tested left)) self.old result self.new }
     {
-        let Statement::Loop(_, _, body, step) = statement else {
+        let Statement::Loop(_, _, body, _) = statement else {
             return Err(Halt::Memory);
         };
         let condition = self.take()?;
@@ -149,10 +157,49 @@ impl<'p> PlainRun<'p> {
             return Err(Halt::Cut);
         }
         self.state.take_turn()?;
-        self.then_three(
+        self.then_two(
             Task::Execute(body, Progress::Begun),
-            Task::Execute(step, Progress::Begun),
-            Task::Execute(statement, Progress::Again(left - 1)),
+            Task::Execute(statement, Progress::Turned(left - 1)),
         )
+    }
+
+    /// A loop behind its body: its third part, and the loop again.
+    fn round(&mut self, statement: &'p Statement, left: u64) -> Result<(), Halt>
+        ensures { (c : ContextOf) → Performs c (task.Execute statement.entry (progress.Turned left)) self.old result self.new }
+    {
+        let Statement::Loop(_, _, _, step) = statement else {
+            return Err(Halt::Memory);
+        };
+        self.then_two(
+            Task::Execute(step, Progress::Begun),
+            Task::Execute(statement, Progress::Again(left)),
+        )
+    }
+
+    /// Leaves the nearest loop.
+    fn leave_loop(&mut self)
+        ensures { (c : ContextOf) → left_by Broken c (pending_of self.old) ≡ means c (pending_of self.new) }
+    {
+        while let Some(task) = self.next_task() {
+            if let Task::EndBody | Task::Execute(_, Progress::Turned(_)) = task {
+                return;
+            }
+        }
+    }
+
+    /// Leaves the turn of the nearest loop.
+    fn leave_turn(&mut self) -> Result<(), Halt>
+        ensures { (c : ContextOf) → Steps c result (left_by Continued c (pending_of self.old)) (pending_of self.new) }
+    {
+        while let Some(task) = self.next_task() {
+            match task {
+                Task::EndBody => return Ok(()),
+                Task::Execute(statement, Progress::Turned(left)) => {
+                    return self.round(statement, left);
+                }
+                _ => {}
+            }
+        }
+        Ok(())
     }
 }

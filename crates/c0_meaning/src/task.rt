@@ -21,6 +21,8 @@ pub(crate) enum Progress {
     Again(u64),
     /// A loop whose condition is given, with these turns.
     Tested(u64),
+    /// A loop whose body is done, with the turns that it may take still.
+    Turned(u64),
 }
 
 /// A task. The values and places that it takes are those that were given last by the tasks before it.

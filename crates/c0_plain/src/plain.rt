@@ -1,7 +1,8 @@
 //! From a text to what it means.
 
-ghost use Rattle.std.specs.Prelude.{◌≡◌, ◌⊎◌, ℕ, Bool, false, IfErr, IfOk, MatchResult};
+ghost use Rattle.std.specs.Prelude.{◌≡◌, ◌⊎◌, ℕ, Bool, IfErr, IfOk, MatchResult};
 ghost use Rattle.c0_source.specs.declared.fault.FaultKind.TheVariants.{OutOfMemory};
+ghost use Rattle.c0_syntax.specs.Levels.{has_loops};
 ghost use Rattle.c0_typed.specs.Meaning.{mean as mean_of};
 ghost use Rattle.c0_typed.specs.Trees as y;
 ghost use Rattle.c0_typed.specs.Views.{program_of};
@@ -59,20 +60,22 @@ fn mean_apart<R: Threads>(
 }
 
 /// What the program of a text means within this many turns: how it ends, and what it prints. `checks` tells whether contracts are
-/// checked. The fault is of the first stage that refuses the text, or 50, where memory runs out, or where the thread can't be made.
+/// checked, and `level` which statements are in the language. The fault is of the first stage that refuses the text, or 50, where
+/// memory runs out, or where the thread can't be made.
 pub fn mean_text<R: Threads>(
     alloc: Global,
     rt: &R,
     text: &[u8],
     checks: bool,
+    level: Level,
     turns: u64,
 ) -> Result<Meant, Fault>
-    ensures meant { IfOk result (λ m. (p : y.Program) × IsTypedAs false text.now p × (meant_of m ≡ mean_of p checks turns)) }
-    ensures refused { IfErr result (λ f. (f.kind ≡ OutOfMemory) ⊎ IsRefusedText false text.now f) }
+    ensures meant { IfOk result (λ m. (p : y.Program) × IsTypedAs (has_loops level) text.now p × (meant_of m ≡ mean_of p checks turns)) }
+    ensures refused { IfErr result (λ f. (f.kind ≡ OutOfMemory) ⊎ IsRefusedText (has_loops level) text.now f) }
     // A text of a well-typed program is run as that program, and as no other, unless memory runs out.
-    ensures every { (p : y.Program) → IsTypedAs false text.now p → MatchResult result (λ m. meant_of m ≡ mean_of p checks turns) (λ f. f.kind ≡ OutOfMemory) }
+    ensures every { (p : y.Program) → IsTypedAs (has_loops level) text.now p → MatchResult result (λ m. meant_of m ≡ mean_of p checks turns) (λ f. f.kind ≡ OutOfMemory) }
 {
-    let program = check_text(alloc, text, Level::C0)?;
+    let program = check_text(alloc, text, level)?;
     match mean_apart(alloc, rt, program, checks, turns) {
         Ok(meant) => Ok(meant),
         Err(_) => Err(Fault::out_of_memory()),

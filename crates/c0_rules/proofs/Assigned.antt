@@ -4,7 +4,7 @@ use Rattle.std.specs.Prelude.{◌&&◌}
 use Rattle.c0_syntax.specs.Trees.{Expression, SimpleStatement, Declare, Initialize, Assign, Update, Step, Evaluate, Statement, Simple, Block, Annotation, Return, ReturnValue, If, IfElse, While, For, Assert, Error, Break, Continue, Statements, nothing, also}
 use Rattle.c0_rules.specs.Types.{Name}
 use Rattle.c0_rules.specs.Mentions.{specs_in, as_variable}
-use Rattle.c0_rules.specs.Assignment.{Flow, Ended, assigned_to, joined, left_scope, reads_assigned, specs_read_assigned, after_simple, after_part, after_statement, after_statements, flow_of_assignment, flow_of_simple, flow_of_part, flow_of_statement, flow_of_statements}
+use Rattle.c0_rules.specs.Assignment.{Flow, Ended, assigned_to, continued, joined, left_scope, reads_assigned, specs_read_assigned, after_simple, after_part, after_statement, after_statements, flow_of_assignment, flow_of_simple, flow_of_part, flow_of_statement, flow_of_statements}
 use Rattle.c0_rules.proofs.Rules.{AllSome, all_so, all_go, all_if, all_map, some_has}
 
 assigned_after : (o : Option Name) (d e : Expression) (f : Flow) → AllSome (λ g. g ≡ elim o [ None ↦ f | Some n ↦ assigned_to n f ]) (flow_of_assignment o d e f)
@@ -45,7 +45,7 @@ mutual
       all_so (λ g. g ≡ after_part first f) (λ g. g ≡ left_scope f (after_part first f)) (flow_of_part first f) _ (part_after first f) (λ g q.
       all_if (λ h. h ≡ left_scope f (after_part first f)) (reads_assigned g c && specs_read_assigned g (specs_in notes)) _ (λ r.
       all_go (λ h. h ≡ left_scope f (after_part first f)) (flow_of_statement a g) _ (λ h w.
-      all_go (λ k. k ≡ left_scope f (after_part first f)) (flow_of_part third (left_scope g h)) _ (λ k v. ap (left_scope f) q))))
+      all_go (λ k. k ≡ left_scope f (after_part first f)) (flow_of_part third (joined g h (continued g a g Ended))) _ (λ k v. ap (left_scope f) q))))
   statement_after (Assert e) f = all_if (λ g. g ≡ f) (reads_assigned f e) (Some f) (λ q. refl)
   statement_after (Error e) f = all_if (λ g. g ≡ Ended) (reads_assigned f e) (Some Ended) (λ q. refl)
   statement_after Break f = refl

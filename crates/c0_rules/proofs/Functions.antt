@@ -1,5 +1,5 @@
 -- What the static rules give of a function is well typed.
-use Rattle.std.proofs.Common.{◌≡◌, ℕ, suc, ◌+◌, inl, inr, List, [], ◌∷◌, ◌++◌, length, refl, sym, ap, ◌∙◌, subst, arith, append_assoc, append-nil, Bool, true, Option, Some, None}
+use Rattle.std.proofs.Common.{◌≡◌, ℕ, suc, ◌+◌, inl, inr, List, [], ◌∷◌, ◌++◌, length, refl, sym, ap, ◌∙◌, subst, arith, append_assoc, append-nil, Bool, true, false, Option, Some, None}
 use Rattle.std.specs.Prelude.{◌&&◌, slice_get, map, not, is_some}
 use Rattle.std.proofs.lemmas.List.{length-append}
 use Rattle.c0_source.specs.declared.kind.Base.TheVariants as b
@@ -94,7 +94,7 @@ result_of_is (ArrayOf b) a e = cc e
 
 -- the scope at a body's beginning
 abbrev opening : Signature → Header → Scope
-opening f h = record { locals = parameters_from 1 h.parameters f.parameters; parameters = length f.parameters; declared = []; result = f.result }
+opening f h = record { locals = parameters_from 1 h.parameters f.parameters; parameters = length f.parameters; declared = []; result = f.result; in_loop = false }
 
 parts_fit : (env : Environment) (f : Signature) (h : Header) (body : Statements) → ty.IsResult (num env f.result) → AllSmall f.parameters
     → (p : t.Program) (knows : Knows p env) → AreNamed p env (spec_mentions (specs_in h.annotations) ++ statements_mentions body) → (x : Parts)

@@ -11,7 +11,7 @@ use Rattle.c0_typed.specs.Typing as ty
 use Rattle.c0_rules.specs.Types.{and_so, Name, ResolvedType, VoidType, IntType, BoolType, StringType, same_type, is_small, Table, resolved_type, small_type, Environment}
 use Rattle.c0_rules.specs.Mentions.{mentions, condition_of, spec_mentions, specs_in, simple_mentions, part_mentions, statement_mentions, statements_mentions, as_variable}
 use Rattle.c0_rules.specs.Expressions.{operator_rule, Typing, Has, IsNull, Local, Context, local_of, num, wanted, typed_expression, typed_place}
-use Rattle.c0_rules.specs.Statements.{Role, Invariant, Assertion, role_of, same_role, all_are, Scope, Checked, leave, within, next_number, with_local, Destination, ToLocal, ToPlace, change_of, step_of, is_call, declares, one, expression_as, conditions, conditions_of_all, is_taken, declared, destination_by, destination, assigned, updated, evaluated, typed_simple, typed_part, typed_statement, typed_statements}
+use Rattle.c0_rules.specs.Statements.{Role, Invariant, Assertion, role_of, same_role, all_are, Scope, Checked, in_body, leave, within, next_number, with_local, Destination, ToLocal, ToPlace, change_of, step_of, is_call, declares, one, expression_as, conditions, conditions_of_all, is_taken, declared, destination_by, destination, assigned, updated, evaluated, typed_simple, typed_part, typed_statement, typed_statements}
 use Rattle.c0_rules.proofs.Rules.{same_type_is, AllSome, all_so, all_go, all_if, some_has}
 use Rattle.c0_rules.proofs.Expressions.{small_is, Knows, Sees, AreNamed, named_left, named_right, IsTyped, IsPlace, IsOf, expression_ok, place_ok, wanted_ok}
 
@@ -216,7 +216,7 @@ module _ (p : t.Program) (env : Environment) (knows : Knows p env) (types : List
     statement_ok (While c notes a) s m =
         let first = named_left p env (mentions c ++ spec_mentions (specs_in notes)) (statement_mentions a) m in
         all_go (Good s) (expression_as env BoolType s c) _ (λ z q. all_go (Good s) (conditions_of_all env Invariant (within s) (specs_in notes)) _ (λ xs r.
-        all_so (Good s) (Good s) (typed_statement env a s) _ (statement_ok a s (named_right p env (mentions c ++ spec_mentions (specs_in notes)) _ m)) (λ x g.
+        all_so (Good (in_body s)) (Good s) (typed_statement env a (in_body s)) _ (statement_ok a (in_body s) (named_right p env (mentions c ++ spec_mentions (specs_in notes)) _ m)) (λ x g.
         (g.0, λ v sc. ((conditions_have Invariant s (specs_in notes) xs (named_right p env (mentions c) _ first) sc r, expression_has BoolType s c z (named_left p env (mentions c) _ first) sc q, (g.1 v sc).0, tt), sc)))))
     statement_ok (For first c third notes a) s m =
         let m1 = part_mentions first in
@@ -228,7 +228,7 @@ module _ (p : t.Program) (env : Environment) (knows : Knows p env) (types : List
         let n2 = named_left p env m2 (part_mentions third) n3 in
         all_so (Good s) (Good s) (typed_part env first s) _ (part_ok first s (named_left p env m1 (mentions c) n2)) (λ x gx.
         all_go (Good s) (expression_as env BoolType x.scope c) _ (λ z q. all_go (Good s) (conditions_of_all env Invariant (within x.scope) (specs_in notes)) _ (λ xs r.
-        all_so (Good x.scope) (Good s) (typed_statement env a x.scope) _ (statement_ok a x.scope (named_right p env m4 (statement_mentions a) m)) (λ y gy.
+        all_so (Good (in_body x.scope)) (Good s) (typed_statement env a (in_body x.scope)) _ (statement_ok a (in_body x.scope) (named_right p env m4 (statement_mentions a) m)) (λ y gy.
         all_if (Good s) (not (declares third)) _ (λ e.
         all_so (Good (leave x.scope y.scope)) (Good s) (typed_part env third (leave x.scope y.scope)) _ (part_ok third (leave x.scope y.scope) (named_right p env m2 (part_mentions third) n3)) (λ w gw. (
           grows_trans s x.scope w.scope gx.0 (grows_trans x.scope y.scope w.scope gy.0 gw.0),
@@ -254,8 +254,8 @@ module _ (p : t.Program) (env : Environment) (knows : Knows p env) (types : List
         )))))))
     statement_ok (Assert e) s m = all_go (Good s) (expression_as env BoolType s e) _ (λ x q. (grows_refl s, λ v sc. (expression_has BoolType s e x m sc q, sc)))
     statement_ok (Error e) s m = all_go (Good s) (expression_as env StringType s e) _ (λ x q. (grows_refl s, λ v sc. (expression_has StringType s e x m sc q, sc)))
-    statement_ok Break s m = tt
-    statement_ok Continue s m = tt
+    statement_ok Break s m = all_if (Good s) s.in_loop _ (λ z. (grows_refl s, λ v sc. (tt, sc)))
+    statement_ok Continue s m = all_if (Good s) s.in_loop _ (λ z. (grows_refl s, λ v sc. (tt, sc)))
 
     pub statements_ok : (ss : Statements) (s : Scope) → AreNamed p env (statements_mentions ss) → AllSome (Good s) (typed_statements env ss s)
     statements_ok nothing s m = (grows_refl s, λ v sc. (tt, sc))

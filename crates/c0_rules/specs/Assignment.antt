@@ -1,11 +1,11 @@
--- Definite assignment, and where a path ends in `return` or `error`.
+-- Definite assignment, and where a path ends.
 use Rattle.std.specs.Prelude.{Bool, true, false, ◌&&◌, ◌||◌, not, List, ◌∷◌, Option, Some, None, filter, bytes_eq}
 use Rattle.std.specs.List.{list_all}
 use Rattle.c0_syntax.specs.Trees.{Expression, Spec, SimpleStatement, Declare, Initialize, Assign, Update, Step, Evaluate, Statement, Simple, Block, Annotation, Return, ReturnValue, If, IfElse, While, For, Assert, Error, Break, Continue, Statements, nothing, also}
 use Rattle.c0_rules.specs.Types.{and_so, provided, Name, is_among, any_among}
 use Rattle.c0_rules.specs.Mentions.{variables_in, condition_of, specs_in, as_variable}
 
--- What stands before a statement. Behind `return` and `error` everything counts as assigned; else some path leads
+-- What stands before a statement. Behind `return`, `error`, `break` and `continue` everything counts as assigned; else some path leads
 -- here, and these locals in scope are those that some such path has not assigned.
 pub data Flow : Type 0 where
   Ended : Flow
@@ -20,7 +20,7 @@ reads_assigned (Reached names) e = not (any_among (variables_in e) names)
 abbrev pub specs_read_assigned : Flow → List Spec → Bool
 specs_read_assigned f specs = list_all (λ s. reads_assigned f (condition_of s)) specs
 
--- whether a path leads nowhere but to `return` or `error`
+-- whether no path leads here
 abbrev pub has_ended : Flow → Bool
 has_ended Ended = true
 has_ended (Reached names) = false
@@ -98,9 +98,24 @@ abbrev mutual
   after_statements nothing f = f
   after_statements (also a rest) f = after_statements rest (after_statement a f)
 
--- where the third part of a `for` stands, whose body begins here: where the scope of the body ends
+abbrev mutual
+  -- Where the paths meet on which `continue` ends a turn of a loop whose body begins at `start`, with those that met before; nowhere counts as ended.
+  -- A loop in the statement has its own.
+  pub continued : (start : Flow) → Statement → Flow → (met : Flow) → Flow
+  continued start Continue f met = joined start met f
+  continued start (Block rest) f met = some_continued start rest f met
+  continued start (If c a) f met = continued start a f met
+  continued start (IfElse c a b) f met = continued start b f (continued start a f met)
+  continued start _ f met = met
+
+  -- the same of statements in order
+  pub some_continued : (start : Flow) → Statements → Flow → (met : Flow) → Flow
+  some_continued start nothing f met = met
+  some_continued start (also a rest) f met = some_continued start rest (after_statement a f) (continued start a f met)
+
+-- where the third part of a `for` stands, whose body begins here: where the scope of the body ends, and each `continue` of it leads
 abbrev pub after_body : Statement → Flow → Flow
-after_body a f = left_scope f (after_statement a f)
+after_body a f = joined f (after_statement a f) (continued f a f Ended)
 
 -- ---- where what is read is assigned
 
@@ -119,7 +134,7 @@ abbrev mutual
       provided (reads_assigned f c && specs_read_assigned f (specs_in notes)) (and_so (flow_of_statement a f) (λ g. Some f))
   flow_of_statement (For first c third notes a) f =
       and_so (flow_of_part first f) (λ g. provided (reads_assigned g c && specs_read_assigned g (specs_in notes)) (
-      and_so (flow_of_statement a g) (λ h. and_so (flow_of_part third (left_scope g h)) (λ k. Some (left_scope f g)))))
+      and_so (flow_of_statement a g) (λ h. and_so (flow_of_part third (joined g h (continued g a g Ended))) (λ k. Some (left_scope f g)))))
   flow_of_statement (Assert e) f = provided (reads_assigned f e) (Some f)
   flow_of_statement (Error e) f = provided (reads_assigned f e) (Some Ended)
   flow_of_statement Break f = Some Ended

@@ -119,7 +119,7 @@ module _ (fault : Fault) where
       let locals = parameters_from 1 ((header_of h).parameters) f.parameters in
       InContracts env (record { locals = locals; result = None }) (record { locals = locals; result = result_of f.result }) h.annotations.items
       ⊎ AssignedParameters (is_assigned_in h.parameters.items body) h.annotations.items
-      ⊎ InBody env fault (record { locals = locals; parameters = length f.parameters; declared = []; result = f.result }) body
+      ⊎ InBody env fault (record { locals = locals; parameters = length f.parameters; declared = []; result = f.result; in_loop = false }) body
 
   -- a function with its body, in an environment with its own name
   abbrev pub InFunction : Environment → Signature → Header → List Statement → Type 0

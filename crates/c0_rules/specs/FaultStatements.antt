@@ -20,7 +20,7 @@ use Rattle.c0_syntax.specs.Views.{name_of, type_of, expression_of, spec_of, simp
 use Rattle.c0_rules.specs.Types.{ResolvedType, VoidType, IntType, BoolType, StringType, same_type, small_type, is_small, Environment}
 use Rattle.c0_rules.specs.Mentions.{as_variable}
 use Rattle.c0_rules.specs.Expressions.{operator_rule, Context}
-use Rattle.c0_rules.specs.Statements.{Role, Invariant, Assertion, role_of, same_role, Scope, Checked, leave, within, Destination, ToLocal, ToPlace, change_of, declares, is_taken, destination, typed_part, typed_statement}
+use Rattle.c0_rules.specs.Statements.{Role, Invariant, Assertion, role_of, same_role, Scope, Checked, in_body, leave, within, Destination, ToLocal, ToPlace, change_of, declares, is_taken, destination, typed_part, typed_statement}
 use Rattle.c0_rules.specs.FaultExpressions.{Told, SmallTypeCause, AsValue, AsPlace, Mistyped, CallCause, InExpression, InArguments}
 
 -- the type of what a destination holds
@@ -133,15 +133,15 @@ module _ (env : Environment) (fault : Fault) where
     InStatement s (If' c p x here) span = InWanted s BoolType c ⊎ InStatement s x here
     InStatement s (IfElse' c p x here q y there) span =
         InWanted s BoolType c ⊎ InStatement s x here ⊎ ((z : Checked) × (typed_statement env (statement_of_kind x) s ≡ Some z) × InStatement (leave s z.scope) y there)
-    InStatement s (While' c notes p x here) span = InWanted s BoolType c ⊎ InAnnotations Invariant (within s) notes.items ⊎ InStatement s x here
+    InStatement s (While' c notes p x here) span = InWanted s BoolType c ⊎ InAnnotations Invariant (within s) notes.items ⊎ InStatement (in_body s) x here
     InStatement s (For' first c third notes p x here) span =
         InPart s first ⊎ ThirdCause third
         ⊎ ((z : Checked) × (typed_part env (option_map simple_of first) s ≡ Some z)
-        × (InWanted z.scope BoolType c ⊎ InPart z.scope third ⊎ InAnnotations Invariant (within z.scope) notes.items ⊎ InStatement z.scope x here))
+        × (InWanted z.scope BoolType c ⊎ InPart z.scope third ⊎ InAnnotations Invariant (within z.scope) notes.items ⊎ InStatement (in_body z.scope) x here))
     InStatement s (Assert x) span = InWanted s BoolType x
     InStatement s (Error x) span = InWanted s StringType x
-    InStatement s Break span = Told k.Syntax span fault
-    InStatement s Continue span = Told k.Syntax span fault
+    InStatement s Break span = (s.in_loop ≡ false) × Told k.NotInLoop span fault
+    InStatement s Continue span = (s.in_loop ≡ false) × Told k.NotInLoop span fault
 
     -- ... in one of the statements of a block
     pub InRow : {m : _} → Scope → Row_of-Statement m → Type 0

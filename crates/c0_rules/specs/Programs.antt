@@ -103,7 +103,7 @@ typed_parts env f h body =
     provided (keeps_parameters h body) (provided (are_contracts specs) (
     and_so (conditions env Precondition (record { locals = locals; result = None }) specs) (λ before.
     and_so (conditions env Postcondition (record { locals = locals; result = result_of f.result }) specs) (λ behind.
-    and_so (typed_statements env body (record { locals = locals; parameters = length f.parameters; declared = []; result = f.result })) (λ x.
+    and_so (typed_statements env body (record { locals = locals; parameters = length f.parameters; declared = []; result = f.result; in_loop = false })) (λ x.
     Some (record { requires = before; ensures = behind; checked = x }))))))
 
 -- a function of a typed tree

@@ -48,12 +48,14 @@ all_are role specs = list_all (λ s. same_role role (role_of s)) specs
 
 -- ---- where a statement stands
 
--- The locals in scope, the number of parameters, the types of all other locals of the function so far, and its result's type.
+-- The locals in scope, the number of parameters, the types of all other locals of the function so far, its result's type, and whether a
+-- loop of the function is round it.
 pub record Scope : Type 0 where
   pub locals : List Local
   pub parameters : ℕ
   pub declared : List ResolvedType
   pub result : ResolvedType
+  pub in_loop : Bool
 
 -- what a statement is, and what is in scope behind it
 pub record Checked : Type 0 where
@@ -62,7 +64,11 @@ pub record Checked : Type 0 where
 
 -- the end of a scope that began here
 abbrev pub leave : Scope → Scope → Scope
-leave outer inner = record inner { locals = outer.locals }
+leave outer inner = record inner { locals = outer.locals; in_loop = outer.in_loop }
+
+-- where the body of a loop stands
+abbrev pub in_body : Scope → Scope
+in_body s = record s { in_loop = true }
 
 -- where an expression of a body stands: there is no `\result`
 abbrev pub within : Scope → Context
@@ -198,16 +204,16 @@ module _ (env : Environment) where
         next (t.If z x.statement y.statement) (leave s y.scope))))
     typed_statement (While c notes a) s =
         and_so (expression_as BoolType s c) (λ z. and_so (conditions_of_all Invariant (within s) (specs_in notes)) (λ xs.
-        and_so (typed_statement a s) (λ x. next (t.Loop xs z x.statement t.Skip) (leave s x.scope))))
+        and_so (typed_statement a (in_body s)) (λ x. next (t.Loop xs z x.statement t.Skip) (leave s x.scope))))
     typed_statement (For first c third notes a) s =
         and_so (typed_part first s) (λ x. and_so (expression_as BoolType x.scope c) (λ z.
-        and_so (conditions_of_all Invariant (within x.scope) (specs_in notes)) (λ xs. and_so (typed_statement a x.scope) (λ y.
+        and_so (conditions_of_all Invariant (within x.scope) (specs_in notes)) (λ xs. and_so (typed_statement a (in_body x.scope)) (λ y.
         provided (not (declares third)) (and_so (typed_part third (leave x.scope y.scope)) (λ w.
         next (t.Seq x.statement (t.Seq (t.Loop xs z y.statement w.statement) t.Skip)) (leave s w.scope)))))))
     typed_statement (Assert e) s = and_so (expression_as BoolType s e) (λ x. next (t.Assert x) s)
     typed_statement (Error e) s = and_so (expression_as StringType s e) (λ x. next (t.Error x) s)
-    typed_statement Break s = None
-    typed_statement Continue s = None
+    typed_statement Break s = provided s.in_loop (next t.Break s)
+    typed_statement Continue s = provided s.in_loop (next t.Continue s)
 
     -- statements in order
     pub typed_statements : Statements → Scope → Option Checked

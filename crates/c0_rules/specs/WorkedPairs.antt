@@ -4,7 +4,7 @@ use Rattle.std.specs.List.{list_all}
 use Rattle.c0_source.specs.declared.kind.Clause.TheVariants as k
 use Rattle.c0_source.specs.declared.kind.Operator.TheVariants as o
 use Rattle.c0_syntax.specs.declared.operator.Change.TheVariants as c
-use Rattle.c0_syntax.specs.Trees.{NamedType, Pointer, Array, Character, Truth, Null, Text, Parenthesized, Alloc, AllocArray, Result, Length, Index, Field, PointerField, Conditional, Contract, Asserts, Declare, Initialize, Step, Update, Simple, Annotation, Return, ReturnValue, If, IfElse, While, For, Assert, Error, Break, UseLibrary, DeclareStruct, DefineStruct, Typedef, DeclareFunction, DefineFunction, Program}
+use Rattle.c0_syntax.specs.Trees.{NamedType, Pointer, Array, Character, Truth, Null, Text, Parenthesized, Alloc, AllocArray, Result, Length, Index, Field, PointerField, Conditional, Contract, Asserts, Declare, Initialize, Step, Update, Simple, Annotation, Return, ReturnValue, If, IfElse, While, For, Assert, Error, Break, Continue, UseLibrary, DeclareStruct, DefineStruct, Typedef, DeclareFunction, DefineFunction, Program}
 use Rattle.c0_rules.specs.Programs.{typed_program}
 use Rattle.c0_rules.specs.WorkedTrees.{x, y, f, g, s, t, main, print, flush, int, bool, void, struct_s, struct_t, num, var, call0, call1, call2, star, equal, less, plus, declare, initialize, assign, add_to, increment, evaluate, in_order, block, item, header, function, f_with, an_f, f_declared, s_defined, t_defined, use_conio, main_with, a_main, then_main, only_main, large_structs, largest}
 
@@ -219,6 +219,21 @@ not_assigned =
     -- what a loop's body assigns does not count in an invariant
     ∷ pair 38 (only_main (declare int x ∷ While (Truth true) ((Contract k.LoopInvariant (equal (var x) (num 1)) ∷ []) ∷ []) (assign (var x) (num 1)) ∷ []))
     (only_main (initialize int x (num 1) ∷ While (Truth true) ((Contract k.LoopInvariant (equal (var x) (num 1)) ∷ []) ∷ []) (assign (var x) (num 1)) ∷ []))
+    -- for (; true; x++) { if (true) continue; x = 1; }   and   { x = 1; if (true) continue; }
+    ∷ pair 38 (only_main (declare int x ∷ For None (Truth true) (Some (Step (var x) c.Increment)) [] (block (If (Truth true) Continue ∷ assign (var x) (num 1) ∷ [])) ∷ []))
+    (only_main (declare int x ∷ For None (Truth true) (Some (Step (var x) c.Increment)) [] (block (assign (var x) (num 1) ∷ If (Truth true) Continue ∷ [])) ∷ []))
+    -- a `continue` behind an assignment, and beside it another, or a `break`, which skips the third part
+    ∷ pair 38 (only_main (declare int x ∷ For None (Truth true) (Some (Step (var x) c.Increment)) [] (IfElse (Truth true) (block (assign (var x) (num 1) ∷ Continue ∷ [])) Continue) ∷ []))
+    (only_main (declare int x ∷ For None (Truth true) (Some (Step (var x) c.Increment)) [] (IfElse (Truth true) (block (assign (var x) (num 1) ∷ Continue ∷ [])) Break) ∷ []))
+    -- the `continue` of a loop in the body ends no turn of this one: for (; true; x++) { while (true) { x = 1; continue; } }   and   { while (true) continue; x = 1; }
+    ∷ pair 38 (only_main (declare int x ∷ For None (Truth true) (Some (Step (var x) c.Increment)) [] (While (Truth true) [] (block (assign (var x) (num 1) ∷ Continue ∷ []))) ∷ []))
+    (only_main (declare int x ∷ For None (Truth true) (Some (Step (var x) c.Increment)) [] (block (While (Truth true) [] Continue ∷ assign (var x) (num 1) ∷ [])) ∷ []))
+    -- while (true) { x = 1; break; } x;   and   x = 1; before
+    ∷ pair 38 (only_main (declare int x ∷ While (Truth true) [] (block (assign (var x) (num 1) ∷ Break ∷ [])) ∷ evaluate (var x) ∷ []))
+    (only_main (declare int x ∷ assign (var x) (num 1) ∷ While (Truth true) [] Break ∷ evaluate (var x) ∷ []))
+    -- behind `break` and `continue` everything counts as assigned, and not behind the choice of one
+    ∷ pair 38 (only_main (declare int x ∷ While (Truth true) [] (block (If (Truth true) Break ∷ evaluate (var x) ∷ [])) ∷ []))
+    (only_main (declare int x ∷ While (Truth true) [] (block (IfElse (Truth true) Break Continue ∷ evaluate (var x) ∷ [])) ∷ []))
     -- what follows in a scope of its own
     ∷ pair 38 (only_main (block (initialize int x (num 1) ∷ []) ∷ declare int x ∷ evaluate (var x) ∷ [])) (only_main (block (declare int x ∷ []) ∷ initialize int x (num 1) ∷ evaluate (var x) ∷ []))
     ∷ []
@@ -232,6 +247,8 @@ no_return =
     ∷ pair 39 (main_with (While (Truth true) [] (block (ReturnValue (num 1) ∷ [])) ∷ []) ∷ []) (main_with (While (Truth true) [] (block (ReturnValue (num 1) ∷ [])) ∷ ReturnValue (num 2) ∷ []) ∷ [])
     -- for (; true; ) return 1;   and a block
     ∷ pair 39 (main_with (For None (Truth true) None [] (ReturnValue (num 1)) ∷ []) ∷ []) (main_with (block (ReturnValue (num 1) ∷ []) ∷ []) ∷ [])
+    -- while (true) break;   and a `return` behind it
+    ∷ pair 39 (main_with (While (Truth true) [] Break ∷ []) ∷ []) (main_with (While (Truth true) [] Break ∷ ReturnValue (num 0) ∷ []) ∷ [])
     -- assert(false);   and   error("");
     ∷ pair 39 (main_with (Assert (Truth false) ∷ []) ∷ []) (main_with (Error (Text []) ∷ []) ∷ [])
     -- nothing, in a function of int and of void
@@ -353,11 +370,28 @@ bad_use =
     ∷ pair 47 (s_defined ∷ use_conio ∷ a_main ∷ []) (use_conio ∷ s_defined ∷ a_main ∷ [])
     ∷ []
 
--- trees that no text reads as: `break`, an operator of another kind in `op=`, a letter or a text beyond ASCII
+-- `break` and `continue` outside of the loops of their function
+abbrev pub not_in_loop : List Pair
+not_in_loop =
+    -- break;   and   while (true) break;
+    pair 48 (only_main (Break ∷ [])) (only_main (While (Truth true) [] Break ∷ []))
+    -- continue;   and   for (; true; ) continue;
+    ∷ pair 48 (only_main (Continue ∷ [])) (only_main (For None (Truth true) None [] Continue ∷ []))
+    -- if (true) break; else {}   and the same in a loop's body, with continue
+    ∷ pair 48 (only_main (IfElse (Truth true) Break (block []) ∷ [])) (only_main (While (Truth true) [] (IfElse (Truth true) Break (block (Continue ∷ []))) ∷ []))
+    -- while (true) {} break;   and   while (true) { while (true) {} break; }
+    ∷ pair 48 (only_main (While (Truth true) [] (block []) ∷ Break ∷ [])) (only_main (While (Truth true) [] (block (While (Truth true) [] (block []) ∷ Break ∷ [])) ∷ []))
+    -- for (; true; ) {} { continue; }   and   for (; true; ) { { continue; } }
+    ∷ pair 48 (only_main (For None (Truth true) None [] (block []) ∷ block (Continue ∷ []) ∷ [])) (only_main (For None (Truth true) None [] (block (block (Continue ∷ []) ∷ [])) ∷ []))
+    -- a loop round the call of a function is none of that function
+    ∷ pair 48 (then_main (f_with [] (Break ∷ ReturnValue (num 1) ∷ []) ∷ []) (While (Truth true) [] (evaluate (call1 f (num 1))) ∷ []))
+    (then_main (f_with [] (While (Truth true) [] Break ∷ ReturnValue (num 1) ∷ []) ∷ []) (While (Truth true) [] (evaluate (call1 f (num 1))) ∷ []))
+    ∷ []
+
+-- trees that no text reads as: an operator of another kind in `op=`, a letter or a text beyond ASCII
 abbrev pub not_readable : List Pair
 not_readable =
-    pair 20 (only_main (While (Truth true) [] Break ∷ [])) (only_main (While (Truth true) [] (block []) ∷ []))
-    ∷ pair 20 (only_main (initialize int x (num 1) ∷ Simple (Update (var x) o.Less (num 1)) ∷ [])) (only_main (initialize int x (num 1) ∷ Simple (Update (var x) o.ShiftLeft (num 1)) ∷ []))
+    pair 20 (only_main (initialize int x (num 1) ∷ Simple (Update (var x) o.Less (num 1)) ∷ [])) (only_main (initialize int x (num 1) ∷ Simple (Update (var x) o.ShiftLeft (num 1)) ∷ []))
     ∷ pair 11 (only_main (evaluate (Character 128) ∷ [])) (only_main (evaluate (Character 127) ∷ []))
     ∷ pair 11 (only_main (evaluate (Text (195 ∷ 169 ∷ [])) ∷ [])) (only_main (evaluate (Text (127 ∷ [])) ∷ []))
     ∷ []
@@ -366,11 +400,11 @@ not_readable =
 abbrev pub pairs : List Pair
 pairs =
     too_large ++ unknown_name ++ unknown_field ++ duplicate_name ++ type_mismatch ++ not_small ++ void_use ++ argument_count ++ not_destination ++ not_assigned ++ no_return
-    ++ not_defined ++ bad_main ++ struct_not_complete ++ null_dereference ++ bad_contract ++ decl_mismatch ++ step_declares ++ bad_use ++ not_readable
+    ++ not_defined ++ bad_main ++ struct_not_complete ++ null_dereference ++ bad_contract ++ decl_mismatch ++ step_declares ++ bad_use ++ not_in_loop ++ not_readable
 
 -- the numbers of the faults of the static rules
 abbrev pub numbers : List ℕ
-numbers = 22 ∷ 30 ∷ 31 ∷ 32 ∷ 33 ∷ 34 ∷ 35 ∷ 36 ∷ 37 ∷ 38 ∷ 39 ∷ 40 ∷ 41 ∷ 42 ∷ 43 ∷ 44 ∷ 45 ∷ 46 ∷ 47 ∷ []
+numbers = 22 ∷ 30 ∷ 31 ∷ 32 ∷ 33 ∷ 34 ∷ 35 ∷ 36 ∷ 37 ∷ 38 ∷ 39 ∷ 40 ∷ 41 ∷ 42 ∷ 43 ∷ 44 ∷ 45 ∷ 46 ∷ 47 ∷ 48 ∷ []
 
 -- whether a program has a typed tree
 abbrev pub is_well_typed : Program → Bool

@@ -43,7 +43,7 @@ abbrev types_fault : Environment → Signature → s.Header → s.Statements →
 types_fault env f h body =
     or_else (contracts_fault env (record { locals = parameters_from 1 h.parameters f.parameters; result = None }) (record { locals = parameters_from 1 h.parameters f.parameters; result = result_of f.result }) h.annotations)
     (or_else (assigned_notes_fault (assigned_in (names_of h.parameters) (statements_assign body)) h.annotations)
-    (statements_fault env (record { locals = parameters_from 1 h.parameters f.parameters; parameters = length f.parameters; declared = []; result = f.result }) body))
+    (statements_fault env (record { locals = parameters_from 1 h.parameters f.parameters; parameters = length f.parameters; declared = []; result = f.result; in_loop = false }) body))
 
 abbrev function_fault : Environment → s.Header → s.Statements → Signature → Option FaultKind
 function_fault env h body f = or_else (types_fault (with_function f env) f h body) (and_so (typed_parts (with_function f env) f h body) (paths_fault f body))
@@ -66,7 +66,7 @@ types_found env f h body kind e =
       | inl q ↦ (let w = contracts_found env (record { locals = locals; result = None }) (record { locals = locals; result = result_of f.result }) h.annotations.items kind q in (w.0, inl w.1))
       | inr q ↦ elim (either (assigned_notes_fault (assigned_in (names_of (map typed_name_of h.parameters.items)) (statements_assign (statements_of body))) (map annotation_of h.annotations.items)) _ kind q) [
         | inl z ↦ (let w = assigned_notes_found (assigned_in (names_of (map typed_name_of h.parameters.items)) (statements_assign (statements_of body))) h.annotations.items kind z in (w.0, inr (inl w.1)))
-        | inr z ↦ (let w = body_found env (record { locals = locals; parameters = length f.parameters; declared = []; result = f.result }) body kind z in (w.0, inr (inr w.1)))
+        | inr z ↦ (let w = body_found env (record { locals = locals; parameters = length f.parameters; declared = []; result = f.result; in_loop = false }) body kind z in (w.0, inr (inr w.1)))
       ]
     ]
 

@@ -21,7 +21,7 @@ use Rattle.c0_syntax.specs.Views.{name_of, type_of, expression_of, expression_of
 use Rattle.c0_rules.specs.Types.{and_so, provided, Name, ResolvedType, VoidType, IntType, BoolType, StringType, same_type, small_type, is_small, Environment}
 use Rattle.c0_rules.specs.Mentions.{as_variable, condition_of}
 use Rattle.c0_rules.specs.Expressions.{operator_rule, Context}
-use Rattle.c0_rules.specs.Statements.{Role, Invariant, Assertion, role_of, same_role, Scope, Checked, leave, within, Destination, change_of, declares, is_taken, destination, typed_part, typed_statement}
+use Rattle.c0_rules.specs.Statements.{Role, Invariant, Assertion, role_of, same_role, Scope, Checked, in_body, leave, within, Destination, change_of, declares, is_taken, destination, typed_part, typed_statement}
 use Rattle.c0_rules.specs.FaultExpressions.{Told, AsValue, AsPlace, Mistyped, InExpression}
 use Rattle.c0_rules.specs.FaultStatements.{destination_type, has_place, InCondition, InSpecs, InAnnotations, InValue, InWanted, TakenCause, InDestination, AssignedCause, ChangedCause, InEvaluated, InSimple, InPart, ReturnCause, ThirdCause, InStatement, InRow, InBody}
 use Rattle.c0_rules_faults.proofs.Find.{At, here, when, or_else, either, found_kind, when_is, with_some, where_so, not_is, is_none, none_is}
@@ -256,14 +256,14 @@ module _ (env : Environment) where
     statement_fault scope (s.ReturnValue x) = return_fault scope x
     statement_fault scope (s.If c x) = or_else (wanted_fault scope BoolType c) (statement_fault scope x)
     statement_fault scope (s.IfElse c x z) = or_else (wanted_fault scope BoolType c) (or_else (statement_fault scope x) (and_so (typed_statement env x scope) (λ w. statement_fault (leave scope w.scope) z)))
-    statement_fault scope (s.While c notes x) = or_else (wanted_fault scope BoolType c) (or_else (notes_fault Invariant (within scope) notes) (statement_fault scope x))
+    statement_fault scope (s.While c notes x) = or_else (wanted_fault scope BoolType c) (or_else (notes_fault Invariant (within scope) notes) (statement_fault (in_body scope) x))
     statement_fault scope (s.For first c third notes x) =
         or_else (part_fault scope first) (or_else (third_fault third) (and_so (typed_part env first scope) (λ w.
-        or_else (wanted_fault w.scope BoolType c) (or_else (part_fault w.scope third) (or_else (notes_fault Invariant (within w.scope) notes) (statement_fault w.scope x))))))
+        or_else (wanted_fault w.scope BoolType c) (or_else (part_fault w.scope third) (or_else (notes_fault Invariant (within w.scope) notes) (statement_fault (in_body w.scope) x))))))
     statement_fault scope (s.Assert x) = wanted_fault scope BoolType x
     statement_fault scope (s.Error x) = wanted_fault scope StringType x
-    statement_fault scope s.Break = Some k.Syntax
-    statement_fault scope s.Continue = Some k.Syntax
+    statement_fault scope s.Break = when (not scope.in_loop) k.NotInLoop
+    statement_fault scope s.Continue = when (not scope.in_loop) k.NotInLoop
 
     pub statements_fault : Scope → s.Statements → Option FaultKind
     statements_fault scope s.nothing = None
@@ -292,9 +292,9 @@ module _ (env : Environment) where
     ]
     statement_found scope (While' c notes p x this) span kind h = elim (either (wanted_fault scope BoolType (expression_of c)) _ kind h) [
       | inl m ↦ (let w = wanted_found scope BoolType c kind m in (w.0, inl w.1))
-      | inr m ↦ elim (either (notes_fault Invariant (within scope) (map annotation_of notes.items)) (statement_fault scope (statement_of_kind x)) kind m) [
+      | inr m ↦ elim (either (notes_fault Invariant (within scope) (map annotation_of notes.items)) (statement_fault (in_body scope) (statement_of_kind x)) kind m) [
         | inl r ↦ (let w = notes_found Invariant (within scope) notes.items kind r in (w.0, inr (inl w.1)))
-        | inr r ↦ (let w = statement_found scope x this kind r in (w.0, inr (inr w.1)))
+        | inr r ↦ (let w = statement_found (in_body scope) x this kind r in (w.0, inr (inr w.1)))
       ]
     ]
     statement_found scope (For' first c third notes p x this) span kind h = elim (either (part_fault scope (option_map simple_of first)) _ kind h) [
@@ -302,15 +302,15 @@ module _ (env : Environment) where
       | inr m ↦ elim (either (third_fault (option_map simple_of third)) _ kind m) [
         | inl r ↦ (let w = third_found third kind r in (w.0, inr (inl w.1)))
         | inr r ↦
-            (let inside : Checked → Option FaultKind = λ w. or_else (wanted_fault w.scope BoolType (expression_of c)) (or_else (part_fault w.scope (option_map simple_of third)) (or_else (notes_fault Invariant (within w.scope) (map annotation_of notes.items)) (statement_fault w.scope (statement_of_kind x)))) in
+            (let inside : Checked → Option FaultKind = λ w. or_else (wanted_fault w.scope BoolType (expression_of c)) (or_else (part_fault w.scope (option_map simple_of third)) (or_else (notes_fault Invariant (within w.scope) (map annotation_of notes.items)) (statement_fault (in_body w.scope) (statement_of_kind x)))) in
             let v = with_some (typed_part env (option_map simple_of first) scope) inside kind r in
             elim (either (wanted_fault v.0.scope BoolType (expression_of c)) _ kind v.2) [
               | inl z ↦ (let w = wanted_found v.0.scope BoolType c kind z in (w.0, inr (inr (v.0, v.1, inl w.1))))
               | inr z ↦ elim (either (part_fault v.0.scope (option_map simple_of third)) _ kind z) [
                 | inl g ↦ (let w = part_found v.0.scope third kind g in (w.0, inr (inr (v.0, v.1, inr (inl w.1)))))
-                | inr g ↦ elim (either (notes_fault Invariant (within v.0.scope) (map annotation_of notes.items)) (statement_fault v.0.scope (statement_of_kind x)) kind g) [
+                | inr g ↦ elim (either (notes_fault Invariant (within v.0.scope) (map annotation_of notes.items)) (statement_fault (in_body v.0.scope) (statement_of_kind x)) kind g) [
                   | inl b ↦ (let w = notes_found Invariant (within v.0.scope) notes.items kind b in (w.0, inr (inr (v.0, v.1, inr (inr (inl w.1))))))
-                  | inr b ↦ (let w = statement_found v.0.scope x this kind b in (w.0, inr (inr (v.0, v.1, inr (inr (inr w.1))))))
+                  | inr b ↦ (let w = statement_found (in_body v.0.scope) x this kind b in (w.0, inr (inr (v.0, v.1, inr (inr (inr w.1))))))
                 ]
               ]
             ])
@@ -318,8 +318,8 @@ module _ (env : Environment) where
     ]
     statement_found scope (Assert x) span kind h = wanted_found scope BoolType x kind h
     statement_found scope (Error x) span kind h = wanted_found scope StringType x kind h
-    statement_found scope Break span kind h = (span, here k.Syntax kind span (found_kind k.Syntax kind h))
-    statement_found scope Continue span kind h = (span, here k.Syntax kind span (found_kind k.Syntax kind h))
+    statement_found scope Break span kind h = let v = when_is (not scope.in_loop) k.NotInLoop kind h in (span, (not_is scope.in_loop v.0, here k.NotInLoop kind span v.1))
+    statement_found scope Continue span kind h = let v = when_is (not scope.in_loop) k.NotInLoop kind h in (span, (not_is scope.in_loop v.0, here k.NotInLoop kind span v.1))
 
     row_found : {m : _} (scope : Scope) (rest : Row_of-Statement m) (kind : FaultKind) → statements_fault scope (statement_row rest) ≡ Some kind → At kind (λ f. InRow env f scope rest)
     row_found scope end_of-Statement kind h = absurd (cc h)

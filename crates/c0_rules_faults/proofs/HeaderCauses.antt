@@ -194,7 +194,7 @@ module _ (env : Environment) where
       let found : (x : Name) → AllSome (λ l. is_small l.resolved ≡ true) (local_of locals x) = λ x. found_small locals x low in
       let before : Context = record { locals = locals; result = None } in
       let behind : Context = record { locals = locals; result = result_of f.result } in
-      let s : Scope = record { locals = locals; parameters = length f.parameters; declared = []; result = f.result } in
+      let s : Scope = record { locals = locals; parameters = length f.parameters; declared = []; result = f.result; in_loop = false } in
       elim (split_if (keeps_parameters (header_of h) (statements_of body)) _ e) [
         | inl q ↦ (let t = kept_cause h body q in (t.0, inr (inl t.1)))
         | inr q ↦ elim (split_if (are_contracts specs) _ q.1) [

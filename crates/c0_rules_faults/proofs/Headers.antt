@@ -177,7 +177,7 @@ module _ (env : Environment) (fault : Fault) (small : TakeSmall env) where
   parts_none f h body few (inr (inr q)) =
       let locals = parameters_from 1 (header_of h).parameters f.parameters in
       let specs = specs_in (header_of h).annotations in
-      let s : Scope = record { locals = locals; parameters = length f.parameters; declared = []; result = f.result } in
+      let s : Scope = record { locals = locals; parameters = length f.parameters; declared = []; result = f.result; in_loop = false } in
       provided_none (keeps_parameters (header_of h) (statements_of body)) _ (provided_none (are_contracts specs) _
       (and_each (conditions env Precondition (record { locals = locals; result = None }) specs) _ (λ x v.
       and_each (conditions env Postcondition (record { locals = locals; result = result_of f.result }) specs) _ (λ y w.

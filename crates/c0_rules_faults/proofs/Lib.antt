@@ -22,3 +22,5 @@ mod FindPaths
 mod FindReads
 mod FindHeaders
 mod FindPrograms
+mod Turns
+mod Exits

@@ -17,7 +17,7 @@ use Rattle.c0_syntax.specs.Trees as tree
 use Rattle.c0_syntax.specs.Views.{expression_of, spec_of, annotation_of, simple_of, simple_of_kind, statement_of, statement_of_kind, statement_row, statements_of, typed_name_of, header_of}
 use Rattle.c0_rules.specs.Types.{Name, is_among, any_among, VoidType, same_type, Signature}
 use Rattle.c0_rules.specs.Mentions.{Mention, mentions, variables_in, condition_of, specs_in, statements_assign, as_variable}
-use Rattle.c0_rules.specs.Assignment.{Flow, Ended, Reached, reads_assigned, specs_read_assigned, has_ended, left_scope, after_statement, after_statements, flow_of_assignment, flow_of_simple, flow_of_part, flow_of_statement, flow_of_statements}
+use Rattle.c0_rules.specs.Assignment.{Flow, Ended, Reached, reads_assigned, specs_read_assigned, has_ended, after_body, continued, joined, after_statements, flow_of_assignment, flow_of_simple, flow_of_part, flow_of_statement, flow_of_statements}
 use Rattle.c0_rules.specs.Statements.{Postcondition, role_of, same_role}
 use Rattle.c0_rules.specs.Programs.{names_of, names_in_ensures, is_assigned_parameter, keeps_parameters, paths_agree}
 use Rattle.c0_rules.specs.FaultPaths.{is_unassigned, ReadIn, ReadInSpecs, ReadInAnnotations, ReadInSimple, ReadInPart, ReadInStatement, ReadInBlock, ReadInBody}
@@ -73,9 +73,9 @@ part_cause flow None h = absurd (cc h)
 part_cause flow (Some x) h = simple_cause flow x.kind h
 
 -- the third part of a `for`, behind the body
-third_cause : (flow g : Flow) (x : Option SimpleStatement) (body : tree.Statement) → flow_of_statement body flow ≡ Some g → flow_of_part (option_map simple_of x) (left_scope flow g) ≡ None
-    → Caused (λ f. ReadInPart f (left_scope flow (after_statement body flow)) x)
-third_cause flow g x body e h = part_cause (left_scope flow (after_statement body flow)) x (subst (λ z. flow_of_part (option_map simple_of x) (left_scope flow z) ≡ None) (after_is body flow g e) h)
+third_cause : (flow g : Flow) (x : Option SimpleStatement) (body : tree.Statement) → flow_of_statement body flow ≡ Some g → flow_of_part (option_map simple_of x) (joined flow g (continued flow body flow Ended)) ≡ None
+    → Caused (λ f. ReadInPart f (after_body body flow) x)
+third_cause flow g x body e h = part_cause (after_body body flow) x (subst (λ z. flow_of_part (option_map simple_of x) (joined flow z (continued flow body flow Ended)) ≡ None) (after_is body flow g e) h)
 
 mutual
   statement_cause : (flow : Flow) (x : StatementKind) → flow_of_statement (statement_of_kind x) flow ≡ None → Caused (λ f. ReadInStatement f flow x)
@@ -111,7 +111,7 @@ mutual
       ]
       | inr w ↦ elim (split (flow_of_statement (statement_of_kind x) q.0) _ w.1) [
         | inl z ↦ (let f = statement_cause q.0 x z in (f.0, inr (q.0, q.1, inr (inr (inr f.1)))))
-        | inr z ↦ elim (split (flow_of_part (option_map simple_of third) (left_scope q.0 z.0)) _ z.2) [
+        | inr z ↦ elim (split (flow_of_part (option_map simple_of third) (joined q.0 z.0 (continued q.0 (statement_of_kind x) q.0 Ended))) _ z.2) [
           | inl v ↦ (let f = third_cause q.0 z.0 third (statement_of_kind x) z.1 v in (f.0, inr (q.0, q.1, inr (inl f.1))))
           | inr v ↦ absurd (cc v.2)
         ]

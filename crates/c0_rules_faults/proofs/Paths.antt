@@ -18,7 +18,7 @@ use Rattle.c0_syntax.specs.Trees as tree
 use Rattle.c0_syntax.specs.Views.{expression_of, spec_of, annotation_of, simple_of, simple_of_kind, statement_of, statement_of_kind, statement_row, statements_of, typed_name_of, header_of}
 use Rattle.c0_rules.specs.Types.{Name, is_among, VoidType, same_type, Signature}
 use Rattle.c0_rules.specs.Mentions.{Mention, mentions, variables_in, condition_of, specs_in, statements_assign, as_variable}
-use Rattle.c0_rules.specs.Assignment.{Flow, Ended, Reached, reads_assigned, specs_read_assigned, has_ended, left_scope, after_statement, after_statements, flow_of_assignment, flow_of_simple, flow_of_part, flow_of_statement, flow_of_statements}
+use Rattle.c0_rules.specs.Assignment.{Flow, Ended, Reached, reads_assigned, specs_read_assigned, has_ended, after_body, continued, joined, after_statements, flow_of_assignment, flow_of_simple, flow_of_part, flow_of_statement, flow_of_statements}
 use Rattle.c0_rules.specs.Statements.{Postcondition, role_of, same_role}
 use Rattle.c0_rules.specs.Programs.{names_of, names_in_ensures, is_assigned_parameter, keeps_parameters, paths_agree}
 use Rattle.c0_rules.specs.FaultPaths.{NamedInSpecs, is_unassigned, ReadIn, ReadInSpecs, ReadInAnnotations, ReadInSimple, ReadInPart, ReadInStatement, ReadInBlock, ReadInBody}
@@ -74,9 +74,9 @@ module _ (fault : Fault) where
   part_flow flow (Some x) h = simple_flow flow x.kind h
 
   -- the third part of a `for`, behind the body
-  third_flow : (f g : Flow) (x : Option SimpleStatement) (body : tree.Statement) → flow_of_statement body f ≡ Some g → ReadInPart fault (left_scope f (after_statement body f)) x
-      → flow_of_part (option_map simple_of x) (left_scope f g) ≡ None
-  third_flow f g x body e h = subst (λ z. flow_of_part (option_map simple_of x) (left_scope f z) ≡ None) (sym (after_is body f g e)) (part_flow (left_scope f (after_statement body f)) x h)
+  third_flow : (f g : Flow) (x : Option SimpleStatement) (body : tree.Statement) → flow_of_statement body f ≡ Some g → ReadInPart fault (after_body body f) x
+      → flow_of_part (option_map simple_of x) (joined f g (continued f body f Ended)) ≡ None
+  third_flow f g x body e h = subst (λ z. flow_of_part (option_map simple_of x) (joined f z (continued f body f Ended)) ≡ None) (sym (after_is body f g e)) (part_flow (after_body body f) x h)
 
   mutual
     statement_flow : (flow : Flow) (x : StatementKind) → ReadInStatement fault flow x → flow_of_statement (statement_of_kind x) flow ≡ None

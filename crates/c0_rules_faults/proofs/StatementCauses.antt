@@ -21,7 +21,7 @@ use Rattle.c0_typed.specs.Trees as t
 use Rattle.c0_rules.specs.Types.{and_so, Name, ResolvedType, VoidType, IntType, BoolType, StringType, StructNamed, PointerTo, ArrayOf, same_type, is_small, small_type, resolved_type, Signature, Environment, output_named}
 use Rattle.c0_rules.specs.Mentions.{as_variable, specs_in}
 use Rattle.c0_rules.specs.Expressions.{OperatorRule, OnNumbers, Compares, Conjunction, Disjunction, operator_rule, is_compared, is_equality, Typing, Has, IsNull, Place, local_of, gives, takes, null_as, as_wanted, wanted, pointed, read_of, prefixed, operated, chosen, lengthed, held_type, callee_or, callee, typed_expression, typed_place, typed_arguments}
-use Rattle.c0_rules.specs.Statements.{Invariant, Assertion, Scope, leave, within, Destination, ToLocal, ToPlace, change_of, step_of, is_call, declares, one, expression_as, conditions_of_all, is_taken, declared, destination_by, destination, assigned, updated, evaluated, typed_simple, typed_part, typed_statement, typed_statements}
+use Rattle.c0_rules.specs.Statements.{Invariant, Assertion, Scope, in_body, leave, within, Destination, ToLocal, ToPlace, change_of, step_of, is_call, declares, one, expression_as, conditions_of_all, is_taken, declared, destination_by, destination, assigned, updated, evaluated, typed_simple, typed_part, typed_statement, typed_statements}
 use Rattle.c0_rules.specs.FaultExpressions.{Told, AsPlace, SmallTypeCause, InExpression}
 use Rattle.c0_rules.specs.FaultStatements.{has_place, InValue, InWanted, TakenCause, InDestination, AssignedCause, ChangedCause, InEvaluated, InSimple, InPart, ReturnCause, ThirdCause, InStatement, InRow, InBody}
 use Rattle.c0_rules.proofs.Rules.{AllSome, all_so, all_go, all_if, some_has}
@@ -311,7 +311,7 @@ module _ (env : Environment) (results : GiveFine env) where
       | inl q ↦ (let f = want_cause s few BoolType c q in (f.0, inl f.1))
       | inr q ↦ elim (split (conditions_of_all env Invariant (within s) (specs_in (map annotation_of notes.items))) _ q.2) [
         | inl z ↦ (let f = annotations_cause env (within s) (small s few) tt Invariant notes.items z in (f.0, inr (inl f.1)))
-        | inr z ↦ elim (split (typed_statement env (statement_of_kind x) s) _ z.2) [ inl w ↦ (let f = statement_cause s few x here w in (f.0, inr (inr f.1))) | inr w ↦ absurd (cc w.2) ]
+        | inr z ↦ elim (split (typed_statement env (statement_of_kind x) (in_body s)) _ z.2) [ inl w ↦ (let f = statement_cause (in_body s) few x here w in (f.0, inr (inr f.1))) | inr w ↦ absurd (cc w.2) ]
       ]
     ]
     statement_cause s few (For' first c third notes p x here) span h = elim (split (typed_part env (option_map simple_of first) s) _ h) [
@@ -322,8 +322,8 @@ module _ (env : Environment) (results : GiveFine env) where
             | inl z ↦ (let f = want_cause q.0.scope inside BoolType c z in (f.0, inr (inr (q.0, q.1, inl f.1))))
             | inr z ↦ elim (split (conditions_of_all env Invariant (within q.0.scope) (specs_in (map annotation_of notes.items))) _ z.2) [
               | inl w ↦ (let f = annotations_cause env (within q.0.scope) (small q.0.scope inside) tt Invariant notes.items w in (f.0, inr (inr (q.0, q.1, inr (inr (inl f.1))))))
-              | inr w ↦ elim (split (typed_statement env (statement_of_kind x) q.0.scope) _ w.2) [
-                | inl y ↦ (let f = statement_cause q.0.scope inside x here y in (f.0, inr (inr (q.0, q.1, inr (inr (inr f.1))))))
+              | inr w ↦ elim (split (typed_statement env (statement_of_kind x) (in_body q.0.scope)) _ w.2) [
+                | inl y ↦ (let f = statement_cause (in_body q.0.scope) inside x here y in (f.0, inr (inr (q.0, q.1, inr (inr (inr f.1))))))
                 | inr y ↦ elim (split_if (not (declares (option_map simple_of third))) _ y.2) [
                   | inl v ↦ (let f = third_cause third v in (f.0, inr (inl f.1)))
                   | inr v ↦ elim (split (typed_part env (option_map simple_of third) (leave q.0.scope y.0.scope)) _ v.1) [
@@ -337,8 +337,8 @@ module _ (env : Environment) (results : GiveFine env) where
     ]
     statement_cause s few (Assert x) span h = elim (split (expression_as env BoolType s (expression_of x)) _ h) [ inl q ↦ want_cause s few BoolType x q | inr q ↦ absurd (cc q.2) ]
     statement_cause s few (Error x) span h = elim (split (expression_as env StringType s (expression_of x)) _ h) [ inl q ↦ want_cause s few StringType x q | inr q ↦ absurd (cc q.2) ]
-    statement_cause s few Break span h = told k.Syntax span
-    statement_cause s few Continue span h = told k.Syntax span
+    statement_cause s few Break span h = elim (split_if s.in_loop _ h) [ inl q ↦ (let f = told k.NotInLoop span in (f.0, (q, f.1))) | inr q ↦ absurd (cc q.1) ]
+    statement_cause s few Continue span h = elim (split_if s.in_loop _ h) [ inl q ↦ (let f = told k.NotInLoop span in (f.0, (q, f.1))) | inr q ↦ absurd (cc q.1) ]
 
     row_cause : {m : _} (s : Scope) → SmallLocals s.locals → (xs : Row_of-Statement m) → typed_statements env (statement_row xs) s ≡ None → Caused (λ f. InRow env f s xs)
     row_cause s few end_of-Statement h = absurd (cc h)

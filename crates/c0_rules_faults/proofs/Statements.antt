@@ -21,7 +21,7 @@ use Rattle.c0_typed.specs.Trees as t
 use Rattle.c0_rules.specs.Types.{and_so, Name, ResolvedType, VoidType, IntType, BoolType, StringType, same_type, is_small, small_type, resolved_type, Environment}
 use Rattle.c0_rules.specs.Mentions.{as_variable, specs_in}
 use Rattle.c0_rules.specs.Expressions.{operator_rule, Local, local_of, typed_expression, typed_place}
-use Rattle.c0_rules.specs.Statements.{Invariant, Assertion, Scope, Checked, leave, within, Destination, ToLocal, ToPlace, change_of, step_of, declares, one, expression_as, conditions_of_all, is_taken, declared, destination_by, destination, assigned, updated, evaluated, next, typed_simple, typed_part, typed_statement, typed_statements}
+use Rattle.c0_rules.specs.Statements.{Invariant, Assertion, Scope, Checked, in_body, leave, within, Destination, ToLocal, ToPlace, change_of, step_of, declares, one, expression_as, conditions_of_all, is_taken, declared, destination_by, destination, assigned, updated, evaluated, next, typed_simple, typed_part, typed_statement, typed_statements}
 use Rattle.c0_rules.specs.FaultExpressions.{Told, AsValue, AsPlace, SmallTypeCause, Mistyped, InExpression}
 use Rattle.c0_rules.specs.FaultStatements.{destination_type, has_place, InValue, InWanted, TakenCause, InDestination, InEvaluated, InSimple, InPart, ReturnCause, ThirdCause, InStatement, InRow, InBody}
 use Rattle.c0_rules.proofs.Rules.{AllSome, all_so, all_go, all_if, some_has}
@@ -95,18 +95,18 @@ module _ (env : Environment) where
       all_go (λ z. SmallLocals z.scope.locals) (typed_statement env y (leave s w.scope)) _ (λ j i. k)))
   statement_keeps (tree.While c notes x) s k =
       all_go (λ z. SmallLocals z.scope.locals) (expression_as env BoolType s c) _ (λ y q.
-      all_go (λ z. SmallLocals z.scope.locals) (conditions_of_all env Invariant (within s) (specs_in notes)) _ (λ xs r. all_go (λ z. SmallLocals z.scope.locals) (typed_statement env x s) _ (λ w i. k)))
+      all_go (λ z. SmallLocals z.scope.locals) (conditions_of_all env Invariant (within s) (specs_in notes)) _ (λ xs r. all_go (λ z. SmallLocals z.scope.locals) (typed_statement env x (in_body s)) _ (λ w i. k)))
   statement_keeps (tree.For first c third notes x) s k =
       all_go (λ z. SmallLocals z.scope.locals) (typed_part env first s) _ (λ f a.
       all_go (λ z. SmallLocals z.scope.locals) (expression_as env BoolType f.scope c) _ (λ y q.
       all_go (λ z. SmallLocals z.scope.locals) (conditions_of_all env Invariant (within f.scope) (specs_in notes)) _ (λ xs r.
-      all_go (λ z. SmallLocals z.scope.locals) (typed_statement env x f.scope) _ (λ w i.
+      all_go (λ z. SmallLocals z.scope.locals) (typed_statement env x (in_body f.scope)) _ (λ w i.
       all_if (λ z. SmallLocals z.scope.locals) (not (declares third)) _ (λ b.
       all_go (λ z. SmallLocals z.scope.locals) (typed_part env third (leave f.scope w.scope)) _ (λ v j. k))))))
   statement_keeps (tree.Assert e) s k = all_go (λ z. SmallLocals z.scope.locals) (expression_as env BoolType s e) _ (λ x q. k)
   statement_keeps (tree.Error e) s k = all_go (λ z. SmallLocals z.scope.locals) (expression_as env StringType s e) _ (λ x q. k)
-  statement_keeps tree.Break s k = tt
-  statement_keeps tree.Continue s k = tt
+  statement_keeps tree.Break s k = all_if (λ z. SmallLocals z.scope.locals) s.in_loop _ (λ b. k)
+  statement_keeps tree.Continue s k = all_if (λ z. SmallLocals z.scope.locals) s.in_loop _ (λ b. k)
 
 -- ---- types
 
@@ -285,13 +285,13 @@ module _ (env : Environment) (fault : Fault) (small : TakeSmall env) where
         and_each (expression_as env BoolType s (expression_of c)) _ (λ z w. and_none _ _ (annotations_none env fault small Invariant (within s) notes.items h))
     statement_none s few (While' c notes p x here) span (inr (inr h)) =
         and_each (expression_as env BoolType s (expression_of c)) _ (λ z w.
-        and_each (conditions_of_all env Invariant (within s) (specs_in (map annotation_of notes.items))) _ (λ xs q. and_none _ _ (statement_none s few x here h)))
+        and_each (conditions_of_all env Invariant (within s) (specs_in (map annotation_of notes.items))) _ (λ xs q. and_none _ _ (statement_none (in_body s) few x here h)))
     statement_none s few (For' first c third notes p x here) span (inl h) = and_none _ _ (part_none s few first h)
     statement_none s few (For' first c third notes p x here) span (inr (inl h)) =
         and_each (typed_part env (option_map simple_of first) s) _ (λ f a.
         and_each (expression_as env BoolType f.scope (expression_of c)) _ (λ z w.
         and_each (conditions_of_all env Invariant (within f.scope) (specs_in (map annotation_of notes.items))) _ (λ xs q.
-        and_each (typed_statement env (statement_of_kind x) f.scope) _ (λ y r. provided_false (not (declares (option_map simple_of third))) _ (third_declares third h)))))
+        and_each (typed_statement env (statement_of_kind x) (in_body f.scope)) _ (λ y r. provided_false (not (declares (option_map simple_of third))) _ (third_declares third h)))))
     statement_none s few (For' first c third notes p x here) span (inr (inr h)) =
         let f = h.0 in
         let inside : SmallLocals f.scope.locals = some_has (λ z. SmallLocals z.scope.locals) (typed_part env (option_map simple_of first) s) f (part_keeps env (option_map simple_of first) s few) h.1 in
@@ -300,18 +300,18 @@ module _ (env : Environment) (fault : Fault) (small : TakeSmall env) where
           | inr (inl k) ↦
               and_each (expression_as env BoolType f.scope (expression_of c)) _ (λ z w.
               and_each (conditions_of_all env Invariant (within f.scope) (specs_in (map annotation_of notes.items))) _ (λ xs q.
-              and_each (typed_statement env (statement_of_kind x) f.scope) _ (λ y r.
+              and_each (typed_statement env (statement_of_kind x) (in_body f.scope)) _ (λ y r.
               provided_none (not (declares (option_map simple_of third))) _ (and_none _ _ (part_none (leave f.scope y.scope) inside third (third_at f.scope y.scope third k))))))
           | inr (inr (inl k)) ↦
               and_each (expression_as env BoolType f.scope (expression_of c)) _ (λ z w. and_none _ _ (annotations_none env fault small Invariant (within f.scope) notes.items k))
           | inr (inr (inr k)) ↦
               and_each (expression_as env BoolType f.scope (expression_of c)) _ (λ z w.
-              and_each (conditions_of_all env Invariant (within f.scope) (specs_in (map annotation_of notes.items))) _ (λ xs q. and_none _ _ (statement_none f.scope inside x here k)))
+              and_each (conditions_of_all env Invariant (within f.scope) (specs_in (map annotation_of notes.items))) _ (λ xs q. and_none _ _ (statement_none (in_body f.scope) inside x here k)))
         ])
     statement_none s few (Assert x) span h = and_none _ _ (in_wanted s BoolType x refl h)
     statement_none s few (Error x) span h = and_none _ _ (in_wanted s StringType x refl h)
-    statement_none s few Break span h = refl
-    statement_none s few Continue span h = refl
+    statement_none s few Break span h = provided_false _ _ h.0
+    statement_none s few Continue span h = provided_false _ _ h.0
 
     row_none : {m : _} (s : Scope) → SmallLocals s.locals → (xs : Row_of-Statement m) → InRow env fault s xs → typed_statements env (statement_row xs) s ≡ None
     row_none s few end_of-Statement h = absurd h

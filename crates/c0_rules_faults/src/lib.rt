@@ -1,6 +1,8 @@
-//! What holds of the causes of faults, for every program: it is refused exactly where there is one.
+//! What holds of the static rules and of the causes of faults, for every program: it is refused exactly where there is one.
 #![tactic(auto)]
 
 mod laws;
 
-pub use laws::{causes_refuse, refusals_are_caused, worked_are_caused};
+pub use laws::{
+    causes_refuse, exits_stand_in_loops, refusals_are_caused, third_part_sees, worked_are_caused,
+};

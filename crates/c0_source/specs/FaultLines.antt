@@ -31,6 +31,7 @@ name_of_kind f.BadContract = codes "BadContract"
 name_of_kind f.DeclMismatch = codes "DeclMismatch"
 name_of_kind f.StepDeclares = codes "StepDeclares"
 name_of_kind f.BadUse = codes "BadUse"
+name_of_kind f.NotInLoop = codes "NotInLoop"
 name_of_kind f.OutOfMemory = codes "OutOfMemory"
 
 -- `fault NUMBER NAME`: a fault is shown by its kind alone, its number in decimal

@@ -4,7 +4,7 @@ use Rattle.c0_source.specs.declared.fault.FaultKind.{FaultKind}
 use Rattle.c0_source.specs.declared.fault.FaultKind.TheVariants as f
 use Rattle.c0_source.specs.declared.fault.Fault.{Fault}
 
--- the number by which a kind of fault is shown: 10 to 12 of the text, 20 to 22 of its grammar and limits, 30 to 47 of types, 50 of memory
+-- the number by which a kind of fault is shown: 10 to 12 of the text, 20 to 22 of its grammar and limits, 30 to 48 of types, 50 of memory
 abbrev pub fault_number : FaultKind → ℕ
 fault_number f.BadByte = 10
 fault_number f.BadToken = 11
@@ -30,6 +30,7 @@ fault_number f.BadContract = 44
 fault_number f.DeclMismatch = 45
 fault_number f.StepDeclares = 46
 fault_number f.BadUse = 47
+fault_number f.NotInLoop = 48
 fault_number f.OutOfMemory = 50
 
 -- want of memory, which stands at no byte

@@ -66,6 +66,8 @@ pub enum FaultKind {
     StepDeclares = 46,
     /// A library that is not known.
     BadUse = 47,
+    /// `break` or `continue` outside of the loops of its function.
+    NotInLoop = 48,
     /// Memory ran out.
     OutOfMemory = 50,
 }
@@ -107,6 +109,7 @@ impl FaultKind {
             FaultKind::DeclMismatch => "DeclMismatch",
             FaultKind::StepDeclares => "StepDeclares",
             FaultKind::BadUse => "BadUse",
+            FaultKind::NotInLoop => "NotInLoop",
             FaultKind::OutOfMemory => "OutOfMemory",
         }
     }

@@ -3,7 +3,8 @@ ghost use Rattle.code_form.specs.Code.{Covered};
 ghost use Rattle.code_form.specs.Form.{image_of};
 
 use c0_image::compile;
-use cells::{Run, Want};
+use c0_syntax::level::Level;
+use cells::{Piece, Run, Want};
 use code_form::Image;
 use object_lock::ObjectTable;
 use remote_store::{Config, FarHeap, FaultPlan, FaultStore, FaultStores};
@@ -24,7 +25,7 @@ const LIMIT: u64 = 10_000;
 fn ran<R: Wait>(alloc: Global, rt: &R, image: &Image, plan: FaultPlan) -> Option<(Run, Run)>
     requires { Covered (image_of image.now) }
 {
-    let Ok(stores) = FaultStores::new(alloc, FarHeap, plan) else {
+    let Ok(stores) = FaultStores::new(alloc, FarHeap::new(image.piece), plan) else {
         return None;
     };
     let config = Config {
@@ -37,7 +38,10 @@ fn ran<R: Wait>(alloc: Global, rt: &R, image: &Image, plan: FaultPlan) -> Option
         stores,
     };
     let Ok((table, mut owners, _movers)) = ObjectTable::<FaultStore<FarHeap>>::new(
-        alloc, 1, &config,
+        alloc,
+        1,
+        &config,
+        image.piece,
     ) else {
         return None;
     };
@@ -82,7 +86,7 @@ pub(crate) fn fail_each_call<R: Wait, O: Write>(
     text: &[u8],
     out: &mut O,
 ) -> io::Result<bool> {
-    let image = match compile(alloc, text, false) {
+    let image = match compile(alloc, text, false, Level::C0, Piece::Cells64) {
         Ok(verified) => verified.into_image(),
         Err(fault) => {
             writeln!(out, "{name}: {fault}")?;

@@ -3,9 +3,11 @@ ghost use Rattle.object_lock.specs.Fresh.{IsFresh, IsFreshMover};
 ghost use Rattle.std.specs.Prelude.{◌≡◌, ◌<◌, ◌≤◌, length};
 
 use c0_image::compile;
+use c0_syntax::level::Level;
+use cells::Piece;
 use fetcher::{HintPass, Hints, Served, serve_one};
 use object_lock::{MoverSeat, OwnerSeat};
-use region::{Region, admit};
+use region::{Region, admit, piece_of};
 use remote_store::{Config, FarHeap};
 use scope_verifier::Verified;
 use session::Session;
@@ -67,7 +69,7 @@ fn served_behind<R: Wait>(alloc: Global, rt: &R, verified: Verified) -> Option<S
         fetchers: 1,
         workers: 4,
         quantum: 1_000,
-        stores: FarHeap,
+        stores: FarHeap::new(piece_of(&programs)),
     };
     let Ok((region, mut owners, mut movers)) = admit(alloc, programs, config) else {
         return None;
@@ -93,7 +95,7 @@ pub(crate) fn leave_hints<R: Wait, O: Write>(
     text: &[u8],
     out: &mut O,
 ) -> io::Result<bool> {
-    let Ok(verified) = compile(alloc, text, false) else {
+    let Ok(verified) = compile(alloc, text, false, Level::C0, Piece::Cells64) else {
         return Ok(false);
     };
     match served_behind(alloc, rt, verified) {

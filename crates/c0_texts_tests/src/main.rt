@@ -1,6 +1,6 @@
 //! Runs each text that the words name. It is run plainly, and what it means is told: the command, what the program prints, and how it ends; where it
 //! ends, the text is compiled too, its image is written, read again and run, and a line tells whether that printed the same and ended the same way. Before
-//! a name may stand `-d`, for contracts to be checked, and a number of turns in place of 5,000. Behind `-p` it is checked, its tree is printed and
+//! a name may stand `-d`, for contracts to be checked, `-l`, for the level of the language that has `break` and `continue`, and a number of turns in place of 5,000. Behind `-p` it is checked, its tree is printed and
 //! read back, and its image runs with its contracts checked; behind `-f` it runs once for each call of the store, which fails; behind `-h` it runs alone, and a fetcher looks for a hint
 //! then; behind a number and `-o` it runs alone in a world, and opens no more holds than that; behind `-m` it runs twice at once, and both meet with two movers;
 //! behind `-w` it runs twice on one worker, the first behind the second; behind `-c` it runs by turns of one instruction, and what asks
@@ -9,6 +9,7 @@
 #![tactic(auto)]
 
 mod again;
+mod asked;
 mod failures;
 mod hinted;
 mod means;
@@ -18,6 +19,7 @@ mod runs;
 mod together;
 mod turns;
 
+use crate::asked::{Asked, Way};
 use crate::failures::fail_each_call;
 use crate::hinted::leave_hints;
 use crate::means::mean;
@@ -33,59 +35,6 @@ use std::thread::Threads;
 use std::time::Clock;
 use std::{env, fs, io};
 
-/// How a text is to be run.
-#[derive(Clone, Copy, Debug, PartialEq, Eq)]
-enum Asked {
-    Means { checks: bool, turns: u64 },
-    Prints,
-    Fails,
-    Hints,
-    Opens { most: u64 },
-    Meets,
-    Waits,
-    Counts,
-    Joins,
-}
-
-impl Asked {
-    /// What is asked where nothing else is said.
-    fn plainly() -> Asked {
-        Asked::Means {
-            checks: false,
-            turns: 5000,
-        }
-    }
-
-    /// The same, with what this word asks for. None where it is the name of a text.
-    fn with(self, word: &str) -> Option<Asked> {
-        let (old_checks, old_turns) = match self {
-            Asked::Means { checks, turns } => (checks, turns),
-            _ => (false, 5000),
-        };
-        match word {
-            "-p" => Some(Asked::Prints),
-            "-f" => Some(Asked::Fails),
-            "-h" => Some(Asked::Hints),
-            "-o" => Some(Asked::Opens { most: old_turns }),
-            "-m" => Some(Asked::Meets),
-            "-w" => Some(Asked::Waits),
-            "-c" => Some(Asked::Counts),
-            "-t" => Some(Asked::Joins),
-            "-d" => Some(Asked::Means {
-                checks: true,
-                turns: old_turns,
-            }),
-            _ => match word.parse() {
-                Ok(turns) => Some(Asked::Means {
-                    checks: old_checks,
-                    turns,
-                }),
-                Err(_) => None,
-            },
-        }
-    }
-}
-
 /// Runs this text as it is asked, and tells of it. False where something is not as it has to be.
 fn tell<R: Threads + Wait + Clock + Sync, O: Write>(
     alloc: Global,
@@ -96,16 +45,16 @@ fn tell<R: Threads + Wait + Clock + Sync, O: Write>(
     together: &mut Together,
     out: &mut O,
 ) -> io::Result<bool> {
-    match asked {
-        Asked::Means { checks, turns } => mean(alloc, rt, checks, turns, name, text, out),
-        Asked::Prints => print_back(alloc, rt, name, text, out),
-        Asked::Fails => fail_each_call(alloc, rt, name, text, out),
-        Asked::Hints => leave_hints(alloc, rt, name, text, out),
-        Asked::Opens { most } => open_few(alloc, most, name, text, out),
-        Asked::Meets => meet(alloc, rt, name, text, out),
-        Asked::Waits => one_behind_another(alloc, rt, name, text, out),
-        Asked::Counts => one_at_a_time(alloc, rt, name, text, out),
-        Asked::Joins => Ok(together.add(name, text)?),
+    match asked.way {
+        Way::Means => mean(alloc, rt, asked, name, text, out),
+        Way::Prints => print_back(alloc, rt, asked.level, name, text, out),
+        Way::Fails => fail_each_call(alloc, rt, name, text, out),
+        Way::Hints => leave_hints(alloc, rt, name, text, out),
+        Way::Opens => open_few(alloc, asked, name, text, out),
+        Way::Meets => meet(alloc, rt, name, text, out),
+        Way::Waits => one_behind_another(alloc, rt, name, text, out),
+        Way::Counts => one_at_a_time(alloc, rt, name, text, out),
+        Way::Joins => Ok(together.add(name, text)?),
     }
 }
 

@@ -1,11 +1,13 @@
 //! Texts whose plain meaning is told, and compared with the run of their image.
 use crate::again::read_again;
+use crate::asked::Asked;
 use crate::runs::execute;
 use c0_image::compile;
 use c0_meaning::Meant;
 use c0_plain::mean_text;
 use c0_source::fault::Fault;
-use cells::{Run, Stop};
+use c0_syntax::level::Level;
+use cells::{Piece, Run, Stop};
 use std::alloc::Global;
 use std::io;
 use std::io::Write;
@@ -29,12 +31,12 @@ fn tell<O: Write>(out: &mut O, meant: &Meant) -> io::Result<()> {
 fn runs_so<R: Threads + Wait + Clock + Sync>(
     alloc: Global,
     rt: &R,
-    checks: bool,
+    asked: Asked,
     text: &[u8],
     output: &[u8],
     stop: &Stop,
 ) -> Result<bool, Fault> {
-    let compiled = compile(alloc, text, checks)?;
+    let compiled = compile(alloc, text, asked.checks, asked.level, Piece::Cells64)?;
     let Some(read) = read_again(alloc, compiled.image()) else {
         return Ok(false);
     };
@@ -50,7 +52,7 @@ fn runs_so<R: Threads + Wait + Clock + Sync>(
 fn compare<R: Threads + Wait + Clock + Sync, O: Write>(
     alloc: Global,
     rt: &R,
-    checks: bool,
+    asked: Asked,
     text: &[u8],
     meant: &Meant,
     out: &mut O,
@@ -58,7 +60,7 @@ fn compare<R: Threads + Wait + Clock + Sync, O: Write>(
     let Some(stop) = &meant.stop else {
         return Ok(true);
     };
-    match runs_so(alloc, rt, checks, text, &meant.output, stop) {
+    match runs_so(alloc, rt, asked, text, &meant.output, stop) {
         Ok(true) => {
             writeln!(out, "run: the same")?;
             Ok(true)
@@ -78,18 +80,22 @@ fn compare<R: Threads + Wait + Clock + Sync, O: Write>(
 pub(crate) fn mean<R: Threads + Wait + Clock + Sync, O: Write>(
     alloc: Global,
     rt: &R,
-    checks: bool,
-    turns: u64,
+    asked: Asked,
     name: &str,
     text: &[u8],
     out: &mut O,
 ) -> io::Result<bool> {
-    let flag = if checks { " -d" } else { "" };
-    writeln!(out, "mean{flag} --turns {turns} {name}")?;
-    match mean_text(alloc, rt, text, checks, turns) {
+    let flag = if asked.checks { " -d" } else { "" };
+    let level = match asked.level {
+        Level::C0 => "",
+        Level::Loops => " --level 1",
+    };
+    let turns = asked.number;
+    writeln!(out, "mean{flag}{level} --turns {turns} {name}")?;
+    match mean_text(alloc, rt, text, asked.checks, asked.level, turns) {
         Ok(meant) => {
             tell(out, &meant)?;
-            compare(alloc, rt, checks, text, &meant, out)
+            compare(alloc, rt, asked, text, &meant, out)
         }
         Err(fault) => {
             writeln!(out, "{fault}")?;

@@ -1,7 +1,8 @@
 //! Texts whose image runs alone in a world, step by step: how often a step opens a hold of a piece.
 
+use crate::asked::Asked;
 use c0_image::compile;
-use cells::Want;
+use cells::{Piece, Want};
 use remote_store::{Config, FarHeap, RawStore};
 use std::alloc::Global;
 use std::io;
@@ -55,16 +56,16 @@ fn count_opens<S: RawStore>(world: &mut World<'_, S>) -> u64 {
     opens
 }
 
-/// Runs the text alone in a world, and tells how it ends, and whether it opened a hold, and no more than `most`. False where it did not, where it is refused, or
+/// Runs the text alone in a world, and tells how it ends, and whether it opened a hold, and no more than it was asked for. False where it did not, where it is refused, or
 /// where memory ran out.
 pub(crate) fn open_few<O: Write>(
     alloc: Global,
-    most: u64,
+    asked: Asked,
     name: &str,
     text: &[u8],
     out: &mut O,
 ) -> io::Result<bool> {
-    let Ok(verified) = compile(alloc, text, false) else {
+    let Ok(verified) = compile(alloc, text, false, asked.level, Piece::Cells64) else {
         return Ok(false);
     };
     let images = [verified.into_image()];
@@ -75,7 +76,7 @@ pub(crate) fn open_few<O: Write>(
         fetchers: 0,
         workers: 1,
         quantum: 1,
-        stores: FarHeap,
+        stores: FarHeap::new(images[0].piece),
     };
     let world: Result<World<'_, FarHeap>, Want> = World::new(alloc, &images, &config);
     let Ok(mut world) = world else {
@@ -86,6 +87,7 @@ pub(crate) fn open_few<O: Write>(
         return Ok(false);
     }
     let run = world.ended(alloc, 0)?.run;
+    let most = asked.number;
     if opens == 0 || opens > most {
         writeln!(out, "{name}: {run}, with {opens} opens")?;
         return Ok(false);

@@ -7,7 +7,7 @@ use c0_source::fault::Fault;
 use c0_source::position::line_column;
 use c0_syntax::level::Level;
 use c0_syntax::print::print;
-use cells::Ended;
+use cells::{Ended, Piece};
 use std::alloc::Global;
 use std::io;
 use std::io::Write;
@@ -16,16 +16,16 @@ use std::thread::Threads;
 use std::time::Clock;
 
 /// The text, as its tree is printed.
-fn printed(alloc: Global, text: &[u8]) -> Result<String, Fault> {
-    let program = read_text(alloc, text, Level::C0)?;
+fn printed(alloc: Global, level: Level, text: &[u8]) -> Result<String, Fault> {
+    let program = read_text(alloc, text, level)?;
     print(alloc, &program)
 }
 
 /// Whether the text is accepted, and what is printed of its tree is printed of its own tree too.
-fn reads_back(alloc: Global, text: &[u8]) -> Result<bool, Fault> {
-    let _typed = check_text(alloc, text, Level::C0)?;
-    let once = printed(alloc, text)?;
-    let twice = printed(alloc, once.as_bytes())?;
+fn reads_back(alloc: Global, level: Level, text: &[u8]) -> Result<bool, Fault> {
+    let _typed = check_text(alloc, text, level)?;
+    let once = printed(alloc, level, text)?;
+    let twice = printed(alloc, level, once.as_bytes())?;
     Ok(once == twice)
 }
 
@@ -33,9 +33,10 @@ fn reads_back(alloc: Global, text: &[u8]) -> Result<bool, Fault> {
 fn ended<R: Threads + Wait + Clock + Sync>(
     alloc: Global,
     rt: &R,
+    level: Level,
     text: &[u8],
 ) -> Result<Option<Ended>, Fault> {
-    let compiled = compile(alloc, text, true)?;
+    let compiled = compile(alloc, text, true, level, Piece::Cells64)?;
     match read_again(alloc, compiled.image()) {
         Some(read) => Ok(Some(execute(alloc, rt, read)?)),
         None => Ok(None),
@@ -61,11 +62,12 @@ fn tell_end<O: Write>(out: &mut O, ended: &Ended) -> io::Result<()> {
 pub(crate) fn print_back<R: Threads + Wait + Clock + Sync, O: Write>(
     alloc: Global,
     rt: &R,
+    level: Level,
     name: &str,
     text: &[u8],
     out: &mut O,
 ) -> io::Result<bool> {
-    match reads_back(alloc, text) {
+    match reads_back(alloc, level, text) {
         Ok(true) => writeln!(out, "{name}: ok")?,
         Ok(false) => {
             writeln!(out, "{name}: printed otherwise")?;
@@ -76,7 +78,7 @@ pub(crate) fn print_back<R: Threads + Wait + Clock + Sync, O: Write>(
             return Ok(false);
         }
     }
-    match ended(alloc, rt, text) {
+    match ended(alloc, rt, level, text) {
         Ok(Some(ended)) => {
             tell_end(out, &ended)?;
             Ok(true)

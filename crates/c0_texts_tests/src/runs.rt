@@ -1,6 +1,7 @@
 //! Runs of compiled texts.
 use cells::Ended;
 use executor::{Gate, OpenGate, run_all};
+use region::piece_of;
 use remote_store::{Config, FarHeap};
 use scope_verifier::Verified;
 use std::alloc::{AllocError, Global};
@@ -33,7 +34,7 @@ pub(crate) fn run_together<R: Threads + Wait + Clock + Sync, G: Gate>(
         fetchers: movers,
         workers: sizes.workers,
         quantum: sizes.quantum,
-        stores: FarHeap,
+        stores: FarHeap::new(piece_of(&programs)),
     };
     run_all(alloc, rt, programs, config, gate).ok()
 }

@@ -1,6 +1,8 @@
 //! Texts that are run side by side: two that meet with two movers, and many at once.
 use crate::runs::{Sizes, run_together};
 use c0_image::compile;
+use c0_syntax::level::Level;
+use cells::Piece;
 use executor::{Gate, OpenGate};
 use scope_verifier::Verified;
 use std::alloc::{AllocError, Global};
@@ -81,7 +83,7 @@ impl Gate for Meeting {
 pub(crate) fn compiled(alloc: Global, text: &[u8], count: usize) -> Option<Vec<Verified>> {
     let mut programs = Vec::new(alloc);
     for _ in 0..count {
-        let program = compile(alloc, text, false).ok()?;
+        let program = compile(alloc, text, false, Level::C0, Piece::Cells64).ok()?;
         programs.push(program).ok()?;
     }
     Some(programs)
@@ -140,7 +142,7 @@ impl Together {
     /// One text more, twice. False where it is refused.
     pub(crate) fn add(&mut self, name: &str, text: &[u8]) -> Result<bool, AllocError> {
         for _ in 0..2 {
-            let Ok(program) = compile(self.alloc, text, false) else {
+            let Ok(program) = compile(self.alloc, text, false, Level::C0, Piece::Cells64) else {
                 return Ok(false);
             };
             self.names.push(String::from_str(self.alloc, name)?)?;

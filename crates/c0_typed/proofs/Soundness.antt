@@ -9,10 +9,10 @@ use Rattle.std.proofs.lemmas.Option.{get_or_from_slice_get, slice_get-get_or}
 use Rattle.cells.specs.declared.int32.Int32Op.{Int32Op}
 use Rattle.cells.specs.Numbers.{op_value, wrap32}
 use Rattle.c0_typed.specs.Values.{Value, Number, Truth, Letter, Text, Ref, Void, Tree, Leaf, Node, Trees, Nil, Cons, as_number, as_truth, as_ref, leaf, parts, count, part, with_part, copies, Spot, part_at, with_part_at, allocated, load, store, array_length}
-use Rattle.c0_typed.specs.Trees.{Ty, VoidTy, IntTy, BoolTy, CharTy, TextTy, StructTy, PointerTy, ArrayTy, UnaryOp, Negate, Complement, Not, Exp, Constant, Null, Local, Unary, Binary, Compare, And, Or, Choose, Call, Out, Load, Alloc, AllocArray, Length, Exps, NoExp, More, Place, Deref, Index, Field, Stmt, Skip, Seq, Set, Update, Store, StoreUpdate, Do, If, Loop, Return, ReturnValue, Assert, Error, Check, Function, Program}
+use Rattle.c0_typed.specs.Trees.{Ty, VoidTy, IntTy, BoolTy, CharTy, TextTy, StructTy, PointerTy, ArrayTy, UnaryOp, Negate, Complement, Not, Exp, Constant, Null, Local, Unary, Binary, Compare, And, Or, Choose, Call, Out, Load, Alloc, AllocArray, Length, Exps, NoExp, More, Place, Deref, Index, Field, Stmt, Skip, Seq, Set, Update, Store, StoreUpdate, Do, If, Loop, Return, ReturnValue, Break, Continue, Assert, Error, Check, Function, Program}
 use Rattle.cells.specs.Stops.{ArithFault, BoundsFault, AssertFailed}
 use Rattle.cells.specs.Outcomes.{Done, Stopped, Cut, then_do}
-use Rattle.c0_typed.specs.Meaning.{State, Outcome, stop, value_or, if_true, turn, local, unary_value, binary_value, relation_value, default, fields, struct_defaults, allocate, allocate_array, pointed, element, blank, locals_at_entry, eval, evals, locate, Way, Next, Returned, and_then, holds, loop, all_hold, checked, exec, in_function, no_function, call}
+use Rattle.c0_typed.specs.Meaning.{State, Outcome, stop, value_or, if_true, turn, local, unary_value, binary_value, relation_value, default, fields, struct_defaults, allocate, allocate_array, pointed, element, blank, locals_at_entry, eval, evals, locate, Way, Next, Returned, Broken, Continued, and_then, after_body, holds, loop, all_hold, checked, exec, in_function, no_function, call}
 use Rattle.c0_typed.specs.Typing.{IsSmall, IsHeld, AreHeld, unary_type, output_types, IsConstant, IsField, Has, HasAll, Holds, AllBool, Fits, local_types, FitsFunction, FitsStructs, FitsProgram, Kept, One, Many, IsMade, Is, AreAll, Grown, GrownAll, GrownEach, IsObject, AreObjects, IsHeap, Extends, IsState, IsWay, IsWayIn, IsPlace, Fine, CallsFit, Gives, GivesAll, Finds, Leaves, AreSmall, IsResult, EvalSound, LocateSound, ExecSound, CallSound, MainSound}
 
 -- ---- lists
@@ -452,9 +452,20 @@ module _ (ops : OpsFit) (nots : NotFits) (p : Program) (types : List Ty) where
     fine_and : (made : List Kept) (o : Outcome Way) (go : State → Outcome Way) → Fine made (Leaves p types) o → ((new : List Kept) (s : State) → Extends made new → IsState p types new s → Fine new (Leaves p types) (go s)) → Fine made (Leaves p types) (and_then o go)
     fine_and made o go h k = fine_then made (Leaves p types) (Leaves p types) o _ h at
       where
-        at : (new : List Kept) (w : Way) (s : State) → Extends made new → IsState p types new s → Fine new (Leaves p types) (elim w [ Next ↦ go s | Returned ↦ Done Returned s ])
+        at : (new : List Kept) (w : Way) (s : State) → Extends made new → IsState p types new s → Fine new (Leaves p types) (elim w [ Next ↦ go s | Returned ↦ Done Returned s | Broken ↦ Done Broken s | Continued ↦ Done Continued s ])
         at new Next s e g = k new s e g
         at new Returned s e g = (new, extends_refl new, g)
+        at new Broken s e g = (new, extends_refl new, g)
+        at new Continued s e g = (new, extends_refl new, g)
+
+    fine_body : (made : List Kept) (o : Outcome Way) (go : State → Outcome Way) → Fine made (Leaves p types) o → ((new : List Kept) (s : State) → Extends made new → IsState p types new s → Fine new (Leaves p types) (go s)) → Fine made (Leaves p types) (after_body o go)
+    fine_body made o go h k = fine_then made (Leaves p types) (Leaves p types) o _ h at
+      where
+        at : (new : List Kept) (w : Way) (s : State) → Extends made new → IsState p types new s → Fine new (Leaves p types) (elim w [ Next ↦ go s | Returned ↦ Done Returned s | Broken ↦ Done Next s | Continued ↦ go s ])
+        at new Next s e g = k new s e g
+        at new Returned s e g = (new, extends_refl new, g)
+        at new Broken s e g = (new, extends_refl new, g)
+        at new Continued s e g = k new s e g
 
     fine_holds : (made : List Kept) (v : Value) (s : State) → IsState p types made s → Fine made (Leaves p types) (holds v s)
     fine_holds made v s g = fine_if made (Leaves p types) v (Done Next s) (stop AssertFailed s) (made, extends_refl made, g) tt
@@ -475,7 +486,7 @@ module _ (ops : OpsFit) (nots : NotFits) (p : Program) (types : List Ty) where
           fine_and made _ _ (fi made s g) (λ new t e h.
           fine_then new (Gives p types BoolTy) (Leaves p types) _ _ (ft new t h) (λ more v u d q.
           fine_if more (Leaves p types) v _ (Done Next u)
-          (fine_turn more (Leaves p types) u (λ x. and_then (body x) (λ y. and_then (step y) (loop inv test body step k))) (λ n. fine_and more _ _ (fb more (record u { turns = n }) q.0) (λ l x c y. fine_and l _ _ (fs l x y) (λ m z b i. fine_loop k m z i))))
+          (fine_turn more (Leaves p types) u (λ x. after_body (body x) (λ y. and_then (step y) (loop inv test body step k))) (λ n. fine_body more _ _ (fb more (record u { turns = n }) q.0) (λ l x c y. fine_and l _ _ (fs l x y) (λ m z b i. fine_loop k m z i))))
           (more, extends_refl more, q.0)))
 
     module _ (checks : Bool) where
@@ -523,6 +534,8 @@ module _ (ops : OpsFit) (nots : NotFits) (p : Program) (types : List Ty) where
           fine_loop (checked checks structs run es) (eval structs run c) (exec checks structs run body) (exec checks structs run step)
           (fine_checked es h.0) (λ new u q. fine_eval c BoolTy new u h.1 q) (fine_exec body h.2) (fine_exec step h.3) s.turns made s g
       fine_exec Return h made s g = (made, extends_refl made, g)
+      fine_exec Break h made s g = (made, extends_refl made, g)
+      fine_exec Continue h made s g = (made, extends_refl made, g)
       fine_exec (ReturnValue a) h made s g =
           fine_then made (Gives p types h.0) (Leaves p types) _ _ (fine_eval a h.0 made s h.2 g) (λ new v u e q.
           (new, extends_refl new, (q.0.0, set_is p new types u.locals 0 h.0 v q.0.1 h.1 q.1)))

@@ -2,10 +2,10 @@
 use Rattle.std.proofs.Common.{◌≡◌, ℕ, zero, suc, ◌≤◌, List, [], ◌∷◌, ◌++◌, get_or, refl, sym, ap, ◌∙◌, subst, arith, append_assoc, append-nil, Bool, true, false, Option, Some, None, ℤ, pos, negsuc}
 use Rattle.std.specs.Prelude.{nat_lt}
 use Rattle.c0_typed.specs.Values.{Value, Ref, Tree, Spot, as_ref, as_number, as_truth, array_length, load}
-use Rattle.c0_typed.specs.Trees.{Exp, Constant, Null, Local, Unary, Binary, Compare, And, Or, Choose, Call, Out, Load, Alloc, AllocArray, Length, Exps, NoExp, More, Place, Deref, Index, Field, Stmt, Skip, Seq, Set, Update, Store, StoreUpdate, Do, If, Loop, Return, ReturnValue, Assert, Error, Check, Function, Program}
+use Rattle.c0_typed.specs.Trees.{Exp, Constant, Null, Local, Unary, Binary, Compare, And, Or, Choose, Call, Out, Load, Alloc, AllocArray, Length, Exps, NoExp, More, Place, Deref, Index, Field, Stmt, Skip, Seq, Set, Update, Store, StoreUpdate, Do, If, Loop, Return, ReturnValue, Break, Continue, Assert, Error, Check, Function, Program}
 use Rattle.cells.specs.Stops.{Stop, ArithFault, NullFault, BoundsFault, AssertFailed}
 use Rattle.cells.specs.Outcomes.{Done, Stopped, Cut, then_do}
-use Rattle.c0_typed.specs.Meaning.{State, Outcome, stop, value_or, if_true, turn, local, binary_value, printed, default, allocate_array, pointed, element, eval, evals, locate, Way, Next, Returned, and_then, holds, loop, all_hold, checked, exec, locals_at_entry, in_function, no_function, struct_defaults, call, told}
+use Rattle.c0_typed.specs.Meaning.{State, Outcome, stop, value_or, if_true, turn, local, binary_value, printed, default, allocate_array, pointed, element, eval, evals, locate, Way, Next, Returned, Broken, Continued, and_then, after_body, holds, loop, all_hold, checked, exec, locals_at_entry, in_function, no_function, struct_defaults, call, told}
 use Rattle.cells.specs.Outcomes.{IsPrefix, KeepsEnd}
 use Rattle.c0_typed.specs.More.{MoreTurnsExtend}
 
@@ -234,23 +234,55 @@ abbrev StepsExtend : {A : Type 0} → ℕ → (State → Outcome A) → (State �
 StepsExtend cap f g = (s : State) (m : ℕ) → s.turns ≤ m → m ≤ cap → Extends m (f s) (g (more m s))
 
 grow_and : (out : List ℕ) (o : Outcome Way) (go : Steps) → Grows out o → StepsGrow go → Grows out (and_then o go)
-grow_and out o go h k = grow_then out o (λ way s. elim way [ Next ↦ go s | Returned ↦ Done Returned s ]) h at
+grow_and out o go h k = grow_then out o (λ way s. elim way [ Next ↦ go s | Returned ↦ Done Returned s | Broken ↦ Done Broken s | Continued ↦ Done Continued s ]) h at
   where
-    at : (way : Way) (t : State) → Grows t.output (elim way [ Next ↦ go t | Returned ↦ Done Returned t ])
+    at : (way : Way) (t : State) → Grows t.output (elim way [ Next ↦ go t | Returned ↦ Done Returned t | Broken ↦ Done Broken t | Continued ↦ Done Continued t ])
     at Next t = k t
     at Returned t = prefix_refl t.output
+    at Broken t = prefix_refl t.output
+    at Continued t = prefix_refl t.output
 
 ext_and : (n : ℕ) (o o' : Outcome Way) (go go' : Steps) → Extends n o o' → StepsExtend n go go' → StepsGrow go' → Extends n (and_then o go) (and_then o' go')
 ext_and n o o' go go' h k g =
-    ext_then n o o' (λ way s. elim way [ Next ↦ go s | Returned ↦ Done Returned s ]) (λ way s. elim way [ Next ↦ go' s | Returned ↦ Done Returned s ]) h at by
+    ext_then n o o' (λ way s. elim way [ Next ↦ go s | Returned ↦ Done Returned s | Broken ↦ Done Broken s | Continued ↦ Done Continued s ]) (λ way s. elim way [ Next ↦ go' s | Returned ↦ Done Returned s | Broken ↦ Done Broken s | Continued ↦ Done Continued s ]) h at by
   where
-    at : (way : Way) (t : State) (m : ℕ) → t.turns ≤ m → m ≤ n → Extends m (elim way [ Next ↦ go t | Returned ↦ Done Returned t ]) (elim way [ Next ↦ go' (more m t) | Returned ↦ Done Returned (more m t) ])
+    at : (way : Way) (t : State) (m : ℕ) → t.turns ≤ m → m ≤ n → Extends m (elim way [ Next ↦ go t | Returned ↦ Done Returned t | Broken ↦ Done Broken t | Continued ↦ Done Continued t ]) (elim way [ Next ↦ go' (more m t) | Returned ↦ Done Returned (more m t) | Broken ↦ Done Broken (more m t) | Continued ↦ Done Continued (more m t) ])
     at Next t m x y = k t m x y
     at Returned t m x y = ext_done m Returned t x
+    at Broken t m x y = ext_done m Broken t x
+    at Continued t m x y = ext_done m Continued t x
 
-    by : (way : Way) (t : State) → Grows t.output (elim way [ Next ↦ go' t | Returned ↦ Done Returned t ])
+    by : (way : Way) (t : State) → Grows t.output (elim way [ Next ↦ go' t | Returned ↦ Done Returned t | Broken ↦ Done Broken t | Continued ↦ Done Continued t ])
     by Next t = g t
     by Returned t = prefix_refl t.output
+    by Broken t = prefix_refl t.output
+    by Continued t = prefix_refl t.output
+
+-- the same behind the body of a loop
+grow_body : (out : List ℕ) (o : Outcome Way) (go : Steps) → Grows out o → StepsGrow go → Grows out (after_body o go)
+grow_body out o go h k = grow_then out o (λ way s. elim way [ Next ↦ go s | Returned ↦ Done Returned s | Broken ↦ Done Next s | Continued ↦ go s ]) h at
+  where
+    at : (way : Way) (t : State) → Grows t.output (elim way [ Next ↦ go t | Returned ↦ Done Returned t | Broken ↦ Done Next t | Continued ↦ go t ])
+    at Next t = k t
+    at Returned t = prefix_refl t.output
+    at Broken t = prefix_refl t.output
+    at Continued t = k t
+
+ext_body : (n : ℕ) (o o' : Outcome Way) (go go' : Steps) → Extends n o o' → StepsExtend n go go' → StepsGrow go' → Extends n (after_body o go) (after_body o' go')
+ext_body n o o' go go' h k g =
+    ext_then n o o' (λ way s. elim way [ Next ↦ go s | Returned ↦ Done Returned s | Broken ↦ Done Next s | Continued ↦ go s ]) (λ way s. elim way [ Next ↦ go' s | Returned ↦ Done Returned s | Broken ↦ Done Next s | Continued ↦ go' s ]) h at by
+  where
+    at : (way : Way) (t : State) (m : ℕ) → t.turns ≤ m → m ≤ n → Extends m (elim way [ Next ↦ go t | Returned ↦ Done Returned t | Broken ↦ Done Next t | Continued ↦ go t ]) (elim way [ Next ↦ go' (more m t) | Returned ↦ Done Returned (more m t) | Broken ↦ Done Next (more m t) | Continued ↦ go' (more m t) ])
+    at Next t m x y = k t m x y
+    at Returned t m x y = ext_done m Returned t x
+    at Broken t m x y = ext_done m Next t x
+    at Continued t m x y = k t m x y
+
+    by : (way : Way) (t : State) → Grows t.output (elim way [ Next ↦ go' t | Returned ↦ Done Returned t | Broken ↦ Done Next t | Continued ↦ go' t ])
+    by Next t = g t
+    by Returned t = prefix_refl t.output
+    by Broken t = prefix_refl t.output
+    by Continued t = g t
 
 grow_holds : (v : Value) (s : State) → Grows s.output (holds v s)
 grow_holds v s = grow_if s.output v (Done Next s) (stop AssertFailed s) (prefix_refl s.output) (prefix_refl s.output)
@@ -266,11 +298,11 @@ module _ (inv : Steps) (test : State → Outcome Value) (body step : Steps) (gi 
       grow_and _ _ _ (gi s) (λ t. grow_then _ _ _ (gt t) (λ v u. grow_if _ v (Cut u.output) (Done Next u) (prefix_refl u.output) (prefix_refl u.output)))
   grow_loop (suc k) s =
       grow_and _ _ _ (gi s) (λ t. grow_then _ _ _ (gt t) (λ v u.
-      grow_if _ v _ (Done Next u) (grow_turn u _ (λ w. grow_and _ _ _ (gb w) (λ x. grow_and _ _ _ (gs x) (λ y. grow_loop k y)))) (prefix_refl u.output)))
+      grow_if _ v _ (Done Next u) (grow_turn u _ (λ w. grow_body _ _ _ (gb w) (λ x. grow_and _ _ _ (gs x) (λ y. grow_loop k y)))) (prefix_refl u.output)))
 
 -- one time round
 abbrev round : (body step again : Steps) → Steps
-round body step again w = and_then (body w) (λ x. and_then (step x) again)
+round body step again w = after_body (body w) (λ x. and_then (step x) again)
 
 module _ (cap : ℕ) (inv inv' : Steps) (test test' : State → Outcome Value) (body body' step step' : Steps) (gi : StepsGrow inv') (gt : StepsGrow test') (gb : StepsGrow body') (gs : StepsGrow step') (ei : StepsExtend cap inv inv') (et : StepsExtend cap test test') (eb : StepsExtend cap body body') (es : StepsExtend cap step step') where
   -- the tests of a loop, and what the rest of it must do
@@ -285,8 +317,8 @@ module _ (cap : ℕ) (inv inv' : Steps) (test test' : State → Outcome Value) (
   ext_loop zero zero s m h l c = ext_front s m (λ u. Cut u.output) (λ u. Cut u.output) h c (λ u n x y. prefix_refl u.output) (λ u. prefix_refl u.output)
   ext_loop zero (suc k') s m h l c =
       ext_front s m (λ u. Cut u.output) (λ u. turn u (round body' step' (loop inv' test' body' step' k'))) h c
-      (λ u n x y. grow_turn (more n u) _ (λ w. grow_and _ _ _ (gb w) (λ z. grow_and _ _ _ (gs z) (λ y. grow_loop inv' test' body' step' gi gt gb gs k' y))))
-      (λ u. grow_turn u _ (λ w. grow_and _ _ _ (gb w) (λ z. grow_and _ _ _ (gs z) (λ y. grow_loop inv' test' body' step' gi gt gb gs k' y))))
+      (λ u n x y. grow_turn (more n u) _ (λ w. grow_body _ _ _ (gb w) (λ z. grow_and _ _ _ (gs z) (λ y. grow_loop inv' test' body' step' gi gt gb gs k' y))))
+      (λ u. grow_turn u _ (λ w. grow_body _ _ _ (gb w) (λ z. grow_and _ _ _ (gs z) (λ y. grow_loop inv' test' body' step' gi gt gb gs k' y))))
   ext_loop (suc k) zero s m h l c =
       ext_front s m (λ u. turn u (round body step (loop inv test body step k))) (λ u. Cut u.output) h c
       (λ u n x y. none u n x (omega arith)) (λ u. prefix_refl u.output)
@@ -300,11 +332,11 @@ module _ (cap : ℕ) (inv inv' : Steps) (test test' : State → Outcome Value) (
   ext_loop (suc k) (suc k') s m h l c =
       ext_front s m (λ u. turn u (round body step (loop inv test body step k))) (λ u. turn u (round body' step' (loop inv' test' body' step' k'))) h c
       (λ u n x y. ext_turn u n (round body step (loop inv test body step k)) (round body' step' (loop inv' test' body' step' k')) x
-      (λ j i p q. ext_and _ _ _ _ _ (eb (more j u) i p (omega arith))
+      (λ j i p q. ext_body _ _ _ _ _ (eb (more j u) i p (omega arith))
       (λ a b d e. ext_and _ _ _ _ _ (es a b d (omega arith)) (λ z w v t. ext_loop k k' z w v (omega arith) (omega arith)) (λ z. grow_loop inv' test' body' step' gi gt gb gs k' z))
       (λ a. grow_and _ _ _ (gs a) (λ z. grow_loop inv' test' body' step' gi gt gb gs k' z)))
-      (λ w. grow_and _ _ _ (gb w) (λ z. grow_and _ _ _ (gs z) (λ y. grow_loop inv' test' body' step' gi gt gb gs k' y))))
-      (λ u. grow_turn u _ (λ w. grow_and _ _ _ (gb w) (λ z. grow_and _ _ _ (gs z) (λ y. grow_loop inv' test' body' step' gi gt gb gs k' y))))
+      (λ w. grow_body _ _ _ (gb w) (λ z. grow_and _ _ _ (gs z) (λ y. grow_loop inv' test' body' step' gi gt gb gs k' y))))
+      (λ u. grow_turn u _ (λ w. grow_body _ _ _ (gb w) (λ z. grow_and _ _ _ (gs z) (λ y. grow_loop inv' test' body' step' gi gt gb gs k' y))))
 
 -- ---- statements
 
@@ -336,6 +368,8 @@ module _ (checks : Bool) (structs : List Tree) (g : Calls) (grow : CallsGrow g) 
   grow_exec (Loop es c body step) s =
       grow_loop (checked checks structs g es) (eval structs g c) (exec checks structs g body) (exec checks structs g step) (grow_checked es) (grow_eval structs g grow c) (grow_exec body) (grow_exec step) s.turns s
   grow_exec Return s = prefix_refl s.output
+  grow_exec Break s = prefix_refl s.output
+  grow_exec Continue s = prefix_refl s.output
   grow_exec (ReturnValue a) s = grow_then _ _ _ (grow_eval structs g grow a s) (λ v t. prefix_refl t.output)
   grow_exec (Assert a) s = grow_then _ _ _ (grow_eval structs g grow a s) grow_holds
   grow_exec (Error a) s = grow_then _ _ _ (grow_eval structs g grow a s) (λ v t. prefix_refl t.output)
@@ -387,6 +421,8 @@ module _ (checks : Bool) (structs : List Tree) (f g : Calls) (cap : ℕ) (grow :
       (grow_checked checks structs g grow es) (grow_eval structs g grow q) (grow_exec checks structs g grow body) (grow_exec checks structs g grow step)
       (ext_checked es) (ext_eval structs f g cap grow extend q) (ext_exec body) (ext_exec step) s.turns m s m h (omega arith) c
   ext_exec Return s m h c = ext_done m Returned s h
+  ext_exec Break s m h c = ext_done m Broken s h
+  ext_exec Continue s m h c = ext_done m Continued s h
   ext_exec (ReturnValue a) s m h c = ext_then _ _ _ _ _ (ext_eval structs f g cap grow extend a s m h c) (λ v t n k l. (n, k, omega arith, refl)) (λ v t. prefix_refl t.output)
   ext_exec (Assert a) s m h c = ext_then _ _ _ _ _ (ext_eval structs f g cap grow extend a s m h c) (λ v t n k l. ext_holds v t n k) grow_holds
   ext_exec (Error a) s m h c = ext_then _ _ _ _ _ (ext_eval structs f g cap grow extend a s m h c) (λ v t n k l. refl) (λ v t. prefix_refl t.output)

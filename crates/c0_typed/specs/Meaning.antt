@@ -8,7 +8,7 @@ use Rattle.cells.specs.Stops.{Stop, Ended, AssertFailed, ErrorCalled, NullFault,
 use Rattle.cells.specs.Outcomes as b
 use Rattle.cells.specs.Outcomes.{Done, Stopped, Cut, then_do, Meant}
 use Rattle.c0_typed.specs.Values.{Value, Number, Truth, Letter, Text, Ref, Void, Tree, Leaf, Node, Trees, Nil, Cons, as_number, as_truth, as_letter, as_text, as_ref, same_value, value_below, copies, Spot, load, store, array_length, leaf}
-use Rattle.c0_typed.specs.Trees.{Ty, VoidTy, IntTy, BoolTy, CharTy, TextTy, StructTy, PointerTy, ArrayTy, UnaryOp, Negate, Complement, Not, Relation, Equal, Unequal, Below, AtMost, Above, AtLeast, Output, Print, Println, Printint, Printbool, Printchar, Exp, Constant, Null, Local, Unary, Binary, Compare, And, Or, Choose, Call, Out, Load, Alloc, AllocArray, Length, Exps, NoExp, More, Place, Deref, Index, Field, Stmt, Skip, Seq, Set, Update, Store, StoreUpdate, Do, If, Loop, Return, ReturnValue, Assert, Error, Check, Function, Program}
+use Rattle.c0_typed.specs.Trees.{Ty, VoidTy, IntTy, BoolTy, CharTy, TextTy, StructTy, PointerTy, ArrayTy, UnaryOp, Negate, Complement, Not, Relation, Equal, Unequal, Below, AtMost, Above, AtLeast, Output, Print, Println, Printint, Printbool, Printchar, Exp, Constant, Null, Local, Unary, Binary, Compare, And, Or, Choose, Call, Out, Load, Alloc, AllocArray, Length, Exps, NoExp, More, Place, Deref, Index, Field, Stmt, Skip, Seq, Set, Update, Store, StoreUpdate, Do, If, Loop, Return, ReturnValue, Break, Continue, Assert, Error, Check, Function, Program}
 
 -- ---- states and outcomes
 
@@ -169,14 +169,20 @@ module _ (structs : List Tree) (call : ℕ → List Value → State → Outcome 
 
 -- ---- statements
 
--- how a statement is left
+-- how a statement is left: to the next one, to the end of its function, or of the nearest loop, or of a turn of that
 pub data Way : Type 0 where
   Next : Way
   Returned : Way
+  Broken : Way
+  Continued : Way
 
 -- goes on where a statement was left to the next
 abbrev pub and_then : Outcome Way → (State → Outcome Way) → Outcome Way
-and_then o go = then_do o (λ way s. elim way [ Next ↦ go s | Returned ↦ Done Returned s ])
+and_then o go = then_do o (λ way s. elim way [ Next ↦ go s | Returned ↦ Done Returned s | Broken ↦ Done Broken s | Continued ↦ Done Continued s ])
+
+-- Behind the body of a loop: `continue` goes on as the body's end does, and `break` leaves the loop
+abbrev pub after_body : Outcome Way → (State → Outcome Way) → Outcome Way
+after_body o go = then_do o (λ way s. elim way [ Next ↦ go s | Returned ↦ Done Returned s | Broken ↦ Done Next s | Continued ↦ go s ])
 
 -- a condition that must hold
 abbrev pub holds : Value → State → Outcome Way
@@ -188,7 +194,7 @@ loop invariants condition body step zero s =
     and_then (invariants s) (λ t. then_do (condition t) (λ v u. if_true v (Cut u.output) (Done Next u)))
 loop invariants condition body step (suc k) s =
     and_then (invariants s) (λ t. then_do (condition t) (λ v u.
-    if_true v (turn u (λ w. and_then (body w) (λ x. and_then (step x) (loop invariants condition body step k)))) (Done Next u)))
+    if_true v (turn u (λ w. after_body (body w) (λ x. and_then (step x) (loop invariants condition body step k)))) (Done Next u)))
 
 module _ (checks : Bool) (structs : List Tree) (call : ℕ → List Value → State → Outcome Value) where
   -- the conditions of a contract, in order
@@ -217,6 +223,8 @@ module _ (checks : Bool) (structs : List Tree) (call : ℕ → List Value → St
   exec (Loop invariants c body step) s = loop (checked invariants) (eval structs call c) (exec body) (exec step) s.turns s
   exec Return s = Done Returned s
   exec (ReturnValue a) s = then_do (eval structs call a s) (λ v t. Done Returned (set_local 0 v t))
+  exec Break s = Done Broken s
+  exec Continue s = Done Continued s
   exec (Assert a) s = then_do (eval structs call a s) holds
   exec (Error a) s = then_do (eval structs call a s) (λ v t. stop (ErrorCalled (as_text v)) t)
   exec (Check es) s = checked es s

@@ -82,6 +82,8 @@ pub data Stmt : Type 0 where
   Loop : (invariants : Exps) (condition : Exp) (body step : Stmt) → Stmt
   Return : Stmt
   ReturnValue : Exp → Stmt
+  Break : Stmt
+  Continue : Stmt
   Assert : Exp → Stmt
   Error : Exp → Stmt
   Check : Exps → Stmt

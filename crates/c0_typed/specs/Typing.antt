@@ -3,7 +3,7 @@ use Rattle.std.specs.Prelude.{◌≡◌, ℕ, zero, suc, ◌<◌, ◌≤◌, ◌
 use Rattle.std.specs.List.{All}
 use Rattle.std.specs.Int.{w32}
 use Rattle.c0_typed.specs.Values.{Value, Number, Truth, Letter, Text, Ref, Void, Tree, Leaf, Node, Trees, Nil, Cons, count, Spot, load, store}
-use Rattle.c0_typed.specs.Trees.{Ty, VoidTy, IntTy, BoolTy, CharTy, TextTy, StructTy, PointerTy, ArrayTy, UnaryOp, Not, Relation, Equal, Unequal, Output, Print, Println, Printint, Printbool, Printchar, Flush, Exp, Constant, Null, Local, Unary, Binary, Compare, And, Or, Choose, Call, Out, Load, Alloc, AllocArray, Length, Exps, NoExp, More, Place, Deref, Index, Field, Stmt, Skip, Seq, Set, Update, Store, StoreUpdate, Do, If, Loop, Return, ReturnValue, Assert, Error, Check, Function, Program}
+use Rattle.c0_typed.specs.Trees.{Ty, VoidTy, IntTy, BoolTy, CharTy, TextTy, StructTy, PointerTy, ArrayTy, UnaryOp, Not, Relation, Equal, Unequal, Output, Print, Println, Printint, Printbool, Printchar, Flush, Exp, Constant, Null, Local, Unary, Binary, Compare, And, Or, Choose, Call, Out, Load, Alloc, AllocArray, Length, Exps, NoExp, More, Place, Deref, Index, Field, Stmt, Skip, Seq, Set, Update, Store, StoreUpdate, Do, If, Loop, Return, ReturnValue, Break, Continue, Assert, Error, Check, Function, Program}
 use Rattle.cells.specs.Outcomes.{Done, Stopped, Cut}
 use Rattle.c0_typed.specs.Layouts.{flats}
 use Rattle.c0_typed.specs.Meaning.{State, Outcome, Way, eval, locate, exec, call, default, fields, struct_defaults}
@@ -117,6 +117,8 @@ module _ (p : Program) (types : List Ty) where
   Fits (Loop es c body step) = AllBool es × Has c BoolTy × Fits body × Fits step
   Fits Return = Unit {0}
   Fits (ReturnValue a) = (t : Ty) × (slice_get types 0 ≡ Some t) × Has a t
+  Fits Break = Unit {0}
+  Fits Continue = Unit {0}
   Fits (Assert a) = Has a BoolTy
   Fits (Error a) = Has a TextTy
   Fits (Check es) = AllBool es

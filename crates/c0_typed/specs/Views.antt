@@ -13,7 +13,7 @@ use Rattle.c0_typed.specs.declared.tree.Output.{Output}
 use Rattle.c0_typed.specs.declared.tree.Output.TheVariants as o
 use Rattle.c0_typed.specs.declared.tree.Expression.{Expression, Row_of-Expression, end_of-Expression, more_of-Expression, Constant, Null, Local, Unary', Binary', Compare', And', Or', Choose', Call', Print', Load', Alloc, AllocArray', Length'}
 use Rattle.c0_typed.specs.declared.tree.Place.{Place, Deref', Index', Field'}
-use Rattle.c0_typed.specs.declared.tree.Statement.{Statement, Row_of-Statement, end_of-Statement, more_of-Statement, Block', Set, Update, Store, StoreUpdate, Do, If', Loop', Return, ReturnValue, Assert, Error, Check}
+use Rattle.c0_typed.specs.declared.tree.Statement.{Statement, Row_of-Statement, end_of-Statement, more_of-Statement, Block', Set, Update, Store, StoreUpdate, Do, If', Loop', Return, ReturnValue, Break, Continue, Assert, Error, Check}
 use Rattle.c0_typed.specs.declared.tree.Function.{Function}
 use Rattle.c0_typed.specs.declared.tree.Struct.{Struct}
 use Rattle.c0_typed.specs.declared.tree.Typed.{Typed}
@@ -115,6 +115,8 @@ module _ (texts : List (List ℕ)) where
     stmt_of (Loop' invariants c p body q step) = t.Loop (exps_of invariants.items) (exp_of c) (stmt_of body) (stmt_of step)
     stmt_of Return = t.Return
     stmt_of (ReturnValue e) = t.ReturnValue (exp_of e)
+    stmt_of Break = t.Break
+    stmt_of Continue = t.Continue
     stmt_of (Assert e) = t.Assert (exp_of e)
     stmt_of (Error e) = t.Error (exp_of e)
     stmt_of (Check es) = t.Check (exps_of es.items)

@@ -125,6 +125,10 @@ pub enum Statement {
     Return,
     /// Returns a value.
     ReturnValue(Expression),
+    /// Ends the nearest loop.
+    Break,
+    /// Ends a turn of the nearest loop, which goes on with its third part.
+    Continue,
     Assert(Expression),
     /// Stops the program with a text.
     Error(Expression),

@@ -1,5 +1,5 @@
 -- Functions with their bodies, as code holds them.
-use Rattle.std.specs.Prelude.{List, [], ◌∷◌, None, length, map}
+use Rattle.std.specs.Prelude.{false, List, [], ◌∷◌, None, length, map}
 use Rattle.c0_syntax.specs.Trees as s
 use Rattle.c0_typed.specs.Views.{block_of, exps_of}
 use Rattle.c0_typed.specs.Trees as t
@@ -36,7 +36,7 @@ at_return locals f = record { locals = locals; result = p.result_of f.result }
 
 -- what is in scope where its body begins
 abbrev pub first_scope : List Local → Signature → b.Scope
-first_scope locals f = record { locals = locals; parameters = length f.parameters; declared = []; result = f.result }
+first_scope locals f = record { locals = locals; parameters = length f.parameters; declared = []; result = f.result; in_loop = false }
 
 -- types as typed trees have them
 abbrev pub numbers_in : Environment → List ResolvedType → List t.Ty

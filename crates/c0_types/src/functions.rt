@@ -110,6 +110,7 @@ fn first_scope(
         parameters: signature.parameters.len(),
         declared: Vec::new(alloc),
         result: signature.result.duplicate(alloc)?,
+        in_loop: false,
     })
 }
 

@@ -13,7 +13,7 @@ use Rattle.c0_syntax.specs.declared.statement.StatementKind.{StatementKind}
 use Rattle.c0_syntax.specs.Views.{annotation_of, expression_of, simple_of, statement_of_kind}
 use Rattle.c0_rules.specs.Types.{and_so, provided, Name, is_among, any_among}
 use Rattle.c0_rules.specs.Mentions.{Mention, OfVariable, OfFunction, OfText, variable_of, mentions, spec_mentions, condition_of, specs_in}
-use Rattle.c0_rules.specs.Assignment.{Flow, Ended, Reached, has_ended, joined, left_scope, reads_assigned, specs_read_assigned, after_body, after_statement, flow_of_part, flow_of_statement, flow_of_statements}
+use Rattle.c0_rules.specs.Assignment.{Flow, Ended, Reached, continued, has_ended, joined, left_scope, reads_assigned, specs_read_assigned, after_body, after_statement, flow_of_part, flow_of_statement, flow_of_statements}
 use Rattle.c0_rules.specs.FaultPaths.{is_unassigned, ReadIn, ReadInAnnotations, ReadInPart, ReadInStatement}
 use Rattle.c0_rules.proofs.Assigned.{statement_after}
 use Rattle.c0_rules.proofs.Rules.{AllSome}
@@ -202,10 +202,10 @@ module _ (first : Option t.SimpleStatement) (c : t.Expression) (third : Option t
 
   -- the third part sees what the body assigns
   turn : (r s : Bool) (g out : Flow) (o : Option Flow) → AllSome (λ h. h ≡ after_statement a g) o
-      → provided (r && s) (and_so o (λ h. and_so (flow_of_part third (left_scope g h)) (λ k. Some out))) ≡ provided (r && third_reads third a g && s) (and_so o (λ h. Some out))
+      → provided (r && s) (and_so o (λ h. and_so (flow_of_part third (joined g h (continued g a g Ended))) (λ k. Some out))) ≡ provided (r && third_reads third a g && s) (and_so o (λ h. Some out))
   turn false s g out o e = refl
   turn true s g out None e = none_provided s None refl ∙ sym (none_provided (third_reads third a g && s) None refl)
-  turn true s g out (Some h) e = ap (λ z. provided s (and_so (flow_of_part third (left_scope g z)) (λ k. Some out))) e ∙ met s (flow_of_part third (after_body a g)) out
+  turn true s g out (Some h) e = ap (λ z. provided s (and_so (flow_of_part third (joined g z (continued g a g Ended))) (λ k. Some out))) e ∙ met s (flow_of_part third (after_body a g)) out
 
   for_is : flow_of_statement (t.For first c third notes a) f ≡ and_so (flow_of_part first f) (λ g. provided (reads g) (inside g))
   for_is = each_so (flow_of_part first f) _ _ (λ g. turn (reads_assigned g c) (specs_read_assigned g (specs_in notes)) g (left_scope f g) (flow_of_statement a g) (statement_after a g))

@@ -9,13 +9,13 @@ use Rattle.c0_syntax.specs.Views.{statement_of, statements_of}
 use Rattle.c0_typed.specs.Trees as t
 use Rattle.c0_typed.specs.Views.{block_of, stmt_of}
 use Rattle.c0_typed.specs.declared.tree.Statement as d
-use Rattle.c0_types_statements.specs.Bodies.{StatementHasTexts, StatementsHaveTexts, block_in_scope, in_scope, loop_behind}
+use Rattle.c0_types_statements.specs.Bodies.{StatementHasTexts, StatementsHaveTexts, block_in_scope, in_scope, turn_in_scope, loop_behind}
 use Rattle.c0_rules.specs.FaultStatements.{InBody, InStatement}
 use Rattle.c0_rules.specs.Mentions.{specs_in}
-use Rattle.c0_rules.specs.Statements.{Invariant, Scope, Checked, leave, within, declares, expression_as, conditions_of_all, next, typed_part, typed_statement, typed_statements}
+use Rattle.c0_rules.specs.Statements.{Invariant, Scope, Checked, in_body, leave, within, declares, expression_as, conditions_of_all, next, typed_part, typed_statement, typed_statements}
 use Rattle.c0_rules.specs.Types.{and_so, provided, Name, BoolType, Environment}
 use Rattle.c0_rules.proofs.Rules.{some_has}
-use Rattle.c0_types_statements.proofs.Scopes.{Keeps, keeps_on, left, loop_keeps, part_keeps, statement_keeps, statements_keep}
+use Rattle.c0_types_statements.proofs.Scopes.{Keeps, keeps_on, left, turn_left, loop_keeps, part_keeps, statement_keeps, statements_keep}
 
 -- ---- rules in a row
 
@@ -43,10 +43,10 @@ module _ (env : Environment) where
       so_assoc (typed_statement env a s) _ _ ∙ so_same (typed_statement env a s) _ _ (λ x. so_assoc (typed_statement env b (leave s x.scope)) _ _))
 
   pub while_is : (c : Expression) (notes : List (List Spec)) (a : Statement) (s : Scope)
-      → and_so (expression_as env BoolType s c) (λ z. and_so (conditions_of_all env Invariant (within s) (specs_in notes)) (λ xs. and_so (in_scope env a s) (λ x. next (t.Loop xs z x.statement t.Skip) x.scope)))
+      → and_so (expression_as env BoolType s c) (λ z. and_so (conditions_of_all env Invariant (within s) (specs_in notes)) (λ xs. and_so (turn_in_scope env a s) (λ x. next (t.Loop xs z x.statement t.Skip) x.scope)))
       ≡ typed_statement env (While c notes a) s
   while_is c notes a s =
-      so_same (expression_as env BoolType s c) _ _ (λ z. so_same (conditions_of_all env Invariant (within s) (specs_in notes)) _ _ (λ xs. so_assoc (typed_statement env a s) _ _))
+      so_same (expression_as env BoolType s c) _ _ (λ z. so_same (conditions_of_all env Invariant (within s) (specs_in notes)) _ _ (λ xs. so_assoc (typed_statement env a (in_body s)) _ _))
 
   -- ---- the end of a scope
 
@@ -55,6 +55,15 @@ module _ (env : Environment) where
   nested_gives b s x count behind e h k =
       ap (λ o. and_so o (λ z. next z.statement (leave s z.scope))) h
       ∙ ap (λ z. Some (record { statement = x.statement; scope = z })) (sym (k ∙ ap (λ m. record x.scope { locals = take m x.scope.locals }) e ∙ left s x (some_has (Keeps s) (typed_statement env b s) x (statement_keeps env b s) h)))
+
+  -- ... and of the body of a loop
+  pub turn_gives : (b : Statement) (s : Scope) (x : Checked) (count : ℕ) (behind : Scope) → count ≡ length s.locals → typed_statement env b (in_body s) ≡ Some x → behind ≡ record x.scope { locals = take count x.scope.locals }
+      → turn_in_scope env b s ≡ Some (record { statement = x.statement; scope = record behind { in_loop = s.in_loop } })
+  turn_gives b s x count behind e h k =
+      ap (λ o. and_so o (λ z. next z.statement (leave s z.scope))) h
+      ∙ ap (λ z. Some (record { statement = x.statement; scope = z }))
+      (sym (ap (λ (z : Scope). record z { in_loop = s.in_loop }) k ∙ ap (λ m. record x.scope { locals = take m x.scope.locals; in_loop = s.in_loop }) e
+      ∙ turn_left s x (some_has (Keeps (in_body s)) (typed_statement env b (in_body s)) x (statement_keeps env b (in_body s)) h)))
 
   pub block_gives : (ss : Statements) (s : Scope) (x : Checked) (count : ℕ) (behind : Scope) → count ≡ length s.locals → typed_statements env ss s ≡ Some x → behind ≡ record x.scope { locals = take count x.scope.locals }
       → block_in_scope env ss s ≡ Some (record { statement = x.statement; scope = behind })
@@ -174,7 +183,7 @@ module _ (env : Environment) where
       inr (sym (if_else_is env c a d s) ∙ so_none (expression_as env BoolType s c) _ (λ z.
       ap (λ o. and_so o (λ v. and_so (in_scope env d v.scope) (λ u. next (t.If z v.statement u.statement) u.scope))) k ∙ ap (λ o. and_so o (λ u. next (t.If z x.statement u.statement) u.scope)) h))
 
-  pub while_none : {K : Type 0} (c : Expression) (notes : List (List Spec)) (a : Statement) (s : Scope) → K ⊎ (in_scope env a s ≡ None) → K ⊎ (typed_statement env (While c notes a) s ≡ None)
+  pub while_none : {K : Type 0} (c : Expression) (notes : List (List Spec)) (a : Statement) (s : Scope) → K ⊎ (turn_in_scope env a s ≡ None) → K ⊎ (typed_statement env (While c notes a) s ≡ None)
   while_none c notes a s (inl k) = inl k
   while_none c notes a s (inr h) =
       inr (sym (while_is env c notes a s) ∙ so_none (expression_as env BoolType s c) _ (λ z. so_none (conditions_of_all env Invariant (within s) (specs_in notes)) _ (λ xs. ap (λ o. and_so o (λ v. next (t.Loop xs z v.statement t.Skip) v.scope)) h)))

@@ -2,8 +2,8 @@
 use Rattle.std.proofs.Common.{◌≡◌, List, Bor, sym, subst, ap, None, inl, inr}
 use Rattle.std.specs.Prelude.{◌⊎◌}
 use Rattle.c0_syntax.specs.Trees.{Statement, Statements}
-use Rattle.c0_types_statements.specs.Bodies.{block_in_scope, in_scope}
-use Rattle.c0_rules.specs.Statements.{Scope, leave, next, typed_statement, typed_statements}
+use Rattle.c0_types_statements.specs.Bodies.{block_in_scope, in_scope, turn_in_scope}
+use Rattle.c0_rules.specs.Statements.{Scope, in_body, leave, next, typed_statement, typed_statements}
 use Rattle.c0_rules.specs.Types.{Name, Environment, and_so}
 use Rattle.c0_types_tables.specs.declared.environment.Environment as d
 use Rattle.c0_types_tables.specs.Views.{environment_of}
@@ -18,6 +18,10 @@ in_texts P e h = subst (λ z. P z.now) (sym e) h
 pub scope_none : {K : Type 0} (env : Environment) (a : Statement) (s : Scope) → K ⊎ (typed_statement env a s ≡ None) → K ⊎ (in_scope env a s ≡ None)
 scope_none env a s (inl k) = inl k
 scope_none env a s (inr h) = inr (ap (λ o. and_so o (λ x. next x.statement (leave s x.scope))) h)
+
+pub turn_none : {K : Type 0} (env : Environment) (a : Statement) (s : Scope) → K ⊎ (typed_statement env a (in_body s) ≡ None) → K ⊎ (turn_in_scope env a s ≡ None)
+turn_none env a s (inl k) = inl k
+turn_none env a s (inr h) = inr (ap (λ o. and_so o (λ x. next x.statement (leave s x.scope))) h)
 
 pub block_none : {K : Type 0} (env : Environment) (rest : Statements) (s : Scope) → K ⊎ (typed_statements env rest s ≡ None) → K ⊎ (block_in_scope env rest s ≡ None)
 block_none env rest s (inl k) = inl k

@@ -9,13 +9,13 @@ use Rattle.c0_typed.specs.Trees as t
 use Rattle.c0_typed.specs.Views.{exp_of, exps_of, stmt_of}
 use Rattle.c0_typed.specs.declared.tree.Expression.{Expression as TypedExpression}
 use Rattle.c0_typed.specs.declared.tree.Statement as d
-use Rattle.c0_types_statements.specs.Bodies.{Gives, Head, head_of, in_scope, loop_behind, loop_head, scope_of, step_of as third_of_loop}
+use Rattle.c0_types_statements.specs.Bodies.{Gives, Head, head_of, turn_in_scope, loop_behind, loop_head, scope_of, step_of as third_of_loop}
 use Rattle.c0_types_statements.specs.declared.bodies.loops.LoopHead.{LoopHead}
 use Rattle.c0_types_statements.specs.declared.scope.Scope as code
 use Rattle.c0_rules.specs.Answers.{Answers}
 use Rattle.c0_rules.specs.Expressions.{operator_rule, typed_expression}
 use Rattle.c0_rules.specs.Mentions.{as_variable, specs_in}
-use Rattle.c0_rules.specs.Statements.{Invariant, Scope, Checked, leave, within, Destination, ToLocal, ToPlace, change_of, step_of, declares, one, expression_as, conditions_of_all, destination, destination_by, assigned, updated, evaluated, next, typed_part, typed_statement}
+use Rattle.c0_rules.specs.Statements.{Invariant, Scope, Checked, in_body, leave, within, Destination, ToLocal, ToPlace, change_of, step_of, declares, one, expression_as, conditions_of_all, destination, destination_by, assigned, updated, evaluated, next, typed_part, typed_statement}
 use Rattle.c0_rules.specs.Types.{and_so, provided, same_type, is_small, Name, IntType, BoolType, Environment}
 use Rattle.c0_rules.proofs.Rules.{some_has}
 use Rattle.c0_types_statements.proofs.Branches.{so_assoc, so_none, so_same, while_is}
@@ -102,19 +102,19 @@ module _ (env : Environment) where
       provided (not declared) (and_so (typed_part env third (leave x y.scope)) (λ w. next (t.Seq b (t.Seq (t.Loop xs z y.statement w.statement) t.Skip)) (leave s w.scope)))
 
   loop_is : (third : Option SimpleStatement) (notes : Option t.Exps) (a : Statement) (z : t.Exp) (x s : Scope) (b : t.Stmt) (declared : Bool) → declares third ≡ declared
-      → and_so (and_so (provided (not declared) (and_so (typed_part env third x) (λ w. Some w.statement))) (λ w. and_so notes (λ xs. made z w xs))) (λ h. and_so (in_scope env a x) (λ v. next (t.Seq b (t.Seq (t.Loop h.invariants h.condition v.statement h.third) t.Skip)) (leave s v.scope)))
-      ≡ and_so notes (λ xs. and_so (typed_statement env a x) (λ y. behind_of third z xs b x s y declared))
-  loop_is third notes a z x s b true h = sym (so_none notes _ (λ xs. so_none (typed_statement env a x) _ (λ y. refl)))
+      → and_so (and_so (provided (not declared) (and_so (typed_part env third x) (λ w. Some w.statement))) (λ w. and_so notes (λ xs. made z w xs))) (λ h. and_so (turn_in_scope env a x) (λ v. next (t.Seq b (t.Seq (t.Loop h.invariants h.condition v.statement h.third) t.Skip)) (leave s v.scope)))
+      ≡ and_so notes (λ xs. and_so (typed_statement env a (in_body x)) (λ y. behind_of third z xs b x s y declared))
+  loop_is third notes a z x s b true h = sym (so_none notes _ (λ xs. so_none (typed_statement env a (in_body x)) _ (λ y. refl)))
   loop_is third notes a z x s b false h =
-      in_order (typed_part env third x) notes (typed_statement env a x) z x s b
-      ∙ so_same notes _ _ (λ xs. so_same (typed_statement env a x) _ _ (λ y. ap (λ o. and_so o (λ w. next (t.Seq b (t.Seq (t.Loop xs z y.statement w.statement) t.Skip)) (leave s w.scope))) (sym (part_moves third x y.scope h))))
+      in_order (typed_part env third x) notes (typed_statement env a (in_body x)) z x s b
+      ∙ so_same notes _ _ (λ xs. so_same (typed_statement env a (in_body x)) _ _ (λ y. ap (λ o. and_so o (λ w. next (t.Seq b (t.Seq (t.Loop xs z y.statement w.statement) t.Skip)) (leave s w.scope))) (sym (part_moves third x y.scope h))))
 
   for_is : (first : Option SimpleStatement) (c : Expression) (third : Option SimpleStatement) (notes : List (List Spec)) (a : Statement) (s : Scope)
       → and_so (typed_part env first s) (λ x. and_so (loop_behind env c third notes a x.scope) (λ w. next (t.Seq x.statement (t.Seq w.statement t.Skip)) (leave s w.scope))) ≡ typed_statement env (For first c third notes a) s
   for_is first c third notes a s =
       so_same (typed_part env first s) _ _ (λ x.
       so_assoc (loop_head env c third notes x.scope) _ _
-      ∙ so_same (loop_head env c third notes x.scope) _ _ (λ h. so_assoc (in_scope env a x.scope) _ _)
+      ∙ so_same (loop_head env c third notes x.scope) _ _ (λ h. so_assoc (turn_in_scope env a x.scope) _ _)
       ∙ so_assoc (expression_as env BoolType x.scope c) _ _
       ∙ so_same (expression_as env BoolType x.scope c) _ _ (λ z. loop_is third (conditions_of_all env Invariant (within x.scope) (specs_in notes)) a z x.scope s x.statement (declares third) refl))
 
@@ -150,17 +150,17 @@ module _ (env : Environment) where
 
   -- ---- a loop is its head and its body
 
-  pub loop_gives : (c : Expression) (third : Option SimpleStatement) (notes : List (List Spec)) (a : Statement) (s : Scope) (h : Head) (x : Checked) → loop_head env c third notes s ≡ Some h → in_scope env a s ≡ Some x
+  pub loop_gives : (c : Expression) (third : Option SimpleStatement) (notes : List (List Spec)) (a : Statement) (s : Scope) (h : Head) (x : Checked) → loop_head env c third notes s ≡ Some h → turn_in_scope env a s ≡ Some x
       → loop_behind env c third notes a s ≡ Some (record { statement = t.Loop h.invariants h.condition x.statement h.third; scope = x.scope })
   loop_gives c third notes a s h x e k =
-      ap (λ o. and_so o (λ h. and_so (in_scope env a s) (λ x. next (t.Loop h.invariants h.condition x.statement h.third) x.scope))) e
+      ap (λ o. and_so o (λ h. and_so (turn_in_scope env a s) (λ x. next (t.Loop h.invariants h.condition x.statement h.third) x.scope))) e
       ∙ ap (λ o. and_so o (λ x. next (t.Loop h.invariants h.condition x.statement h.third) x.scope)) k
 
   pub head_none : {K : Type 0} (c : Expression) (third : Option SimpleStatement) (notes : List (List Spec)) (a : Statement) (s : Scope) → K ⊎ (loop_head env c third notes s ≡ None) → K ⊎ (loop_behind env c third notes a s ≡ None)
   head_none c third notes a s (inl k) = inl k
-  head_none c third notes a s (inr h) = inr (ap (λ o. and_so o (λ h. and_so (in_scope env a s) (λ x. next (t.Loop h.invariants h.condition x.statement h.third) x.scope))) h)
+  head_none c third notes a s (inr h) = inr (ap (λ o. and_so o (λ h. and_so (turn_in_scope env a s) (λ x. next (t.Loop h.invariants h.condition x.statement h.third) x.scope))) h)
 
-  pub loop_none : {K : Type 0} (c : Expression) (third : Option SimpleStatement) (notes : List (List Spec)) (a : Statement) (s : Scope) → K ⊎ (in_scope env a s ≡ None) → K ⊎ (loop_behind env c third notes a s ≡ None)
+  pub loop_none : {K : Type 0} (c : Expression) (third : Option SimpleStatement) (notes : List (List Spec)) (a : Statement) (s : Scope) → K ⊎ (turn_in_scope env a s ≡ None) → K ⊎ (loop_behind env c third notes a s ≡ None)
   loop_none c third notes a s (inl k) = inl k
   loop_none c third notes a s (inr h) = inr (so_none (loop_head env c third notes s) _ (λ z. ap (λ o. and_so o (λ x. next (t.Loop z.invariants z.condition x.statement z.third) x.scope)) h))
 
@@ -169,7 +169,7 @@ module _ (env : Environment) where
   pub while_behind : (c : Expression) (notes : List (List Spec)) (a : Statement) (s : Scope) → loop_behind env c None notes a s ≡ typed_statement env (While c notes a) s
   while_behind c notes a s =
       so_assoc (expression_as env BoolType s c) _ _
-      ∙ so_same (expression_as env BoolType s c) _ _ (λ z. so_assoc (conditions_of_all env Invariant (within s) (specs_in notes)) (λ xs. made z t.Skip xs) (λ h. and_so (in_scope env a s) (λ x. next (t.Loop h.invariants h.condition x.statement h.third) x.scope)))
+      ∙ so_same (expression_as env BoolType s c) _ _ (λ z. so_assoc (conditions_of_all env Invariant (within s) (specs_in notes)) (λ xs. made z t.Skip xs) (λ h. and_so (turn_in_scope env a s) (λ x. next (t.Loop h.invariants h.condition x.statement h.third) x.scope)))
       ∙ while_is env c notes a s
 
   pub while_headless : {K : Type 0} (c : Expression) (notes : List (List Spec)) (a : Statement) (s : Scope) → K ⊎ (loop_head env c None notes s ≡ None) → K ⊎ (typed_statement env (While c notes a) s ≡ None)

@@ -3,11 +3,11 @@ use Rattle.std.proofs.Common.{◌≡◌, ℕ, zero, suc, List, [], ◌∷◌, �
 use Rattle.std.specs.Prelude.{not, cond, find, option_map}
 use Rattle.c0_syntax.specs.Trees.{Expression, Spec, SimpleStatement, Declare, Initialize, Assign, Update, Step, Evaluate, Statement, Simple, Block, Annotation, Return, ReturnValue, If, IfElse, While, For, Assert, Error, Break, Continue, Statements, nothing, also}
 use Rattle.c0_typed.specs.Trees as t
-use Rattle.c0_types_statements.specs.Bodies.{in_scope, loop_behind, loop_head}
+use Rattle.c0_types_statements.specs.Bodies.{turn_in_scope, loop_behind, loop_head}
 use Rattle.c0_rules.specs.Types.{and_so, Name, ResolvedType, VoidType, IntType, BoolType, StringType, same_type, is_small, small_type, Environment}
 use Rattle.c0_rules.specs.Mentions.{specs_in}
 use Rattle.c0_rules.specs.Expressions.{operator_rule, Local, typed_expression}
-use Rattle.c0_rules.specs.Statements.{Invariant, Assertion, Scope, Checked, leave, within, Destination, ToLocal, ToPlace, change_of, step_of, declares, one, expression_as, conditions_of_all, is_taken, declared, destination, assigned, updated, evaluated, typed_simple, typed_part, typed_statement, typed_statements}
+use Rattle.c0_rules.specs.Statements.{Invariant, Assertion, Scope, Checked, in_body, leave, within, Destination, ToLocal, ToPlace, change_of, step_of, declares, one, expression_as, conditions_of_all, is_taken, declared, destination, assigned, updated, evaluated, typed_simple, typed_part, typed_statement, typed_statements}
 use Rattle.c0_rules.proofs.Rules.{AllSome, all_so, all_go, all_if, some_has}
 
 pub map_take : {A B : Type 0} (f : A → B) (n : ℕ) (xs : List A) → map f (take n xs) ≡ take n (map f xs)
@@ -33,16 +33,16 @@ take_front : {A : Type 0} (xs ys : List A) → take (length xs) (xs ++ ys) ≡ x
 take_front [] ys = refl
 take_front (x ∷ xs) ys = ap (λ l. x ∷ l) (take_front xs ys)
 
--- the locals begin with those
+-- the locals begin with those, and it is in a loop where it was
 abbrev pub Keeps : Scope → Checked → Type 0
-Keeps s x = (more : List Local) × (x.scope.locals ≡ s.locals ++ more)
+Keeps s x = (more : List Local) × (x.scope.locals ≡ s.locals ++ more) × (x.scope.in_loop ≡ s.in_loop)
 
-same : (s : Scope) → (more : List Local) × (s.locals ≡ s.locals ++ more)
-same s = ([], sym (append-nil s.locals))
+same : (s : Scope) → (more : List Local) × (s.locals ≡ s.locals ++ more) × (s.in_loop ≡ s.in_loop)
+same s = ([], sym (append-nil s.locals), refl)
 
 -- what is kept twice
 pub keeps_on : (s : Scope) (x y : Checked) → Keeps s x → Keeps x.scope y → Keeps s y
-keeps_on s x y g i = (g.0 ++ i.0, i.1 ∙ ap (λ l. l ++ i.0) g.1 ∙ append_assoc s.locals g.0 i.0)
+keeps_on s x y g i = (g.0 ++ i.0, i.1 ∙ ap (λ l. l ++ i.0) g.1 ∙ append_assoc s.locals g.0 i.0, i.2 ∙ g.2)
 
 module _ (env : Environment) where
   assigned_keeps : (s : Scope) (e : _) (d : Destination) → AllSome (Keeps s) (assigned env s e d)
@@ -53,8 +53,8 @@ module _ (env : Environment) where
   updated_keeps s o x (ToLocal l) = all_if (Keeps s) (same_type l.resolved IntType) _ (λ z. same s)
   updated_keeps s o x (ToPlace d) = all_if (Keeps s) (same_type d.resolved IntType) _ (λ z. same s)
 
-  declared_keeps : (n : Name) (a : ResolvedType) (s : Scope) → AllSome (λ k. (more : List Local) × (k.locals ≡ s.locals ++ more)) (declared env n a s)
-  declared_keeps n a s = all_if _ (not (is_taken env s n)) _ (λ e. (_, refl))
+  declared_keeps : (n : Name) (a : ResolvedType) (s : Scope) → AllSome (λ k. (more : List Local) × (k.locals ≡ s.locals ++ more) × (k.in_loop ≡ s.in_loop)) (declared env n a s)
+  declared_keeps n a s = all_if _ (not (is_taken env s n)) _ (λ e. (_, refl, refl))
 
   pub simple_keeps : (a : SimpleStatement) (s : Scope) → AllSome (Keeps s) (typed_simple env a s)
   simple_keeps (Declare a n) s = all_go (Keeps s) (small_type env.typedefs a) _ (λ r e. all_so _ (Keeps s) (declared env n r s) _ (declared_keeps n r s) (λ k d. d))
@@ -81,15 +81,15 @@ module _ (env : Environment) where
       all_go (Keeps s) (expression_as env BoolType s c) _ (λ z q. all_go (Keeps s) (typed_statement env a s) _ (λ x g. all_go (Keeps s) (typed_statement env b (leave s x.scope)) _ (λ y i. same s)))
   statement_keeps (While c notes a) s =
       all_go (Keeps s) (expression_as env BoolType s c) _ (λ z q. all_go (Keeps s) (conditions_of_all env Invariant (within s) (specs_in notes)) _ (λ xs r.
-      all_go (Keeps s) (typed_statement env a s) _ (λ x g. same s)))
+      all_go (Keeps s) (typed_statement env a (in_body s)) _ (λ x g. same s)))
   statement_keeps (For first c third notes a) s =
       all_go (Keeps s) (typed_part env first s) _ (λ x gx. all_go (Keeps s) (expression_as env BoolType x.scope c) _ (λ z q.
-      all_go (Keeps s) (conditions_of_all env Invariant (within x.scope) (specs_in notes)) _ (λ xs r. all_go (Keeps s) (typed_statement env a x.scope) _ (λ y gy.
+      all_go (Keeps s) (conditions_of_all env Invariant (within x.scope) (specs_in notes)) _ (λ xs r. all_go (Keeps s) (typed_statement env a (in_body x.scope)) _ (λ y gy.
       all_if (Keeps s) (not (declares third)) _ (λ e. all_go (Keeps s) (typed_part env third (leave x.scope y.scope)) _ (λ w gw. same s))))))
   statement_keeps (Assert e) s = all_go (Keeps s) (expression_as env BoolType s e) _ (λ x q. same s)
   statement_keeps (Error e) s = all_go (Keeps s) (expression_as env StringType s e) _ (λ x q. same s)
-  statement_keeps Break s = tt
-  statement_keeps Continue s = tt
+  statement_keeps Break s = all_if (Keeps s) s.in_loop _ (λ z. same s)
+  statement_keeps Continue s = all_if (Keeps s) s.in_loop _ (λ z. same s)
 
   pub statements_keep : (ss : Statements) (s : Scope) → AllSome (Keeps s) (typed_statements env ss s)
   statements_keep nothing s = same s
@@ -99,7 +99,7 @@ module _ (env : Environment) where
 
   pub loop_keeps : (c : Expression) (third : Option SimpleStatement) (notes : List (List Spec)) (a : Statement) (s : Scope) → AllSome (Keeps s) (loop_behind env c third notes a s)
   loop_keeps c third notes a s =
-      all_go (Keeps s) (loop_head env c third notes s) _ (λ h q. all_so (Keeps s) (Keeps s) (in_scope env a s) _ (all_go (Keeps s) (typed_statement env a s) _ (λ x g. same s)) (λ x g. g))
+      all_go (Keeps s) (loop_head env c third notes s) _ (λ h q. all_so (Keeps s) (Keeps s) (turn_in_scope env a s) _ (all_go (Keeps s) (typed_statement env a (in_body s)) _ (λ x g. same s)) (λ x g. g))
 
   -- ---- what declares no local leaves the scope as it is
 
@@ -129,4 +129,9 @@ module _ (env : Environment) where
 
 -- so the end of a scope is found by the number of the locals
 pub left : (s : Scope) (x : Checked) → Keeps s x → record x.scope { locals = take (length s.locals) x.scope.locals } ≡ leave s x.scope
-left s x k = ap (λ l. record x.scope { locals = l }) (ap (take (length s.locals)) k.1 ∙ take_front s.locals k.0)
+left s x k =
+    ap (λ l. record x.scope { locals = l }) (ap (take (length s.locals)) k.1 ∙ take_front s.locals k.0) ∙ ap (λ b. record x.scope { locals = s.locals; in_loop = b }) k.2
+
+-- the same behind the body of a loop
+pub turn_left : (s : Scope) (x : Checked) → Keeps (in_body s) x → record x.scope { locals = take (length s.locals) x.scope.locals; in_loop = s.in_loop } ≡ leave s x.scope
+turn_left s x k = ap (λ l. record x.scope { locals = l; in_loop = s.in_loop }) (ap (take (length s.locals)) k.1 ∙ take_front s.locals k.0)

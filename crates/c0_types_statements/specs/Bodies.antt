@@ -31,7 +31,7 @@ use Rattle.c0_types_statements.specs.declared.scope.Destination.TheVariants as d
 
 -- what is in scope
 abbrev pub scope_of : Scope → s.Scope
-scope_of x = record { locals = map local_of x.locals.items; parameters = x.parameters; declared = map resolved_of x.declared.items; result = resolved_of x.result }
+scope_of x = record { locals = map local_of x.locals.items; parameters = x.parameters; declared = map resolved_of x.declared.items; result = resolved_of x.result; in_loop = x.in_loop }
 
 -- the rules give this statement, and this scope behind it; or, want of memory aside, they give none
 abbrev pub Gives : List Name → Scope → Result Statement Fault → Option s.Checked → Type 0
@@ -58,6 +58,10 @@ GivesBy view behind (Err f) o = (f.kind ≡ k.OutOfMemory) ⊎ (o ≡ None)
 -- a statement in a scope of its own
 abbrev pub in_scope : Environment → t.Statement → s.Scope → Option s.Checked
 in_scope env b at = and_so (s.typed_statement env b at) (λ x. s.next x.statement (s.leave at x.scope))
+
+-- the body of a loop, which is a scope
+abbrev pub turn_in_scope : Environment → t.Statement → s.Scope → Option s.Checked
+turn_in_scope env b at = and_so (s.typed_statement env b (s.in_body at)) (λ x. s.next x.statement (s.leave at x.scope))
 
 -- statements in a scope of their own
 abbrev pub block_in_scope : Environment → t.Statements → s.Scope → Option s.Checked
@@ -86,7 +90,7 @@ loop_head env c third notes at =
 -- the loop of a `for`, behind its first part
 abbrev pub loop_behind : Environment → t.Expression → Option t.SimpleStatement → List (List t.Spec) → t.Statement → s.Scope → Option s.Checked
 loop_behind env c third notes a at =
-    and_so (loop_head env c third notes at) (λ h. and_so (in_scope env a at) (λ x. s.next (y.Loop h.invariants h.condition x.statement h.third) x.scope))
+    and_so (loop_head env c third notes at) (λ h. and_so (turn_in_scope env a at) (λ x. s.next (y.Loop h.invariants h.condition x.statement h.third) x.scope))
 
 -- ---- specs
 
@@ -144,7 +148,7 @@ InHead env fault at c third notes = InWanted env fault at BoolType c ⊎ InPart 
 -- the loop of a `for`
 abbrev pub InLoop : Environment → Fault → s.Scope → e.Expression → Option SimpleStatement → List Annotation → a.Statement → Type 0
 InLoop env fault at c third notes x =
-    InWanted env fault at BoolType c ⊎ InPart env fault at third ⊎ InAnnotations env fault s.Invariant (s.within at) notes ⊎ InStatement env fault at x.kind x.span
+    InWanted env fault at BoolType c ⊎ InPart env fault at third ⊎ InAnnotations env fault s.Invariant (s.within at) notes ⊎ InStatement env fault (s.in_body at) x.kind x.span
 
 -- a `for`
 abbrev pub InFor : Environment → Fault → s.Scope → Option SimpleStatement → e.Expression → Option SimpleStatement → List Annotation → a.Statement → Type 0

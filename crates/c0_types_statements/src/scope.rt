@@ -13,13 +13,15 @@ use c0_types_expressions::typing::{Local, Place};
 use c0_types_tables::resolved::ResolvedType;
 use std::alloc::{AllocError, Global};
 
-/// The locals in scope, the number of parameters, the types of all other locals of the function so far, and its result's type.
+/// The locals in scope, the number of parameters, the types of all other locals of the function so far, its result's type, and whether a
+/// loop of the function is round it.
 #[derive(Debug, Drop)]
 pub struct Scope {
     pub locals: Vec<Local>,
     pub parameters: usize,
     pub declared: Vec<ResolvedType>,
     pub result: ResolvedType,
+    pub in_loop: bool,
 }
 
 /// What is assigned to: a local, or a place of the heap.

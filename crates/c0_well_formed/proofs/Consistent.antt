@@ -4,6 +4,8 @@ use Rattle.std.specs.Prelude.{◌&&◌, nat_lt, All, slice_get}
 use Rattle.std.specs.List.{list_all}
 use Rattle.std.proofs.lemmas.List.{length-append, length-map}
 use Rattle.c0_typed.specs.Trees.{Ty, VoidTy, IntTy, BoolTy, CharTy, TextTy, StructTy, PointerTy, ArrayTy}
+use Rattle.c0_typed.specs.Typing.{FitsProgram}
+use Rattle.c0_typed.specs.declared.tree.Typed.{Typed}
 use Rattle.c0_typed.specs.Views.{function_of as typed_function, program_of, struct_of, texts_of, type_of}
 use Rattle.c0_typed.specs.declared.tree.Constant.{Constant as ConstantValue}
 use Rattle.c0_typed.specs.declared.tree.Constant.TheVariants as c
@@ -12,7 +14,7 @@ use Rattle.c0_typed.specs.declared.tree.UnaryOperator.TheVariants as u
 use Rattle.c0_typed.specs.declared.tree.ValueType.{ValueType}
 use Rattle.c0_typed.specs.declared.tree.Expression.{Expression, Row_of-Expression, end_of-Expression, more_of-Expression, Constant, Null, Local, Unary', Binary', Compare', And', Or', Choose', Call', Print', Load', Alloc, AllocArray', Length'}
 use Rattle.c0_typed.specs.declared.tree.Place.{Place, Deref', Index', Field'}
-use Rattle.c0_typed.specs.declared.tree.Statement.{Statement, Row_of-Statement, end_of-Statement, more_of-Statement, Block', Set, Update, Store, StoreUpdate, Do, If', Loop', Return, ReturnValue, Assert, Error, Check}
+use Rattle.c0_typed.specs.declared.tree.Statement.{Statement, Row_of-Statement, end_of-Statement, more_of-Statement, Block', Set, Update, Store, StoreUpdate, Do, If', Loop', Return, ReturnValue, Break, Continue, Assert, Error, Check}
 use Rattle.c0_typed.specs.declared.tree.Function.{Function}
 use Rattle.code_form.specs.declared.form.Fact.{Fact}
 use Rattle.code_form.specs.declared.form.Kind.{Kind}
@@ -145,6 +147,8 @@ module _ (structs : List (List Ty)) (singles : List Kind) (texts : List (List �
         each_append Named (conditions_kinds (checked checks invariants.items)) (exp_kinds a ++ (stmt_kinds body ++ stmt_kinds step)) (conditions_named (checked checks invariants.items))
         (each_append Named (exp_kinds a) (stmt_kinds body ++ stmt_kinds step) (exp_named a) (each_append Named (stmt_kinds body) (stmt_kinds step) (stmt_named body) (stmt_named step)))
     stmt_named Return = tt
+    stmt_named Break = tt
+    stmt_named Continue = tt
     stmt_named (ReturnValue a) = exp_named a
     stmt_named (Assert a) = exp_named a
     stmt_named (Error a) = exp_named a
@@ -189,14 +193,14 @@ module _ (structs : List (List Ty)) (singles : List Kind) (texts : List (List �
   abbrev code : Function → f.Function
   code h = l.function_code structs singles texts functions main checks h
 
-  function_consistent : (h : Function) → CodeNames (code h).body → Near (whole (code h).body) → IsConsistentFunction count (function_of (prefetched_function (hoisted_function (placed_function (code h)))))
-  function_consistent h names near =
+  function_consistent : (cells : ℕ) (h : Function) → CodeNames (code h).body → Near (whole (code h).body) → IsConsistentFunction count (function_of (prefetched_function cells (hoisted_function (placed_function (code h)))))
+  function_consistent cells h names near =
       let placed : scoped.Function = placed_function (code h) in
       let hoisted : scoped.Function = hoisted_function placed in
-      let with_scopes : scoped.Function = prefetched_function hoisted in
+      let with_scopes : scoped.Function = prefetched_function cells hoisted in
       let offsets : List ℕ = offsets_with hoisted.body [] [] in
       let in_range : ℕ → Option ℕ → ℕ → Bool = λ r off disp. nat_lt disp 4294967296 in
-      let aims : Near with_scopes.body = hints.keeps_the_places in_range offsets hoisted.body (keeps_the_places in_range placed.kinds placed.body near) in
+      let aims : Near with_scopes.body = hints.keeps_the_places cells in_range offsets hoisted.body (keeps_the_places in_range placed.kinds placed.body near) in
       let before = conditions_kinds (checked checks h.preconditions.items) in
       let inside = body_kinds h.body.items in
       let behind = conditions_kinds (checked checks h.postconditions.items) in
@@ -211,7 +215,7 @@ module _ (structs : List (List Ty)) (singles : List Kind) (texts : List (List �
         result = result_good (type_of h.result);
         scopes = few_scopes placed (few (code h).body [] (omega arith));
         numbers = each_all (λ (b : image.Block). All NamesNumbers b.code) (blocks_with (facts_of with_scopes) (blocks with_scopes))
-            (blocks_named (facts_of with_scopes) (blocks with_scopes) (blocks_names with_scopes (hinted_names offsets hoisted.body (hoisted_names placed.kinds placed.body (whole_names (code h).body names))) aims));
+            (blocks_named (facts_of with_scopes) (blocks with_scopes) (blocks_names with_scopes (hinted_names cells offsets hoisted.body (hoisted_names placed.kinds placed.body (whole_names (code h).body names))) aims));
         told = each_all (λ (b : image.Block). All TellsNumber b.facts) (blocks_with (facts_of with_scopes) (blocks with_scopes))
             (blocks_told (facts_of with_scopes) (blocks with_scopes) (facts_told with_scopes aims));
       }
@@ -222,12 +226,12 @@ module _ (structs : List (List Ty)) (singles : List Kind) (texts : List (List �
       let inside = both_true (nat_lt g.parameters (suc (length g.kinds))) (code_fits P g.kinds 0 g.body && result_fits g) h in
       whole_near P few g.kinds g.body (both_true (code_fits P g.kinds 0 g.body) (result_fits g) inside.1).0
 
-  functions_consistent : (P : f.Program) → list_all is_few P.head.layouts ≡ true → (fs : List Function) → all_fit P (map code fs) ≡ true → Each (λ h. CodeNames (code h).body) fs
-      → Each (IsConsistentFunction count) (map function_of (map prefetched_function (map hoisted_function (map placed_function (map code fs)))))
-  functions_consistent P few [] fit names = tt
-  functions_consistent P few (h ∷ rest) fit names =
+  functions_consistent : (cells : ℕ) (P : f.Program) → list_all is_few P.head.layouts ≡ true → (fs : List Function) → all_fit P (map code fs) ≡ true → Each (λ h. CodeNames (code h).body) fs
+      → Each (IsConsistentFunction count) (map function_of (map (prefetched_function cells) (map hoisted_function (map placed_function (map code fs)))))
+  functions_consistent cells P few [] fit names = tt
+  functions_consistent cells P few (h ∷ rest) fit names =
       let q = both_true (function_fits P (code h)) (all_fit P (map code rest)) fit in
-      (function_consistent h names.0 (fitting_near P few (code h) q.0), functions_consistent P few rest q.1 names.1)
+      (function_consistent cells h names.0 (fitting_near P few (code h) q.0), functions_consistent cells P few rest q.1 names.1)
 
 -- ---- layouts and texts
 
@@ -262,27 +266,41 @@ each_function : (Q : Function → Type 0) (texts : List (List ℕ)) (fs : List F
 each_function Q texts [] go = tt
 each_function Q texts (x ∷ rest) go = (go 0 x refl, each_function Q texts rest (λ i h e. go (suc i) h e))
 
-pub images_consistent : ImagesAreConsistent
-images_consistent checks typed fp few =
-    let P : f.Program = lowered (singles_of typed) checks typed in
+-- the layouts of an image of a program that fits
+pub layouts_consistent : (checks : Bool) (cells : ℕ) (typed : Typed) → All (All (IsCellKind (length (image_of_tree checks cells typed).head.layouts))) (image_of_tree checks cells typed).head.layouts
+layouts_consistent checks cells typed =
     let structs = (program_of typed).structs in
     let singles = singles_of typed in
     let count = layouts_count structs singles in
     let same : length typed.structs.items ≡ length structs = sym (length-map typed.structs.items struct_of) in
     let sound : Each (IsCellKind (suc (length structs + length singles))) singles =
     subst (λ i. Each (IsCellKind (suc (i + length singles))) singles) same (all_sound (length typed.structs.items) [] (types_of_functions typed.functions.items) tt) in
-    record {
-      few = few;
-      texts = each_all (All (λ b. b < 128)) (texts_of typed) (each_text (texts_of typed) fp.ascii);
-      layouts = subst (λ i. All (All (IsCellKind i)) (layouts_of structs singles)) (sym count)
-          (each_all (All (IsCellKind (suc (length structs + length singles)))) (layouts_of structs singles)
-          (each_as (Each (IsCellKind (suc (length structs + length singles)))) (All (IsCellKind (suc (length structs + length singles)))) (each_all (IsCellKind (suc (length structs + length singles)))) (layouts_of structs singles) (layouts_good structs singles sound)));
-      functions = subst (λ i. All (IsConsistentFunction i) (image_of_tree checks typed).functions) (sym count)
-          (each_all (IsConsistentFunction (suc (length structs + length singles))) (image_of_tree checks typed).functions
-          (functions_consistent structs singles (texts_of typed) typed.functions.items typed.main checks P (few_cells (image_of_tree checks typed) few) (with_main_first typed.main typed.functions.items)
-          (both_true (main_fits P.functions) (all_fit P P.functions) (lowered_ok checks typed fp)).1
-          (in_order (λ h. CodeNames (l.function_code structs singles (texts_of typed) typed.functions.items typed.main checks h).body) typed.main typed.functions.items
-          (each_function (λ h. CodeNames (l.function_code structs singles (texts_of typed) typed.functions.items typed.main checks h).body) (texts_of typed) typed.functions.items
-          (λ i h e. function_names typed singles checks h (fp.functions i (typed_function (texts_of typed) h) e))))));
-      facts = (images_ok checks typed fp).facts;
-    }
+    subst (λ i. All (All (IsCellKind i)) (layouts_of structs singles)) (sym count)
+    (each_all (All (IsCellKind (suc (length structs + length singles)))) (layouts_of structs singles)
+    (each_as (Each (IsCellKind (suc (length structs + length singles)))) (All (IsCellKind (suc (length structs + length singles)))) (each_all (IsCellKind (suc (length structs + length singles)))) (layouts_of structs singles) (layouts_good structs singles sound)))
+
+-- its functions, where no list of it has 2^32 items
+pub all_consistent : (checks : Bool) (cells : ℕ) (typed : Typed) → FitsProgram (program_of typed) → has_few_items (image_of_tree checks cells typed) ≡ true
+    → All (IsConsistentFunction (length (image_of_tree checks cells typed).head.layouts)) (image_of_tree checks cells typed).functions
+all_consistent checks cells typed fp few =
+    let P : f.Program = lowered (singles_of typed) checks typed in
+    let structs = (program_of typed).structs in
+    let singles = singles_of typed in
+    let count = layouts_count structs singles in
+    subst (λ i. All (IsConsistentFunction i) (image_of_tree checks cells typed).functions) (sym count)
+    (each_all (IsConsistentFunction (suc (length structs + length singles))) (image_of_tree checks cells typed).functions
+    (functions_consistent structs singles (texts_of typed) typed.functions.items typed.main checks cells P (few_cells (image_of_tree checks cells typed) few) (with_main_first typed.main typed.functions.items)
+    (both_true (main_fits P.functions) (all_fit P P.functions) (lowered_ok checks typed fp)).1
+    (in_order (λ h. CodeNames (l.function_code structs singles (texts_of typed) typed.functions.items typed.main checks h).body) typed.main typed.functions.items
+    (each_function (λ h. CodeNames (l.function_code structs singles (texts_of typed) typed.functions.items typed.main checks h).body) (texts_of typed) typed.functions.items
+    (λ i h e. function_names typed singles checks h (fp.functions i (typed_function (texts_of typed) h) e))))))
+
+pub images_consistent : ImagesAreConsistent
+images_consistent checks cells typed is fp few = record {
+  pieces = is;
+  few = few;
+  texts = each_all (All (λ b. b < 128)) (texts_of typed) (each_text (texts_of typed) fp.ascii);
+  layouts = layouts_consistent checks cells typed;
+  functions = all_consistent checks cells typed fp few;
+  facts = (images_ok checks cells typed fp).facts;
+}

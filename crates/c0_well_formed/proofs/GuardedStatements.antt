@@ -1,11 +1,11 @@
 -- The code of statements is guarded, and asks for nothing before it.
-use Rattle.std.proofs.Common.{◌≡◌, ℕ, suc, ◌+◌, ◌<◌, inl, Bool, true, List, [], ◌∷◌, ◌++◌, length, Option, Some, refl, arith}
+use Rattle.std.proofs.Common.{◌≡◌, ℕ, suc, ◌+◌, ◌<◌, inl, Bool, true, false, List, [], ◌∷◌, ◌++◌, length, Option, Some, refl, arith}
 use Rattle.c0_typed.specs.Trees.{Program, Ty, IntTy}
 use Rattle.c0_typed.specs.Typing.{Fits}
 use Rattle.c0_typed.specs.Views.{block_of, block_row, program_of, stmt_of, texts_of}
 use Rattle.c0_typed.specs.declared.tree.Expression.{Expression}
 use Rattle.c0_typed.specs.declared.tree.Place.{Place}
-use Rattle.c0_typed.specs.declared.tree.Statement.{Statement, Row_of-Statement, end_of-Statement, more_of-Statement, Block', Set, Update, Store, StoreUpdate, Do, If', Loop', Return, ReturnValue, Assert, Error, Check}
+use Rattle.c0_typed.specs.declared.tree.Statement.{Statement, Row_of-Statement, end_of-Statement, more_of-Statement, Block', Set, Update, Store, StoreUpdate, Do, If', Loop', Return, ReturnValue, Break, Continue, Assert, Error, Check}
 use Rattle.c0_typed.specs.declared.tree.Typed.{Typed}
 use Rattle.code_form.specs.declared.form.Kind.{Kind}
 use Rattle.code_form.specs.declared.form.Fact.{Fact}
@@ -13,10 +13,11 @@ use Rattle.middle_form.specs.Form.{Code}
 use Rattle.middle_form.specs.Form as f
 use Rattle.lower_expressions.specs.Expressions as parts
 use Rattle.lower_expressions.specs.Expressions.{checked, sequence, value_at}
+use Rattle.lower.specs.Exits.{WaysOut, deeper, has_continue, inside, whole}
 use Rattle.lower.specs.Lowered as l
 use Rattle.middle_form.specs.Guarded.{is_kept}
 use Rattle.c0_well_formed.proofs.CellKinds.{Each}
-use Rattle.c0_well_formed.proofs.GuardedCode.{Guards, IsBelow, NoFact, One, each_without, guard_append, guard_none, guard_one, guard_then, kept_away, one_choose, one_loop, one_store}
+use Rattle.c0_well_formed.proofs.GuardedCode.{one_block, Guards, IsBelow, NoFact, One, each_without, guard_append, guard_none, guard_one, guard_then, kept_away, one_choose, one_loop, one_store}
 use Rattle.c0_well_formed.proofs.GuardedExpressions as e
 use Rattle.c0_well_formed.proofs.GuardedPlaces.{AreThere, near_away, near_below}
 
@@ -57,10 +58,10 @@ module _ (typed : Typed) (singles : List Kind) (checks : Bool) (types : List Ty)
   abbrev code_all : List Expression → ℕ → List Code
   code_all es d = parts.conditions_code p.structs singles (texts_of typed) typed.functions.items typed.main locals es d
 
-  abbrev code_stmt : Statement → ℕ → ℕ → List Code
+  abbrev code_stmt : Statement → ℕ → WaysOut → List Code
   code_stmt a d out = l.stmt_code p.structs singles (texts_of typed) typed.functions.items typed.main locals checks a d out
 
-  abbrev code_block : {m : _} → Row_of-Statement m → ℕ → ℕ → List Code
+  abbrev code_block : {m : _} → Row_of-Statement m → ℕ → WaysOut → List Code
   code_block all d out = l.block_code p.structs singles (texts_of typed) typed.functions.items typed.main locals checks all d out
 
   abbrev code_body : List Statement → ℕ → List Code
@@ -97,9 +98,13 @@ module _ (typed : Typed) (singles : List Kind) (checks : Bool) (types : List Ty)
   stored : (q : Place) (d from : ℕ) → One (Near q d) NoFact (f.Store (base q d) (off q d) (shift q) from)
   stored q d from = one_store (Near q d) (base q d) (off q d) (shift q) from (inl refl)
 
+  turn_guards : (b : Bool) (cs : List Code) → Guards NoFact NoFact cs → Guards NoFact NoFact (l.turn_code b cs)
+  turn_guards true cs g = guard_one _ (one_block (sequence cs) g.go)
+  turn_guards false cs g = g
+
   mutual
     -- its registers stand behind those of the locals
-    pub stmt_guards : (a : Statement) (d out : ℕ) → locals < d → Fits p types (stmt_of texts a) → Guards NoFact NoFact (code_stmt a d out)
+    pub stmt_guards : (a : Statement) (d : ℕ) (out : WaysOut) → locals < d → Fits p types (stmt_of texts a) → Guards NoFact NoFact (code_stmt a d out)
     stmt_guards (Block' shape all) d out low h = block_guards all d out low h
     stmt_guards (Set x a) d out low h = guard_append (code a d) _ (exp_guards a d) (guard_one _ (written _))
     stmt_guards (Update x i a) d out low h = guard_append (code a d) _ (exp_guards a d) (guard_one _ (written _))
@@ -124,19 +129,23 @@ module _ (typed : Typed) (singles : List Kind) (checks : Bool) (types : List Ty)
         let third = inner + length (kinds a) in
         let fourth = third + length (kinds_stmt body) in
         let test = guard_append (code_all (checked checks invariants.items) d) (code a inner) (checked_guards invariants.items d) (exp_guards a inner) in
-        let round = guard_append (code_stmt body third (suc out)) (code_stmt step fourth (suc out)) (stmt_guards body third (suc out) (omega arith) h.2) (stmt_guards step fourth (suc out) (omega arith) h.3) in
-        guard_one _ (one_loop (sequence (code_all (checked checks invariants.items) d ++ code a inner)) (value_at locals a inner) (sequence (code_stmt body third (suc out) ++ code_stmt step fourth (suc out))) test.go round.go)
+        let turn = l.turn_code (has_continue body) (code_stmt body third (inside (has_continue body) out)) in
+        let round = guard_append turn (code_stmt step fourth (deeper out)) (turn_guards (has_continue body) (code_stmt body third (inside (has_continue body) out)) (stmt_guards body third (inside (has_continue body) out) (omega arith) h.2))
+        (stmt_guards step fourth (deeper out) (omega arith) h.3) in
+        guard_one _ (one_loop (sequence (code_all (checked checks invariants.items) d ++ code a inner)) (value_at locals a inner) (sequence (l.turn_code (has_continue body) (code_stmt body third (inside (has_continue body) out)) ++ code_stmt step fourth (deeper out))) test.go round.go)
     stmt_guards Return d out low h = guard_one _ left
+    stmt_guards Break d out low h = guard_one _ left
+    stmt_guards Continue d out low h = guard_one _ left
     stmt_guards (ReturnValue a) d out low h = guard_append (code a d) _ (exp_guards a d) (guard_then _ _ (written _) (guard_one _ left))
     stmt_guards (Assert a) d out low h = guard_append (code a d) _ (exp_guards a d) (guard_one _ unchanged)
     stmt_guards (Error a) d out low h = guard_append (code a d) _ (exp_guards a d) (guard_one _ left)
     stmt_guards (Check es) d out low h = checked_guards es.items d
 
-    block_guards : {m : _} (all : Row_of-Statement m) (d out : ℕ) → locals < d → Fits p types (block_row texts all) → Guards NoFact NoFact (code_block all d out)
+    block_guards : {m : _} (all : Row_of-Statement m) (d : ℕ) (out : WaysOut) → locals < d → Fits p types (block_row texts all) → Guards NoFact NoFact (code_block all d out)
     block_guards end_of-Statement d out low h = guard_none
     block_guards (more_of-Statement a rest) d out low h =
         guard_append (code_stmt a d out) _ (stmt_guards a d out low h.0) (block_guards rest (d + length (kinds_stmt a)) out (omega arith) h.1)
 
   pub body_guards : (all : List Statement) (d : ℕ) → locals < d → Fits p types (block_of texts all) → Guards NoFact NoFact (code_body all d)
   body_guards [] d low h = guard_none
-  body_guards (a ∷ rest) d low h = guard_append (code_stmt a d 0) _ (stmt_guards a d 0 low h.0) (body_guards rest (d + length (kinds_stmt a)) (omega arith) h.1)
+  body_guards (a ∷ rest) d low h = guard_append (code_stmt a d whole) _ (stmt_guards a d whole low h.0) (body_guards rest (d + length (kinds_stmt a)) (omega arith) h.1)

@@ -7,18 +7,18 @@ use Rattle.prefetch_pass.specs.Prefetched.{hinted, hinted_for, with_hint}
 use Rattle.prefetch_pass.specs.Raised.{is_among}
 use Rattle.c0_well_formed.proofs.ScopedNumbers.{ScopedNames}
 
-module _ (ds : List ℕ) where
+module _ (cells : ℕ) (ds : List ℕ) where
   -- a hint stands only where its displacement is of 32 bits
-  hint_names : (r : ℕ) (off : Option ℕ) (disp : ℕ) (a : s.Code) → ScopedNames a → ScopedNames (with_hint ds r off disp a)
+  hint_names : (r : ℕ) (off : Option ℕ) (disp : ℕ) (a : s.Code) → ScopedNames a → ScopedNames (with_hint cells ds r off disp a)
   hint_names r None disp a h = h
-  hint_names r (Some d) disp a h = by_tests (is_among ds d) (nat_lt (disp + 64) 4294967296) refl
+  hint_names r (Some d) disp a h = by_tests (is_among ds d) (nat_lt (disp + cells) 4294967296) refl
     where
-      by_tests : (b c : Bool) → nat_lt (disp + 64) 4294967296 ≡ c → ScopedNames (cond (b && c) (hinted_for r d disp a) a)
-      by_tests true true e = (h, (ltb-true (disp + 64) 4294967296 e, tt))
+      by_tests : (b c : Bool) → nat_lt (disp + cells) 4294967296 ≡ c → ScopedNames (cond (b && c) (hinted_for cells r d disp a) a)
+      by_tests true true e = (h, (ltb-true (disp + cells) 4294967296 e, tt))
       by_tests true false e = h
       by_tests false c e = h
 
-  pub hinted_names : (a : s.Code) → ScopedNames a → ScopedNames (hinted ds a)
+  pub hinted_names : (a : s.Code) → ScopedNames a → ScopedNames (hinted cells ds a)
   hinted_names s.Nothing h = h
   hinted_names (s.Do x) h = h
   hinted_names (s.Load to z r off disp) h = hint_names r off disp (s.Load to z r off disp) h

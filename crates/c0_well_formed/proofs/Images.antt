@@ -19,11 +19,11 @@ use Rattle.c0_well_formed.proofs.Functions.{lowered_ok}
 use Rattle.c0_well_formed.proofs.GuardedFunctions.{lowered_guarded}
 
 pub images_ok : ImagesAreVerified
-images_ok checks typed fits =
+images_ok checks cells typed fits =
     let code : Program = lowered (singles_of typed) checks typed in
     let with_scopes : scoped.Program = placed_program code in
     let hoisted : scoped.Program = hoisted_program with_scopes in
-    verified (prefetched_program hoisted)
-    (hints.stays_well_formed hoisted ∙ (hoisting.stays_well_formed with_scopes ∙ (stays_well_formed code ∙ lowered_ok checks typed fits)))
-    (hints.stays_guarded hoisted ∙ (hoisting.stays_guarded with_scopes ∙ (stays_guarded code ∙ lowered_guarded checks typed fits)))
-    (hinting.stays_scoped hoisted (stays_scoped with_scopes (always_scoped code)))
+    verified cells (prefetched_program cells hoisted)
+    (hints.stays_well_formed cells hoisted ∙ (hoisting.stays_well_formed with_scopes ∙ (stays_well_formed code ∙ lowered_ok checks typed fits)))
+    (hints.stays_guarded cells hoisted ∙ (hoisting.stays_guarded with_scopes ∙ (stays_guarded code ∙ lowered_guarded checks typed fits)))
+    (hinting.stays_scoped cells hoisted (stays_scoped with_scopes (always_scoped code)))

@@ -9,13 +9,14 @@ use Rattle.c0_typed.specs.declared.tree.Output.{Output}
 use Rattle.c0_typed.specs.declared.tree.Output.TheVariants as o
 use Rattle.c0_typed.specs.declared.tree.Expression.{Expression, Row_of-Expression, end_of-Expression, more_of-Expression, Constant, Null, Local, Unary', Binary', Compare', And', Or', Choose', Call', Print', Load', Alloc, AllocArray', Length'}
 use Rattle.c0_typed.specs.declared.tree.Place.{Place, Deref', Index', Field'}
-use Rattle.c0_typed.specs.declared.tree.Statement.{Statement, Row_of-Statement, end_of-Statement, more_of-Statement, Block', Set, Update, Store, StoreUpdate, Do, If', Loop', Return, ReturnValue, Assert, Error, Check}
+use Rattle.c0_typed.specs.declared.tree.Statement.{Statement, Row_of-Statement, end_of-Statement, more_of-Statement, Block', Set, Update, Store, StoreUpdate, Do, If', Loop', Return, ReturnValue, Break, Continue, Assert, Error, Check}
 use Rattle.c0_typed.specs.declared.tree.Function.{Function}
 use Rattle.c0_typed.specs.declared.tree.Typed.{Typed}
 use Rattle.code_form.specs.declared.form.Kind.{Kind}
 use Rattle.middle_form.specs.Form.{Code}
 use Rattle.middle_form.specs.Form as f
 use Rattle.lower_expressions.specs.Expressions as parts
+use Rattle.lower.specs.Exits.{WaysOut, deeper, has_continue, inside, whole}
 use Rattle.lower.specs.Lowered as l
 use Rattle.lower.specs.Lowered.{lowered}
 use Rattle.lower_expressions.specs.Expressions.{checked, moved, print_code, sequence, value_at}
@@ -139,10 +140,10 @@ module _ (typed : Typed) (singles : List Kind) (checks : Bool) (types : List Ty)
   abbrev kinds_stmt : Statement → List Kind
   kinds_stmt a = l.stmt_kinds p.structs singles (texts_of typed) typed.functions.items typed.main checks a
 
-  abbrev code_stmt : Statement → ℕ → ℕ → List Code
+  abbrev code_stmt : Statement → ℕ → WaysOut → List Code
   code_stmt a d out = l.stmt_code p.structs singles (texts_of typed) typed.functions.items typed.main locals checks a d out
 
-  abbrev code_block : {m : _} → Row_of-Statement m → ℕ → ℕ → List Code
+  abbrev code_block : {m : _} → Row_of-Statement m → ℕ → WaysOut → List Code
   code_block all d out = l.block_code p.structs singles (texts_of typed) typed.functions.items typed.main locals checks all d out
 
   abbrev code_body : List Statement → ℕ → List Code
@@ -159,8 +160,12 @@ module _ (typed : Typed) (singles : List Kind) (checks : Bool) (types : List Ty)
       by true = conditions_names es d h
       by false = tt
 
+  turn_names : (b : Bool) (cs : List Code) → Each CodeNames cs → Each CodeNames (l.turn_code b cs)
+  turn_names true cs h = (in_sequence cs h, tt)
+  turn_names false cs h = h
+
   mutual
-    stmt_names : (a : Statement) (d out : ℕ) → Fits p types (stmt_of texts a) → Each CodeNames (code_stmt a d out)
+    stmt_names : (a : Statement) (d : ℕ) (out : WaysOut) → Fits p types (stmt_of texts a) → Each CodeNames (code_stmt a d out)
     stmt_names (Block' shape all) d out h = block_names all d out h
     stmt_names (Set x a) d out h = each_append CodeNames (code a d) _ (exp_names a h.0 d h.2) (tt, tt)
     stmt_names (Update x i a) d out h = each_append CodeNames (code a d) _ (exp_names a IntTy d h.1) (tt, tt)
@@ -183,25 +188,28 @@ module _ (typed : Typed) (singles : List Kind) (checks : Bool) (types : List Ty)
           (
             in_sequence (code_all (checked checks invariants.items) d ++ code a (d + length before))
                 (each_append CodeNames (code_all (checked checks invariants.items) d) (code a (d + length before)) (checked_names invariants.items d h.0) (exp_names a BoolTy (d + length before) h.1)),
-            in_sequence (code_stmt body (d + length before + length (kinds a)) (suc out) ++ code_stmt step (d + length before + length (kinds a) + length (kinds_stmt body)) (suc out))
-                (each_append CodeNames (code_stmt body (d + length before + length (kinds a)) (suc out)) (code_stmt step (d + length before + length (kinds a) + length (kinds_stmt body)) (suc out))
-                (stmt_names body (d + length before + length (kinds a)) (suc out) h.2) (stmt_names step (d + length before + length (kinds a) + length (kinds_stmt body)) (suc out) h.3)),
+            in_sequence (l.turn_code (has_continue body) (code_stmt body (d + length before + length (kinds a)) (inside (has_continue body) out)) ++ code_stmt step (d + length before + length (kinds a) + length (kinds_stmt body)) (deeper out))
+                (each_append CodeNames (l.turn_code (has_continue body) (code_stmt body (d + length before + length (kinds a)) (inside (has_continue body) out))) (code_stmt step (d + length before + length (kinds a) + length (kinds_stmt body)) (deeper out))
+                (turn_names (has_continue body) (code_stmt body (d + length before + length (kinds a)) (inside (has_continue body) out)) (stmt_names body (d + length before + length (kinds a)) (inside (has_continue body) out) h.2))
+                (stmt_names step (d + length before + length (kinds a) + length (kinds_stmt body)) (deeper out) h.3)),
           ),
           tt,
         )
     stmt_names Return d out h = (tt, tt)
+    stmt_names Break d out h = (tt, tt)
+    stmt_names Continue d out h = (tt, tt)
     stmt_names (ReturnValue a) d out h = each_append CodeNames (code a d) _ (exp_names a h.0 d h.2) (tt, (tt, tt))
     stmt_names (Assert a) d out h = each_append CodeNames (code a d) _ (exp_names a BoolTy d h) (tt, tt)
     stmt_names (Error a) d out h = each_append CodeNames (code a d) _ (exp_names a TextTy d h) (tt, tt)
     stmt_names (Check es) d out h = checked_names es.items d h
 
-    block_names : {m : _} (all : Row_of-Statement m) (d out : ℕ) → Fits p types (block_row texts all) → Each CodeNames (code_block all d out)
+    block_names : {m : _} (all : Row_of-Statement m) (d : ℕ) (out : WaysOut) → Fits p types (block_row texts all) → Each CodeNames (code_block all d out)
     block_names end_of-Statement d out h = tt
     block_names (more_of-Statement a rest) d out h = each_append CodeNames (code_stmt a d out) _ (stmt_names a d out h.0) (block_names rest (d + length (kinds_stmt a)) out h.1)
 
   body_names : (all : List Statement) (d : ℕ) → Fits p types (block_of texts all) → Each CodeNames (code_body all d)
   body_names [] d h = tt
-  body_names (a ∷ rest) d h = each_append CodeNames (code_stmt a d 0) _ (stmt_names a d 0 h.0) (body_names rest (d + length (kinds_stmt a)) h.1)
+  body_names (a ∷ rest) d h = each_append CodeNames (code_stmt a d whole) _ (stmt_names a d whole h.0) (body_names rest (d + length (kinds_stmt a)) h.1)
 
 -- the body of a function's code
 pub function_names : (typed : Typed) (singles : List Kind) (checks : Bool) (h : Function) → FitsFunction (program_of typed) (function_of (texts_of typed) h)

@@ -1,6 +1,7 @@
 -- What holds of the code and of the image of every well-typed program.
 use Rattle.std.specs.Prelude.{◌≡◌, ℕ, ◌<◌, ◌≤◌, Bool, true, All, None, FitsSigned, length, take}
 use Rattle.std.specs.Int.{w32}
+use Rattle.cells.specs.Pieces.{is_piece}
 use Rattle.c0_typed.specs.Typing.{FitsProgram}
 use Rattle.c0_typed.specs.Views.{program_of}
 use Rattle.c0_typed.specs.declared.tree.Typed.{Typed}
@@ -29,7 +30,7 @@ LoweredIsGuarded = (checks : Bool) (typed : Typed) → FitsProgram (program_of t
 
 -- the image of a well-typed program is verified
 abbrev pub ImagesAreVerified : Type 0
-ImagesAreVerified = (checks : Bool) (typed : Typed) → FitsProgram (program_of typed) → IsVerified (image_of_tree checks typed)
+ImagesAreVerified = (checks : Bool) (cells : ℕ) (typed : Typed) → FitsProgram (program_of typed) → IsVerified (image_of_tree checks cells typed)
 
 -- a number or a displacement that a simple instruction names is one of 32 bits, and a character is below 128
 abbrev pub NamesNumber : Operation → Type 0
@@ -59,21 +60,22 @@ pub record IsConsistentFunction (count : ℕ) (f : Function) : Type 0 where
   pub numbers : All (λ (b : Block). All NamesNumbers b.code) f.blocks
   pub told : All (λ (b : Block). All TellsNumber b.facts) f.blocks
 
--- No list has 2^32 items; each kind names a layout that is there, and no cell of a layout is an offset; each byte of a text is below 128; entry facts
+-- A piece has one of the sizes that there are; no list has 2^32 items; each kind names a layout that is there, and no cell of a layout is an offset; each byte of a text is below 128; entry facts
 -- name registers and scopes that are there
 pub record IsConsistent (C : Image) : Type 0 where
+  pub pieces : is_piece C.piece ≡ true
   pub few : has_few_items C ≡ true
   pub texts : All (All (λ b. b < 128)) C.head.texts
   pub layouts : All (All (λ k. is_cell_kind (length C.head.layouts) k ≡ true)) C.head.layouts
   pub functions : All (IsConsistentFunction (length C.head.layouts)) C.functions
   pub facts : All NamesFacts C.functions
 
--- so is the image of a well-typed program, where no list of it has 2^32 items
+-- so is the image of a well-typed program, for pieces of one of these sizes, where no list of it has 2^32 items
 abbrev pub ImagesAreConsistent : Type 0
 ImagesAreConsistent =
-    (checks : Bool) (typed : Typed) → FitsProgram (program_of typed) → has_few_items (image_of_tree checks typed) ≡ true → IsConsistent (image_of_tree checks typed)
+    (checks : Bool) (cells : ℕ) (typed : Typed) → is_piece cells ≡ true → FitsProgram (program_of typed) → has_few_items (image_of_tree checks cells typed) ≡ true → IsConsistent (image_of_tree checks cells typed)
 
 -- and has no fault
 abbrev pub ImagesHaveNoFault : Type 0
 ImagesHaveNoFault =
-    (checks : Bool) (typed : Typed) → FitsProgram (program_of typed) → has_few_items (image_of_tree checks typed) ≡ true → fault_of (image_of_tree checks typed) ≡ None
+    (checks : Bool) (cells : ℕ) (typed : Typed) → FitsProgram (program_of typed) → has_few_items (image_of_tree checks cells typed) ≡ true → fault_of (image_of_tree checks cells typed) ≡ None

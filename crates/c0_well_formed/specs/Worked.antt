@@ -11,6 +11,7 @@ use Rattle.code_form.specs.Form.{Image, Aim, Leave, Return, Simple}
 -- an image of one function, which does one thing and returns its first register, with these facts at its entry
 abbrev pub with_facts : List (List ℕ) → List (List Kind) → ℕ → List Kind → ℕ → Operation → List Fact → Image
 with_facts texts layouts parameters kinds scopes o facts = record {
+  piece = 64;
   head = record { texts = texts; layouts = layouts };
   functions = record { result = Some kind.Int; parameters = parameters; kinds = kinds; scopes = scopes; blocks = record { facts = facts; code = Simple o ∷ Return 0 ∷ [] } ∷ [] } ∷ [];
 }
@@ -22,6 +23,10 @@ with_one texts layouts parameters kinds scopes o = with_facts texts layouts para
 -- a text, a layout, and registers that fit them
 abbrev pub consistent_image : Image
 consistent_image = with_facts (codes "no" ∷ []) ((kind.Int ∷ kind.Ptr 0 ∷ []) ∷ []) 1 (kind.Int ∷ kind.Ptr 0 ∷ kind.Off 0 ∷ []) 1 (op.Const 0 (pos 7)) (fact.Nonnull 1 ∷ fact.Shut 0 ∷ [])
+
+-- the first of these for pieces of so many cells
+abbrev pub with_pieces : ℕ → Image
+with_pieces n = record consistent_image { piece = n }
 
 -- so many texts
 abbrev pub with_texts : ℕ → Image
@@ -62,6 +67,7 @@ large_displacement = with_one [] ((kind.Int ∷ []) ∷ []) 0 (kind.Int ∷ kind
 -- a scope is aimed 2^32 cells behind a pointer, and left: no cell is read there, so that the verifier does not ask for one
 abbrev pub far_aim : Image
 far_aim = record {
+  piece = 64;
   head = record { texts = []; layouts = (kind.Int ∷ []) ∷ [] };
   functions = record {
     result = Some kind.Int;

@@ -1,7 +1,7 @@
 //! Functions that compute nothing, and whose contracts are the laws.
 
 ghost use Rattle.c0_well_formed.specs.Laws.{ImagesAreConsistent, ImagesAreVerified, ImagesHaveNoFault, IsConsistent, LoweredIsGuarded, LoweredIsWellFormed};
-ghost use Rattle.c0_well_formed.specs.Worked.{consistent_image, far_aim, far_fact, five_scopes, large_byte, large_character, large_displacement, large_number, missing_scope, offset_as_parameter, offset_in_layout, with_texts, without_layout};
+ghost use Rattle.c0_well_formed.specs.Worked.{consistent_image, far_aim, far_fact, five_scopes, large_byte, large_character, large_displacement, large_number, missing_scope, offset_as_parameter, offset_in_layout, with_pieces, with_texts, without_layout};
 ghost use Rattle.std.specs.Prelude.{◌^◌, ◌≤◌, ℕ};
 
 use scope_verifier_laws::verified_is_accepted;
@@ -24,7 +24,7 @@ pub fn images_are_verified()
     ensures { ImagesAreVerified }
 {}
 
-/// In the image of a well-typed program, where no list of it has 2^32 items, each kind names a layout that is there, offsets stand in registers alone, no
+/// In the image of a well-typed program, for pieces of one of the sizes that there are, where no list of it has 2^32 items, each kind names a layout that is there, offsets stand in registers alone, no
 /// function has more than four scopes, numbers and displacements are of 32 bits, characters and texts are ASCII, and entry facts name what is there.
 pub fn images_are_consistent()
     ensures { ImagesAreConsistent }
@@ -40,6 +40,8 @@ pub fn images_are_accepted()
 /// Which images are consistent, and each cause why another is not.
 pub fn worked_images()
     ensures accepted { IsConsistent consistent_image }
+    ensures largest { IsConsistent (with_pieces 256) }
+    ensures pieces { IsConsistent (with_pieces 48) → ⊥ }
     ensures items { (n : ℕ) → 2 ^ 32 ≤ n → IsConsistent (with_texts n) → ⊥ }
     ensures layout { IsConsistent without_layout → ⊥ }
     ensures cell { IsConsistent offset_in_layout → ⊥ }

@@ -3,7 +3,7 @@ use Rattle.std.proofs.Common.{◌≡◌, ◌∙◌, ◌<◌, ◌+◌, arith, ℕ
 use Rattle.std.proofs.lemmas.List.{map-append, take_more}
 use Rattle.std.specs.Prelude.{◌⊎◌, Option}
 use Rattle.code_form.specs.Form.{image_of}
-use Rattle.command_line.specs.Shell.{Replayed}
+use Rattle.command_line.specs.Shell.{Compiling, Replayed}
 use Rattle.scope_verifier.specs.declared.acceptance.Verified.{Verified}
 use Rattle.c0far.specs.FileCode.{AreCodes, HoldsCode}
 use Rattle.c0far.specs.FileTexts.{Known}
@@ -12,12 +12,12 @@ use Rattle.c0far.specs.Replays.{Replays}
 use Rattle.c0far.specs.Streams.{Held, IsQuiet, Says, Writes, writes}
 
 -- one file more
-pub codes_more : (checks : Bool) (held : List ℕ → Known) (files : List (List ℕ)) (programs : List Verified) (file : List ℕ) (program : Verified) → AreCodes checks held files programs
-    → HoldsCode file checks (held file) (image_of program.image) → AreCodes checks held (files ++ file ∷ []) (programs ++ program ∷ [])
-codes_more checks held [] [] file program are code = (code, tt)
-codes_more checks held [] (v ∷ vs) file program are code = absurd are
-codes_more checks held (f ∷ fs) [] file program are code = absurd are
-codes_more checks held (f ∷ fs) (v ∷ vs) file program are code = (are.0, codes_more checks held fs vs file program are.1 code)
+pub codes_more : (compiling : Compiling) (held : List ℕ → Known) (files : List (List ℕ)) (programs : List Verified) (file : List ℕ) (program : Verified) → AreCodes compiling held files programs
+    → HoldsCode file compiling (held file) (image_of program.image) → AreCodes compiling held (files ++ file ∷ []) (programs ++ program ∷ [])
+codes_more compiling held [] [] file program are code = (code, tt)
+codes_more compiling held [] (v ∷ vs) file program are code = absurd are
+codes_more compiling held (f ∷ fs) [] file program are code = absurd are
+codes_more compiling held (f ∷ fs) (v ∷ vs) file program are code = (are.0, codes_more compiling held fs vs file program are.1 code)
 
 -- ---- the files of a loop's turn
 
@@ -29,16 +29,16 @@ cut_at (x ∷ xs) zero d low = refl
 cut_at (x ∷ xs) (suc k) d low = let below : k < length xs = omega arith in ap (λ (r : List (List ℕ)). x.now ∷ r) (cut_at xs k d below)
 
 -- the codes of the files up to this one
-pub codes_at : (checks : Bool) (held seen : List ℕ → Known) (names : List (Bor (List ℕ))) (k : ℕ) (d : Bor (List ℕ)) (before programs : List Verified) (program : Verified) → k < length names
-    → ((name : List ℕ) → seen name ≡ held name) → AreCodes checks held (map (λ n. n.now) (take k names)) before → HoldsCode (get_or names k d).now checks (seen (get_or names k d).now) (image_of program.image)
-    → programs ≡ before ++ program ∷ [] → AreCodes checks held (map (λ n. n.now) (take (k + 1) names)) programs
-codes_at checks held seen names k d before programs program low keeps are code items =
+pub codes_at : (compiling : Compiling) (held seen : List ℕ → Known) (names : List (Bor (List ℕ))) (k : ℕ) (d : Bor (List ℕ)) (before programs : List Verified) (program : Verified) → k < length names
+    → ((name : List ℕ) → seen name ≡ held name) → AreCodes compiling held (map (λ n. n.now) (take k names)) before → HoldsCode (get_or names k d).now compiling (seen (get_or names k d).now) (image_of program.image)
+    → programs ≡ before ++ program ∷ [] → AreCodes compiling held (map (λ n. n.now) (take (k + 1) names)) programs
+codes_at compiling held seen names k d before programs program low keeps are code items =
     let now : Bor (List ℕ) → List ℕ = λ n. n.now in
     let file : List ℕ = now (get_or names k d) in
     let so_far : map now (take (k + 1) names) ≡ map now (take k names) ++ file ∷ [] = ap (map now) (take_more names k d low) ∙ map-append now (take k names) (get_or names k d ∷ []) in
-    let holds : HoldsCode file checks (held file) (image_of program.image) = subst (λ (x : Known). HoldsCode file checks x (image_of program.image)) (keeps file) code in
-    subst (λ (fs : List (List ℕ)). AreCodes checks held fs programs) (sym so_far)
-    (subst (λ (vs : List Verified). AreCodes checks held (map now (take k names) ++ file ∷ []) vs) (sym items) (codes_more checks held (map now (take k names)) before file program are holds))
+    let holds : HoldsCode file compiling (held file) (image_of program.image) = subst (λ (x : Known). HoldsCode file compiling x (image_of program.image)) (keeps file) code in
+    subst (λ (fs : List (List ℕ)). AreCodes compiling held fs programs) (sym so_far)
+    (subst (λ (vs : List Verified). AreCodes compiling held (map now (take k names) ++ file ∷ []) vs) (sym items) (codes_more compiling held (map now (take k names)) before file program are holds))
 
 -- ---- the stream that is spoken to
 
@@ -54,34 +54,34 @@ module _ {S : Type 0} (contents : S → Option (List ℕ)) (failures : S → ℕ
   quiet_still old now new first then = subst IsQuiet (after_quiet old now new first) then
 
   -- a file behind others has no code
-  pub lacks : (checks : Bool) (held : List ℕ → Known) (before : List (List ℕ)) (file : List ℕ) (after files : List (List ℕ)) (programs : List Verified) (known : Known) (old now new : S) (status : ℕ)
-      → files ≡ before ++ file ∷ after → AreCodes checks held before programs → known ≡ held file → IsQuiet (writes contents failures old now)
-      → ((out : Writes) → IsQuiet out → HasNoCode file known out (writes contents failures now new) status)
-      → (out : Writes) → IsQuiet out → LacksCode checks held files out (writes contents failures old new) status ⊎ LacksMemory out (writes contents failures old new) status
-  lacks checks held before file after files programs known old now new status cut codes same quiet none = λ out silent. inl (record {
+  pub lacks : (compiling : Compiling) (held : List ℕ → Known) (before : List (List ℕ)) (file : List ℕ) (after files : List (List ℕ)) (programs : List Verified) (known : Known) (old now new : S) (status : ℕ)
+      → files ≡ before ++ file ∷ after → AreCodes compiling held before programs → known ≡ held file → IsQuiet (writes contents failures old now)
+      → ((out : Writes) → IsQuiet out → HasNoCode compiling.texts.loops file known out (writes contents failures now new) status)
+      → (out : Writes) → IsQuiet out → LacksCode compiling held files out (writes contents failures old new) status ⊎ LacksMemory out (writes contents failures old new) status
+  lacks compiling held before file after files programs known old now new status cut codes same quiet none = λ out silent. inl (record {
     before = before;
     file = file;
     after = after;
     cut = cut;
     programs = programs;
     codes = codes;
-    none = subst (λ (k : Known). HasNoCode file k out (writes contents failures old new) status) same
-        (subst (λ (w : Writes). HasNoCode file known out w status) (after_quiet old now new quiet) (none out silent));
+    none = subst (λ (k : Known). HasNoCode compiling.texts.loops file k out (writes contents failures old new) status) same
+        (subst (λ (w : Writes). HasNoCode compiling.texts.loops file known out w status) (after_quiet old now new quiet) (none out silent));
   })
 
   -- the file of a turn has no code
-  pub lacks_at : (checks : Bool) (held seen : List ℕ → Known) (names : List (Bor (List ℕ))) (k : ℕ) (d : Bor (List ℕ)) (programs : List Verified) (old now new : S) (status : ℕ) → k < length names
-      → ((name : List ℕ) → seen name ≡ held name) → AreCodes checks held (map (λ n. n.now) (take k names)) programs → IsQuiet (writes contents failures old now)
-      → ((out : Writes) → IsQuiet out → HasNoCode (get_or names k d).now (seen (get_or names k d).now) out (writes contents failures now new) status)
-      → (out : Writes) → IsQuiet out → LacksCode checks held (map (λ n. n.now) names) out (writes contents failures old new) status ⊎ LacksMemory out (writes contents failures old new) status
-  lacks_at checks held seen names k d programs old now new status low keeps codes quiet none =
-      lacks checks held _ (get_or names k d).now _ _ programs (seen (get_or names k d).now) old now new status (cut_at names k d low) codes (keeps (get_or names k d).now) quiet none
+  pub lacks_at : (compiling : Compiling) (held seen : List ℕ → Known) (names : List (Bor (List ℕ))) (k : ℕ) (d : Bor (List ℕ)) (programs : List Verified) (old now new : S) (status : ℕ) → k < length names
+      → ((name : List ℕ) → seen name ≡ held name) → AreCodes compiling held (map (λ n. n.now) (take k names)) programs → IsQuiet (writes contents failures old now)
+      → ((out : Writes) → IsQuiet out → HasNoCode compiling.texts.loops (get_or names k d).now (seen (get_or names k d).now) out (writes contents failures now new) status)
+      → (out : Writes) → IsQuiet out → LacksCode compiling held (map (λ n. n.now) names) out (writes contents failures old new) status ⊎ LacksMemory out (writes contents failures old new) status
+  lacks_at compiling held seen names k d programs old now new status low keeps codes quiet none =
+      lacks compiling held _ (get_or names k d).now _ _ programs (seen (get_or names k d).now) old now new status (cut_at names k d low) codes (keeps (get_or names k d).now) quiet none
 
 -- what is replayed of codes that were read before
 pub replays_from : (honest : Type 0) (asked : Replayed) (names : List (List ℕ)) (programs : List Verified) (held now : List ℕ → Known) (out told err : Writes) (status : ℕ) → ((name : List ℕ) → now name ≡ held name) → told ≡ err
-    → AreCodes asked.checks held names programs → ((ns : List (List ℕ)) → AreCodes asked.checks now ns programs → Replays honest asked ns now out told status) → Replays honest asked names held out err status
+    → AreCodes asked.compiling held names programs → ((ns : List (List ℕ)) → AreCodes asked.compiling now ns programs → Replays honest asked ns now out told status) → Replays honest asked names held out err status
 replays_from honest asked names programs held now out told err status keeps same codes replayed =
     let files : now ≡ held = λ i name. keeps name i in
     subst (λ (w : Writes). Replays honest asked names held out w status) same
     (subst (λ (f : List ℕ → Known). Replays honest asked names f out told status) files
-    (replayed names (subst (λ (f : List ℕ → Known). AreCodes asked.checks f names programs) (sym files) codes)))
+    (replayed names (subst (λ (f : List ℕ → Known). AreCodes asked.compiling f names programs) (sym files) codes)))

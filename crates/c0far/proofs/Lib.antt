@@ -4,3 +4,4 @@ pub mod Moved
 pub mod NoCode
 pub mod Ran
 pub mod Replayed
+pub mod Rooms

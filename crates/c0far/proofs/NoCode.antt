@@ -8,17 +8,17 @@ use Rattle.c0far.specs.FileTexts.{Known}
 use Rattle.c0far.specs.Streams.{Writes}
 
 -- a text that is refused has no code
-pub no_text : (file : List ℕ) (held : Known) (out err : Writes) (status : ℕ) → false ≡ names_image file → HasFailed file held out err status ⊎ LacksMemory out err status → HasNoCode file held out err status
-no_text file held out err status e (inl h) =
-    inl (subst (λ (b : Bool). elim b as (λ x. Type 0) [ true ↦ IsUnfit file held out err status | false ↦ HasFailed file held out err status ]) e h)
-no_text file held out err status e (inr h) = inr (inr h)
+pub no_text : (loops : Bool) (file : List ℕ) (held : Known) (out err : Writes) (status : ℕ) → false ≡ names_image file → HasFailed loops file held out err status ⊎ LacksMemory out err status → HasNoCode loops file held out err status
+no_text loops file held out err status e (inl h) =
+    inl (subst (λ (b : Bool). elim b as (λ x. Type 0) [ true ↦ IsUnfit file held out err status | false ↦ HasFailed loops file held out err status ]) e h)
+no_text loops file held out err status e (inr h) = inr (inr h)
 
 -- an image is looked at
-pub checks_image : (file : List ℕ) (held : Known) (out err : Writes) (status : ℕ) → true ≡ names_image file → ChecksImage file held out err status → Checks file held out err status
-checks_image file held out err status e h =
-    subst (λ (b : Bool). elim b as (λ x. Type 0) [ true ↦ ChecksImage file held out err status | false ↦ ChecksText file held out err status ]) e h
+pub checks_image : (loops : Bool) (file : List ℕ) (held : Known) (out err : Writes) (status : ℕ) → true ≡ names_image file → ChecksImage loops file held out err status → Checks loops file held out err status
+checks_image loops file held out err status e h =
+    subst (λ (b : Bool). elim b as (λ x. Type 0) [ true ↦ ChecksImage loops file held out err status | false ↦ ChecksText loops file held out err status ]) e h
 
 -- a text is checked
-pub checks_text : (file : List ℕ) (held : Known) (out err : Writes) (status : ℕ) → false ≡ names_image file → ChecksText file held out err status → Checks file held out err status
-checks_text file held out err status e h =
-    subst (λ (b : Bool). elim b as (λ x. Type 0) [ true ↦ ChecksImage file held out err status | false ↦ ChecksText file held out err status ]) e h
+pub checks_text : (loops : Bool) (file : List ℕ) (held : Known) (out err : Writes) (status : ℕ) → false ≡ names_image file → ChecksText loops file held out err status → Checks loops file held out err status
+checks_text loops file held out err status e h =
+    subst (λ (b : Bool). elim b as (λ x. Type 0) [ true ↦ ChecksImage loops file held out err status | false ↦ ChecksText loops file held out err status ]) e h

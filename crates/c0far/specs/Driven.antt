@@ -7,61 +7,61 @@ use Rattle.code_form.specs.Form.{Image}
 use Rattle.clap.specs.Words.{Text}
 use Rattle.image_bytes.specs.Bytes.{image_bytes}
 use Rattle.image_listing.specs.Listing.{listing}
-use Rattle.c0far.specs.FileCode.{HoldsCode, names_image}
+use Rattle.c0far.specs.FileCode.{HoldsCode, names_image, unchecked}
 use Rattle.c0far.specs.FileTexts.{HasText, Known}
 use Rattle.c0far.specs.NoCode.{HasFailed, HasNoCode, IsUnread, LacksMemory}
 use Rattle.c0far.specs.Replays.{Replays}
 use Rattle.c0far.specs.Runs.{Runs}
 use Rattle.c0far.specs.Shown.{newline, shown_meaning}
 use Rattle.command_line.specs.Help.{help_text}
-use Rattle.command_line.specs.Shell.{Check, Command, Mean, Names, Replay, Run}
+use Rattle.command_line.specs.Shell.{Check, Command, Compiling, Mean, Names, Replay, Run, Texts}
 use Rattle.command_line.specs.Shell as shell
 use Rattle.c0far.specs.Statuses.{ended_status}
 use Rattle.c0far.specs.Streams.{IsQuiet, Says, Writes}
 
--- the program of the file's text keeps the static rules
-pub record HasPassed (held : Known) (out err : Writes) (result : ℕ) : Type 0 where
+-- the program of the file's text keeps the static rules of this level
+pub record HasPassed (loops : Bool) (held : Known) (out err : Writes) (result : ℕ) : Type 0 where
   pub text : List ℕ
   pub read : HasText held text
   pub typed : y.Program
-  pub accepted : IsTypedAs false text typed
+  pub accepted : IsTypedAs loops text typed
   pub shown : Says out (codes "ok" ++ newline) 0 result
   pub quiet : IsQuiet err
 
 -- the command `check` of this file, which holds this text
-abbrev pub ChecksText : Text → Known → Writes → Writes → ℕ → Type 0
-ChecksText file held out err result = HasPassed held out err result ⊎ (HasFailed file held out err result ⊎ (IsUnread file held out err result ⊎ LacksMemory out err result))
+abbrev pub ChecksText : (loops : Bool) → Text → Known → Writes → Writes → ℕ → Type 0
+ChecksText loops file held out err result = HasPassed loops held out err result ⊎ (HasFailed loops file held out err result ⊎ (IsUnread file held out err result ⊎ LacksMemory out err result))
 
 -- the file's image may be run
-pub record IsFit (file : Text) (held : Known) (out err : Writes) (result : ℕ) : Type 0 where
+pub record IsFit (loops : Bool) (file : Text) (held : Known) (out err : Writes) (result : ℕ) : Type 0 where
   pub image : Image
-  pub code : HoldsCode file false held image
+  pub code : HoldsCode file (unchecked loops 64) held image
   pub shown : Says out (codes "ok" ++ newline) 0 result
   pub quiet : IsQuiet err
 
 -- the command `check` of this file, which holds this image
-abbrev pub ChecksImage : Text → Known → Writes → Writes → ℕ → Type 0
-ChecksImage file held out err result = IsFit file held out err result ⊎ HasNoCode file held out err result
+abbrev pub ChecksImage : (loops : Bool) → Text → Known → Writes → Writes → ℕ → Type 0
+ChecksImage loops file held out err result = IsFit loops file held out err result ⊎ HasNoCode loops file held out err result
 
 -- the command `check` of this file, which holds this
-abbrev pub Checks : Text → Known → Writes → Writes → ℕ → Type 0
-Checks file held out err result = elim (names_image file) as (λ b. Type 0) [ true ↦ ChecksImage file held out err result | false ↦ ChecksText file held out err result ]
+abbrev pub Checks : (loops : Bool) → Text → Known → Writes → Writes → ℕ → Type 0
+Checks loops file held out err result = elim (names_image file) as (λ b. Type 0) [ true ↦ ChecksImage loops file held out err result | false ↦ ChecksText loops file held out err result ]
 
 -- the lines of the file's code are shown, of a text with no contracts
-pub record HasListed (file : Text) (held : Known) (out err : Writes) (result : ℕ) : Type 0 where
+pub record HasListed (loops : Bool) (piece : ℕ) (file : Text) (held : Known) (out err : Writes) (result : ℕ) : Type 0 where
   pub image : Image
-  pub code : HoldsCode file false held image
+  pub code : HoldsCode file (unchecked loops piece) held image
   pub shown : Says out (listing image) 0 result
   pub quiet : IsQuiet err
 
 -- the command `list` of this file, which holds this
-abbrev pub Lists : Text → Known → Writes → Writes → ℕ → Type 0
-Lists file held out err result = HasListed file held out err result ⊎ HasNoCode file held out err result
+abbrev pub Lists : (loops : Bool) → (piece : ℕ) → Text → Known → Writes → Writes → ℕ → Type 0
+Lists loops piece file held out err result = HasListed loops piece file held out err result ⊎ HasNoCode loops file held out err result
 
--- the bytes of the file's code, of a text with contracts checked or not, are those of another file, which holds this now
-pub record HasBuilt (file : Text) (checks : Bool) (held now : Known) (out err : Writes) (result : ℕ) : Type 0 where
+-- the bytes of the file's code, of a text that is compiled so, are those of another file, which holds this now
+pub record HasBuilt (file : Text) (compiling : Compiling) (held now : Known) (out err : Writes) (result : ℕ) : Type 0 where
   pub image : Image
-  pub code : HoldsCode file checks held image
+  pub code : HoldsCode file compiling held image
   pub written : HasText now (image_bytes image)
   pub status : result ≡ 0
   pub silent : IsQuiet out
@@ -73,25 +73,25 @@ pub record IsUnwritten (file : Text) (out err : Writes) (result : ℕ) : Type 0 
   pub quiet : IsQuiet out
 
 -- nothing is built: the file that was to be written holds what it held
-abbrev pub HasNotBuilt : Text → Text → (held before now : Known) → Writes → Writes → ℕ → Type 0
-HasNotBuilt file target held before now out err result = (now ≡ before) × (HasNoCode file held out err result ⊎ IsUnwritten target out err result)
+abbrev pub HasNotBuilt : (loops : Bool) → Text → Text → (held before now : Known) → Writes → Writes → ℕ → Type 0
+HasNotBuilt loops file target held before now out err result = (now ≡ before) × (HasNoCode loops file held out err result ⊎ IsUnwritten target out err result)
 
 -- the command `build` of this file, which holds this, into a file which held this and holds that now
-abbrev pub Builds : Text → Bool → Text → (held before now : Known) → Writes → Writes → ℕ → Type 0
-Builds file checks target held before now out err result = HasBuilt file checks held now out err result ⊎ HasNotBuilt file target held before now out err result
+abbrev pub Builds : Text → Compiling → Text → (held before now : Known) → Writes → Writes → ℕ → Type 0
+Builds file compiling target held before now out err result = HasBuilt file compiling held now out err result ⊎ HasNotBuilt compiling.texts.loops file target held before now out err result
 
--- the program of the file's text means this within so many turns: what it printed and its end are shown
-pub record HasMeant (checks : Bool) (turns : ℕ) (held : Known) (out err : Writes) (result : ℕ) : Type 0 where
+-- the program of the file's text, taken so, means this within so many turns: what it printed and its end are shown
+pub record HasMeant (texts : Texts) (turns : ℕ) (held : Known) (out err : Writes) (result : ℕ) : Type 0 where
   pub text : List ℕ
   pub read : HasText held text
   pub typed : y.Program
-  pub accepted : IsTypedAs false text typed
-  pub shown : Says out (shown_meaning (mean typed checks turns)) (ended_status (mean typed checks turns).stop) result
+  pub accepted : IsTypedAs texts.loops text typed
+  pub shown : Says out (shown_meaning (mean typed texts.checks turns)) (ended_status (mean typed texts.checks turns).stop) result
   pub quiet : IsQuiet err
 
 -- the command `mean` of this file, which holds this
-abbrev pub Means : Text → Bool → ℕ → Known → Writes → Writes → ℕ → Type 0
-Means file checks turns held out err result = HasMeant checks turns held out err result ⊎ (HasFailed file held out err result ⊎ (IsUnread file held out err result ⊎ LacksMemory out err result))
+abbrev pub Means : Text → Texts → ℕ → Known → Writes → Writes → ℕ → Type 0
+Means file texts turns held out err result = HasMeant texts turns held out err result ⊎ (HasFailed texts.loops file held out err result ⊎ (IsUnread file held out err result ⊎ LacksMemory out err result))
 
 -- all files but this one hold what they held
 pub record KeepsOthers (target : Text) (held now : Text → Known) : Type 0 where
@@ -103,10 +103,10 @@ KeepsFiles held now = (name : Text) → now name ≡ held name
 
 -- the command, where files held this and hold that now, and folders are honest or not: `build` alone may write a file, the one that it names
 abbrev pub Does : Type 0 → (held now : Text → Known) → Command → Writes → Writes → ℕ → Type 0
-Does honest held now (shell.Build checks target file) out err result = Builds file checks target (held file) (held target) (now target) out err result × KeepsOthers target held now
-Does honest held now (Check file) out err result = Checks file (held file) out err result × KeepsFiles held now
-Does honest held now (shell.Lists file) out err result = Lists file (held file) out err result × KeepsFiles held now
-Does honest held now (Mean checks turns file) out err result = Means file checks turns (held file) out err result × KeepsFiles held now
+Does honest held now (shell.Build compiling target file) out err result = Builds file compiling target (held file) (held target) (now target) out err result × KeepsOthers target held now
+Does honest held now (Check loops file) out err result = Checks loops file (held file) out err result × KeepsFiles held now
+Does honest held now (shell.Lists loops piece file) out err result = Lists loops piece file (held file) out err result × KeepsFiles held now
+Does honest held now (Mean texts turns file) out err result = Means file texts turns (held file) out err result × KeepsFiles held now
 Does honest held now (Replay asked files) out err result = Replays honest asked files held out err result × KeepsFiles held now
 Does honest held now (Run asked files) out err result = Runs honest asked files held out err result × KeepsFiles held now
 

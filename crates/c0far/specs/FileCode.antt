@@ -6,6 +6,7 @@ use Rattle.code_form.specs.Form.{Image, image_of}
 use Rattle.code_verification.specs.Verified.{IsVerified}
 use Rattle.image_bytes.specs.Encodable.{IsImage}
 use Rattle.c0_image.specs.Compiled.{IsCompiled}
+use Rattle.command_line.specs.Shell.{Compiling}
 use Rattle.scope_verifier.specs.declared.acceptance.Verified.{Verified}
 use Rattle.c0far.specs.FileTexts.{HasText, Known}
 
@@ -20,19 +21,23 @@ pub record HoldsImage (held : Known) (image : Image) : Type 0 where
   pub is : IsImage bytes image
   pub verified : IsVerified image
 
--- the file's text is compiled to this image, with contracts checked or not
-pub record HoldsText (checks : Bool) (held : Known) (image : Image) : Type 0 where
+-- code of texts at this level, with no contracts checked, for pieces of so many cells
+abbrev pub unchecked : (loops : Bool) → (piece : ℕ) → Compiling
+unchecked loops piece = record { texts = record { loops = loops; checks = false }; piece = piece }
+
+-- the file's text is compiled so to this image
+pub record HoldsText (compiling : Compiling) (held : Known) (image : Image) : Type 0 where
   pub text : List ℕ
   pub read : HasText held text
-  pub compiled : IsCompiled text checks image
+  pub compiled : IsCompiled compiling.texts.loops text compiling.texts.checks compiling.piece image
 
 -- the code of the file
-abbrev pub HoldsCode : Text → Bool → Known → Image → Type 0
-HoldsCode file checks held image = elim (names_image file) as (λ b. Type 0) [ true ↦ HoldsImage held image | false ↦ HoldsText checks held image ]
+abbrev pub HoldsCode : Text → Compiling → Known → Image → Type 0
+HoldsCode file compiling held image = elim (names_image file) as (λ b. Type 0) [ true ↦ HoldsImage held image | false ↦ HoldsText compiling held image ]
 
--- these programs are the codes of these files, those of texts with contracts checked or not
-abbrev pub AreCodes : Bool → (Text → Known) → List Text → List Verified → Type 0
-AreCodes checks held [] [] = Unit {0}
-AreCodes checks held [] (v ∷ vs) = ⊥
-AreCodes checks held (f ∷ fs) [] = ⊥
-AreCodes checks held (f ∷ fs) (v ∷ vs) = HoldsCode f checks (held f) (image_of v.image) × AreCodes checks held fs vs
+-- these programs are the codes of these files, where texts are compiled so
+abbrev pub AreCodes : Compiling → (Text → Known) → List Text → List Verified → Type 0
+AreCodes compiling held [] [] = Unit {0}
+AreCodes compiling held [] (v ∷ vs) = ⊥
+AreCodes compiling held (f ∷ fs) [] = ⊥
+AreCodes compiling held (f ∷ fs) (v ∷ vs) = HoldsCode f compiling (held f) (image_of v.image) × AreCodes compiling held fs vs

@@ -15,6 +15,7 @@ use Rattle.scope_verifier.specs.declared.acceptance.Verified.{Verified}
 use Rattle.scope_verifier_laws.specs.Faults.{fault_of}
 use Rattle.scope_verifier_laws.specs.FaultNumbers.{fault_line as verify_line}
 use Rattle.scope_verifier_laws.specs.declared.fault.VerifyFault.{VerifyFault}
+use Rattle.command_line.specs.Shell.{Compiling}
 use Rattle.c0far.specs.FileCode.{AreCodes, names_image}
 use Rattle.c0far.specs.FileTexts.{HasText, IsMissing, Known}
 use Rattle.c0far.specs.Shown.{StandsAt, newline, shown_fault}
@@ -31,14 +32,14 @@ pub record LacksMemory (out err : Writes) (result : ℕ) : Type 0 where
   pub shown : Says err (codes "out of memory" ++ newline) 3 result
   pub quiet : IsQuiet out
 
--- the file's text is the text of no well-typed program: the fault of the first stage that finds one is shown, and where it stands;
--- want of memory is no such fault
-pub record HasFailed (file : Text) (held : Known) (out err : Writes) (result : ℕ) : Type 0 where
+-- the file's text is the text of no well-typed program at this level: the fault of the first stage that finds one is shown, and where it
+-- stands; want of memory is no such fault
+pub record HasFailed (loops : Bool) (file : Text) (held : Known) (out err : Writes) (result : ℕ) : Type 0 where
   pub text : List ℕ
   pub read : HasText held text
-  pub none : (typed : y.Program) → IsTypedAs false text typed → ⊥
+  pub none : (typed : y.Program) → IsTypedAs loops text typed → ⊥
   pub fault : Fault
-  pub cause : Unchecked.IsRefusedText false text fault
+  pub cause : Unchecked.IsRefusedText loops text fault
   pub other : fault.kind ≡ f.OutOfMemory → ⊥
   pub line : ℕ
   pub column : ℕ
@@ -71,19 +72,19 @@ abbrev pub IsUnfit : Text → Known → Writes → Writes → ℕ → Type 0
 IsUnfit file held out err result = HasImageFault file held out err result ⊎ HasVerifyFault file held out err result
 
 -- the file's code is refused: an image, or a text
-abbrev pub IsRefused : Text → Known → Writes → Writes → ℕ → Type 0
-IsRefused file held out err result = elim (names_image file) as (λ b. Type 0) [ true ↦ IsUnfit file held out err result | false ↦ HasFailed file held out err result ]
+abbrev pub IsRefused : (loops : Bool) → Text → Known → Writes → Writes → ℕ → Type 0
+IsRefused loops file held out err result = elim (names_image file) as (λ b. Type 0) [ true ↦ IsUnfit file held out err result | false ↦ HasFailed loops file held out err result ]
 
 -- there is no code of the file: it is refused, or was not read, or memory was wanted
-abbrev pub HasNoCode : Text → Known → Writes → Writes → ℕ → Type 0
-HasNoCode file held out err result = IsRefused file held out err result ⊎ (IsUnread file held out err result ⊎ LacksMemory out err result)
+abbrev pub HasNoCode : (loops : Bool) → Text → Known → Writes → Writes → ℕ → Type 0
+HasNoCode loops file held out err result = IsRefused loops file held out err result ⊎ (IsUnread file held out err result ⊎ LacksMemory out err result)
 
 -- there is no code of one of the files: the first of which that is so is told of
-pub record LacksCode (checks : Bool) (held : Text → Known) (files : List Text) (out err : Writes) (result : ℕ) : Type 0 where
+pub record LacksCode (compiling : Compiling) (held : Text → Known) (files : List Text) (out err : Writes) (result : ℕ) : Type 0 where
   pub before : List Text
   pub file : Text
   pub after : List Text
   pub cut : files ≡ before ++ file ∷ after
   pub programs : List Verified
-  pub codes : AreCodes checks held before programs
-  pub none : HasNoCode file (held file) out err result
+  pub codes : AreCodes compiling held before programs
+  pub none : HasNoCode compiling.texts.loops file (held file) out err result

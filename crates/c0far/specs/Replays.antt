@@ -8,6 +8,7 @@ use Rattle.region.specs.declared.fault.AdmitFault.{AdmitFault}
 use Rattle.schedule_replay.specs.Replayed.{IsReplayed, StopsAt}
 use Rattle.scope_verifier.specs.declared.acceptance.Verified.{Verified}
 use Rattle.world.specs.Opened.{sizes_of}
+use Rattle.world_semantics.specs.Pieces.{piece_of}
 use Rattle.world_semantics.specs.Worlds.{Sizes}
 use Rattle.c0far.specs.FileCode.{AreCodes}
 use Rattle.c0far.specs.FileTexts.{HasText, Known}
@@ -18,20 +19,20 @@ use Rattle.c0far.specs.Streams.{IsQuiet, Says, Writes}
 
 -- in what follows the store is honest where h holds and never fails where r holds, this is asked for these files, and files hold this
 module _ (h r : Type 0) (asked : Replayed) (files : List Text) (held : Text → Known) where
-  -- the sizes of the world of so many programs
-  abbrev pub sizes : ℕ → Sizes
-  sizes programs = sizes_of programs asked.memory.frames asked.memory.objects asked.evacuators asked.fetchers
+  -- the sizes of the world of these programs
+  abbrev pub sizes : List Verified → Sizes
+  sizes programs = sizes_of (length programs) asked.memory.frames asked.memory.objects asked.evacuators asked.fetchers (piece_of (image_at programs))
 
   -- these programs are the codes of the files, and are admitted, and so is the work that is asked for
   pub record Admits (programs : List Verified) : Type 0 where
-    pub codes : AreCodes asked.checks held files programs
+    pub codes : AreCodes asked.compiling held files programs
     pub admitted : IsAdmitted programs asked.memory.frames asked.memory.objects asked.evacuators asked.fetchers
     pub work : IsWithinWork asked.work.workers asked.work.quantum
 
   -- the programs of the files are not admitted: it is told why
   pub record LacksRoom (out err : Writes) (result : ℕ) : Type 0 where
     pub programs : List Verified
-    pub codes : AreCodes asked.checks held files programs
+    pub codes : AreCodes asked.compiling held files programs
     pub fault : AdmitFault
     pub cause : IsRefused programs asked.memory.frames asked.memory.objects asked.evacuators asked.fetchers asked.work.workers asked.work.quantum fault
     pub shown : SaysFault fault err result
@@ -44,7 +45,7 @@ module _ (h r : Type 0) (asked : Replayed) (files : List Text) (held : Text → 
     pub lines : List ℕ
     pub read : HasText (held asked.schedule) lines
     pub ends : List Ended
-    pub replayed : IsReplayed h r (sizes (length programs)) (image_at programs) lines ends
+    pub replayed : IsReplayed h r (sizes programs) (image_at programs) lines ends
     pub shown : Says out (shown_ends ends) (ends_status ends) result
     pub quiet : IsQuiet err
 
@@ -55,7 +56,7 @@ module _ (h r : Type 0) (asked : Replayed) (files : List Text) (held : Text → 
     pub lines : List ℕ
     pub read : HasText (held asked.schedule) lines
     pub line : ℕ
-    pub stops : StopsAt h r (sizes (length programs)) (image_at programs) lines line
+    pub stops : StopsAt h r (sizes programs) (image_at programs) lines line
     pub shown : Says err (codes "refused line " ++ (decimal line ++ newline)) 2 result
     pub quiet : IsQuiet out
 
@@ -69,4 +70,4 @@ module _ (h r : Type 0) (asked : Replayed) (files : List Text) (held : Text → 
 
 -- the command `replay` of these files, where files hold this and folders are honest or not; the store in memory never fails, unless it is asked to
 abbrev pub Replays : Type 0 → Replayed → List Text → (Text → Known) → Writes → Writes → ℕ → Type 0
-Replays honest asked files held out err result = ReplaysOver (IsHonestIn honest asked.memory.store) (IsReliableIn asked.memory) asked files held out err result ⊎ LacksCode asked.checks held files out err result
+Replays honest asked files held out err result = ReplaysOver (IsHonestIn honest asked.memory.store) (IsReliableIn asked.memory) asked files held out err result ⊎ LacksCode asked.compiling held files out err result

@@ -31,6 +31,7 @@ RanOver honest memory programs ends = AreEnds (IsHonestIn honest memory.store) (
 -- a fault of admission is shown
 abbrev pub SaysFault : AdmitFault → Writes → ℕ → Type 0
 SaysFault (admit.TooSmall need have) err result = Says err (admit_line (admit.TooSmall need have) ++ newline) 2 result
+SaysFault (admit.PieceDiffers program) err result = Says err (admit_line (admit.PieceDiffers program) ++ newline) 2 result
 SaysFault admit.TooMany err result = Says err (admit_line admit.TooMany ++ newline) 2 result
 SaysFault admit.OutOfMemory err result = Says err (codes "out of memory" ++ newline) 3 result
 
@@ -39,7 +40,7 @@ module _ (h : Type 0) (asked : Started) (files : List Text) (held : Text → Kno
   -- the codes of the files ran side by side: of each is shown what it printed and how it ended
   pub record HasRun (out err : Writes) (result : ℕ) : Type 0 where
     pub programs : List Verified
-    pub codes : AreCodes asked.checks held files programs
+    pub codes : AreCodes asked.compiling held files programs
     pub ends : List Ended
     pub executed : RanOver h asked.memory programs ends
     pub shown : Says out (shown_ends ends) (ends_status ends) result
@@ -48,7 +49,7 @@ module _ (h : Type 0) (asked : Started) (files : List Text) (held : Text → Kno
   -- the programs of the files are not admitted to this memory: it is told why; or memory was wanted
   pub record IsNotRun (out err : Writes) (result : ℕ) : Type 0 where
     pub programs : List Verified
-    pub codes : AreCodes asked.checks held files programs
+    pub codes : AreCodes asked.compiling held files programs
     pub fault : AdmitFault
     pub cause : (fault ≡ admit.OutOfMemory) ⊎ IsRefused programs asked.memory.frames asked.memory.objects asked.evacuators asked.fetchers asked.work.workers asked.work.quantum fault
     pub shown : SaysFault fault err result
@@ -56,4 +57,4 @@ module _ (h : Type 0) (asked : Started) (files : List Text) (held : Text → Kno
 
   -- the command `run` of these files
   abbrev pub Runs : Writes → Writes → ℕ → Type 0
-  Runs out err result = HasRun out err result ⊎ (IsNotRun out err result ⊎ (LacksCode asked.checks held files out err result ⊎ LacksMemory out err result))
+  Runs out err result = HasRun out err result ⊎ (IsNotRun out err result ⊎ (LacksCode asked.compiling held files out err result ⊎ LacksMemory out err result))

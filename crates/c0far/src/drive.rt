@@ -1,12 +1,13 @@
 //! The commands, over files and two streams.
 ghost use Rattle.std.specs.Prelude.{◌≡◌, ◌++◌, ℕ, List, codes, map};
+ghost use Rattle.c0_syntax.specs.Levels.{has_loops};
 ghost use Rattle.command_line.specs.Help.{help_text};
 ghost use Rattle.c0far.specs.Driven.{Checks, ChecksImage, ChecksText, IsDriven};
 ghost use Rattle.c0far.specs.FileTexts.{HasText, Known};
 ghost use Rattle.c0far.specs.Shown.{newline};
 ghost use Rattle.c0far.specs.Streams.{Says, writes};
 
-use crate::code::{code_of, is_image_name};
+use crate::code::{code_of, is_image_name, unchecked};
 use crate::files::{FileError, Files};
 use crate::images::{build, list};
 use crate::plain::{Bound, mean};
@@ -17,6 +18,7 @@ use crate::stream::Stream;
 use c0_front::check_text;
 use c0_source::fault::FaultKind;
 use c0_syntax::level::Level;
+use cells::Piece;
 use command_line::help::{complaint, page};
 use command_line::line::line;
 use command_line::words::{Line, Usage};
@@ -41,36 +43,38 @@ pub fn say_help<E: Stream>(err: &mut E, words: &[&str]) -> u8
     after(writeln!(err, "{complaint}{page}"), REFUSED)
 }
 
-/// Tells whether a text, which stands in this file, keeps the static rules.
+/// Tells whether a text, which stands in this file, keeps the static rules of this level.
 fn check_named<O: Stream, E: Stream>(
     alloc: Global,
+    level: Level,
     file: &str,
     text: &[u8],
     out: &mut O,
     err: &mut E,
 ) -> u8
-    ensures { (held : Known) → HasText held text.now → ChecksText file.now held (writes O.contents O.failures out.old out.new) (writes E.contents E.failures err.old err.new) result }
+    ensures { (held : Known) → HasText held text.now → ChecksText (has_loops level) file.now held (writes O.contents O.failures out.old out.new) (writes E.contents E.failures err.old err.new) result }
 {
-    match check_text(alloc, text, Level::C0) {
+    match check_text(alloc, text, level) {
         Ok(_typed) => say_ok(out),
         Err(fault) if fault.kind == FaultKind::OutOfMemory => say_memory(err),
-        Err(fault) => say_refused(err, file, text, fault),
+        Err(fault) => say_refused(err, file, text, level, fault),
     }
 }
 
-/// Tells whether a file's text keeps the static rules.
+/// Tells whether a file's text keeps the static rules of this level.
 fn check_text_of<F: Files, O: Stream, E: Stream>(
     alloc: Global,
+    level: Level,
     file: &str,
     files: &mut F,
     out: &mut O,
     err: &mut E,
 ) -> u8
     ensures files { (name : List ℕ) → F.holds files.new name ≡ F.holds files.old name }
-    ensures done { ChecksText file.now (F.holds files.old file.now) (writes O.contents O.failures out.old out.new) (writes E.contents E.failures err.old err.new) result }
+    ensures done { ChecksText (has_loops level) file.now (F.holds files.old file.now) (writes O.contents O.failures out.old out.new) (writes E.contents E.failures err.old err.new) result }
 {
     match files.read(alloc, file) {
-        Ok(text) => check_named(alloc, file, &text, out, err),
+        Ok(text) => check_named(alloc, level, file, &text, out, err),
         Err(FileError::Cannot) => say_unread(err, file),
         Err(FileError::OutOfMemory) => say_memory(err),
     }
@@ -79,35 +83,37 @@ fn check_text_of<F: Files, O: Stream, E: Stream>(
 /// Tells whether a file's image may be run.
 fn check_image<F: Files, O: Stream, E: Stream>(
     alloc: Global,
+    level: Level,
     file: &str,
     files: &mut F,
     out: &mut O,
     err: &mut E,
 ) -> u8
     ensures files { (name : List ℕ) → F.holds files.new name ≡ F.holds files.old name }
-    ensures done { ChecksImage file.now (F.holds files.old file.now) (writes O.contents O.failures out.old out.new) (writes E.contents E.failures err.old err.new) result }
+    ensures done { ChecksImage (has_loops level) file.now (F.holds files.old file.now) (writes O.contents O.failures out.old out.new) (writes E.contents E.failures err.old err.new) result }
 {
-    match code_of(alloc, false, file, files, err) {
+    match code_of(alloc, unchecked(level, Piece::Cells64), file, files, err) {
         Ok(_verified) => say_ok(out),
         Err(status) => status,
     }
 }
 
-/// Tells whether a file's text keeps the static rules, or its image may be run.
+/// Tells whether a file's text keeps the static rules of this level, or its image may be run.
 fn check<F: Files, O: Stream, E: Stream>(
     alloc: Global,
+    level: Level,
     file: &str,
     files: &mut F,
     out: &mut O,
     err: &mut E,
 ) -> u8
     ensures files { (name : List ℕ) → F.holds files.new name ≡ F.holds files.old name }
-    ensures done { Checks file.now (F.holds files.old file.now) (writes O.contents O.failures out.old out.new) (writes E.contents E.failures err.old err.new) result }
+    ensures done { Checks (has_loops level) file.now (F.holds files.old file.now) (writes O.contents O.failures out.old out.new) (writes E.contents E.failures err.old err.new) result }
 {
     if is_image_name(file) {
-        check_image(alloc, file, files, out, err)
+        check_image(alloc, level, file, files, out, err)
     } else {
-        check_text_of(alloc, file, files, out, err)
+        check_text_of(alloc, level, file, files, out, err)
     }
 }
 
@@ -127,20 +133,22 @@ pub fn drive<W: Wait + Threads + Clock + Sync, F: Files, O: Stream, E: Stream>(
     match line(alloc, words) {
         Ok(
             Line::Build {
-                checks,
+                compiling,
                 out: target,
                 file,
             },
-        ) => build(alloc, checks, target, file, files, out, err),
-        Ok(Line::Check { file }) => check(alloc, file, files, out, err),
-        Ok(Line::List { file }) => list(alloc, file, files, out, err),
-        Ok(
-            Line::Mean {
-                checks,
-                turns,
-                file,
-            },
-        ) => mean(alloc, rt, Bound { checks, turns }, file, files, out, err),
+        ) => build(alloc, compiling, target, file, files, out, err),
+        Ok(Line::Check { level, file }) => check(alloc, level, file, files, out, err),
+        Ok(Line::List { level, piece, file }) => list(alloc, level, piece, file, files, out, err),
+        Ok(Line::Mean { texts, turns, file }) => mean(
+            alloc,
+            rt,
+            Bound { texts, turns },
+            file,
+            files,
+            out,
+            err,
+        ),
         Ok(
             Line::Replay {
                 asked,

@@ -1,13 +1,19 @@
 //! The commands `list` and `build`: the code of a file, shown and written.
 ghost use Rattle.std.specs.Prelude.{◌≡◌, ◌++◌, ℕ, List, codes, string_bytes};
+ghost use Rattle.c0_syntax.specs.Levels.{has_loops};
+ghost use Rattle.cells.specs.Pieces.{cells_in};
+ghost use Rattle.command_line.specs.Shell.{compiling_of};
 ghost use Rattle.c0far.specs.Driven.{Builds, KeepsOthers, Lists};
 ghost use Rattle.c0far.specs.Shown.{newline};
 ghost use Rattle.c0far.specs.Streams.{Says, writes};
 
-use crate::code::code_of;
+use crate::code::{code_of, unchecked};
 use crate::files::{FileError, Files};
 use crate::say::{REFUSED, after, say_memory};
 use crate::stream::Stream;
+use c0_syntax::level::Level;
+use cells::Piece;
+use command_line::words::Compiling;
 use image_bytes::encode;
 use image_listing::list as list_image;
 use std::alloc::Global;
@@ -26,18 +32,20 @@ fn say_unwritten<E: Stream>(err: &mut E, file: &str) -> u8
     after(writeln!(err, "{file}: cannot be written"), REFUSED)
 }
 
-/// Lists the code of a file.
+/// Lists the code of a file, of a text at this level, for pieces of this size.
 pub fn list<F: Files, O: Stream, E: Stream>(
     alloc: Global,
+    level: Level,
+    piece: Piece,
     file: &str,
     files: &mut F,
     out: &mut O,
     err: &mut E,
 ) -> u8
     ensures files { (name : List ℕ) → F.holds files.new name ≡ F.holds files.old name }
-    ensures done { Lists file.now (F.holds files.old file.now) (writes O.contents O.failures out.old out.new) (writes E.contents E.failures err.old err.new) result }
+    ensures done { Lists (has_loops level) (cells_in piece) file.now (F.holds files.old file.now) (writes O.contents O.failures out.old out.new) (writes E.contents E.failures err.old err.new) result }
 {
-    let verified = match code_of(alloc, false, file, files, err) {
+    let verified = match code_of(alloc, unchecked(level, piece), file, files, err) {
         Ok(verified) => verified,
         Err(status) => return status,
     };
@@ -47,10 +55,10 @@ pub fn list<F: Files, O: Stream, E: Stream>(
     }
 }
 
-/// Writes the code of a file into another.
+/// Writes the code of a file, where a text is compiled so, into another.
 pub fn build<F: Files, O: Stream, E: Stream>(
     alloc: Global,
-    checks: bool,
+    compiling: Compiling,
     target: &str,
     file: &str,
     files: &mut F,
@@ -58,9 +66,9 @@ pub fn build<F: Files, O: Stream, E: Stream>(
     err: &mut E,
 ) -> u8
     ensures files { KeepsOthers target.now (F.holds files.old) (F.holds files.new) }
-    ensures done { Builds file.now checks target.now (F.holds files.old file.now) (F.holds files.old target.now) (F.holds files.new target.now) (writes O.contents O.failures out.old out.new) (writes E.contents E.failures err.old err.new) result }
+    ensures done { Builds file.now (compiling_of compiling) target.now (F.holds files.old file.now) (F.holds files.old target.now) (F.holds files.new target.now) (writes O.contents O.failures out.old out.new) (writes E.contents E.failures err.old err.new) result }
 {
-    let verified = match code_of(alloc, checks, file, files, err) {
+    let verified = match code_of(alloc, compiling, file, files, err) {
         Ok(verified) => verified,
         Err(status) => return status,
     };

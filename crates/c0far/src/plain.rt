@@ -1,6 +1,7 @@
 //! The command `mean`: what the program of a text means within some turns.
 ghost use Rattle.std.specs.Prelude.{◌≡◌, ℕ, List};
 ghost use Rattle.c0_meaning.specs.Run.{ended_of, meant_of};
+ghost use Rattle.command_line.specs.Shell.{texts_of};
 ghost use Rattle.c0far.specs.Driven.{Means};
 ghost use Rattle.c0far.specs.Shown.{shown_meaning};
 ghost use Rattle.c0far.specs.FileTexts.{HasText, Known};
@@ -14,13 +15,14 @@ use c0_meaning::Meant;
 use c0_plain::mean_text;
 use c0_source::fault::FaultKind;
 use cells::Stop;
+use command_line::words::Texts;
 use std::alloc::Global;
 use std::thread::Threads;
 
-/// How far a program is run, and whether its contracts are checked.
+/// How a program's text is taken, and how far it is run.
 #[derive(Clone, Copy, Debug, PartialEq, Eq)]
 pub struct Bound {
-    pub checks: bool,
+    pub texts: Texts,
     pub turns: u64,
 }
 
@@ -58,12 +60,19 @@ fn mean_named<R: Threads, O: Stream, E: Stream>(
     out: &mut O,
     err: &mut E,
 ) -> u8
-    ensures { (held : Known) → HasText held text.now → Means file.now bound.checks bound.turns held (writes O.contents O.failures out.old out.new) (writes E.contents E.failures err.old err.new) result }
+    ensures { (held : Known) → HasText held text.now → Means file.now (texts_of bound.texts) bound.turns held (writes O.contents O.failures out.old out.new) (writes E.contents E.failures err.old err.new) result }
 {
-    match mean_text(alloc, rt, text, bound.checks, bound.turns) {
+    match mean_text(
+        alloc,
+        rt,
+        text,
+        bound.texts.checks,
+        bound.texts.level,
+        bound.turns,
+    ) {
         Ok(meant) => say_meaning(out, &meant),
         Err(fault) if fault.kind == FaultKind::OutOfMemory => say_memory(err),
-        Err(fault) => say_refused(err, file, text, fault),
+        Err(fault) => say_refused(err, file, text, bound.texts.level, fault),
     }
 }
 
@@ -78,7 +87,7 @@ pub fn mean<R: Threads, F: Files, O: Stream, E: Stream>(
     err: &mut E,
 ) -> u8
     ensures files { (name : List ℕ) → F.holds files.new name ≡ F.holds files.old name }
-    ensures done { Means file.now bound.checks bound.turns (F.holds files.old file.now) (writes O.contents O.failures out.old out.new) (writes E.contents E.failures err.old err.new) result }
+    ensures done { Means file.now (texts_of bound.texts) bound.turns (F.holds files.old file.now) (writes O.contents O.failures out.old out.new) (writes E.contents E.failures err.old err.new) result }
 {
     match files.read(alloc, file) {
         Ok(text) => mean_named(alloc, rt, bound, file, &text, out, err),

@@ -1,7 +1,8 @@
 //! The command `replay`: the codes of files in one world, by a schedule.
-ghost use Rattle.std.specs.Prelude.{◌≡◌, ◌++◌, ℕ, List, codes, decimal, length, map};
-ghost use Rattle.command_line.specs.Shell.{replayed_of};
-ghost use Rattle.region.specs.Admission.{IsAdmitted, IsWithinWork};
+ghost use Rattle.std.specs.Prelude.{◌≡◌, ◌+◌, ◌++◌, ℕ, List, codes, decimal, length, map};
+ghost use Rattle.command_line.specs.Shell.{compiling_of, replayed_of};
+ghost use Rattle.region.specs.Admission.{IsAdmitted, IsWithinWork, image_at};
+ghost use Rattle.world_semantics.specs.Pieces.{piece_of as first_piece};
 ghost use Rattle.c0far.specs.FileTexts.{HasText, Known};
 ghost use Rattle.c0far.specs.FileCode.{AreCodes};
 ghost use Rattle.c0far.specs.Replays.{Admits, Replays, ReplaysLines, ReplaysOver};
@@ -14,7 +15,7 @@ use crate::say::{REFUSED, after, say_admission, say_ends, say_memory, say_unread
 use crate::stream::Stream;
 use command_line::words::Replay;
 use file_store::FileStores;
-use region::fits;
+use region::{fits, piece_of};
 use remote_store::{Config, FarHeap, FaultPlan, FaultStores, Stores};
 use schedule_replay::replay_admitted;
 use scope_verifier::Verified;
@@ -39,10 +40,11 @@ fn replay_lines<M: Stores + Drop, O: Stream, E: Stream>(
     err: &mut E,
 ) -> u8
     requires numbers { (config.now.frames ≡ asked.memory.frames) × (config.now.objects ≡ asked.memory.objects) × (config.now.evacuators ≡ asked.evacuators) × (config.now.fetchers ≡ asked.fetchers) }
+    requires store { M.makes config.now.stores (first_piece (image_at programs.items) + 3) }
     requires turns { (config.now.workers ≡ asked.work.workers) × (config.now.quantum ≡ asked.work.quantum) }
     requires admitted { IsAdmitted programs.items config.now.frames config.now.objects config.now.evacuators config.now.fetchers }
     requires work { IsWithinWork config.now.workers config.now.quantum }
-    ensures { (names : List (List ℕ)) (held : List ℕ → Known) → AreCodes asked.entry.checks held names programs.items → HasText (held asked.entry.schedule.now) lines.now
+    ensures { (names : List (List ℕ)) (held : List ℕ → Known) → AreCodes (compiling_of asked.entry.compiling) held names programs.items → HasText (held asked.entry.schedule.now) lines.now
         → ReplaysLines M.S.honest M.S.reliable (replayed_of asked.entry) names held (writes O.contents O.failures out.old out.new) (writes E.contents E.failures err.old err.new) result }
 {
     // For the proof alone: the clauses speak of what was asked for.
@@ -64,8 +66,9 @@ fn replay_with<M: Stores + Drop, F: Files, O: Stream, E: Stream>(
     out: &mut O,
     err: &mut E,
 ) -> u8
+    requires { M.makes stores (first_piece (image_at programs.items) + 3) }
     ensures files { (name : List ℕ) → F.holds files.new name ≡ F.holds files.old name }
-    ensures done { (names : List (List ℕ)) → AreCodes asked.entry.checks (F.holds files.old) names programs.items
+    ensures done { (names : List (List ℕ)) → AreCodes (compiling_of asked.entry.compiling) (F.holds files.old) names programs.items
         → ReplaysOver M.S.honest M.S.reliable (replayed_of asked.entry) names (F.holds files.old) (writes O.contents O.failures out.old out.new) (writes E.contents E.failures err.old err.new) result }
 {
     let config = Config {
@@ -97,8 +100,9 @@ fn replay_over<M: Stores + Drop, F: Files, O: Stream, E: Stream>(
     out: &mut O,
     err: &mut E,
 ) -> u8
+    requires { M.makes stores (first_piece (image_at programs.items) + 3) }
     ensures files { (name : List ℕ) → F.holds files.new name ≡ F.holds files.old name }
-    ensures done { (names : List (List ℕ)) → AreCodes asked.entry.checks (F.holds files.old) names programs.items
+    ensures done { (names : List (List ℕ)) → AreCodes (compiling_of asked.entry.compiling) (F.holds files.old) names programs.items
         → ReplaysOver M.S.honest (M.S.reliable × (asked.entry.memory.fail_from ≡ 0)) (replayed_of asked.entry) names (F.holds files.old) (writes O.contents O.failures out.old out.new) (writes E.contents E.failures err.old err.new) result }
 {
     if asked.memory.fail_from == 0 {
@@ -120,11 +124,14 @@ fn replay_codes<F: Files, O: Stream, E: Stream>(
     err: &mut E,
 ) -> u8
     ensures files { (name : List ℕ) → F.holds files.new name ≡ F.holds files.old name }
-    ensures done { (names : List (List ℕ)) → AreCodes asked.entry.checks (F.holds files.old) names programs.items
+    ensures done { (names : List (List ℕ)) → AreCodes (compiling_of asked.entry.compiling) (F.holds files.old) names programs.items
         → Replays F.Place.honest (replayed_of asked.entry) names (F.holds files.old) (writes O.contents O.failures out.old out.new) (writes E.contents E.failures err.old err.new) result }
 {
     match asked.memory.store {
-        None => replay_over(alloc, asked, programs, FarHeap, files, out, err),
+        None => {
+            let stores = FarHeap::new(piece_of(&programs));
+            replay_over(alloc, asked, programs, stores, files, out, err)
+        }
         Some(name) => match files.folder(alloc, name) {
             Ok(folder) => replay_over(
                 alloc,
@@ -152,7 +159,7 @@ pub fn replay<F: Files, O: Stream, E: Stream>(
     ensures files { (name : List ℕ) → F.holds files.new name ≡ F.holds files.old name }
     ensures done { Replays F.Place.honest (replayed_of asked.entry) (map (λ n. n.now) names.now) (F.holds files.old) (writes O.contents O.failures out.old out.new) (writes E.contents E.failures err.old err.new) result }
 {
-    match codes_of(alloc, asked.checks, names, files, err) {
+    match codes_of(alloc, asked.compiling, names, files, err) {
         Ok(programs) => replay_codes(alloc, asked, programs, files, out, err),
         Err(status) => status,
     }

@@ -1,8 +1,9 @@
 //! The command `run`: the codes of files, run side by side over the memory that is asked for.
-ghost use Rattle.std.specs.Prelude.{◌≡◌, ◌⊎◌, ◌/◌, ℕ, IfErr, IfOk, List, length, map};
+ghost use Rattle.std.specs.Prelude.{◌≡◌, ◌⊎◌, ◌/◌, ◌+◌, ℕ, IfErr, IfOk, List, length, map};
 ghost use Rattle.command_line.specs.Shell.{memory_of, started_of};
 ghost use Rattle.executor.specs.Ends.{AreEnds};
-ghost use Rattle.region.specs.Admission.{IsRefused};
+ghost use Rattle.region.specs.Admission.{IsRefused, image_at};
+ghost use Rattle.world_semantics.specs.Pieces.{piece_of as first_piece};
 ghost use Rattle.c0far.specs.Runs.{RanOver, Runs};
 ghost use Rattle.c0far.specs.Streams.{writes};
 
@@ -14,7 +15,7 @@ use cells::Ended;
 use command_line::words::Run;
 use executor::{OpenGate, run_all};
 use file_store::FileStores;
-use region::AdmitFault;
+use region::{AdmitFault, piece_of};
 use remote_store::{Config, FarHeap, FaultPlan, FaultStores, Stores};
 use scope_verifier::Verified;
 use std::alloc::Global;
@@ -30,6 +31,7 @@ fn run_with<W: Wait + Threads + Clock + Sync, M: Stores + Drop>(
     asked: Run<'_>,
     stores: M,
 ) -> Result<Vec<Ended>, AdmitFault>
+    requires { M.makes stores (first_piece (image_at programs.items) + 3) }
     ensures ended { IfOk result (λ v. AreEnds M.S.honest M.S.reliable (asked.entry.memory.objects / length programs.items) programs.items v.items) }
     ensures refused { IfErr result (λ fault. (fault ≡ AdmitFault.OutOfMemory) ⊎ IsRefused programs.items asked.entry.memory.frames asked.entry.memory.objects asked.entry.evacuators asked.entry.fetchers asked.entry.work.workers asked.entry.work.quantum fault) }
 {
@@ -53,6 +55,7 @@ fn run_over<W: Wait + Threads + Clock + Sync, M: Stores + Drop>(
     asked: Run<'_>,
     stores: M,
 ) -> Result<Vec<Ended>, AdmitFault>
+    requires { M.makes stores (first_piece (image_at programs.items) + 3) }
     ensures ended { IfOk result (λ v. AreEnds M.S.honest (M.S.reliable × (asked.entry.memory.fail_from ≡ 0)) (asked.entry.memory.objects / length programs.items) programs.items v.items) }
     ensures refused { IfErr result (λ fault. (fault ≡ AdmitFault.OutOfMemory) ⊎ IsRefused programs.items asked.entry.memory.frames asked.entry.memory.objects asked.entry.evacuators asked.entry.fetchers asked.entry.work.workers asked.entry.work.quantum fault) }
 {
@@ -77,7 +80,10 @@ fn run_programs<W: Wait + Threads + Clock + Sync, F: Files>(
     ensures refused { IfErr result (λ fault. (fault ≡ AdmitFault.OutOfMemory) ⊎ IsRefused programs.items asked.entry.memory.frames asked.entry.memory.objects asked.entry.evacuators asked.entry.fetchers asked.entry.work.workers asked.entry.work.quantum fault) }
 {
     match asked.memory.store {
-        None => run_over(alloc, rt, programs, asked, FarHeap),
+        None => {
+            let stores = FarHeap::new(piece_of(&programs));
+            run_over(alloc, rt, programs, asked, stores)
+        }
         Some(name) => match files.folder(alloc, name) {
             Ok(folder) => run_over(alloc, rt, programs, asked, FileStores::new(folder)),
             Err(_refused) => Err(AdmitFault::OutOfMemory),
@@ -98,7 +104,7 @@ pub fn run<W: Wait + Threads + Clock + Sync, F: Files, O: Stream, E: Stream>(
     ensures files { (name : List ℕ) → F.holds files.new name ≡ F.holds files.old name }
     ensures done { Runs F.Place.honest (started_of asked.entry) (map (λ n. n.now) names.now) (F.holds files.old) (writes O.contents O.failures out.old out.new) (writes E.contents E.failures err.old err.new) result }
 {
-    let programs = match codes_of(alloc, asked.checks, names, files, err) {
+    let programs = match codes_of(alloc, asked.compiling, names, files, err) {
         Ok(programs) => programs,
         Err(status) => return status,
     };

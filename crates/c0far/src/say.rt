@@ -1,7 +1,8 @@
 //! What commands say on their two streams, with the exit status.
-ghost use Rattle.std.specs.Prelude.{◌≡◌, ◌++◌, ◌+◌, ◌<◌, ◌^◌, ℕ, [], MatchResult, codes, cond, false, length};
+ghost use Rattle.std.specs.Prelude.{◌≡◌, ◌++◌, ◌+◌, ◌<◌, ◌^◌, ℕ, [], MatchResult, codes, cond, length};
 ghost use Rattle.c0_front.specs.Texts.{IsRefusedText, IsTypedAs};
 ghost use Rattle.c0_source.specs.declared.fault.FaultKind.TheVariants.{OutOfMemory};
+ghost use Rattle.c0_syntax.specs.Levels.{has_loops};
 ghost use Rattle.c0_typed.specs.Trees as y;
 ghost use Rattle.c0far.specs.NoCode.{HasFailed};
 ghost use Rattle.c0far.specs.Runs.{SaysFault};
@@ -13,6 +14,7 @@ ghost use Rattle.c0far.specs.Streams.{IsQuiet, IsWritten, Says, Writes, writes};
 use crate::stream::{Failed, Stream};
 use c0_source::fault::Fault;
 use c0_source::position::{Position, line_column};
+use c0_syntax::level::Level;
 use cells::{Ended, Run, Stop};
 use region::AdmitFault;
 
@@ -58,13 +60,21 @@ pub fn say_fault<E: Stream>(err: &mut E, file: &str, text: &[u8], fault: Fault) 
     say_at(err, file, position, fault)
 }
 
-/// Says why a text that is the text of no well-typed program is refused, at the line and column of the fault.
-pub fn say_refused<E: Stream>(err: &mut E, file: &str, text: &[u8], fault: Fault) -> u8
-    requires cause { IsRefusedText false text.now fault }
+/// Says why a text that is the text of no well-typed program of this level is refused, at the line and column of the fault.
+pub fn say_refused<E: Stream>(
+    err: &mut E,
+    file: &str,
+    text: &[u8],
+    level: Level,
+    fault: Fault,
+) -> u8
+    requires cause { IsRefusedText (has_loops level) text.now fault }
     requires other { fault.kind ≡ OutOfMemory → ⊥ }
-    requires none { (p : y.Program) → IsTypedAs false text.now p → ⊥ }
-    ensures { (held : Known) (out : Writes) → HasText held text.now → IsQuiet out → HasFailed file.now held out (writes E.contents E.failures err.old err.new) result }
+    requires none { (p : y.Program) → IsTypedAs (has_loops level) text.now p → ⊥ }
+    ensures { (held : Known) (out : Writes) → HasText held text.now → IsQuiet out → HasFailed (has_loops level) file.now held out (writes E.contents E.failures err.old err.new) result }
 {
+    // For the proof alone: the clauses speak of the level.
+    let _ = level;
     say_fault(err, file, text, fault)
 }
 
@@ -102,10 +112,9 @@ pub fn say_admission<E: Stream>(err: &mut E, fault: AdmitFault) -> u8
 {
     match fault {
         AdmitFault::OutOfMemory => say_memory(err),
-        AdmitFault::TooSmall { .. } | AdmitFault::TooMany => after(
-            writeln!(err, "{fault}"),
-            REFUSED,
-        ),
+        AdmitFault::TooSmall { .. } | AdmitFault::TooMany | AdmitFault::PieceDiffers { .. } => {
+            after(writeln!(err, "{fault}"), REFUSED)
+        }
     }
 }
 

@@ -1,5 +1,5 @@
 -- what is promised of programs that are admitted, and of the ends that a replay told
-use Rattle.std.proofs.Common.{◌≡◌, ◌∙◌, ℕ, zero, suc, ◌+◌, ◌<◌, ◌≤◌, Bool, List, [], ◌∷◌, Option, Some, None, length, refl, sym, ap, subst, arith}
+use Rattle.std.proofs.Common.{◌≡◌, ◌∙◌, ℕ, zero, suc, ◌+◌, ◌<◌, ◌≤◌, Bool, List, [], ◌∷◌, Option, Some, None, length, refl, sym, ap, subst, arith, lit<}
 use Rattle.std.specs.Prelude.{slice_get}
 use Rattle.cells.specs.declared.ending.Ended.{Ended}
 use Rattle.cells.specs.declared.ending.Run.{Run}
@@ -12,7 +12,10 @@ use Rattle.c0_typed.specs.Meaning.{mean}
 use Rattle.c0_typed.specs.Trees.{Program as Typed}
 use Rattle.code_form.specs.Code.{Core, Running, Stopped, Stuck, output_of, stop_of}
 use Rattle.code_form.specs.Form.{Image}
-use Rattle.region.specs.Admission.{image_at}
+use Rattle.cells.proofs.Pieces.{is_a_piece, piece_some}
+use Rattle.cells.specs.Pieces.{cells_in}
+use Rattle.region.specs.Admission.{image_at, image_by}
+use Rattle.scope_verifier.specs.declared.acceptance.Verified.{Verified}
 use Rattle.world.specs.Opened.{sizes_of}
 use Rattle.world.specs.Reports.{AreEnds, IsEnded, RunsAs}
 use Rattle.world_semantics.specs.Enough.{IsUnheld, need}
@@ -69,12 +72,17 @@ admitted headline enough programs frames objects evacuators fetchers admits z is
       let lower : k < z.programs = subst (λ (y : Sizes). k < y.programs) (sym is) low in
       let found = enough z (image_at programs) events v k o ran.0 (weaker z (image_at programs) _ events v ran.1) few lower seeks in
       (found.0, subst (λ (y : Sizes). found.0 < y.frames) is found.1, found.2),
-  λ text checks meant k compiled means. (headline text checks (image_at programs k) compiled meant means).0 z (image_at programs) events v k ran refl,
+  λ loops text checks cells meant k compiled means. (headline loops text checks cells (image_at programs k) compiled meant means).0 z (image_at programs) events v k ran refl,
 )
 
+-- a piece has some cells, also that of no program
+some_cells : (o : Option Verified) → 0 < (image_by o).piece
+some_cells None = lit< tt
+some_cells (Some v) = piece_some (cells_in v.image.piece) (is_a_piece v.image.piece)
+
 pub replayed : AdmittedHeadline → ReplayedHeadline
-replayed holds programs frames objects evacuators fetchers admits z is schedule ends told k e at text checks meant compiled means =
-    let cells : 0 < z.cells = subst (λ (y : Sizes). 0 < y.cells) (sym is) (omega arith) in
-    let so = (holds programs frames objects evacuators fetchers admits z is told.events told.world (cells, told.leads.follows)).1 text checks meant k compiled means in
+replayed holds programs frames objects evacuators fetchers admits z is schedule ends told k e at loops text checks cells meant compiled means =
+    let some : 0 < z.cells = subst (λ (y : Sizes). 0 < y.cells) (sym is) (some_cells (slice_get programs 0)) in
+    let so = (holds programs frames objects evacuators fetchers admits z is told.events told.world (some, told.leads.follows)).1 loops text checks cells meant k compiled means in
     let from_zero : 0 + k ≡ k = omega arith in
     promised_end meant checks (told.world.programs k) e _ (subst (λ (n : ℕ). IsEnded (told.world.programs n) e) from_zero (ended_at told.world.programs 0 k ends e told.ended at)) so

@@ -153,10 +153,10 @@ module _ (laws : Laws) where
         )
 
   pub composed : Headline
-  composed text checks C compiled meant means =
+  composed loops text checks cells C compiled meant means =
       let same : compiled.program ≡ meant = sym (compiled.only meant means) in
       let behaves : Behaves meant checks C = subst (λ (p : Typed). Behaves p checks C) same compiled.behaves in
       let settled : SettlesAs meant checks C = settles meant checks C behaves in (
         promised meant checks C behaves,
-        λ s o ends. ((settled s o ends).0, λ D compiled_too. subst (λ (E : Image). SettledAt (settled s o ends).0 E s o) (laws.one text checks C D compiled compiled_too) (settled s o ends).1),
+        λ s o ends. ((settled s o ends).0, λ D compiled_too. subst (λ (E : Image). SettledAt (settled s o ends).0 E s o) (laws.one loops text checks cells C D compiled compiled_too) (settled s o ends).1),
       )

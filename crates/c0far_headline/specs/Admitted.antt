@@ -1,5 +1,5 @@
 -- What is promised of programs that are admitted, whatever the events, and of the ends that a replay tells.
-use Rattle.std.specs.Prelude.{◌≡◌, ℕ, ◌<◌, ◌≤◌, Bool, false, List, length, Some, slice_get}
+use Rattle.std.specs.Prelude.{◌≡◌, ℕ, ◌<◌, ◌≤◌, Bool, List, length, Some, slice_get}
 use Rattle.cells.specs.declared.ending.Ended.{Ended}
 use Rattle.cells.specs.declared.ending.Run.TheVariants as run
 use Rattle.cells.specs.declared.ending.Want.{Want}
@@ -17,6 +17,7 @@ use Rattle.world.specs.Opened.{sizes_of}
 use Rattle.world_semantics.specs.Causes.{HasCause}
 use Rattle.world_semantics.specs.Enough.{IsUnheld}
 use Rattle.world_semantics.specs.Programs.{Bringing}
+use Rattle.world_semantics.specs.Pieces.{piece_of}
 use Rattle.world_semantics.specs.Worlds.{Event, Sizes, World, start}
 use Rattle.c0far_headline.specs.Headline.{EndsSo, IsRun, Promised}
 
@@ -33,15 +34,15 @@ pub record PromisedEnd (P : Typed) (checks : Bool) (e : Ended) (HasCauseOf : Wan
 -- or holds an object without holds that is in no mover's hands; and each whose image a text was compiled to is as promised of that text
 abbrev pub AdmittedHeadline : Type 0
 AdmittedHeadline = (programs : List Verified) (frames objects evacuators fetchers : ℕ) → IsAdmitted programs frames objects evacuators fetchers
-    → (z : Sizes) → z ≡ sizes_of (length programs) frames objects evacuators fetchers → (events : List Event) (v : World) → IsRun z (image_at programs) events v
+    → (z : Sizes) → z ≡ sizes_of (length programs) frames objects evacuators fetchers (piece_of (image_at programs)) → (events : List Event) (v : World) → IsRun z (image_at programs) events v
     → ((k o : ℕ) → k < length programs → (v.programs k).mode ≡ Bringing o → (f : ℕ) × (f < frames) × IsUnheld z v.lock f)
-    × ((text : List ℕ) (checks : Bool) (meant : Typed) (k : ℕ) → IsCompiled text checks (image_at programs k) → IsTypedAs false text meant
+    × ((loops : Bool) (text : List ℕ) (checks : Bool) (cells : ℕ) (meant : Typed) (k : ℕ) → IsCompiled loops text checks cells (image_at programs k) → IsTypedAs loops text meant
     → Promised meant checks (v.programs k) (λ want. HasCause (Unit {0}) z (image_at programs) k want (start (image_at programs)) events))
 
 -- Of the ends that the replay of a schedule over an honest store, which may fail, told: each, of a program whose image a text was compiled to, is as promised of that text
 abbrev pub ReplayedHeadline : Type 0
 ReplayedHeadline = (programs : List Verified) (frames objects evacuators fetchers : ℕ) → IsAdmitted programs frames objects evacuators fetchers
-    → (z : Sizes) → z ≡ sizes_of (length programs) frames objects evacuators fetchers → (schedule : List ℕ) (ends : List Ended)
+    → (z : Sizes) → z ≡ sizes_of (length programs) frames objects evacuators fetchers (piece_of (image_at programs)) → (schedule : List ℕ) (ends : List Ended)
     → (told : IsReplayed (Unit {0}) ⊥ z (image_at programs) schedule ends) → (k : ℕ) (e : Ended) → slice_get ends k ≡ Some e
-    → (text : List ℕ) (checks : Bool) (meant : Typed) → IsCompiled text checks (image_at programs k) → IsTypedAs false text meant
+    → (loops : Bool) (text : List ℕ) (checks : Bool) (cells : ℕ) (meant : Typed) → IsCompiled loops text checks cells (image_at programs k) → IsTypedAs loops text meant
     → PromisedEnd meant checks e (λ want. HasCause (Unit {0}) z (image_at programs) k want (start (image_at programs)) told.events)

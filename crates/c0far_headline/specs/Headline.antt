@@ -1,5 +1,5 @@
 -- What is promised of programs that run in a world beside others, whatever the events.
-use Rattle.std.specs.Prelude.{◌≡◌, ℕ, ◌<◌, ◌≤◌, Bool, false, List, None}
+use Rattle.std.specs.Prelude.{◌≡◌, ℕ, ◌<◌, ◌≤◌, Bool, List, None}
 use Rattle.cells.specs.declared.ending.Want.{Want}
 use Rattle.cells.specs.Stops.{Stop}
 use Rattle.cells.specs.Outcomes.{IsPrefix, stops_with}
@@ -33,21 +33,21 @@ pub record Promised (P : Typed) (checks : Bool) (p : Program) (HasCauseOf : Want
   pub wanting : (want : Want) → p.mode ≡ Wanted want → HasCauseOf want
 
 -- Where the meaning ends, some number of completed instructions, at which the code of the text is stopped so, and before which it has not
--- stopped, leaves the program stopped so. The number is that of the text and of `checks`: the same whatever image the text was compiled to, and in every run of
+-- stopped, leaves the program stopped so. The number is that of the text, its level, `checks` and the size of pieces: the same whatever image the text was compiled to, and in every run of
 -- whatever world, beside whatever other programs.
-abbrev pub Settles : List ℕ → Bool → Typed → Type 0
-Settles text checks P = (s : Stop) (o : List ℕ) → EndsSo P checks s o
-    → (j : ℕ) × ((D : Image) → IsCompiled text checks D
+abbrev pub Settles : (loops : Bool) → (text : List ℕ) → (checks : Bool) → (cells : ℕ) → Typed → Type 0
+Settles loops text checks cells P = (s : Stop) (o : List ℕ) → EndsSo P checks s o
+    → (j : ℕ) × ((D : Image) → IsCompiled loops text checks cells D
     → ((i : ℕ) → i < j → stop_of (code_run (code D) i).0 ≡ None)
     × ((al : List Allocation) × ((code_run (code D) j).0 ≡ Stopped s al o))
     × ((z : Sizes) (images : ℕ → Image) (events : List Event) (v : World) (k : ℕ) → IsRun z images events v → images k ≡ D
     → j ≤ (v.programs k).completed → (al : List Allocation) × ((v.programs k).core ≡ Stopped s al o)))
 
--- Of every text that is accepted, the image that it was compiled to, and the program that it means: in every run of whatever world,
+-- Of every text that is accepted, with `break` and `continue` in the language or not, the image that it was compiled to, and the program that it means: in every run of whatever world,
 -- beside whatever other programs and evacuators, with pieces, frames and objects of whatever number, each program with that image is as promised,
--- and where the meaning ends it is settled, by a number of instructions that is the text's
+-- and where the meaning ends it is settled, by a number of instructions that is the text's at its level and for the pieces that it was compiled for
 abbrev pub Headline : Type 0
-Headline = (text : List ℕ) (checks : Bool) (C : Image) → IsCompiled text checks C → (meant : Typed) → IsTypedAs false text meant
+Headline = (loops : Bool) (text : List ℕ) (checks : Bool) (cells : ℕ) (C : Image) → IsCompiled loops text checks cells C → (meant : Typed) → IsTypedAs loops text meant
     → ((z : Sizes) (images : ℕ → Image) (events : List Event) (v : World) (k : ℕ) → IsRun z images events v → images k ≡ C
     → Promised meant checks (v.programs k) (λ want. HasCause (Unit {0}) z images k want (start images) events))
-    × Settles text checks meant
+    × Settles loops text checks cells meant

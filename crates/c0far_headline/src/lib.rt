@@ -9,10 +9,10 @@ use c0_typed::more_turns;
 use code_form::run_laws;
 use world_semantics::{enough_frames, programs_follow, wants};
 
-/// Whatever events programs and evacuators make in whichever order, over an honest store: of every text that is accepted, a program
-/// that runs its image has printed a beginning of what the text means; where it has stopped, the text means just that output
+/// Whatever events programs and evacuators make in whichever order, over an honest store: of every text that is accepted, at whichever
+/// level, a program that runs its image has printed a beginning of what the text means; where it has stopped, the text means just that output
 /// and that stop; where it wants something, the cause is among the events; and where the meaning ends, some number of its own completed
-/// instructions, which is the text's and the same in every run, leaves it stopped so.
+/// instructions, which is the text's for pieces of that size and the same in every run, leaves it stopped so.
 pub fn headline()
     ensures { Headline }
 {

@@ -22,7 +22,7 @@ idle = record { result = None; parameters = 0; kinds = []; scopes = 0; blocks = 
 
 -- an image of both
 abbrev pub image_of_blocks : List Block → Image
-image_of_blocks bs = record { head = record { texts = []; layouts = (kind.Int ∷ []) ∷ [] }; functions = function_of_blocks bs ∷ idle ∷ [] }
+image_of_blocks bs = record { piece = 64; head = record { texts = []; layouts = (kind.Int ∷ []) ∷ [] }; functions = function_of_blocks bs ∷ idle ∷ [] }
 
 -- a block at whose entry the scope is shut
 abbrev pub shut_block : List Instruction → Block
@@ -60,7 +60,7 @@ function_with_arrays is = record {
 
 -- an image of it
 abbrev pub image_with_arrays : List Instruction → Image
-image_with_arrays is = record { head = record { texts = []; layouts = (kind.Int ∷ []) ∷ [] }; functions = function_with_arrays is ∷ [] }
+image_with_arrays is = record { piece = 64; head = record { texts = []; layouts = (kind.Int ∷ []) ∷ [] }; functions = function_with_arrays is ∷ [] }
 
 -- a function that does nothing for ever, with five scopes
 abbrev pub turning : Function
@@ -68,7 +68,7 @@ turning = record { result = Some kind.Int; parameters = 0; kinds = []; scopes = 
 
 -- an image of it
 abbrev pub many_scopes : Image
-many_scopes = record { head = record { texts = []; layouts = [] }; functions = turning ∷ [] }
+many_scopes = record { piece = 64; head = record { texts = []; layouts = [] }; functions = turning ∷ [] }
 
 -- a block that calls and jumps
 abbrev pub calling : Block

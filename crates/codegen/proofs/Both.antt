@@ -104,20 +104,20 @@ module _ (stopped_stays : StoppedStays) (stuck_stays : StuckStays) (grows : Outp
   reaches p (Some t) o h = (h.many, (ap stop_of h.eq, ap output_of h.eq))
 
 -- what the machine does within k steps is meant with k + 1 turns
-ends_at : (P : Program) → IsSafe P → (k : ℕ) → (m : Meant) × (scoped_means P (suc k) ≡ Some m) × EndsAs (generated P) (begun P) k m.stop m.output
-ends_at P safe k = by_meaning (scoped_means P (suc k)) refl
+ends_at : (cells : ℕ) (P : Program) → IsSafe P → (k : ℕ) → (m : Meant) × (scoped_means P (suc k) ≡ Some m) × EndsAs (generated cells P) (begun cells P) k m.stop m.output
+ends_at cells P safe k = by_meaning (scoped_means P (suc k)) refl
   where
-    by_meaning : (o : Option Meant) → scoped_means P (suc k) ≡ o → (m : Meant) × (scoped_means P (suc k) ≡ Some m) × EndsAs (generated P) (begun P) k m.stop m.output
+    by_meaning : (o : Option Meant) → scoped_means P (suc k) ≡ o → (m : Meant) × (scoped_means P (suc k) ≡ Some m) × EndsAs (generated cells P) (begun cells P) k m.stop m.output
     by_meaning None e = absurd (safe (suc k) e)
-    by_meaning (Some m) e = (m, e, subst (Ends (generated P) (begun P) k) e (follows P k))
+    by_meaning (Some m) e = (m, e, subst (Ends (generated cells P) (begun cells P) k) e (follows cells P k))
 
-pub keeps : StoppedStays → StuckStays → OutputGrows → (P : Program) → IsSafe P → Keeps P (generated P)
-keeps stopped stuck grows P safe = record {
-  runs = λ k. let z = ends_at P safe k in (suc k, z.0, z.1, meant_so stopped stuck grows (generated P) (begun P) k k z.0 (omega arith) z.2 _ refl);
+pub keeps : StoppedStays → StuckStays → OutputGrows → (cells : ℕ) (P : Program) → IsSafe P → Keeps P (generated cells P)
+keeps stopped stuck grows cells P safe = record {
+  runs = λ k. let z = ends_at cells P safe k in (suc k, z.0, z.1, meant_so stopped stuck grows (generated cells P) (begun cells P) k k z.0 (omega arith) z.2 _ refl);
   follows = by_turns;
-  never_stuck = λ k. let z = ends_at P safe k in not_stuck stopped stuck grows (generated P) (begun P) k k z.0 (omega arith) z.2 _ refl;
+  never_stuck = λ k. let z = ends_at cells P safe k in not_stuck stopped stuck grows (generated cells P) (begun cells P) k k z.0 (omega arith) z.2 _ refl;
 }
   where
-    by_turns : (n : ℕ) (m : Meant) → scoped_means P n ≡ Some m → (k : ℕ) × KeepsEnd m (ran (generated P) k)
-    by_turns zero m e = (0, subst (λ (a : Meant). KeepsEnd a (ran (generated P) 0)) (some_same e) (output_of (begun P).0, refl))
-    by_turns (suc d) m e = reaches stopped stuck grows (generated P) (begun P) d m.stop m.output (subst (Ends (generated P) (begun P) d) e (follows P d))
+    by_turns : (n : ℕ) (m : Meant) → scoped_means P n ≡ Some m → (k : ℕ) × KeepsEnd m (ran (generated cells P) k)
+    by_turns zero m e = (0, subst (λ (a : Meant). KeepsEnd a (ran (generated cells P) 0)) (some_same e) (output_of (begun cells P).0, refl))
+    by_turns (suc d) m e = reaches stopped stuck grows (generated cells P) (begun cells P) d m.stop m.output (subst (Ends (generated cells P) (begun cells P) d) e (follows cells P d))

@@ -75,9 +75,9 @@ has_facts f (e ∷ es) (is ∷ bs) pre l h =
 
 -- ---- code of a function
 
-module _ (P : Program) (f : image.Function) where
+module _ (cells : ℕ) (P : Program) (f : image.Function) where
   abbrev C : image.Image
-  C = generated P
+  C = generated cells P
 
   -- the program without its scopes
   abbrev Q : middle.Program
@@ -365,25 +365,25 @@ few_scopes (g ∷ gs) h =
     let rest = few_scopes gs (All-tail IsScopedFunction g gs h) in
     omega arith
 
-module _ (P : Program) where
-  last_formed : (g : Function) (o : Option Kind) (t : Table) → g.result ≡ o → result_fits (plain_function g) ≡ true → FitsTable g.kinds t → AreShut g.scopes t → R P (function_of g) (t, []) (elim o [ None ↦ ReturnVoid ∷ [] | Some k ↦ Return g.value ∷ [] ])
+module _ (cells : ℕ) (P : Program) where
+  last_formed : (g : Function) (o : Option Kind) (t : Table) → g.result ≡ o → result_fits (plain_function g) ≡ true → FitsTable g.kinds t → AreShut g.scopes t → R cells P (function_of g) (t, []) (elim o [ None ↦ ReturnVoid ∷ [] | Some k ↦ Return g.value ∷ [] ])
   last_formed g None t e h named shut =
-      ((named, All-nil (FitsCheck g.kinds)), λ k s c. ((((λ q. shut_of P (function_of g) t k shut s), ap is_none e), refl), (tt, tt)))
+      ((named, All-nil (FitsCheck g.kinds)), λ k s c. ((((λ q. shut_of cells P (function_of g) t k shut s), ap is_none e), refl), (tt, tt)))
   last_formed g (Some j) t e h named shut = (
     (named, All-nil (FitsCheck g.kinds)),
-    λ k s c. ((((λ q. shut_of P (function_of g) t k shut s), ap (on_kind (λ i. has g.kinds g.value i)) e ∙ sym (ap (λ o. elim o [ None ↦ true | Some i ↦ has g.kinds g.value i ]) e) ∙ h), refl), (tt, tt)),
+    λ k s c. ((((λ q. shut_of cells P (function_of g) t k shut s), ap (on_kind (λ i. has g.kinds g.value i)) e ∙ sym (ap (λ o. elim o [ None ↦ true | Some i ↦ has g.kinds g.value i ]) e) ∙ h), refl), (tt, tt)),
   )
 
   -- a function is right
   record IsRight (f : image.Function) : Type 0 where
-    formed : IsWellFormedFunction (generated P) f
+    formed : IsWellFormedFunction (generated cells P) f
     guarded : IsGuardedFunction f
     named : NamesFacts f
 
   function_right : (g : Function) → function_fits (plain_program P) (plain_function g) ≡ true → is_guarded_function (plain_function g) ≡ true → IsScopedFunction g → IsRight (function_of g)
   function_right g fits checks keeps =
       let f = function_of g in
-      let r = R P f in
+      let r = R cells P f in
       let n = g.scopes in
       let rest : (code_fits (plain_program P) g.kinds 0 (plain g.body) && result_fits (plain_function g)) ≡ true = and_right (nat_lt g.parameters (suc (length g.kinds))) _ fits in
       let guards = and_left _ _ checks in
@@ -394,16 +394,16 @@ module _ (P : Program) where
       let begin : BeginsWith f 0 es = has_facts f es (blocks g) [] long all_blocks in
       let named : FitsTable g.kinds at_entry = λ s. tt in
       let end = last_formed g g.result (after g.body at_entry) refl (and_right _ _ rest) (fits_after g.kinds n [] g.body at_entry keeps.body named) keeps.shut in
-      let each : Right P f g.body at_entry [] 1 (last g) [] =
-      code_formed P f g.body at_entry [] 1 (last g) [] [] named (and_left _ _ rest) (and_right (is_nothing_asked (asks (plain g.body) [])) _ guards) (and_right _ _ checks) keeps.body tt end begin.1 in
+      let each : Right cells P f g.body at_entry [] 1 (last g) [] =
+      code_formed cells P f g.body at_entry [] 1 (last g) [] [] named (and_left _ _ rest) (and_right (is_nothing_asked (asks (plain g.body) [])) _ guards) (and_right _ _ checks) keeps.body tt end begin.1 in
       let pairs : AllPaired r es (blocks g) = (each.0, each.1) in
-      let entry_known : (e : Entry) (is : List Instruction) → r e is → IsRest (generated P) f (facts_known (facts_at n e)) is × AreGuarded (facts_known (facts_at n e)) is =
+      let entry_known : (e : Entry) (is : List Instruction) → r e is → IsRest (generated cells P) f (facts_known (facts_at n e)) is × AreGuarded (facts_known (facts_at n e)) is =
       λ e is h. h.1 (facts_known (facts_at n e)) (entry_holds n e.0 e.1) (entry_checks g.kinds n e.0 e.1 h.0.1) in
       record {
         formed = record {
           parameters = (let h = ltb-true g.parameters (suc (length g.kinds)) (and_left _ _ fits) in omega arith);
-          begins = entered_at P f 0 at_entry [] (unasked_at P f 0 at_entry (asks (plain g.body) []) (none_asked (asks (plain g.body) []) (and_left _ _ guards)) begin.0) known.at_entry (λ s l. refl) tt;
-          blocks = subst (All (IsWellFormedBlock (generated P) f)) (sym all_blocks) (paired_all r (IsWellFormedBlock (generated P) f) n (λ e is h. (entry_known e is h).0) es (blocks g) pairs);
+          begins = entered_at cells P f 0 at_entry [] (unasked_at cells P f 0 at_entry (asks (plain g.body) []) (none_asked (asks (plain g.body) []) (and_left _ _ guards)) begin.0) known.at_entry (λ s l. refl) tt;
+          blocks = subst (All (IsWellFormedBlock (generated cells P) f)) (sym all_blocks) (paired_all r (IsWellFormedBlock (generated cells P) f) n (λ e is h. (entry_known e is h).0) es (blocks g) pairs);
         };
         guarded = subst (All IsGuardedBlock) (sym all_blocks) (paired_all r IsGuardedBlock n (λ e is h. (entry_known e is h).1) es (blocks g) pairs);
         named = subst (All (λ (b : image.Block). All (NamesFact g.kinds n) b.facts)) (sym all_blocks) (paired_all r (λ (b : image.Block). All (NamesFact g.kinds n) b.facts) n (λ e is h. entry_named g.kinds n n e.0 e.1 (omega arith) h.0.0 h.0.1) es (blocks g) pairs);
@@ -419,15 +419,15 @@ module _ (P : Program) where
   main_formed [] h = h
   main_formed (g ∷ gs) h = h
 
-pub verified : (P : Program) → is_well_formed (plain_program P) ≡ true → is_guarded_program (plain_program P) ≡ true → IsScoped P → IsVerified (generated P)
-verified P h g keeps =
-    let all = All-map (IsRight P) function_of P.functions (functions_right P P.functions (and_right (main_fits (map plain_function P.functions)) _ h) g keeps) in
+pub verified : (cells : ℕ) (P : Program) → is_well_formed (plain_program P) ≡ true → is_guarded_program (plain_program P) ≡ true → IsScoped P → IsVerified (generated cells P)
+verified cells P h g keeps =
+    let all = All-map (IsRight cells P) function_of P.functions (functions_right cells P P.functions (and_right (main_fits (map plain_function P.functions)) _ h) g keeps) in
     record {
       formed = record {
-        main = main_formed P P.functions (and_left _ _ h);
-        functions = All-weaker (IsRight P) (IsWellFormedFunction (generated P)) (λ f q. q.formed) (generated P).functions all;
+        main = main_formed cells P P.functions (and_left _ _ h);
+        functions = All-weaker (IsRight cells P) (IsWellFormedFunction (generated cells P)) (λ f q. q.formed) (generated cells P).functions all;
       };
       few = few_scopes P.functions keeps;
-      facts = All-weaker (IsRight P) NamesFacts (λ f q. q.named) (generated P).functions all;
-      guarded = All-weaker (IsRight P) IsGuardedFunction (λ f q. q.guarded) (generated P).functions all;
+      facts = All-weaker (IsRight cells P) NamesFacts (λ f q. q.named) (generated cells P).functions all;
+      guarded = All-weaker (IsRight cells P) IsGuardedFunction (λ f q. q.guarded) (generated cells P).functions all;
     }

@@ -44,8 +44,8 @@ abbrev pub Ends : Image → Machine → ℕ → Option Meant → Type 0
 Ends C c p None = Unit {0}
 Ends C c p (Some m) = EndsAs C c p m.stop m.output
 
-module _ (P : Program) where
-  function_at : (f : ℕ) (g : Function) → slice_get P.functions f ≡ Some g → slice_get (generated P).functions f ≡ Some (function_of g)
+module _ (cells : ℕ) (P : Program) where
+  function_at : (f : ℕ) (g : Function) → slice_get P.functions f ≡ Some g → slice_get (generated cells P).functions f ≡ Some (function_of g)
   function_at f g h = slice_get-map function_of P.functions f ∙ ap (option_map function_of) h
 
   -- where the machine is behind a call: in the caller, with the result in its register
@@ -63,25 +63,25 @@ module _ (P : Program) where
 
   -- the end of a function, by its result
   return_lands : (T : ℕ → State → Machine) (g : Function) (to : Option ℕ) (st : List Frame) → Back T to st → (l : Local) (s : State) (o : Option Kind) → g.result ≡ o
-      → Lands (generated P) T (settled (generated P) (function_of g) to st (elim o [ None ↦ ReturnVoid ∷ [] | Some k ↦ Return g.value ∷ [] ]) l s) s.turns
+      → Lands (generated cells P) T (settled (generated cells P) (function_of g) to st (elim o [ None ↦ ReturnVoid ∷ [] | Some k ↦ Return g.value ∷ [] ]) l s) s.turns
       (elim o as (λ k. Outcome ℕ) [ None ↦ Done 0 s | Some k ↦ where_so (has g.kinds g.value k) (Done (slice_index l.registers g.value) s) ])
   return_lands T g to st back l s None e =
       let c : Core = (at (function_of g) to st (ReturnVoid ∷ []) l s).0 in
-      moves (generated P) _ _ s.turns 1
+      moves (generated cells P) _ _ s.turns 1
       (ap (λ r. run_effect (cond (is_none r) (returns 0 to st s.allocations s.output) (Wrong (machine.Stuck s.allocations s.output))) c s.heap) e ∙ back 0 s c)
   return_lands T g to st back l s (Some k) e = by_kind (has g.kinds g.value k) refl
     where
-      by_kind : (b : Bool) → has g.kinds g.value k ≡ b → Lands (generated P) T (at (function_of g) to st (Return g.value ∷ []) l s) s.turns (where_so b (Done (slice_index l.registers g.value) s))
+      by_kind : (b : Bool) → has g.kinds g.value k ≡ b → Lands (generated cells P) T (at (function_of g) to st (Return g.value ∷ []) l s) s.turns (where_so b (Done (slice_index l.registers g.value) s))
       by_kind false h = tt
       by_kind true h =
           let c : Core = (at (function_of g) to st (Return g.value ∷ []) l s).0 in
           let v : ℕ = slice_index l.registers g.value in
-          moves (generated P) _ _ s.turns 1
+          moves (generated cells P) _ _ s.turns 1
           (ap (λ r. run_effect (cond (on_kind (λ j. has g.kinds g.value j) r) (returns v to st s.allocations s.output) (Wrong (machine.Stuck s.allocations s.output))) c s.heap) e
           ∙ ap (λ b. run_effect (cond b (returns v to st s.allocations s.output) (Wrong (machine.Stuck s.allocations s.output))) c s.heap) h ∙ back v s c)
 
   result_lands : (T : ℕ → State → Machine) (g : Function) (to : Option ℕ) (st : List Frame) → Back T to st → (x : Left) (s : State)
-      → Lands (generated P) T (there (generated P) (function_of g) to st (last g) [] x s) s.turns (result_of g x s)
+      → Lands (generated cells P) T (there (generated cells P) (function_of g) to st (last g) [] x s) s.turns (result_of g x s)
   result_lands T g to st back (zero, l) s = return_lands T g to st back l s g.result refl
   result_lands T g to st back (suc k, l) s = tt
 
@@ -89,25 +89,25 @@ module _ (P : Program) where
   abbrev CallsLand : ℕ → Type 0
   CallsLand depth = (fn : image.Function) (dest : Option ℕ) (st : List Frame) (to : Option ℕ) (f : ℕ) (args : List ℕ) (g : Function) → slice_get P.functions f ≡ Some g → call_fits fn.kinds g.result g.parameters g.kinds to args ≡ true
       → (next : List Instruction) (l : Local) (s : State) → s.turns ≤ depth
-      → Lands (generated P) (called fn dest st next l to) (at fn dest st (Call to f args ∷ next) l s) s.turns (call P depth f (map (slice_index l.registers) args) s)
+      → Lands (generated cells P) (called fn dest st next l to) (at fn dest st (Call to f args ∷ next) l s) s.turns (call P depth f (map (slice_index l.registers) args) s)
 
   -- a function, from its entry to where it comes back to
   body_lands : (depth : ℕ) → CallsLand depth → (T : ℕ → State → Machine) (g : Function) (to : Option ℕ) (st : List Frame) → Back T to st → (args : List ℕ) (s : State) → s.turns ≤ depth
-      → Lands (generated P) T (at (function_of g) to st (first g.body 1 (last g) []) (entry g args) s) s.turns (entered P (call P depth) (Some g) args s)
+      → Lands (generated cells P) T (at (function_of g) to st (first g.body 1 (last g) []) (entry g args) s) s.turns (entered P (call P depth) (Some g) args s)
   body_lands depth deeper T g to st back args s le =
       let begin : List Instruction = first g.body 1 (last g) [] in
       let run_it = run P (call P depth) g.kinds g.body (entry g args) s in
-      lands_after (generated P) T _ (settled (generated P) (function_of g) to st begin (entry g args) s) s.turns s.turns (then_do run_it (result_of g)) (settles (generated P) (function_of g) to st begin (entry g args) s)
-      (then_lands (generated P) (there (generated P) (function_of g) to st (last g) []) T _ s.turns run_it (result_of g)
-      (code_lands (generated P) (function_of g) to st P refl (call P depth) depth (deeper (function_of g) to st) g.body 1 (last g) []
+      lands_after (generated cells P) T _ (settled (generated cells P) (function_of g) to st begin (entry g args) s) s.turns s.turns (then_do run_it (result_of g)) (settles (generated cells P) (function_of g) to st begin (entry g args) s)
+      (then_lands (generated cells P) (there (generated cells P) (function_of g) to st (last g) []) T _ s.turns run_it (result_of g)
+      (code_lands (generated cells P) (function_of g) to st P refl (call P depth) depth (deeper (function_of g) to st) g.body 1 (last g) []
       (has_all (function_of g) (facts_of g) (extra g.body 1 (last g) []) (first g.body 1 (last g) [] ∷ []) refl) (entry g args) s le)
       (λ x t less. result_lands T g to st back x t))
 
   call_lands : (depth : ℕ) → CallsLand depth
   call_lands zero fn dest st to f args g h fit next l s le = record { many = 0; least = le; runs = refl }
   call_lands (suc depth) fn dest st to f args g h fit next l s le =
-      subst (λ o. Lands (generated P) (called fn dest st next l to) (at fn dest st (Call to f args ∷ next) l s) s.turns (turn s (entered P (call P depth) o (map (slice_index l.registers) args)))) (sym h)
-      (turn_lands (generated P) fn dest st (called fn dest st next l to) s.turns s _ (at (function_of g) to (fr ∷ st) (first g.body 1 (last g) []) (entry g (map (slice_index l.registers) args)) s) (entered P (call P depth) (Some g) (map (slice_index l.registers) args))
+      subst (λ o. Lands (generated cells P) (called fn dest st next l to) (at fn dest st (Call to f args ∷ next) l s) s.turns (turn s (entered P (call P depth) o (map (slice_index l.registers) args)))) (sym h)
+      (turn_lands (generated cells P) fn dest st (called fn dest st next l to) s.turns s _ (at (function_of g) to (fr ∷ st) (first g.body 1 (last g) []) (entry g (map (slice_index l.registers) args)) s) (entered P (call P depth) (Some g) (map (slice_index l.registers) args))
       (ap (λ o. run_effect (machine.calls o to args next (frame_of fn dest (Call to f args ∷ next) l) st s.allocations s.output) here s.heap) (function_at f g h)
       ∙ ap (λ b. run_effect (cond b (enters_at (slice_get (function_of g).blocks 0) (function_of g) (map (slice_index l.registers) args) to (fr ∷ st) s.allocations s.output) (Wrong (machine.Stuck s.allocations s.output))) here s.heap) fit)
       refl
@@ -125,23 +125,23 @@ module _ (P : Program) where
 
   -- where it begins
   abbrev pub begun : Machine
-  begun = (begins (slice_get (generated P).functions 0), λ _ _. 0)
+  begun = (begins (slice_get (generated cells P).functions 0), λ _ _. 0)
 
-  main_lands : (d : ℕ) (g : Function) → slice_get P.functions 0 ≡ Some g → Lands (generated P) ended begun d (entered P (call P d) (Some g) [] (opening d))
+  main_lands : (d : ℕ) (g : Function) → slice_get P.functions 0 ≡ Some g → Lands (generated cells P) ended begun d (entered P (call P d) (Some g) [] (opening d))
   main_lands d g h =
-      subst (λ (c : Machine). Lands (generated P) ended c d (entered P (call P d) (Some g) [] (opening d))) (sym (ap (λ o. (begins o, λ (q x : ℕ). 0)) (function_at 0 g h)))
+      subst (λ (c : Machine). Lands (generated cells P) ended c d (entered P (call P d) (Some g) [] (opening d))) (sym (ap (λ o. (begins o, λ (q x : ℕ). 0)) (function_at 0 g h)))
       (body_lands d (call_lands d) ended g None [] (λ v s c. refl) [] (opening d) (omega arith))
 
-  ends_of : (c : Machine) (d : ℕ) (m : Outcome ℕ) → Lands (generated P) ended c d m → Ends (generated P) c d (told m)
+  ends_of : (c : Machine) (d : ℕ) (m : Outcome ℕ) → Lands (generated cells P) ended c d m → Ends (generated cells P) c d (told m)
   ends_of c d (Done v s) h = record { many = h.many; al = s.allocations; eq = ap (λ (z : Machine). z.0) h.eq }
   ends_of c d (Stopped x out) h = h
   ends_of c d (Cut out) h = h
   ends_of c d Stuck h = tt
 
   -- the machine does what the code means with one turn more
-  pub follows : (d : ℕ) → Ends (generated P) begun d (scoped_means P (suc d))
+  pub follows : (d : ℕ) → Ends (generated cells P) begun d (scoped_means P (suc d))
   follows d = by_main (slice_get P.functions 0) refl
     where
-      by_main : (o : Option Function) → slice_get P.functions 0 ≡ o → Ends (generated P) begun d (told (entered P (call P d) o [] (opening d)))
+      by_main : (o : Option Function) → slice_get P.functions 0 ≡ o → Ends (generated cells P) begun d (told (entered P (call P d) o [] (opening d)))
       by_main None h = tt
       by_main (Some g) h = ends_of begun d (entered P (call P d) (Some g) [] (opening d)) (main_lands d g h)

@@ -191,6 +191,6 @@ function_of g = record {
   blocks = blocks_with (facts_of g) (blocks g);
 }
 
--- a program
-abbrev pub generated : Program → Image
-generated P = record { head = P.head; functions = map function_of P.functions }
+-- a program, for pieces of so many cells
+abbrev pub generated : ℕ → Program → Image
+generated cells P = record { piece = cells; head = P.head; functions = map function_of P.functions }

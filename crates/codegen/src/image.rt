@@ -1,4 +1,5 @@
 //! Images from scoped code.
+ghost use Rattle.cells.specs.Pieces.{cells_in};
 ghost use Rattle.code_form.specs.Counts.{has_few_items as has_few};
 ghost use Rattle.code_form.specs.Form.{Return, ReturnVoid, block_of, function_of as function_read, image_of, instruction_of};
 ghost use Rattle.codegen.specs.Building.{back, backs, lists};
@@ -9,6 +10,7 @@ ghost use Rattle.std.specs.Prelude.{◌≡◌, [], IfOk, map, slice_index_or, st
 use crate::counts::has_few_items;
 use crate::emit::{Exits, emit, finish, one};
 use crate::known::function_facts;
+use cells::Piece;
 use code_form::{Block, Fact, Image, Instruction, Kind};
 use middle_form::{Scoped, ScopedFunction};
 use std::alloc::{AllocError, Global};
@@ -122,8 +124,8 @@ fn copy_layouts(alloc: Global, layouts: &[Vec<Kind>]) -> Result<Vec<Vec<Kind>>, 
 }
 
 /// The image of a program, however many items it has.
-fn whole_image(alloc: Global, program: &Scoped) -> Result<Image, AllocError>
-    ensures { IfOk result (λ image. image_of image ≡ generated (scoped_program_of program.now)) }
+fn whole_image(alloc: Global, program: &Scoped, piece: Piece) -> Result<Image, AllocError>
+    ensures { IfOk result (λ image. image_of image ≡ generated (cells_in piece) (scoped_program_of program.now)) }
 {
     let mut functions = Vec::new(alloc);
     for function in &program.functions {
@@ -132,18 +134,19 @@ fn whole_image(alloc: Global, program: &Scoped) -> Result<Image, AllocError>
     let texts = copy_texts(alloc, &program.texts)?;
     let layouts = copy_layouts(alloc, &program.layouts)?;
     Ok(Image {
+        piece,
         texts,
         layouts,
         functions,
     })
 }
 
-/// The image of a program. A list of 2^32 items can't be had, as with memory that runs out.
-pub fn generate(alloc: Global, program: &Scoped) -> Result<Image, AllocError>
-    ensures image { IfOk result (λ image. image_of image ≡ generated (scoped_program_of program.now)) }
+/// The image of a program, for pieces of this size. A list of 2^32 items can't be had, as with memory that runs out.
+pub fn generate(alloc: Global, program: &Scoped, piece: Piece) -> Result<Image, AllocError>
+    ensures image { IfOk result (λ image. image_of image ≡ generated (cells_in piece) (scoped_program_of program.now)) }
     ensures few { IfOk result (λ image. has_few (image_of image) ≡ true) }
 {
-    let image = whole_image(alloc, program)?;
+    let image = whole_image(alloc, program, piece)?;
     if !has_few_items(&image) {
         return Err(AllocError);
     }

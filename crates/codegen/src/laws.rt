@@ -10,14 +10,14 @@ ghost use Rattle.middle_form.specs.Discipline.{IsScoped};
 ghost use Rattle.middle_form.specs.Guarded.{is_guarded_program};
 ghost use Rattle.middle_form.specs.Scoped.{Program, plain_program};
 ghost use Rattle.middle_form.specs.WellFormed.{is_well_formed};
-ghost use Rattle.std.specs.Prelude.{◌∷◌, ◌≡◌, [], None, Some, codes, pos, true};
+ghost use Rattle.std.specs.Prelude.{◌∷◌, ◌≡◌, ℕ, [], None, Some, codes, pos, true};
 
 use code_form::run_laws;
 use code_verification::verified_is_covered;
 
 /// What is generated does what the scoped code means, both ways, and is never stuck.
 pub fn generated_keeps_the_meaning()
-    ensures { (P : Program) → IsSafe P → Keeps P (generated P) }
+    ensures { (cells : ℕ) (P : Program) → IsSafe P → Keeps P (generated cells P) }
 {
     run_laws();
 }
@@ -27,13 +27,13 @@ pub fn generated_keeps_the_meaning()
 /// names is there and of the right kind, each load and store is by a scope that is freshly aimed at a place whose check was made, and no scope is open at an
 /// allocation, a call or a return.
 pub fn generated_is_verified()
-    ensures { (P : Program) → is_well_formed (plain_program P) ≡ true → is_guarded_program (plain_program P) ≡ true → IsScoped P → IsVerified (generated P) }
+    ensures { (cells : ℕ) (P : Program) → is_well_formed (plain_program P) ≡ true → is_guarded_program (plain_program P) ≡ true → IsScoped P → IsVerified (generated cells P) }
 {}
 
 /// So what is generated of it is covered: no function has more than four scopes, and no state of a run is stuck, has more scopes open than the function with
 /// the most has, or has one open at an allocation, a call or a return.
 pub fn generated_is_covered()
-    ensures { (P : Program) → is_well_formed (plain_program P) ≡ true → is_guarded_program (plain_program P) ≡ true → IsScoped P → Covered (generated P) }
+    ensures { (cells : ℕ) (P : Program) → is_well_formed (plain_program P) ≡ true → is_guarded_program (plain_program P) ≡ true → IsScoped P → Covered (generated cells P) }
 {
     verified_is_covered();
 }
@@ -41,15 +41,15 @@ pub fn generated_is_covered()
 /// What the images of some programs come to: calls return, exits leave what they name, a cell holds what was stored, each stop tells itself, and an aim
 /// lasts through a loop, at the entry of whose blocks it is told.
 pub fn computed()
-    ensures calls { ran (generated fibonacci) 200 ≡ record { stop = Some (Ended (pos 5)); output = [] } }
-    ensures left { ran (generated counting) 60 ≡ record { stop = Some (Ended (pos 3)); output = codes "012" } }
-    ensures cut { ran (generated counting) 22 ≡ record { stop = None; output = codes "01" } }
-    ensures behind { ran (generated stepping) 60 ≡ record { stop = Some (Ended (pos 3)); output = [] } }
-    ensures pointed { ran (generated pointing) 30 ≡ record { stop = Some (Ended (pos 7)); output = [] } }
-    ensures element { ran (generated (indexing 2)) 30 ≡ record { stop = Some (Ended (pos 9)); output = [] } }
-    ensures bounds { ran (generated (indexing 3)) 30 ≡ record { stop = Some BoundsFault; output = [] } }
-    ensures error { ran (generated failing) 10 ≡ record { stop = Some (ErrorCalled (codes "no")); output = codes "0" } }
-    ensures null { ran (generated null_checked) 5 ≡ record { stop = Some NullFault; output = [] } }
-    ensures printed { ran (generated (program_of held)) 60 ≡ record { stop = Some (Ended (pos 3)); output = codes "555" } }
+    ensures calls { ran (generated 64 fibonacci) 200 ≡ record { stop = Some (Ended (pos 5)); output = [] } }
+    ensures left { ran (generated 64 counting) 60 ≡ record { stop = Some (Ended (pos 3)); output = codes "012" } }
+    ensures cut { ran (generated 64 counting) 22 ≡ record { stop = None; output = codes "01" } }
+    ensures behind { ran (generated 64 stepping) 60 ≡ record { stop = Some (Ended (pos 3)); output = [] } }
+    ensures pointed { ran (generated 64 pointing) 30 ≡ record { stop = Some (Ended (pos 7)); output = [] } }
+    ensures element { ran (generated 64 (indexing 2)) 30 ≡ record { stop = Some (Ended (pos 9)); output = [] } }
+    ensures bounds { ran (generated 64 (indexing 3)) 30 ≡ record { stop = Some BoundsFault; output = [] } }
+    ensures error { ran (generated 64 failing) 10 ≡ record { stop = Some (ErrorCalled (codes "no")); output = codes "0" } }
+    ensures null { ran (generated 64 null_checked) 5 ≡ record { stop = Some NullFault; output = [] } }
+    ensures printed { ran (generated 64 (program_of held)) 60 ≡ record { stop = Some (Ended (pos 3)); output = codes "555" } }
     ensures told { facts_of held ≡ (fact.Shut 0 ∷ []) ∷ (fact.Aimed 0 3 None 0 ∷ []) ∷ (fact.Aimed 0 3 None 0 ∷ []) ∷ (fact.Aimed 0 3 None 0 ∷ []) ∷ [] }
 {}

@@ -18,7 +18,7 @@ use Rattle.clap.specs.declared.parser.matches.SubCommand.{SubCommand}
 use Rattle.command_line.specs.declared.words.Line.{Line}
 use Rattle.command_line.specs.declared.words.Usage.{Usage}
 use Rattle.command_line.specs.declared.words.Usage.TheVariants as usage
-use Rattle.command_line.specs.Shell.{Build, Command, Names, command_of, Mean, Memory, Replay, Replayed, Run, build_command, command_in, has_checks, Started, mean_command, memory_in, named_command, number_in, number_or, replay_command, replayed_in, run_command, shell, short_option, started_in, Work, work_in}
+use Rattle.command_line.specs.Shell.{Build, Command, Compiling, Lists, Names, command_of, Mean, Memory, Replay, Replayed, Run, build_command, command_in, compiling_in, has_checks, Started, Texts, level_in, list_command, mean_command, memory_in, named_command, number_in, number_or, piece_in, replay_command, replayed_in, run_command, shell, short_option, started_in, texts_in, Work, work_in}
 use Rattle.clap.specs.declared.parser.matches.Found.{Found}
 use Rattle.clap.specs.declared.parser.matches.MatchedArg.{MatchedArg}
 
@@ -47,15 +47,41 @@ first_is f id = value_is id f.entries.items
 pub checks_are : (f : Found) (o : Option Text) → o ≡ first_value f (codes "checks") → option_map_or (λ text. bytes_eq text (codes "true")) o false ≡ has_checks (rows_of f)
 checks_are f o e = ap (λ (o : Option Text). option_map_or (λ text. bytes_eq text (codes "true")) o false) (e ∙ sym (first_is f (codes "checks")))
 
+-- how texts are taken
+abbrev pub taken : (loops checks : Bool) → Texts
+taken loops checks = record { loops = loops; checks = checks }
+
+-- what was found of the level and of the flag tells how texts are taken
+pub texts_are : (f : Found) (loops checks : Bool) → Some loops ≡ level_in (rows_of f) → checks ≡ has_checks (rows_of f) → Some (taken loops checks) ≡ texts_in (rows_of f)
+texts_are f loops checks of_level of_checks = ap (λ c. Some (taken loops c)) of_checks ∙ ap (option_map (λ l. taken l (has_checks (rows_of f)))) of_level
+
+-- how code is made of texts
+abbrev pub making : Texts → (piece : ℕ) → Compiling
+making texts piece = record { texts = texts; piece = piece }
+
+-- what was found of the size of pieces, or that it is none, tells how code is made
+pub compiling_is : (f : Found) (t : Texts) (o : Option ℕ) → Some t ≡ texts_in (rows_of f) → o ≡ piece_in (rows_of f) → option_map (making t) o ≡ compiling_in (rows_of f)
+compiling_is f t o of_texts of_piece = ap (option_map (making t)) of_piece ∙ ap (option_and_then (λ x. option_map (making x) (piece_in (rows_of f)))) of_texts
+
+-- ... and the listing
+pub list_is : (f : Found) (loops : Bool) (o : Option ℕ) (file : Text) → Some loops ≡ level_in (rows_of f) → o ≡ piece_in (rows_of f) → option_map (λ p. Lists loops p file) o ≡ list_command (rows_of f) file
+list_is f loops o file of_level of_piece =
+    ap (option_map (λ p. Lists loops p file)) of_piece ∙ ap (option_and_then (λ l. option_map (λ p. Lists l p file) (piece_in (rows_of f)))) of_level
+
 -- what was found of the turns tells the plain run
-pub run_is : (f : Found) (o : Option Text) (n : Option ℕ) (file : Text) → o ≡ first_value f (codes "turns") → n ≡ option_and_then number_in o
-    → option_map (λ turns. Mean (has_checks (rows_of f)) turns file) n ≡ mean_command (rows_of f) file
-run_is f o n file e told =
-    ap (option_map (λ turns. Mean (has_checks (rows_of f)) turns file)) (told ∙ ap (option_and_then number_in) (e ∙ sym (first_is f (codes "turns"))))
+pub run_is : (f : Found) (t : Texts) (o : Option Text) (n : Option ℕ) (file : Text) → Some t ≡ texts_in (rows_of f) → o ≡ first_value f (codes "turns") → n ≡ option_and_then number_in o
+    → option_map (λ turns. Mean t turns file) n ≡ mean_command (rows_of f) file
+run_is f t o n file of_texts e told =
+    let turns : Option ℕ = option_and_then number_in (first_of (codes "turns") (rows_of f)) in
+    ap (option_map (λ turns. Mean t turns file)) (told ∙ ap (option_and_then number_in) (e ∙ sym (first_is f (codes "turns"))))
+    ∙ ap (option_and_then (λ t. option_map (λ n. Mean t n file) turns)) of_texts
 
 -- what was found of the file to write tells the writing of an image
-pub build_is : (f : Found) (o : Option Text) (file : Text) → o ≡ first_value f (codes "out") → option_map (λ out. Build (has_checks (rows_of f)) out file) o ≡ build_command (rows_of f) file
-build_is f o file e = ap (option_map (λ out. Build (has_checks (rows_of f)) out file)) (e ∙ sym (first_is f (codes "out")))
+pub build_is : (f : Found) (x : Compiling) (o : Option Text) (file : Text) → Some x ≡ compiling_in (rows_of f) → o ≡ first_value f (codes "out") → option_map (λ out. Build x out file) o ≡ build_command (rows_of f) file
+build_is f x o file of_compiling e =
+    let out : Option Text = first_of (codes "out") (rows_of f) in
+    ap (option_map (λ out. Build x out file)) (e ∙ sym (first_is f (codes "out")))
+    ∙ ap (option_and_then (λ y. option_map (λ out. Build y out file) out)) of_compiling
 
 -- what was found of an option tells its number, or the default
 pub option_is : (f : Found) (id : Text) (read : Text → Option ℕ) (default : ℕ) (o : Option Text) → o ≡ first_value f id → number_or read default o ≡ number_or read default (first_of id (rows_of f))
@@ -84,8 +110,8 @@ memory_is f frames objects from o of_frames of_objects of_from told =
     ∙ ap (option_and_then (λ m. option_and_then (λ n. option_map (λ k. over m n k store) calls) many)) of_frames
 
 -- a run
-abbrev pub started : Bool → Memory → (evacuators fetchers : ℕ) → Work → Started
-started checks memory evacuators fetchers work = record { checks = checks; memory = memory; evacuators = evacuators; fetchers = fetchers; work = work }
+abbrev pub started : Compiling → Memory → (evacuators fetchers : ℕ) → Work → Started
+started compiling memory evacuators fetchers work = record { compiling = compiling; memory = memory; evacuators = evacuators; fetchers = fetchers; work = work }
 
 -- what was found of its options tells the work
 pub work_is : (f : Found) (workers quantum : ℕ) → Some workers ≡ short_option (codes "workers") 4 (rows_of f) → Some quantum ≡ short_option (codes "quantum") 1000 (rows_of f)
@@ -95,40 +121,41 @@ work_is f workers quantum of_workers of_quantum =
     ∙ ap (option_and_then (λ w. option_map (λ n. record { workers = w; quantum = n }) (short_option (codes "quantum") 1000 (rows_of f)))) of_workers
 
 -- what was found of its options tells the run
-pub started_is : (f : Found) (b : Bool) (memory : Memory) (evacuators fetchers : ℕ) (work : Work) → b ≡ has_checks (rows_of f) → Some memory ≡ memory_in (rows_of f) → Some evacuators ≡ short_option (codes "evacuators") 1 (rows_of f)
-    → Some fetchers ≡ short_option (codes "fetchers") 1 (rows_of f) → Some work ≡ work_in (rows_of f) → Some (started b memory evacuators fetchers work) ≡ started_in (rows_of f)
-started_is f b memory evacuators fetchers work checked of_memory of_evacuators of_fetchers of_work =
+pub started_is : (f : Found) (t : Compiling) (memory : Memory) (evacuators fetchers : ℕ) (work : Work) → Some t ≡ compiling_in (rows_of f) → Some memory ≡ memory_in (rows_of f) → Some evacuators ≡ short_option (codes "evacuators") 1 (rows_of f)
+    → Some fetchers ≡ short_option (codes "fetchers") 1 (rows_of f) → Some work ≡ work_in (rows_of f) → Some (started t memory evacuators fetchers work) ≡ started_in (rows_of f)
+started_is f t memory evacuators fetchers work of_compiling of_memory of_evacuators of_fetchers of_work =
     let rows : List Row = rows_of f in
-    let checks : Bool = has_checks rows in
     let ahead : Option ℕ = short_option (codes "fetchers") 1 rows in
     let out : Option ℕ = short_option (codes "evacuators") 1 rows in
     let turns : Option Work = work_in rows in
-    ap (λ (x : Bool). Some (started x memory evacuators fetchers work)) checked
-    ∙ ap (option_map (λ w. started checks memory evacuators fetchers w)) of_work
-    ∙ ap (option_and_then (λ q. option_map (λ w. started checks memory evacuators q w) turns)) of_fetchers
-    ∙ ap (option_and_then (λ e. option_and_then (λ q. option_map (λ w. started checks memory e q w) turns) ahead)) of_evacuators
-    ∙ ap (option_and_then (λ m. option_and_then (λ e. option_and_then (λ q. option_map (λ w. started checks m e q w) turns) ahead) out)) of_memory
+    let over : Option Memory = memory_in rows in
+    ap (option_map (λ w. started t memory evacuators fetchers w)) of_work
+    ∙ ap (option_and_then (λ q. option_map (λ w. started t memory evacuators q w) turns)) of_fetchers
+    ∙ ap (option_and_then (λ e. option_and_then (λ q. option_map (λ w. started t memory e q w) turns) ahead)) of_evacuators
+    ∙ ap (option_and_then (λ m. option_and_then (λ e. option_and_then (λ q. option_map (λ w. started t m e q w) turns) ahead) out)) of_memory
+    ∙ ap (option_and_then (λ x. option_and_then (λ m. option_and_then (λ e. option_and_then (λ q. option_map (λ w. started x m e q w) turns) ahead) out) over)) of_compiling
 
 -- a replay
-abbrev pub by : Bool → Memory → (evacuators fetchers : ℕ) → Work → (schedule : Text) → Replayed
-by checks memory evacuators fetchers work schedule = record { checks = checks; memory = memory; evacuators = evacuators; fetchers = fetchers; work = work; schedule = schedule }
+abbrev pub by : Compiling → Memory → (evacuators fetchers : ℕ) → Work → (schedule : Text) → Replayed
+by compiling memory evacuators fetchers work schedule = record { compiling = compiling; memory = memory; evacuators = evacuators; fetchers = fetchers; work = work; schedule = schedule }
 
 -- what was found of its options tells the replay
-pub replayed_is : (f : Found) (memory : Memory) (evacuators fetchers : ℕ) (work : Work) (o : Option Text) → Some memory ≡ memory_in (rows_of f) → Some evacuators ≡ short_option (codes "evacuators") 1 (rows_of f)
-    → Some fetchers ≡ short_option (codes "fetchers") 1 (rows_of f) → Some work ≡ work_in (rows_of f) → o ≡ first_value f (codes "schedule")
-    → option_map (λ s. by (has_checks (rows_of f)) memory evacuators fetchers work s) o ≡ replayed_in (rows_of f)
-replayed_is f memory evacuators fetchers work o of_memory of_evacuators of_fetchers of_work told =
+pub replayed_is : (f : Found) (t : Compiling) (memory : Memory) (evacuators fetchers : ℕ) (work : Work) (o : Option Text) → Some t ≡ compiling_in (rows_of f) → Some memory ≡ memory_in (rows_of f)
+    → Some evacuators ≡ short_option (codes "evacuators") 1 (rows_of f) → Some fetchers ≡ short_option (codes "fetchers") 1 (rows_of f) → Some work ≡ work_in (rows_of f) → o ≡ first_value f (codes "schedule")
+    → option_map (λ s. by t memory evacuators fetchers work s) o ≡ replayed_in (rows_of f)
+replayed_is f t memory evacuators fetchers work o of_compiling of_memory of_evacuators of_fetchers of_work told =
     let rows : List Row = rows_of f in
-    let checks : Bool = has_checks rows in
     let lines : Option Text = first_of (codes "schedule") rows in
     let ahead : Option ℕ = short_option (codes "fetchers") 1 rows in
     let out : Option ℕ = short_option (codes "evacuators") 1 rows in
     let turns : Option Work = work_in rows in
-    ap (option_map (λ s. by checks memory evacuators fetchers work s)) (told ∙ sym (first_is f (codes "schedule")))
-    ∙ ap (option_and_then (λ w. option_map (λ s. by checks memory evacuators fetchers w s) lines)) of_work
-    ∙ ap (option_and_then (λ q. option_and_then (λ w. option_map (λ s. by checks memory evacuators q w s) lines) turns)) of_fetchers
-    ∙ ap (option_and_then (λ e. option_and_then (λ q. option_and_then (λ w. option_map (λ s. by checks memory e q w s) lines) turns) ahead)) of_evacuators
-    ∙ ap (option_and_then (λ m. option_and_then (λ e. option_and_then (λ q. option_and_then (λ w. option_map (λ s. by checks m e q w s) lines) turns) ahead) out)) of_memory
+    let over : Option Memory = memory_in rows in
+    ap (option_map (λ s. by t memory evacuators fetchers work s)) (told ∙ sym (first_is f (codes "schedule")))
+    ∙ ap (option_and_then (λ w. option_map (λ s. by t memory evacuators fetchers w s) lines)) of_work
+    ∙ ap (option_and_then (λ q. option_and_then (λ w. option_map (λ s. by t memory evacuators q w s) lines) turns)) of_fetchers
+    ∙ ap (option_and_then (λ e. option_and_then (λ q. option_and_then (λ w. option_map (λ s. by t memory e q w s) lines) turns) ahead)) of_evacuators
+    ∙ ap (option_and_then (λ m. option_and_then (λ e. option_and_then (λ q. option_and_then (λ w. option_map (λ s. by t m e q w s) lines) turns) ahead) out)) of_memory
+    ∙ ap (option_and_then (λ x. option_and_then (λ m. option_and_then (λ e. option_and_then (λ q. option_and_then (λ w. option_map (λ s. by x m e q w s) lines) turns) ahead) out) over)) of_compiling
 
 -- all values of an id among entries
 abbrev values_in : List Entry → Text → Option (List Text)

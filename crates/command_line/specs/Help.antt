@@ -43,6 +43,14 @@ page_named name =
 abbrev pub begins : Text → Text → Bool
 begins word start = starts_with (λ a b. a == b) word start
 
+-- the word is `-d`, or begins the option of a level
+abbrev pub is_texts_option : Text → Bool
+is_texts_option word = bytes_eq word (codes "-d") || begins word (codes "--level")
+
+-- the word is `-d`, or begins an option of a command that makes code of texts
+abbrev pub is_code_option : Text → Bool
+is_code_option word = is_texts_option word || begins word (codes "--piece")
+
 -- the word begins an option of a command's memory
 abbrev pub is_memory_option : Text → Bool
 is_memory_option word = begins word (codes "--frames") || (begins word (codes "--objects") || (begins word (codes "--store") || begins word (codes "--fail-from")))
@@ -51,20 +59,22 @@ is_memory_option word = begins word (codes "--frames") || (begins word (codes "-
 abbrev pub is_work_option : Text → Bool
 is_work_option word = begins word (codes "--workers") || begins word (codes "--quantum")
 
--- the word begins an option of `run`, but for `-d`
+-- the word begins an option of `run`, but for those of its code
 abbrev pub is_run_option : Text → Bool
 is_run_option word = is_memory_option word || (begins word (codes "--evacuators") || (begins word (codes "--fetchers") || is_work_option word))
 
--- the word begins an option of `replay`, but for `-d`
+-- the word begins an option of `replay`, but for those of its code
 abbrev pub is_replay_option : Text → Bool
 is_replay_option word = is_run_option word || begins word (codes "--schedule")
 
 -- the command of this name has the option that the word begins
 abbrev pub is_option : Text → Text → Bool
 is_option name word =
-    cond (bytes_eq name (codes "build")) (bytes_eq word (codes "-d") || begins word (codes "-o"))
-    (cond (bytes_eq name (codes "mean")) (bytes_eq word (codes "-d") || begins word (codes "--turns"))
-    (cond (bytes_eq name (codes "replay")) (bytes_eq word (codes "-d") || is_replay_option word) (bytes_eq name (codes "run") && (bytes_eq word (codes "-d") || is_run_option word))))
+    cond (bytes_eq name (codes "build")) (is_code_option word || begins word (codes "-o"))
+    (cond (bytes_eq name (codes "list")) (begins word (codes "--level") || begins word (codes "--piece"))
+    (cond (bytes_eq name (codes "mean")) (is_texts_option word || begins word (codes "--turns"))
+    (cond (bytes_eq name (codes "replay")) (is_code_option word || is_replay_option word)
+    (cond (bytes_eq name (codes "run")) (is_code_option word || is_run_option word) (begins word (codes "--level"))))))
 
 -- the word begins as an option does, and is none of the command of this name
 abbrev pub is_stray : Text → Text → Bool

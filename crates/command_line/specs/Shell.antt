@@ -9,9 +9,13 @@ use Rattle.clap.specs.Words.{App, Row, Rule, Shape, Text, all_of, fault_of, firs
 use Rattle.clap.specs.declared.builder.ArgAction.TheVariants.{Append, Set, SetTrue}
 use Rattle.clap.specs.declared.builder.command.Command.{Command as Built}
 use Rattle.clap.specs.declared.builder.command.Command.TheViews.{out-Command}
+use Rattle.c0_syntax.specs.Levels.{has_loops}
+use Rattle.cells.specs.Pieces.{cells_in, is_piece}
 use Rattle.command_line.specs.declared.words.Memory.{Memory as Written}
 use Rattle.command_line.specs.declared.words.Replay.{Replay as Asked}
 use Rattle.command_line.specs.declared.words.Run.{Run as AskedRun}
+use Rattle.command_line.specs.declared.words.Compiling.{Compiling as AskedCompiling}
+use Rattle.command_line.specs.declared.words.Texts.{Texts as AskedTexts}
 use Rattle.command_line.specs.declared.words.Work.{Work as AskedWork}
 use Rattle.command_line.specs.declared.words.Line.{Line}
 use Rattle.command_line.specs.declared.words.Line.TheVariants as line
@@ -44,6 +48,18 @@ schedule_rule = record (option_rule (codes "schedule")) { required = true }
 abbrev pub files_rule : Rule
 files_rule = record (new_rule (codes "file")) { required = true; action = Some Append }
 
+-- the command of this name, which reads texts: NAME [--level L]
+abbrev pub of_texts : Text → App
+of_texts name = with_rule (new_app name) (option_rule (codes "level"))
+
+-- ... with contracts checked or not: NAME [--level L] [-d]
+abbrev pub of_checked_texts : Text → App
+of_checked_texts name = with_rule (of_texts name) checks_rule
+
+-- ... and makes code of them, for pieces of a size: NAME [--level L] [-d] [--piece C]
+abbrev pub of_code : Text → App
+of_code name = with_rule (of_checked_texts name) (option_rule (codes "piece"))
+
 -- [--frames F] [--objects N] [--store DIR] [--fail-from K]
 abbrev pub with_memory : App → App
 with_memory a =
@@ -53,28 +69,32 @@ with_memory a =
 abbrev pub with_work : App → App
 with_work a = with_rule (with_rule a (option_rule (codes "workers"))) (option_rule (codes "quantum"))
 
--- build [-d] -o OUT FILE
+-- build [--level L] [-d] [--piece C] -o OUT FILE
 abbrev pub build_shape : Shape
-build_shape = (with_rule (with_rule (with_rule (new_app (codes "build")) checks_rule) out_rule) file_rule).top
+build_shape = (with_rule (with_rule (of_code (codes "build")) out_rule) file_rule).top
 
--- check FILE, or list FILE
-abbrev pub file_shape : Text → Shape
-file_shape name = (with_rule (new_app name) file_rule).top
+-- check [--level L] FILE
+abbrev pub check_shape : Shape
+check_shape = (with_rule (of_texts (codes "check")) file_rule).top
 
--- mean [-d] --turns N FILE
+-- list [--level L] [--piece C] FILE
+abbrev pub list_shape : Shape
+list_shape = (with_rule (with_rule (of_texts (codes "list")) (option_rule (codes "piece"))) file_rule).top
+
+-- mean [--level L] [-d] --turns N FILE
 abbrev pub mean_shape : Shape
-mean_shape = (with_rule (with_rule (with_rule (new_app (codes "mean")) checks_rule) turns_rule) file_rule).top
+mean_shape = (with_rule (with_rule (of_checked_texts (codes "mean")) turns_rule) file_rule).top
 
--- run [-d] [--frames F] [--objects N] [--store DIR] [--fail-from K] [--evacuators E] [--fetchers Q] [--workers W] [--quantum N] FILE...
+-- run [--level L] [-d] [--piece C] [--frames F] [--objects N] [--store DIR] [--fail-from K] [--evacuators E] [--fetchers Q] [--workers W] [--quantum N] FILE...
 abbrev pub run_shape : Shape
 run_shape =
-    (with_rule (with_work (with_rule (with_rule (with_memory (with_rule (new_app (codes "run")) checks_rule)) (option_rule (codes "evacuators"))) (option_rule (codes "fetchers")))) files_rule).top
+    (with_rule (with_work (with_rule (with_rule (with_memory (of_code (codes "run"))) (option_rule (codes "evacuators"))) (option_rule (codes "fetchers")))) files_rule).top
 
--- replay [-d] [--frames F] [--objects N] [--store DIR] [--fail-from K] [--evacuators E] [--fetchers Q] [--workers W] [--quantum N]
--- --schedule S FILE...
+-- replay [--level L] [-d] [--piece C] [--frames F] [--objects N] [--store DIR] [--fail-from K] [--evacuators E] [--fetchers Q] [--workers W]
+-- [--quantum N] --schedule S FILE...
 abbrev pub replay_shape : Shape
 replay_shape =
-    (with_rule (with_rule (with_work (with_rule (with_rule (with_memory (with_rule (new_app (codes "replay")) checks_rule)) (option_rule (codes "evacuators"))) (option_rule (codes "fetchers")))) schedule_rule) files_rule).top
+    (with_rule (with_rule (with_work (with_rule (with_rule (with_memory (of_code (codes "replay"))) (option_rule (codes "evacuators"))) (option_rule (codes "fetchers")))) schedule_rule) files_rule).top
 
 -- c0far, which wants a command
 abbrev pub top_shape : Shape
@@ -83,11 +103,21 @@ top_shape = record (new_app (codes "c0far")).top { subcommand_required = true }
 -- the program with its commands
 unfoldable pub shell : App
 shell =
-    with_subcommand (with_subcommand (with_subcommand (with_subcommand (with_subcommand (with_subcommand (record { top = top_shape; subs = [] }) build_shape) (file_shape (codes "check"))) (file_shape (codes "list"))) mean_shape) replay_shape) run_shape
+    with_subcommand (with_subcommand (with_subcommand (with_subcommand (with_subcommand (with_subcommand (record { top = top_shape; subs = [] }) build_shape) check_shape) list_shape) mean_shape) replay_shape) run_shape
 
 -- what clap builds for a command has no argument that is the commands' below it too
 abbrev pub IsLocal : Built → Type 0
 IsLocal c = (out-Command c).has_globals ≡ false
+
+-- how texts are taken: with `break` and `continue` in the language or not, and with contracts checked or not
+pub record Texts : Type 0 where
+  pub loops : Bool
+  pub checks : Bool
+
+-- how code is made of texts: they are taken so, and pieces have so many cells
+pub record Compiling : Type 0 where
+  pub texts : Texts
+  pub piece : ℕ
 
 -- what programs run over: frames, objects, the folder of the store, where it is in one, and the number of the store's first call that fails, or 0
 pub record Memory : Type 0 where
@@ -103,7 +133,7 @@ pub record Work : Type 0 where
 
 -- how programs are run
 pub record Started : Type 0 where
-  pub checks : Bool
+  pub compiling : Compiling
   pub memory : Memory
   pub evacuators : ℕ
   pub fetchers : ℕ
@@ -111,20 +141,20 @@ pub record Started : Type 0 where
 
 -- how programs are replayed
 pub record Replayed : Type 0 where
-  pub checks : Bool
+  pub compiling : Compiling
   pub memory : Memory
   pub evacuators : ℕ
   pub fetchers : ℕ
   pub work : Work
   pub schedule : Text
 
--- a command, with its file; `build` and `mean` with whether contracts are checked, `build` with the file that it writes, `mean` with its turns;
--- `replay` and `run` with one file or more
+-- a command, with its file, and with how texts are taken, and code is made of them; `check` and `list` check no contracts, and are told the level alone,
+-- `list` the size of pieces too; `build` with the file that it writes, `mean` with its turns; `replay` and `run` with one file or more
 pub data Command : Type 0 where
-  Build : Bool → (out file : Text) → Command
-  Check : Text → Command
-  Lists : Text → Command
-  Mean : Bool → ℕ → Text → Command
+  Build : Compiling → (out file : Text) → Command
+  Check : (loops : Bool) → Text → Command
+  Lists : (loops : Bool) → (piece : ℕ) → Text → Command
+  Mean : Texts → ℕ → Text → Command
   Replay : Replayed → List Text → Command
   Run : Started → List Text → Command
 
@@ -157,13 +187,37 @@ short_option name default rows = number_or short_number_in default (first_of nam
 abbrev pub has_checks : List Row → Bool
 has_checks rows = option_map_or (λ text. bytes_eq text (codes "true")) (first_of (codes "checks") rows) false
 
+-- level 0 is the language without `break` and `continue`, level 1 that with them, and there is no other
+abbrev pub level_of : ℕ → Option Bool
+level_of n = cond (n == 0) (Some false) (cond (n == 1) (Some true) None)
+
+-- the level of the rows, 0 where they tell none
+abbrev pub level_in : List Row → Option Bool
+level_in rows = option_and_then level_of (short_option (codes "level") 0 rows)
+
+-- how the rows say that texts are taken
+abbrev pub texts_in : List Row → Option Texts
+texts_in rows = option_map (λ l. record { loops = l; checks = has_checks rows }) (level_in rows)
+
+-- how many cells pieces have by the rows, 64 where they tell no number; there are pieces of five sizes
+abbrev pub piece_in : List Row → Option ℕ
+piece_in rows = option_and_then (λ n. cond (is_piece n) (Some n) None) (short_option (codes "piece") 64 rows)
+
+-- how the rows say that code is made of texts
+abbrev pub compiling_in : List Row → Option Compiling
+compiling_in rows = option_and_then (λ t. option_map (λ p. record { texts = t; piece = p }) (piece_in rows)) (texts_in rows)
+
 -- the plain run of this file, within the turns of the rows
 abbrev pub mean_command : List Row → Text → Option Command
-mean_command rows file = option_map (λ turns. Mean (has_checks rows) turns file) (option_and_then number_in (first_of (codes "turns") rows))
+mean_command rows file = option_and_then (λ t. option_map (λ turns. Mean t turns file) (option_and_then number_in (first_of (codes "turns") rows))) (texts_in rows)
 
 -- the image of this file, written to the file of the rows
 abbrev pub build_command : List Row → Text → Option Command
-build_command rows file = option_map (λ out. Build (has_checks rows) out file) (first_of (codes "out") rows)
+build_command rows file = option_and_then (λ c. option_map (λ out. Build c out file) (first_of (codes "out") rows)) (compiling_in rows)
+
+-- the listing of this file
+abbrev pub list_command : List Row → Text → Option Command
+list_command rows file = option_and_then (λ l. option_map (λ p. Lists l p file) (piece_in rows)) (level_in rows)
 
 -- the memory of the rows: 64 frames and 65,536 objects where they tell no other number, and no failing call
 abbrev pub memory_in : List Row → Option Memory
@@ -178,8 +232,8 @@ work_in rows = option_and_then (λ w. option_map (λ n. record { workers = w; qu
 -- how the rows say that programs are run: beside one evacuator and one fetcher where they tell no other number
 abbrev pub started_in : List Row → Option Started
 started_in rows =
-    option_and_then (λ m. option_and_then (λ e. option_and_then (λ q. option_map (λ w. record { checks = has_checks rows; memory = m; evacuators = e; fetchers = q; work = w })
-    (work_in rows)) (short_option (codes "fetchers") 1 rows)) (short_option (codes "evacuators") 1 rows)) (memory_in rows)
+    option_and_then (λ c. option_and_then (λ m. option_and_then (λ e. option_and_then (λ q. option_map (λ w. record { compiling = c; memory = m; evacuators = e; fetchers = q; work = w })
+    (work_in rows)) (short_option (codes "fetchers") 1 rows)) (short_option (codes "evacuators") 1 rows)) (memory_in rows)) (compiling_in rows)
 
 -- the run of the files of the rows
 abbrev pub run_command : List Row → Option Command
@@ -188,8 +242,8 @@ run_command rows = option_and_then (λ asked. option_map (λ files. Run asked fi
 -- how the rows say that programs are replayed: with one evacuator and one fetcher where they tell no other number
 abbrev pub replayed_in : List Row → Option Replayed
 replayed_in rows =
-    option_and_then (λ m. option_and_then (λ e. option_and_then (λ q. option_and_then (λ w. option_map (λ s. record { checks = has_checks rows; memory = m; evacuators = e; fetchers = q; work = w; schedule = s })
-    (first_of (codes "schedule") rows)) (work_in rows)) (short_option (codes "fetchers") 1 rows)) (short_option (codes "evacuators") 1 rows)) (memory_in rows)
+    option_and_then (λ c. option_and_then (λ m. option_and_then (λ e. option_and_then (λ q. option_and_then (λ w. option_map (λ s. record { compiling = c; memory = m; evacuators = e; fetchers = q; work = w; schedule = s })
+    (first_of (codes "schedule") rows)) (work_in rows)) (short_option (codes "fetchers") 1 rows)) (short_option (codes "evacuators") 1 rows)) (memory_in rows)) (compiling_in rows)
 
 -- the replay of the files of the rows
 abbrev pub replay_command : List Row → Option Command
@@ -199,8 +253,8 @@ replay_command rows = option_and_then (λ asked. option_map (λ files. Replay as
 abbrev pub named_command : Text → List Row → Text → Option Command
 named_command name rows file =
     cond (bytes_eq name (codes "build")) (build_command rows file)
-    (cond (bytes_eq name (codes "check")) (Some (Check file))
-    (cond (bytes_eq name (codes "list")) (Some (Lists file))
+    (cond (bytes_eq name (codes "check")) (option_map (λ l. Check l file) (level_in rows))
+    (cond (bytes_eq name (codes "list")) (list_command rows file)
     (cond (bytes_eq name (codes "mean")) (mean_command rows file) None)))
 
 -- the command that clap found, with its rows
@@ -209,6 +263,14 @@ command_in None = None
 command_in (Some p) =
     cond (bytes_eq p.0 (codes "replay")) (replay_command p.1)
     (cond (bytes_eq p.0 (codes "run")) (run_command p.1) (option_and_then (named_command p.0 p.1) (first_of (codes "file") p.1)))
+
+-- how texts are taken, as code has it
+abbrev pub texts_of : AskedTexts → Texts
+texts_of t = record { loops = has_loops t.level; checks = t.checks }
+
+-- how code is made, as code has it
+abbrev pub compiling_of : AskedCompiling → Compiling
+compiling_of c = record { texts = texts_of c.texts; piece = cells_in c.piece }
 
 -- a memory as code has it
 abbrev pub memory_of : Written → Memory
@@ -220,18 +282,18 @@ work_of w = record { workers = w.workers; quantum = w.quantum }
 
 -- a run as code has it
 abbrev pub started_of : AskedRun → Started
-started_of r = record { checks = r.checks; memory = memory_of r.memory; evacuators = r.evacuators; fetchers = r.fetchers; work = work_of r.work }
+started_of r = record { compiling = compiling_of r.compiling; memory = memory_of r.memory; evacuators = r.evacuators; fetchers = r.fetchers; work = work_of r.work }
 
 -- a replay as code has it
 abbrev pub replayed_of : Asked → Replayed
-replayed_of r = record { checks = r.checks; memory = memory_of r.memory; evacuators = r.evacuators; fetchers = r.fetchers; work = work_of r.work; schedule = r.schedule.now }
+replayed_of r = record { compiling = compiling_of r.compiling; memory = memory_of r.memory; evacuators = r.evacuators; fetchers = r.fetchers; work = work_of r.work; schedule = r.schedule.now }
 
 -- a command as code has it
 abbrev pub command_of : Line → Command
-command_of (line.Build checks out file) = Build checks out.now file.now
-command_of (line.Check file) = Check file.now
-command_of (line.List file) = Lists file.now
-command_of (line.Mean checks turns file) = Mean checks turns file.now
+command_of (line.Build compiling out file) = Build (compiling_of compiling) out.now file.now
+command_of (line.Check level file) = Check (has_loops level) file.now
+command_of (line.List level piece file) = Lists (has_loops level) (cells_in piece) file.now
+command_of (line.Mean texts turns file) = Mean (texts_of texts) turns file.now
 command_of (line.Replay asked files) = Replay (replayed_of asked) (map (λ f. f.now) files.items)
 command_of (line.Run asked files) = Run (started_of asked) (map (λ f. f.now) files.items)
 

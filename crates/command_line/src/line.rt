@@ -1,65 +1,16 @@
 //! From words to a command.
 ghost use Rattle.std.specs.Prelude.{◌≡◌, [], codes, false, IfErr, IfOk, List, MatchResult, None, Some, ℕ, map, option_and_then, option_map, true};
 ghost use Rattle.clap.specs.Words.{all_of, app_of, first_of, found_of, kind_of, rows_of, rule_of, subcommand_rows_of};
-ghost use Rattle.command_line.specs.Shell.{Command as Asked, IsLocal, Names, build_command, build_shape, checks_rule, command_in, command_of, file_rule, file_shape, has_checks, is_signed, mean_command, mean_shape, memory_in, memory_of, named_command, number_in, number_or, option_rule, replay_command, replay_shape, replayed_in, replayed_of, run_command, run_shape, shell, short_number_in, short_option, started_in, started_of, with_memory, with_work, work_in, work_of};
+ghost use Rattle.c0_syntax.specs.Levels.{has_loops};
+ghost use Rattle.cells.specs.Pieces.{cells_in};
+ghost use Rattle.command_line.specs.Shell.{Check, Command as Asked, IsLocal, Names, build_command, build_shape, check_shape, command_in, command_of, compiling_in, compiling_of, has_checks, is_signed, level_in, list_command, list_shape, mean_command, mean_shape, memory_in, memory_of, named_command, number_in, number_or, of_checked_texts as checked_texts_app, of_code as code_app, of_texts as texts_app, option_rule, piece_in, replay_command, replay_shape, replayed_in, replayed_of, run_command, run_shape, shell, short_number_in, short_option, started_in, started_of, texts_in, texts_of, with_memory, with_work, work_in, work_of};
 
-use crate::words::{Line, Memory, Replay, Run, Usage, Work};
+use crate::words::{Compiling, Line, Memory, Replay, Run, Texts, Usage, Work};
+use c0_syntax::level::Level;
+use cells::Piece;
 use clap::error::ErrorKind;
 use clap::{Arg, ArgAction, ArgMatches, Command, Error};
 use std::alloc::{AllocError, Global};
-
-/// A command of this name with a file.
-fn of_a_file<'a>(alloc: Global, name: &'a str) -> Result<Command<'a>, AllocError>
-    ensures shape { IfOk result (λ c. app_of c ≡ record { top = file_shape name.now; subs = [] }) }
-    ensures local { IfOk result IsLocal }
-{
-    let file = Arg::new(alloc, "file")
-        .required(true)
-        .action(ArgAction::Set);
-    Command::new(alloc, name).arg(file)
-}
-
-/// The writing of an image, with its options and its file.
-fn build<'a>(alloc: Global) -> Result<Command<'a>, AllocError>
-    ensures shape { IfOk result (λ c. app_of c ≡ record { top = build_shape; subs = [] }) }
-    ensures local { IfOk result IsLocal }
-{
-    let checks = Arg::new(alloc, "checks")
-        .short('d')
-        .action(ArgAction::SetTrue);
-    let out = Arg::new(alloc, "out")
-        .short('o')
-        .required(true)
-        .action(ArgAction::Set);
-    let file = Arg::new(alloc, "file")
-        .required(true)
-        .action(ArgAction::Set);
-    Command::new(alloc, "build")
-        .arg(checks)?
-        .arg(out)?
-        .arg(file)
-}
-
-/// The plain run, with its options and its file.
-fn mean<'a>(alloc: Global) -> Result<Command<'a>, AllocError>
-    ensures shape { IfOk result (λ c. app_of c ≡ record { top = mean_shape; subs = [] }) }
-    ensures local { IfOk result IsLocal }
-{
-    let checks = Arg::new(alloc, "checks")
-        .short('d')
-        .action(ArgAction::SetTrue);
-    let turns = Arg::new(alloc, "turns")
-        .long("turns")
-        .required(true)
-        .action(ArgAction::Set);
-    let file = Arg::new(alloc, "file")
-        .required(true)
-        .action(ArgAction::Set);
-    Command::new(alloc, "mean")
-        .arg(checks)?
-        .arg(turns)?
-        .arg(file)
-}
 
 /// An option of this name with a value, which may be left out.
 fn option<'a>(alloc: Global, name: &'a str) -> Arg<'a>
@@ -67,6 +18,87 @@ fn option<'a>(alloc: Global, name: &'a str) -> Arg<'a>
     ensures own { result.global ≡ false }
 {
     Arg::new(alloc, name).long(name).action(ArgAction::Set)
+}
+
+/// A command of this name, which reads texts at a level.
+fn of_texts<'a>(alloc: Global, name: &'a str) -> Result<Command<'a>, AllocError>
+    ensures shape { IfOk result (λ c. app_of c ≡ texts_app name.now) }
+    ensures local { IfOk result IsLocal }
+{
+    Command::new(alloc, name).arg(option(alloc, "level"))
+}
+
+/// A command of this name, which reads texts at a level, with contracts checked or not.
+fn of_checked_texts<'a>(alloc: Global, name: &'a str) -> Result<Command<'a>, AllocError>
+    ensures shape { IfOk result (λ c. app_of c ≡ checked_texts_app name.now) }
+    ensures local { IfOk result IsLocal }
+{
+    let checks = Arg::new(alloc, "checks")
+        .short('d')
+        .action(ArgAction::SetTrue);
+    of_texts(alloc, name)?.arg(checks)
+}
+
+/// A command of this name, which makes code of texts.
+fn of_code<'a>(alloc: Global, name: &'a str) -> Result<Command<'a>, AllocError>
+    ensures shape { IfOk result (λ c. app_of c ≡ code_app name.now) }
+    ensures local { IfOk result IsLocal }
+{
+    of_checked_texts(alloc, name)?.arg(option(alloc, "piece"))
+}
+
+/// The check, with its options and its file.
+fn check<'a>(alloc: Global) -> Result<Command<'a>, AllocError>
+    ensures shape { IfOk result (λ c. app_of c ≡ record { top = check_shape; subs = [] }) }
+    ensures local { IfOk result IsLocal }
+{
+    let file = Arg::new(alloc, "file")
+        .required(true)
+        .action(ArgAction::Set);
+    of_texts(alloc, "check")?.arg(file)
+}
+
+/// The listing, with its options and its file.
+fn list<'a>(alloc: Global) -> Result<Command<'a>, AllocError>
+    ensures shape { IfOk result (λ c. app_of c ≡ record { top = list_shape; subs = [] }) }
+    ensures local { IfOk result IsLocal }
+{
+    let file = Arg::new(alloc, "file")
+        .required(true)
+        .action(ArgAction::Set);
+    of_texts(alloc, "list")?
+        .arg(option(alloc, "piece"))?
+        .arg(file)
+}
+
+/// The writing of an image, with its options and its file.
+fn build<'a>(alloc: Global) -> Result<Command<'a>, AllocError>
+    ensures shape { IfOk result (λ c. app_of c ≡ record { top = build_shape; subs = [] }) }
+    ensures local { IfOk result IsLocal }
+{
+    let out = Arg::new(alloc, "out")
+        .short('o')
+        .required(true)
+        .action(ArgAction::Set);
+    let file = Arg::new(alloc, "file")
+        .required(true)
+        .action(ArgAction::Set);
+    of_code(alloc, "build")?.arg(out)?.arg(file)
+}
+
+/// The plain run, with its options and its file.
+fn mean<'a>(alloc: Global) -> Result<Command<'a>, AllocError>
+    ensures shape { IfOk result (λ c. app_of c ≡ record { top = mean_shape; subs = [] }) }
+    ensures local { IfOk result IsLocal }
+{
+    let turns = Arg::new(alloc, "turns")
+        .long("turns")
+        .required(true)
+        .action(ArgAction::Set);
+    let file = Arg::new(alloc, "file")
+        .required(true)
+        .action(ArgAction::Set);
+    of_checked_texts(alloc, "mean")?.arg(turns)?.arg(file)
 }
 
 /// A command with the options of its memory.
@@ -96,13 +128,10 @@ fn run<'a>(alloc: Global) -> Result<Command<'a>, AllocError>
     ensures shape { IfOk result (λ c. app_of c ≡ record { top = run_shape; subs = [] }) }
     ensures local { IfOk result IsLocal }
 {
-    let checks = Arg::new(alloc, "checks")
-        .short('d')
-        .action(ArgAction::SetTrue);
     let files = Arg::new(alloc, "file")
         .required(true)
         .action(ArgAction::Append);
-    let command = Command::new(alloc, "run").arg(checks)?;
+    let command = of_code(alloc, "run")?;
     with_workers(
         alloc,
         over_memory(alloc, command)?
@@ -117,13 +146,10 @@ fn replay<'a>(alloc: Global) -> Result<Command<'a>, AllocError>
     ensures shape { IfOk result (λ c. app_of c ≡ record { top = replay_shape; subs = [] }) }
     ensures local { IfOk result IsLocal }
 {
-    let checks = Arg::new(alloc, "checks")
-        .short('d')
-        .action(ArgAction::SetTrue);
     let files = Arg::new(alloc, "file")
         .required(true)
         .action(ArgAction::Append);
-    let command = Command::new(alloc, "replay").arg(checks)?;
+    let command = of_code(alloc, "replay")?;
     with_workers(
         alloc,
         over_memory(alloc, command)?
@@ -139,8 +165,8 @@ fn command<'a>(alloc: Global) -> Result<Command<'a>, AllocError>
     ensures { IfOk result (λ c. app_of c ≡ shell) }
 {
     let build = build(alloc)?;
-    let check = of_a_file(alloc, "check")?;
-    let list = of_a_file(alloc, "list")?;
+    let check = check(alloc)?;
+    let list = list(alloc)?;
     let mean = mean(alloc)?;
     let replay = replay(alloc)?;
     let run = run(alloc)?;
@@ -213,6 +239,17 @@ fn fail_from(matches: &ArgMatches<'_>) -> Option<u64>
     }
 }
 
+/// The level of the language that the options tell. None where it is none.
+fn level(matches: &ArgMatches<'_>) -> Option<Level>
+    ensures { option_map has_loops result ≡ level_in (rows_of (found_of matches.now)) }
+{
+    match short_option(matches, "level", 0) {
+        Some(0) => Some(Level::C0),
+        Some(1) => Some(Level::Loops),
+        Some(_) | None => None,
+    }
+}
+
 /// The memory that the options tell.
 fn memory<'a>(matches: &ArgMatches<'a>) -> Option<Memory<'a>>
     ensures { option_map memory_of result ≡ memory_in (rows_of (found_of matches.now)) }
@@ -244,33 +281,71 @@ fn checks(matches: &ArgMatches<'_>) -> bool
     }
 }
 
+/// How texts are taken, by the options that clap found.
+fn texts(matches: &ArgMatches<'_>) -> Option<Texts>
+    ensures { option_map texts_of result ≡ texts_in (rows_of (found_of matches.now)) }
+{
+    let Some(level) = level(matches) else {
+        return None;
+    };
+    let checks = checks(matches);
+    Some(Texts { level, checks })
+}
+
+/// The size of pieces that the options tell. None where there is none such.
+fn piece(matches: &ArgMatches<'_>) -> Option<Piece>
+    ensures { option_map cells_in result ≡ piece_in (rows_of (found_of matches.now)) }
+{
+    match short_option(matches, "piece", 64) {
+        Some(cells) => Piece::new(cells),
+        None => None,
+    }
+}
+
+/// How code is made of texts, by the options that clap found.
+fn compiling(matches: &ArgMatches<'_>) -> Option<Compiling>
+    ensures { option_map compiling_of result ≡ compiling_in (rows_of (found_of matches.now)) }
+{
+    let Some(texts) = texts(matches) else {
+        return None;
+    };
+    match piece(matches) {
+        Some(piece) => Some(Compiling { texts, piece }),
+        None => None,
+    }
+}
+
 /// The plain run of this file, with the options that clap found.
 fn plain_run<'a>(matches: &ArgMatches<'a>, file: &'a str) -> Option<Line<'a>>
     ensures { option_map command_of result ≡ mean_command (rows_of (found_of matches.now)) file.now }
 {
+    let Some(texts) = texts(matches) else {
+        return None;
+    };
     let Some(text) = matches.get_str("turns") else {
         return None;
     };
     let Some(turns) = number(text) else {
         return None;
     };
-    let checks = checks(matches);
-    Some(Line::Mean {
-        checks,
-        turns,
-        file,
-    })
+    Some(Line::Mean { texts, turns, file })
 }
 
 /// The writing of this file's image, with the options that clap found.
 fn written<'a>(matches: &ArgMatches<'a>, file: &'a str) -> Option<Line<'a>>
     ensures { option_map command_of result ≡ build_command (rows_of (found_of matches.now)) file.now }
 {
+    let Some(compiling) = compiling(matches) else {
+        return None;
+    };
     let Some(out) = matches.get_str("out") else {
         return None;
     };
-    let checks = checks(matches);
-    Some(Line::Build { checks, out, file })
+    Some(Line::Build {
+        compiling,
+        out,
+        file,
+    })
 }
 
 /// The work that the options say that clap found.
@@ -290,6 +365,9 @@ fn work(matches: &ArgMatches<'_>) -> Option<Work>
 fn started<'a>(matches: &ArgMatches<'a>) -> Option<Run<'a>>
     ensures { option_map started_of result ≡ started_in (rows_of (found_of matches.now)) }
 {
+    let Some(compiling) = compiling(matches) else {
+        return None;
+    };
     let Some(memory) = memory(matches) else {
         return None;
     };
@@ -302,9 +380,8 @@ fn started<'a>(matches: &ArgMatches<'a>) -> Option<Run<'a>>
     let Some(work) = work(matches) else {
         return None;
     };
-    let checks = checks(matches);
     Some(Run {
-        checks,
+        compiling,
         memory,
         evacuators,
         fetchers,
@@ -316,6 +393,9 @@ fn started<'a>(matches: &ArgMatches<'a>) -> Option<Run<'a>>
 fn replayed<'a>(matches: &ArgMatches<'a>) -> Option<Replay<'a>>
     ensures { option_map replayed_of result ≡ replayed_in (rows_of (found_of matches.now)) }
 {
+    let Some(compiling) = compiling(matches) else {
+        return None;
+    };
     let Some(memory) = memory(matches) else {
         return None;
     };
@@ -331,9 +411,8 @@ fn replayed<'a>(matches: &ArgMatches<'a>) -> Option<Replay<'a>>
     let Some(schedule) = matches.get_str("schedule") else {
         return None;
     };
-    let checks = checks(matches);
     Some(Replay {
-        checks,
+        compiling,
         memory,
         evacuators,
         fetchers,
@@ -385,14 +464,37 @@ fn replays<'a>(alloc: Global, matches: &ArgMatches<'a>) -> Result<Line<'a>, Usag
     }
 }
 
+/// The check of this file, at the level that clap found.
+fn checked<'a>(matches: &ArgMatches<'a>, file: &'a str) -> Option<Line<'a>>
+    ensures { option_map command_of result ≡ option_map (λ l. Check l file.now) (level_in (rows_of (found_of matches.now))) }
+{
+    match level(matches) {
+        Some(level) => Some(Line::Check { level, file }),
+        None => None,
+    }
+}
+
+/// The listing of this file, with the options that clap found.
+fn listed<'a>(matches: &ArgMatches<'a>, file: &'a str) -> Option<Line<'a>>
+    ensures { option_map command_of result ≡ list_command (rows_of (found_of matches.now)) file.now }
+{
+    let Some(level) = level(matches) else {
+        return None;
+    };
+    match piece(matches) {
+        Some(piece) => Some(Line::List { level, piece, file }),
+        None => None,
+    }
+}
+
 /// The command of this name, with this file and what else clap found.
 fn named<'a>(name: &str, matches: &ArgMatches<'a>, file: &'a str) -> Option<Line<'a>>
     ensures { option_map command_of result ≡ named_command name.now (rows_of (found_of matches.now)) file.now }
 {
     match name {
         "build" => written(matches, file),
-        "check" => Some(Line::Check { file }),
-        "list" => Some(Line::List { file }),
+        "check" => checked(matches, file),
+        "list" => listed(matches, file),
         "mean" => plain_run(matches, file),
         _ => None,
     }

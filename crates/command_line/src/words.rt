@@ -1,5 +1,21 @@
 //! What a command line asks for.
+use c0_syntax::level::Level;
+use cells::Piece;
 use thiserror::Error;
+
+/// How texts are taken: at which level of the language, and with contracts checked or not. Images are taken as they are.
+#[derive(Clone, Copy, Debug, PartialEq, Eq)]
+pub struct Texts {
+    pub level: Level,
+    pub checks: bool,
+}
+
+/// How code is made of texts: they are taken so, and pieces, which are what moves at once, have so many cells. Images are taken as they are.
+#[derive(Clone, Copy, Debug, PartialEq, Eq)]
+pub struct Compiling {
+    pub texts: Texts,
+    pub piece: Piece,
+}
 
 /// What programs run over: frames of local memory, and objects, which stand in a store where they are in no frame. The store is in memory, or in
 /// files of the folder `store`. Of its calls, counted from 1 over all of a system, those from the number `fail_from` on fail; none does where it is 0.
@@ -18,21 +34,21 @@ pub struct Work {
     pub quantum: u32,
 }
 
-/// How programs are run: with contracts checked or not, over this memory, beside so many evacuators and fetchers, by turns of workers.
+/// How programs are run: with code that is made so, over this memory, beside so many evacuators and fetchers, by turns of workers.
 #[derive(Clone, Copy, Debug, PartialEq, Eq)]
 pub struct Run<'a> {
-    pub checks: bool,
+    pub compiling: Compiling,
     pub memory: Memory<'a>,
     pub evacuators: u32,
     pub fetchers: u32,
     pub work: Work,
 }
 
-/// How programs are replayed: with contracts checked or not, over this memory, with so many evacuators and fetchers, by the schedule of this file. The
+/// How programs are replayed: with code that is made so, over this memory, with so many evacuators and fetchers, by the schedule of this file. The
 /// work only has to be within its limits.
 #[derive(Clone, Copy, Debug, PartialEq, Eq)]
 pub struct Replay<'a> {
-    pub checks: bool,
+    pub compiling: Compiling,
     pub memory: Memory<'a>,
     pub evacuators: u32,
     pub fetchers: u32,
@@ -43,23 +59,26 @@ pub struct Replay<'a> {
 /// A command, with its files and options.
 #[derive(Debug, Drop)]
 pub enum Line<'a> {
-    /// Writes the image of a text, with contracts checked or not, into the file `out`.
+    /// Writes the image that is made so of a text, or an image, into the file `out`.
     Build {
-        checks: bool,
+        compiling: Compiling,
         out: &'a str,
         file: &'a str,
     },
-    /// Tells whether a text keeps the static rules, or an image may be run.
+    /// Tells whether a text keeps the static rules of this level, or an image may be run.
     Check {
+        level: Level,
         file: &'a str,
     },
-    /// Lists the instructions of an image, or of a text's.
+    /// Lists the instructions of an image, or of a text's of this level, for pieces of this size.
     List {
+        level: Level,
+        piece: Piece,
         file: &'a str,
     },
-    /// The plain run of a text: what its program means within so many turns, with contracts checked or not.
+    /// The plain run of a text that is taken so: what its program means within so many turns.
     Mean {
-        checks: bool,
+        texts: Texts,
         turns: u64,
         file: &'a str,
     },

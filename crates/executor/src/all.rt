@@ -1,10 +1,10 @@
 //! The run of all programs of a region.
 ghost use Rattle.std.specs.List.{All};
-ghost use Rattle.std.specs.Prelude.{◌≡◌, ◌⊎◌, ◌+◌, ◌/◌, ◌≤◌, IfErr, IfOk, length};
+ghost use Rattle.std.specs.Prelude.{◌≡◌, ◌⊎◌, ◌+◌, ◌/◌, ◌<◌, ◌≤◌, ℕ, IfErr, IfOk, length};
 ghost use Rattle.executor.specs.Ends.{AreEnds};
 ghost use Rattle.object_lock.specs.Fresh.{AreNumbered, IsFreshMover, IsFreshOwner};
-ghost use Rattle.region.specs.Admission.{IsRefused};
-ghost use Rattle.remote_store.specs.Kept.{piece_cells};
+ghost use Rattle.region.specs.Admission.{IsRefused, image_at};
+ghost use Rattle.world_semantics.specs.Pieces.{piece_of};
 
 use crate::filing::{all_ends, file_all, no_ends};
 use crate::places::run_beside;
@@ -39,7 +39,7 @@ fn run_region<S: RawStore + Send, G: Gate, R: Threads + Wait + Clock + Sync>(
     requires owners { All (IsFreshOwner region.now.table share) owners.items }
     requires movers { All (IsFreshMover region.now.table) movers.items }
     requires enough { length movers.items ≤ evacuators + region.now.fetchers }
-    requires cells { region.now.table.sizes.cells ≡ piece_cells }
+    requires cells { (k : ℕ) → k < length region.now.programs → (image_at region.now.programs k).piece ≡ region.now.table.sizes.cells }
     ensures { IfOk result (λ v. AreEnds S.honest S.reliable share region.now.programs v.items) }
 {
     let Ok((hints, mut passes)) = Hints::new(alloc, region) else {
@@ -75,6 +75,7 @@ pub fn run_all<
     config: Config<M>,
     gate: &G,
 ) -> Result<Vec<Ended>, AdmitFault>
+    requires { M.makes config.stores (piece_of (image_at programs.items) + 3) }
     ensures ends { IfOk result (λ v. AreEnds S.honest S.reliable (config.objects / length programs.items) programs.items v.items) }
     ensures refused { IfErr result (λ fault. (fault ≡ AdmitFault.OutOfMemory) ⊎ IsRefused programs.items config.frames config.objects config.evacuators config.fetchers config.workers config.quantum fault) }
 {

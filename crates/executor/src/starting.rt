@@ -1,8 +1,8 @@
 //! What a region's run begins with: programs at their beginning in the queue of tasks, workers with passes of it, and movers at their seats.
 ghost use Rattle.std.specs.List.{All};
-ghost use Rattle.std.specs.Prelude.{◌≡◌, ◌+◌, ◌<◌, ◌≤◌, IfOk, OnOk, length};
+ghost use Rattle.std.specs.Prelude.{◌≡◌, ◌+◌, ◌<◌, ◌≤◌, ℕ, IfOk, OnOk, length};
 ghost use Rattle.object_lock.specs.Fresh.{AreNumbered, IsFreshMover, IsFreshOwner};
-ghost use Rattle.remote_store.specs.Kept.{piece_cells};
+ghost use Rattle.region.specs.Admission.{image_at};
 ghost use Rattle.task_queue.specs.Tasked.{IsTask, roster};
 
 use crate::movers::{Evacuator, Fetcher, Mover};
@@ -43,7 +43,7 @@ pub(crate) fn begin_all<'a, S: RawStore>(
     requires seats { All (IsFreshOwner region.now.table share) seats.items }
     requires passes { All (λ p. p ≡ hints.now) passes.old.items }
     requires enough { length region.now.programs ≤ length passes.old.items }
-    requires cells { region.now.table.sizes.cells ≡ piece_cells }
+    requires cells { (k : ℕ) → k < length region.now.programs → (image_at region.now.programs k).piece ≡ region.now.table.sizes.cells }
     ensures tasks { IfOk result (λ v. All (IsTask (roster region.now.programs share)) v.items) }
     ensures count { IfOk result (λ v. length v.items ≡ length region.now.programs) }
     ensures passes { All (λ p. p ≡ hints.now) passes.new.items }

@@ -10,6 +10,7 @@ mod scenario;
 
 use crate::queues::{cross_threads, fill_queue};
 use crate::scenario::{Scenario, Story, play};
+use cells::Piece;
 use remote_store::{FarHeap, FaultPlan, FaultStores};
 use std::alloc::Global;
 use std::io;
@@ -19,7 +20,7 @@ use std::sync::Wait;
 /// What comes of hints of an object that is moved out, where the first get fails. `None` where memory runs out.
 fn fail_once<R: Wait>(rt: &R, alloc: Global) -> Option<Story> {
     // The first call of the store is the put.
-    let stores = FaultStores::new(alloc, FarHeap, FaultPlan::Only(2)).ok()?;
+    let stores = FaultStores::new(alloc, FarHeap::new(Piece::Cells64), FaultPlan::Only(2)).ok()?;
     play(rt, alloc, Scenario::MovedOut, stores)
 }
 
@@ -32,10 +33,11 @@ fn main(rt: HostRuntime) -> io::Result<()> {
         "a hint of another thread: {:?}",
         cross_threads(&rt, alloc)
     )?;
-    let moved_out = play(&rt, alloc, Scenario::MovedOut, FarHeap);
+    let stores = FarHeap::new(Piece::Cells64);
+    let moved_out = play(&rt, alloc, Scenario::MovedOut, stores);
     writeln!(out, "a store that does not fail: {moved_out:?}")?;
     let failed = fail_once(&rt, alloc);
     writeln!(out, "a store that fails the first get: {failed:?}")?;
-    let no_frame = play(&rt, alloc, Scenario::NoFrame, FarHeap);
+    let no_frame = play(&rt, alloc, Scenario::NoFrame, stores);
     writeln!(out, "two frames: {no_frame:?}")
 }

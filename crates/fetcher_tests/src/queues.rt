@@ -2,6 +2,7 @@
 ghost use Rattle.std.specs.Prelude.{◌≡◌, ◌≤◌, IfSome};
 
 use crate::regions::region;
+use cells::Piece;
 use hint_queue::{HintPass, Hints};
 use region::Region;
 use remote_store::FarHeap;
@@ -41,7 +42,7 @@ fn queue_of(alloc: Global, region: &Region<FarHeap>) -> Option<(Hints, HintPass,
 fn queue(alloc: Global) -> Option<(Hints, HintPass, HintPass)>
     ensures { IfSome result (λ t. (300 ≤ t.0.objects) × (t.1 ≡ t.0) × (t.2 ≡ t.0)) }
 {
-    let (region, _owners, _movers) = region(alloc, OBJECTS, FarHeap)?;
+    let (region, _owners, _movers) = region(alloc, OBJECTS, FarHeap::new(Piece::Cells64))?;
     queue_of(alloc, &region)
 }
 

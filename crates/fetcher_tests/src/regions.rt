@@ -1,11 +1,14 @@
 //! A region of one program.
 ghost use Rattle.object_lock.specs.Fresh.{IsFresh};
 ghost use Rattle.std.specs.List.{All};
-ghost use Rattle.std.specs.Prelude.{IfSome};
+ghost use Rattle.region.specs.Admission.{image_at};
+ghost use Rattle.world_semantics.specs.Pieces.{piece_of as first_piece};
+ghost use Rattle.std.specs.Prelude.{◌≡◌, IfSome};
 
+use cells::Piece;
 use code_form::{Block, Function, Image, Instruction, Kind, Operation};
 use object_lock::{MoverSeat, OwnerSeat};
-use region::{Region, admit};
+use region::{Region, admit, piece_of};
 use remote_store::{Config, RawStore, Stores};
 use scope_verifier::{Verified, verify};
 use std::alloc::{AllocError, Global};
@@ -40,15 +43,21 @@ fn functions(alloc: Global) -> Result<Vec<Function>, AllocError> {
     Ok(functions)
 }
 
-/// The only program. `None` where memory runs out.
-fn programs(alloc: Global) -> Option<Vec<Verified>> {
+/// The only program, which has pieces of 64 cells. `None` where memory runs out.
+fn programs(alloc: Global) -> Option<Vec<Verified>>
+    ensures { IfSome result (λ programs. first_piece (image_at programs.items) ≡ 64) }
+{
     let mut programs = Vec::with_capacity(alloc, 1).ok()?;
     let image = Image {
+        piece: Piece::Cells64,
         texts: Vec::new(alloc),
         layouts: Vec::new(alloc),
         functions: functions(alloc).ok()?,
     };
     programs.push_reserved(verify(alloc, image).ok()?);
+    if piece_of(&programs).cells() != 64 {
+        return None;
+    }
     Some(programs)
 }
 
@@ -59,6 +68,7 @@ pub(crate) fn region<M: Stores + Drop>(
     objects: u32,
     stores: M,
 ) -> Option<(Region<M::S>, Vec<OwnerSeat<M::S>>, Vec<MoverSeat<M::S>>)>
+    requires store { M.makes stores 67 }
     ensures owners { IfSome result (λ t. All (IsFresh t.0.table) t.1.items) }
     ensures movers { IfSome result (λ t. All (IsFresh t.0.table) t.2.items) }
 {

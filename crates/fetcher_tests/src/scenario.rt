@@ -118,7 +118,9 @@ pub(crate) fn play<R: Wait, M: Stores + Drop>(
     alloc: Global,
     scenario: Scenario,
     stores: M,
-) -> Option<Story> {
+) -> Option<Story>
+    requires { M.makes stores 67 }
+{
     let (region, mut owners, mut movers) = region(alloc, 3, stores)?;
     play_in(rt, alloc, scenario, &region, &mut owners, &mut movers)
 }

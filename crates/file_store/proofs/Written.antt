@@ -1,7 +1,6 @@
 -- The bytes of words tell the words, and what is read of a row's bytes is what a row reads as.
-use Rattle.std.proofs.Common.{◌≡◌, ◌≢◌, ◌⊎◌, ℕ, zero, suc, ◌+◌, ◌*◌, ◌^◌, ◌<◌, ◌≤◌, ◌==◌, Bool, true, false, ◌&&◌, cond, min, List, [], ◌∷◌, ◌++◌, length, take, drop, get_or, refl, sym, ap, subst, ◌∙◌, ⊎_elim, inl, inr, arith}
+use Rattle.std.proofs.Common.{◌≡◌, ◌≢◌, ◌⊎◌, ℕ, zero, suc, ◌+◌, ◌*◌, ◌^◌, ◌<◌, ◌≤◌, ◌==◌, Bool, true, false, cond, min, List, [], ◌∷◌, ◌++◌, length, take, drop, get_or, refl, sym, ap, subst, ◌∙◌, ⊎_elim, inl, inr, arith}
 use Rattle.std.proofs.lemmas.Bool.{cases_lt}
-use Rattle.std.proofs.lemmas.Bool.Decides.{Decides-eqb}
 use Rattle.std.proofs.lemmas.List.{drop-drop, get_or-drop, length-drop, length-take-le, take-append-drop, take_all}
 use Rattle.std.proofs.lemmas.Nat.{from_le_bytes-to_le_bytes_8, le_bytes_8}
 use Rattle.std.proofs.lemmas.Slice.{take-put_mid}
@@ -67,60 +66,55 @@ taken (x ∷ xs) bytes size small read =
 
 -- ---- rows
 
--- two tests that hold choose
-both : (b c : Bool) (x y : List ℕ) → b ≡ true → c ≡ true → x ≡ y → cond (b && c) (Some x) None ≡ Some y
-both true true x y p q e = ap (λ (z : List ℕ). Some z) e
-both true false x y p q e = (cc)
-both false c x y p q e = (cc)
+-- a test that holds chooses
+choose : (b : Bool) (x y : List ℕ) → b ≡ true → x ≡ y → cond b (Some x) None ≡ Some y
+choose true x y p e = ap (λ (z : List ℕ). Some z) e
+choose false x y p e = (cc)
 
--- what is chosen was chosen by two tests that hold
-chosen : (b c : Bool) (x y : List ℕ) → cond (b && c) (Some x) None ≡ Some y → (b ≡ true) × (c ≡ true) × (x ≡ y)
-chosen true true x y e = (refl, refl, (cc))
-chosen true false x y e = absurd (cc)
-chosen false c x y e = absurd (cc)
+-- what is chosen was chosen by a test that holds
+chosen : (b : Bool) (x y : List ℕ) → cond b (Some x) None ≡ Some y → (b ≡ true) × (x ≡ y)
+chosen true x y e = (refl, (cc))
+chosen false x y e = absurd (cc)
 
 -- a file that holds the bytes of a row's words holds the row
-pub row_written : (held : Option (List ℕ)) (bytes words : List ℕ) → held ≡ Some bytes → bytes ≡ word_bytes words → words_in bytes ≡ words → length words ≡ 67 → row_in held ≡ Some words
+pub row_written : (held : Option (List ℕ)) (bytes words : List ℕ) → held ≡ Some bytes → bytes ≡ word_bytes words → words_in bytes ≡ words → row_in held ≡ Some words
 unfolding row_in
-row_written held bytes words is made back len =
-    let size : length bytes ≡ 536 = ap length made ∙ omega (arith, length-word_bytes words) in
+row_written held bytes words is made back =
     let same : word_bytes (words_in bytes) ≡ bytes = ap word_bytes back ∙ sym made in
-    ap row_in is ∙ both (length bytes == 536) (bytes_eq (word_bytes (words_in bytes)) bytes) (words_in bytes) words ((Decides-eqb (length bytes) 536).1 size) ((bytes_eq-Decides (word_bytes (words_in bytes)) bytes).1 same) back
+    ap row_in is ∙ choose (bytes_eq (word_bytes (words_in bytes)) bytes) (words_in bytes) words ((bytes_eq-Decides (word_bytes (words_in bytes)) bytes).1 same) back
 
 -- what is known of a file that holds a row
 pub record IsHeld (held : Option (List ℕ)) (words : List ℕ) : Type 0 where
   pub whole : held ≡ Some (word_bytes words)
-  pub size : length (word_bytes words) ≡ 536
   pub back : words_in (word_bytes words) ≡ words
 
 pub row_held : (held : Option (List ℕ)) (words : List ℕ) → row_in held ≡ Some words → IsHeld held words
 unfolding row_in
 row_held None words e = absurd (cc)
 row_held (Some bytes) words e =
-    let c = chosen (length bytes == 536) (bytes_eq (word_bytes (words_in bytes)) bytes) (words_in bytes) words e in
-    let size : length bytes ≡ 536 = (Decides-eqb (length bytes) 536).0 c.0 in
-    let same : word_bytes (words_in bytes) ≡ bytes = (bytes_eq-Decides (word_bytes (words_in bytes)) bytes).0 c.1 in
-    let made : bytes ≡ word_bytes words = sym same ∙ ap word_bytes c.2 in
-    record { whole = ap (λ (b : List ℕ). Some b) made; size = ap length (sym made) ∙ size; back = ap words_in (sym made) ∙ c.2 }
+    let c = chosen (bytes_eq (word_bytes (words_in bytes)) bytes) (words_in bytes) words e in
+    let same : word_bytes (words_in bytes) ≡ bytes = (bytes_eq-Decides (word_bytes (words_in bytes)) bytes).0 c.0 in
+    let made : bytes ≡ word_bytes words = sym same ∙ ap word_bytes c.1 in
+    record { whole = ap (λ (b : List ℕ). Some b) made; back = ap words_in (sym made) ∙ c.1 }
 
 -- what an honest folder reads of a row's file, where it gives as many bytes, is what an honest store reads of the row
 row_read : (held : Option (List ℕ)) (found words new : List ℕ) → ((bytes : List ℕ) → held ≡ Some bytes → ReadsBytes bytes found)
-    → length found ≡ 536 → word_bytes new ≡ found → words_in found ≡ new → row_in held ≡ Some words → Reads words new
+    → length found ≡ 8 * length words → word_bytes new ≡ found → words_in found ≡ new → row_in held ≡ Some words → Reads words new
 row_read held found words new reads size made back e =
     let is : IsHeld held words = row_held held words e in
     ⊎_elim (λ (same : found ≡ word_bytes words). inl (sym back ∙ ap words_in same ∙ is.back))
     (λ (other : (length found ≢ length (word_bytes words)) ⊎ (take 24 found ≢ take 24 (word_bytes words))). ⊎_elim
-    (λ (longer : length found ≢ length (word_bytes words)). absurd (longer (size ∙ sym is.size)))
+    (λ (longer : length found ≢ length (word_bytes words)). absurd (longer (size ∙ sym (length-word_bytes words))))
     (λ (differs : take 24 found ≢ take 24 (word_bytes words)). inr (λ (same : take 3 new ≡ take 3 words).
     absurd (differs (ap (take 24) (sym made) ∙ take-word_bytes 3 new ∙ ap word_bytes same ∙ sym (take-word_bytes 3 words)))))
     other)
     (reads (word_bytes words) is.whole)
 
 -- the same of bytes that were read into a longer room
-pub row_taken : (held : Option (List ℕ)) (room words new : List ℕ) (count : ℕ) → ((bytes : List ℕ) → held ≡ Some bytes → ReadsBytes bytes (take count room))
-    → length room ≡ 537 → count ≡ 536 → word_bytes new ≡ take 536 room → words_in (take 536 room) ≡ new → row_in held ≡ Some words → Reads words new
-row_taken held room words new count reads len whole made back e =
-    row_read held (take 536 room) words new (λ bytes is. subst (λ (n : ℕ). ReadsBytes bytes (take n room)) whole (reads bytes is)) (length-take-le 536 room (omega arith)) made back e
+pub row_taken : (held : Option (List ℕ)) (room words new : List ℕ) (count n : ℕ) → ((bytes : List ℕ) → held ≡ Some bytes → ReadsBytes bytes (take count room))
+    → 8 * n ≤ length room → count ≡ 8 * n → word_bytes new ≡ take (8 * n) room → words_in (take (8 * n) room) ≡ new → row_in held ≡ Some words → length words ≡ n → Reads words new
+row_taken held room words new count n reads len whole made back e same =
+    row_read held (take (8 * n) room) words new (λ bytes is. subst (λ (k : ℕ). ReadsBytes bytes (take k room)) whole (reads bytes is)) (length-take-le (8 * n) room len ∙ omega arith) made back e
 
 -- ---- files in memory
 
@@ -154,8 +148,8 @@ later true v e = omega arith
 later false v e = omega arith
 
 -- the file of a berth into which something was put holds the bytes of its row
-pub kept_whole : (version before : ℕ) (held : Option (List ℕ)) (o : ℕ) (ws : List ℕ) → version ≡ next_version before → Keeps 64 version (row_in held) o ws → held ≡ Some (word_bytes (o ∷ version ∷ 64 ∷ ws))
-kept_whole version before held o ws next keeps =
-    ⊎_elim (λ (z : (version ≡ 0) × ((i : ℕ) → i < 64 → get_or ws i 0 ≡ 0)). absurd (later (before == 18446744073709551615) before (sym next ∙ z.0)))
-    (λ (p : (0 < version) × (length ws ≡ 64) × (row_in held ≡ Some (o ∷ version ∷ 64 ∷ ws))). (row_held held (o ∷ version ∷ 64 ∷ ws) p.2).whole)
+pub kept_whole : (n version before : ℕ) (held : Option (List ℕ)) (o : ℕ) (ws : List ℕ) → version ≡ next_version before → Keeps n version (row_in held) o ws → held ≡ Some (word_bytes (o ∷ version ∷ n ∷ ws))
+kept_whole n version before held o ws next keeps =
+    ⊎_elim (λ (z : (version ≡ 0) × ((i : ℕ) → i < n → get_or ws i 0 ≡ 0)). absurd (later (before == 18446744073709551615) before (sym next ∙ z.0)))
+    (λ (p : (0 < version) × (length ws ≡ n) × (row_in held ≡ Some (o ∷ version ∷ n ∷ ws))). (row_held held (o ∷ version ∷ n ∷ ws) p.2).whole)
     keeps

@@ -3,7 +3,7 @@ ghost use Rattle.std.specs.Prelude.{◌≡◌, ◌≢◌, ℕ, ◌+◌, ◌%◌,
 ghost use Rattle.std.specs.Arc.{arc_value};
 
 use crate::failures::Failures;
-use crate::folder::{Folder, ROW_BYTES};
+use crate::folder::{Folder, MOST_BYTES};
 use cells::Want;
 use remote_store::Failed;
 use std::alloc::{AllocError, Global};
@@ -37,12 +37,13 @@ impl Place {
     }
 }
 
-/// A file on a disk: its number in its folder, and whether the last write of it succeeded.
+/// A file on a disk: its number in its folder, whether the last write of it succeeded, and how many bytes that had.
 #[derive(Drop)]
 pub struct DiskFile {
     number: u64,
     written: bool,
-    put: Snapshot<[u8; ROW_BYTES]>,
+    size: usize,
+    put: Snapshot<[u8; MOST_BYTES]>,
 }
 
 /// One mover's way to a folder on a disk. It takes no lock. `failures` counts the calls that failed through this value,
@@ -95,20 +96,31 @@ impl<'a, R: Files + AllocGlobal> Clone for DiskFolder<'a, R> {
     }
 }
 
+// The bytes as clauses see them, in a room for the most. The copy is no more than that, and left out of what is built.
+#[inline]
+fn snapshot_of(bytes: &[u8]) -> Snapshot<[u8; MOST_BYTES]>
+    requires { length bytes.now ≤ MOST_BYTES }
+    ensures { take (length bytes.now) result.value ≡ bytes.now }
+{
+    let mut room = [0; MOST_BYTES];
+    room[..bytes.len()].copy_from_slice(bytes);
+    Snapshot::of(&room)
+}
+
 // Makes these bytes the whole of the file, which is opened anew. A longer file is cut off behind them and not before: a file that is emptied first has
 // some file systems wait for the disk.
 fn write_file<R: Files + AllocGlobal>(
     rt: &R,
     place: &Place,
     number: u64,
-    bytes: &[u8; ROW_BYTES],
+    bytes: &[u8],
 ) -> io::Result<()> {
     let path = place.file_path(rt.alloc(), number)?;
     let mut options = OpenOptions::new();
     options.write(true).create(true);
     let mut file = options.open(rt, path.as_str())?;
     file.write_all(bytes)?;
-    file.set_len(ROW_BYTES as u64)
+    file.set_len(bytes.len() as u64)
 }
 
 // Reads until there is no more room, or the file has ended, and gives the number of bytes that were read.
@@ -149,7 +161,7 @@ impl<'a, R: Files + AllocGlobal> Folder for DiskFolder<'a, R> {
 
     ghost failures = { λ s. s.failures.count };
 
-    ghost content = { λ f. cond f.written (Some f.put.value) None };
+    ghost content = { λ f. cond f.written (Some (take f.size f.put.value)) None };
 
     ghost read_gives = { λ _ f _ _. f.written ≡ true };
 
@@ -162,17 +174,20 @@ impl<'a, R: Files + AllocGlobal> Folder for DiskFolder<'a, R> {
         Ok(DiskFile {
             number: self.place.draw(),
             written: false,
-            put: Snapshot::of(&[0; ROW_BYTES]),
+            size: 0,
+            put: Snapshot::of(&[0; MOST_BYTES]),
         })
     }
 
-    fn write(&mut self, file: &mut DiskFile, bytes: &[u8; ROW_BYTES]) -> Result<(), Failed>
-        ensures put { IfOk result (λ _. cond file.new.written (Some file.new.put.value) None ≡ Some bytes.now) }
+    fn write(&mut self, file: &mut DiskFile, bytes: &[u8]) -> Result<(), Failed>
+        requires { length bytes.now ≤ MOST_BYTES }
+        ensures put { IfOk result (λ _. cond file.new.written (Some (take file.new.size file.new.put.value)) None ≡ Some bytes.now) }
         ensures written { MatchResult result (λ _. file.new.written ≡ true) (λ _. file.new.written ≡ false) }
         ensures number { file.new.number ≡ file.old.number }
         ensures counted { MatchResult result (λ _. self.new.failures.count ≡ self.old.failures.count) (λ _. self.new.failures.count ≡ (self.old.failures.count + 1) % 18446744073709551616) }
     {
-        file.put = Snapshot::of(bytes);
+        file.size = bytes.len();
+        file.put = snapshot_of(bytes);
         match write_file(self.rt, &self.place, file.number, bytes) {
             Ok(()) => {
                 file.written = true;
@@ -189,7 +204,7 @@ impl<'a, R: Files + AllocGlobal> Folder for DiskFolder<'a, R> {
     fn read(&mut self, file: &DiskFile, bytes: &mut [u8]) -> Result<usize, Failed>
         ensures length { length bytes.new ≡ length bytes.old }
         ensures room { IfOk result (λ count. count ≤ length bytes.old) }
-        ensures got { IfOk result (λ count. ⊥ → (held : List ℕ) → cond file.now.written (Some file.now.put.value) None ≡ Some held → ReadsBytes held (take count bytes.new)) }
+        ensures got { IfOk result (λ count. ⊥ → (held : List ℕ) → cond file.now.written (Some (take file.now.size file.now.put.value)) None ≡ Some held → ReadsBytes held (take count bytes.new)) }
         ensures gave { IfOk result (λ _. file.now.written ≡ true) }
         ensures counted { MatchResult result (λ _. self.new.failures.count ≡ self.old.failures.count) (λ _. self.new.failures.count ≡ (self.old.failures.count + 1) % 18446744073709551616) }
     {

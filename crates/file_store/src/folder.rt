@@ -2,11 +2,11 @@
 ghost use Rattle.std.specs.Prelude.{◌≡◌, ◌≢◌, ℕ, ◌+◌, ◌%◌, ◌≤◌, List, Option, Some, length, take, IfOk, IfErr, MatchResult};
 
 use cells::Want;
-use remote_store::{Failed, ROW_WORDS};
+use remote_store::{Failed, MOST_WORDS};
 use std::alloc::Global;
 
-/// The bytes of a row: eight for each of its words.
-pub const ROW_BYTES: usize = 8 * ROW_WORDS;
+/// The most bytes of a row: eight for each of its words.
+pub const MOST_BYTES: usize = 8 * MOST_WORDS;
 
 /// One mover's way to a folder of files. `content` is what a file holds: the bytes of the last write of it, where that
 /// succeeded. An `honest` folder reads back those bytes, or another number of them, or bytes of another header. `failures`
@@ -31,7 +31,8 @@ pub trait Folder: Drop {
         ensures { IfErr result (λ want. want ≢ Want.NoObjects) };
 
     /// Makes these bytes the whole of the file. After a failure nothing is known of what the file holds.
-    fn write(&mut self, file: &mut Self::File, bytes: &[u8; ROW_BYTES]) -> Result<(), Failed>
+    fn write(&mut self, file: &mut Self::File, bytes: &[u8]) -> Result<(), Failed>
+        requires { length bytes.now ≤ MOST_BYTES }
         ensures put { IfOk result (λ _. content file.new ≡ Some bytes.now) }
         ensures counted { MatchResult result (λ _. failures self.new ≡ failures self.old) (λ _. failures self.new ≡ (failures self.old + 1) % 18446744073709551616) };
 

@@ -1,11 +1,11 @@
 //! What a berth promises over files, whatever the folder.
-ghost use Rattle.std.specs.Prelude.{◌≡◌, ℕ, ◌+◌, ◌%◌, ◌<◌, List, ◌∷◌, length, Some, IfOk, IfErr, MatchResult};
-ghost use Rattle.remote_store.specs.Kept.{Keeps, Took, RefusedFor, next_version, piece_cells};
+ghost use Rattle.std.specs.Prelude.{◌≡◌, ℕ, ◌+◌, ◌%◌, ◌<◌, ◌≤◌, List, ◌∷◌, length, Some, IfOk, IfErr, MatchResult};
+ghost use Rattle.remote_store.specs.Kept.{Keeps, Took, RefusedFor, next_version};
 ghost use Rattle.file_store.specs.FileRows.{row_in, word_bytes};
 
 use crate::folder::Folder;
 use crate::store::FileStore;
-use remote_store::{Berth, Failed, PIECE_CELLS, Port, Refusal};
+use remote_store::{Berth, Failed, MOST_CELLS, Port, Refusal};
 
 /// `Berth::put` over files: where it succeeds, the berth's file holds the bytes of the object, the version, the number of
 /// cells and the cells. `Failed` exactly where a call of this store failed.
@@ -15,10 +15,10 @@ pub fn put_into_file<D: Folder>(
     obj: usize,
     words: &[u64],
 ) -> Result<(), Failed>
-    requires { length words.now ≡ PIECE_CELLS }
+    requires { length words.now ≤ MOST_CELLS }
     ensures version { berth.new.version ≡ next_version berth.old.version }
-    ensures whole { IfOk result (λ _. D.content berth.new.cell ≡ Some (word_bytes (obj ∷ berth.new.version ∷ piece_cells ∷ words.now))) }
-    ensures put { IfOk result (λ _. Keeps piece_cells berth.new.version (row_in (D.content berth.new.cell)) obj words.now) }
+    ensures whole { IfOk result (λ _. D.content berth.new.cell ≡ Some (word_bytes (obj ∷ berth.new.version ∷ length words.now ∷ words.now))) }
+    ensures put { IfOk result (λ _. Keeps (length words.now) berth.new.version (row_in (D.content berth.new.cell)) obj words.now) }
     ensures counted { MatchResult result (λ _. (port.new.refusals ≡ port.old.refusals) × (port.new.store.failures.count ≡ port.old.store.failures.count))
         (λ _. (port.new.refusals ≡ (port.old.refusals + 1) % 18446744073709551616) × (port.new.store.failures.count ≡ (port.old.store.failures.count + 1) % 18446744073709551616)) }
 {
@@ -35,11 +35,11 @@ pub fn get_from_file<D: Folder>(
     obj: usize,
     words: &mut [u64],
 ) -> Result<(), Refusal>
-    requires { (length words.old ≡ PIECE_CELLS) × (0 < berth.now.version) }
-    ensures got { IfOk result (λ _. D.honest → (ws : List ℕ) → Keeps piece_cells berth.now.version (row_in (D.content berth.now.cell)) obj ws → words.new ≡ ws) }
+    requires { (length words.old ≤ MOST_CELLS) × (0 < berth.now.version) }
+    ensures got { IfOk result (λ _. D.honest → (ws : List ℕ) → Keeps (length words.old) berth.now.version (row_in (D.content berth.now.cell)) obj ws → words.new ≡ ws) }
     ensures refused { IfErr result (λ _. (words.new ≡ words.old) × (port.new.refusals ≡ (port.old.refusals + 1) % 18446744073709551616)) }
-    ensures read { MatchResult result (λ _. Took piece_cells (λ row. D.read_gives port.old.store.folder berth.now.cell (word_bytes row) port.new.store.folder) berth.now.version obj words.new)
-        (λ why. RefusedFor piece_cells (port.new.store.failures.count ≡ (port.old.store.failures.count + 1) % 18446744073709551616)
+    ensures read { MatchResult result (λ _. Took (length words.old) (λ row. D.read_gives port.old.store.folder berth.now.cell (word_bytes row) port.new.store.folder) berth.now.version obj words.new)
+        (λ why. RefusedFor (length words.old) (port.new.store.failures.count ≡ (port.old.store.failures.count + 1) % 18446744073709551616)
         (λ row. D.read_gives port.old.store.folder berth.now.cell (word_bytes row) port.new.store.folder × (port.new.store.failures.count ≡ port.old.store.failures.count)) berth.now.version obj why) }
 {
     berth.get(port, obj, words)

@@ -10,7 +10,7 @@ mod memory;
 mod store;
 
 pub use disk::{DiskFile, DiskFolder};
-pub use folder::{Folder, ROW_BYTES};
+pub use folder::{Folder, MOST_BYTES};
 pub use laws::{get_from_file, put_into_file};
 pub use memory::{MemFile, MemFolder};
 pub use store::{FileStore, FileStores};

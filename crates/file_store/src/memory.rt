@@ -2,7 +2,7 @@
 ghost use Rattle.std.specs.Prelude.{◌≡◌, ◌≢◌, ℕ, ◌+◌, ◌%◌, ◌≤◌, min, true, false, List, [], Some, length, take, IfOk, IfErr, IsOk, MatchResult};
 
 use crate::failures::Failures;
-use crate::folder::{Folder, ROW_BYTES};
+use crate::folder::{Folder, MOST_BYTES};
 use cells::Want;
 use remote_store::Failed;
 use std::alloc::Global;
@@ -85,7 +85,8 @@ impl Folder for MemFolder {
         })
     }
 
-    fn write(&mut self, file: &mut MemFile, bytes: &[u8; ROW_BYTES]) -> Result<(), Failed>
+    fn write(&mut self, file: &mut MemFile, bytes: &[u8]) -> Result<(), Failed>
+        requires { length bytes.now ≤ MOST_BYTES }
         ensures put { IfOk result (λ _. Some file.new.bytes.items ≡ Some bytes.now) }
         ensures there { IfOk result (λ _. self.old.there ≡ true) }
         ensures same { self.new.there ≡ self.old.there }

@@ -1,6 +1,7 @@
 //! A folder on the disk.
+ghost use Rattle.std.specs.Prelude.{◌≤◌};
 
-use file_store::{DiskFolder, ROW_BYTES};
+use file_store::DiskFolder;
 use std::alloc::Global;
 use std::io::Write;
 use std::path::PathBuf;
@@ -24,10 +25,12 @@ impl<'a> Disk<'a> {
         self.rt.alloc()
     }
 
-    /// Makes the folder, with an old file of this name in it.
-    pub(crate) fn make(&self, old: &str) -> io::Result<DiskFolder<'a, HostRuntime>> {
+    /// Makes the folder, with an old file of this name in it, of the bytes of so many words.
+    pub(crate) fn make(&self, old: &str, words: usize) -> io::Result<DiskFolder<'a, HostRuntime>>
+        requires { words ≤ 259 }
+    {
         fs::create_dir(self.rt, self.path.as_path())?;
-        self.write(old, ROW_BYTES, 9)?;
+        self.write(old, 8 * words, 9)?;
         Ok(DiskFolder::new(self.alloc(), self.rt, self.path.as_str())?)
     }
 

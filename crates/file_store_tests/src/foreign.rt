@@ -1,7 +1,7 @@
 //! A folder that is none of those of `file_store`.
 
 use cells::Want;
-use file_store::{Folder, ROW_BYTES};
+use file_store::Folder;
 use remote_store::Failed;
 use std::alloc::Global;
 
@@ -29,7 +29,7 @@ impl Folder for Foreign {
         Ok(())
     }
 
-    fn write(&mut self, _file: &mut (), _bytes: &[u8; ROW_BYTES]) -> Result<(), Failed> {
+    fn write(&mut self, _file: &mut (), _bytes: &[u8]) -> Result<(), Failed> {
         self.failures = self.failures.wrapping_add(1);
         Err(Failed)
     }

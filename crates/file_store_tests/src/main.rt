@@ -9,7 +9,9 @@
 //! - `= store heap PLAN`: writes and reads of a row's words, over such a store;
 //! - `= folder missing` and `= folder disk NAME`: writes and reads of a row's bytes, in such a folder itself.
 //!
-//! The rows behind it use the words that the test holds, and one of the ways:
+//! Before all these may stand `cells N`: then the pieces have so many cells, and not 64.
+//!
+//! The rows behind it use the words that the test holds, which are the cells of a piece where it goes over ports, and else those of a row, and one of the ways:
 //! - `fill WORD` makes each of the words this one, `set AT WORD` the word there, and `show AT` tells the word there;
 //! - `put OBJECT` writes the words, and `get OBJECT` reads words in their place; each tells how it ended, and what the way has counted, as `counts` does;
 //! - `other` goes on with the other way;

@@ -1,10 +1,10 @@
 //! Doing rows.
+ghost use Rattle.std.specs.Prelude.{◌≡◌, length, IfOk};
 
 use crate::disk::Disk;
 use crate::rows::Row;
 use crate::ways::Way;
 use cells::Want;
-use remote_store::ROW_WORDS;
 use std::io::Write;
 use std::{fmt, io, mem};
 
@@ -13,7 +13,16 @@ use std::{fmt, io, mem};
 struct Bench<W: Way> {
     way: W,
     other: W,
-    words: [u64; ROW_WORDS],
+    words: Vec<u64>,
+}
+
+/// Makes the word there this one.
+fn set(words: &mut [u64], at: usize, word: u64)
+    ensures { length words.new ≡ length words.old }
+{
+    if at < words.len() {
+        words[at] = word;
+    }
 }
 
 impl<W: Way> Bench<W> {
@@ -30,13 +39,6 @@ impl<W: Way> Bench<W> {
         }
     }
 
-    /// Makes the word there this one.
-    fn set(&mut self, at: usize, word: u64) {
-        if let Some(place) = self.words.get_mut(at) {
-            *place = word;
-        }
-    }
-
     /// Tells the word there.
     fn show<O: Write>(&self, at: usize, out: &mut O) -> io::Result<()> {
         match self.words.get(at) {
@@ -46,10 +48,16 @@ impl<W: Way> Bench<W> {
     }
 
     /// Does a row, and tells what came of it.
-    fn row<O: Write>(&mut self, disk: &Disk, row: Row, out: &mut O) -> io::Result<()> {
+    fn row<O: Write>(&mut self, disk: &Disk, row: Row, out: &mut O) -> io::Result<()>
+        requires { W.takes self.old.way (length self.old.words.items) × W.takes self.old.other (length self.old.words.items) }
+        ensures { IfOk result (λ _. W.takes self.new.way (length self.new.words.items) × W.takes self.new.other (length self.new.words.items)) }
+    {
         match row {
-            Row::Fill(word) => self.words = [word; ROW_WORDS],
-            Row::Set(at, word) => self.set(at, word),
+            Row::Fill(word) => {
+                let count = self.words.len();
+                self.words = vec![in disk.alloc(); word; count]?;
+            }
+            Row::Set(at, word) => set(&mut self.words, at, word),
             Row::Show(at) => self.show(at, out)?,
             Row::Put(object) => {
                 let ended = self.way.put(object, &self.words);
@@ -78,18 +86,21 @@ fn refusal(want: Want) -> io::Error {
     }
 }
 
-/// Does these rows with these two ways, of which the first is in use.
+/// Does these rows with so many words and these two ways, of which the first is in use.
 pub(crate) fn play<W: Way, O: Write>(
     disk: &Disk,
     ways: Result<(W, W), Want>,
+    count: usize,
     rows: &[&str],
     out: &mut O,
-) -> io::Result<()> {
+) -> io::Result<()>
+    requires { IfOk ways (λ two. W.takes two.0 count × W.takes two.1 count) }
+{
     let (way, other) = ways.map_err(refusal)?;
     let mut bench = Bench {
         way,
         other,
-        words: [0; ROW_WORDS],
+        words: vec![in disk.alloc(); 0; count]?,
     };
     for line in rows {
         let words: Vec<&str> = line.split(' ').collect(disk.alloc())?;

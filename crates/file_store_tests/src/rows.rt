@@ -1,5 +1,6 @@
 //! Reading a row.
 
+use cells::Piece;
 use remote_store::FaultPlan;
 
 /// What a test goes over.
@@ -32,6 +33,19 @@ fn plan(words: &[&str]) -> Option<FaultPlan> {
         ["at", number] => Some(FaultPlan::Only(number.parse().ok()?)),
         ["from", number] => Some(FaultPlan::From(number.parse().ok()?)),
         _ => None,
+    }
+}
+
+/// The piece of as many cells as this word says.
+fn piece(word: &str) -> Option<Piece> {
+    Piece::new(word.parse().ok()?)
+}
+
+/// The size of the pieces of a test, which is of 64 cells where its words don't say another, and the words behind it.
+pub(crate) fn sized<'w, 'a>(words: &'w [&'a str]) -> (Piece, &'w [&'a str]) {
+    match words {
+        ["cells", word, rest @ ..] => (piece(word).unwrap_or(Piece::Cells64), rest),
+        _ => (Piece::Cells64, words),
     }
 }
 

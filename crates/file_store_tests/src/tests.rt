@@ -1,13 +1,15 @@
 //! The two ways of each test.
+ghost use Rattle.cells.specs.Pieces.{cells_in};
+ghost use Rattle.std.specs.Prelude.{◌≡◌, ◌+◌, ◌≤◌, ℕ, length, IfOk};
 
 use crate::disk::Disk;
 use crate::foreign::Foreign;
 use crate::play::play;
-use crate::rows::Over;
+use crate::rows::{Over, sized};
 use crate::ways::{BerthWay, Counted, FolderWay, PortWay, StoreWay};
-use cells::Want;
+use cells::{Piece, Want};
 use file_store::{FileStore, FileStores, Folder, MemFolder};
-use remote_store::{FarHeap, FaultPlan, FaultStore, FaultStores, Stores};
+use remote_store::{FarHeap, FaultPlan, FaultStore, FaultStores, HEADER_WORDS, RawStore, Stores};
 use std::alloc::Global;
 use std::io;
 use std::io::Write;
@@ -23,6 +25,19 @@ fn ports<D: Folder + Clone + Send>(alloc: Global, folder: D) -> Result<Two<PortW
     Ok((first, other))
 }
 
+/// Two ways to new cells of these stores.
+fn cells_of<S: RawStore + Counted>(
+    alloc: Global,
+    first: S,
+    other: S,
+) -> Result<Two<StoreWay<S>>, Want>
+    ensures { IfOk result (λ two. (n : ℕ) → S.makes first n → S.makes other n → S.fits two.0.cell n × S.fits two.1.cell n) }
+{
+    let first = StoreWay::new(alloc, first)?;
+    let other = StoreWay::new(alloc, other)?;
+    Ok((first, other))
+}
+
 /// Two ways to a store in memory, of which the call of this number fails.
 fn planned(
     alloc: Global,
@@ -32,39 +47,52 @@ fn planned(
     let Ok(stores) = FaultStores::new(alloc, files, FaultPlan::Only(number)) else {
         return Err(Want::OutOfMemory);
     };
-    let first = StoreWay::new(alloc, stores.one(alloc)?)?;
-    let other = StoreWay::new(alloc, stores.one(alloc)?)?;
-    Ok((first, other))
+    cells_of(alloc, stores.one(alloc)?, stores.one(alloc)?)
 }
 
-/// Two ways to a store in memory that fails by this plan.
+/// Two ways to a store in memory for pieces of this size that fails by this plan.
 fn heaps(
     alloc: Global,
+    piece: Piece,
     plan: FaultPlan,
-) -> Result<(FaultStore<FarHeap>, FaultStore<FarHeap>), Want> {
-    let Ok(stores) = FaultStores::new(alloc, FarHeap, plan) else {
+) -> Result<(FaultStore<FarHeap>, FaultStore<FarHeap>), Want>
+    ensures { IfOk result (λ two. (two.0.store.words ≡ cells_in piece + 3) × (two.1.store.words ≡ cells_in piece + 3)) }
+{
+    let Ok(stores) = FaultStores::new(alloc, FarHeap::new(piece), plan) else {
         return Err(Want::OutOfMemory);
     };
     Ok((stores.one(alloc)?, stores.one(alloc)?))
 }
 
-/// Two ways through ports to a store in memory that fails by this plan.
-fn heap_ports(alloc: Global, plan: FaultPlan) -> Result<Two<BerthWay<FaultStore<FarHeap>>>, Want> {
-    let (first, other) = heaps(alloc, plan)?;
+/// Two ways through ports to such a store.
+fn heap_ports(
+    alloc: Global,
+    piece: Piece,
+    plan: FaultPlan,
+) -> Result<Two<BerthWay<FaultStore<FarHeap>>>, Want>
+    ensures { IfOk result (λ two. (length two.0.berth.cell.row.items ≡ cells_in piece + 3) × (length two.1.berth.cell.row.items ≡ cells_in piece + 3)) }
+{
+    let (first, other) = heaps(alloc, piece, plan)?;
     Ok((BerthWay::new(alloc, first)?, BerthWay::new(alloc, other)?))
 }
 
-/// Two ways to a store in memory that fails by this plan.
-fn heap_stores(alloc: Global, plan: FaultPlan) -> Result<Two<StoreWay<FaultStore<FarHeap>>>, Want> {
-    let (first, other) = heaps(alloc, plan)?;
-    Ok((StoreWay::new(alloc, first)?, StoreWay::new(alloc, other)?))
+/// Two ways to such a store.
+fn heap_stores(
+    alloc: Global,
+    piece: Piece,
+    plan: FaultPlan,
+) -> Result<Two<StoreWay<FaultStore<FarHeap>>>, Want>
+    ensures { IfOk result (λ two. (length two.0.cell.row.items ≡ cells_in piece + 3) × (length two.1.cell.row.items ≡ cells_in piece + 3)) }
+{
+    let (first, other) = heaps(alloc, piece, plan)?;
+    cells_of(alloc, first, other)
 }
 
 /// Two stores, each in a folder whose reads give so many bytes.
 fn foreign(alloc: Global, count: usize) -> Result<Two<StoreWay<FileStore<Foreign>>>, Want> {
     let first = FileStore::new(Foreign { count, failures: 0 });
     let other = FileStore::new(Foreign { count, failures: 0 });
-    Ok((StoreWay::new(alloc, first)?, StoreWay::new(alloc, other)?))
+    cells_of(alloc, first, other)
 }
 
 /// Two ways to this folder.
@@ -81,19 +109,27 @@ fn folders<D: Folder + Counted + Clone>(
     ))
 }
 
-/// Does the rows of a test over this.
-fn test<O: Write>(disk: &Disk, over: Over, rows: &[&str], out: &mut O) -> io::Result<()> {
+/// Does the rows of a test over this, with the words of a piece of this size: its cells through ports, and a whole row else.
+fn test<O: Write>(
+    disk: &Disk,
+    piece: Piece,
+    over: Over,
+    rows: &[&str],
+    out: &mut O,
+) -> io::Result<()> {
     let alloc = disk.alloc();
+    let cells = piece.cells();
+    let row = cells + HEADER_WORDS;
     match over {
-        Over::PortsOfMemory => play(disk, ports(alloc, MemFolder::new()), rows, out),
-        Over::PortsOfMissing => play(disk, ports(alloc, MemFolder::missing()), rows, out),
-        Over::PortsOfDisk(old) => play(disk, ports(alloc, disk.make(old)?), rows, out),
-        Over::StoresOfForeign(count) => play(disk, foreign(alloc, count), rows, out),
-        Over::PlannedStores(number) => play(disk, planned(alloc, number), rows, out),
-        Over::PortsOfHeap(plan) => play(disk, heap_ports(alloc, plan), rows, out),
-        Over::StoresOfHeap(plan) => play(disk, heap_stores(alloc, plan), rows, out),
-        Over::MissingFolder => play(disk, folders(alloc, MemFolder::missing()), rows, out),
-        Over::DiskFolder(old) => play(disk, folders(alloc, disk.make(old)?), rows, out),
+        Over::PortsOfMemory => play(disk, ports(alloc, MemFolder::new()), cells, rows, out),
+        Over::PortsOfMissing => play(disk, ports(alloc, MemFolder::missing()), cells, rows, out),
+        Over::PortsOfDisk(old) => play(disk, ports(alloc, disk.make(old, row)?), cells, rows, out),
+        Over::StoresOfForeign(count) => play(disk, foreign(alloc, count), row, rows, out),
+        Over::PlannedStores(number) => play(disk, planned(alloc, number), row, rows, out),
+        Over::PortsOfHeap(plan) => play(disk, heap_ports(alloc, piece, plan), cells, rows, out),
+        Over::StoresOfHeap(plan) => play(disk, heap_stores(alloc, piece, plan), row, rows, out),
+        Over::MissingFolder => play(disk, folders(alloc, MemFolder::missing()), row, rows, out),
+        Over::DiskFolder(old) => play(disk, folders(alloc, disk.make(old, row)?), row, rows, out),
     }
 }
 
@@ -106,8 +142,9 @@ pub(crate) fn go_through<O: Write>(disk: &Disk, text: &str, out: &mut O) -> io::
         };
         writeln!(out, "= {title}")?;
         let words: Vec<&str> = title.split(' ').collect(disk.alloc())?;
-        if let Some(over) = Over::of(&words) {
-            test(disk, over, rows, out)?;
+        let (piece, words) = sized(&words);
+        if let Some(over) = Over::of(words) {
+            test(disk, piece, over, rows, out)?;
         }
     }
     Ok(())

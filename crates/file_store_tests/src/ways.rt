@@ -1,14 +1,13 @@
 //! Ways to write words and to read them, one for each level.
+ghost use Rattle.std.specs.Prelude.{◌≡◌, ◌≤◌, ◌+◌, ℕ, length, IfOk};
 
 use crate::foreign::Foreign;
 use byteorder::{ByteOrder, LittleEndian};
 use cells::Want;
 use file_store::{
-    DiskFolder, FileStore, Folder, MemFolder, ROW_BYTES, get_from_file, put_into_file,
+    DiskFolder, FileStore, Folder, MOST_BYTES, MemFolder, get_from_file, put_into_file,
 };
-use remote_store::{
-    Berth, Failed, FarHeap, FaultStore, PIECE_CELLS, Port, ROW_WORDS, RawStore, Refusal,
-};
+use remote_store::{Berth, Failed, FarHeap, FaultStore, Port, RawStore, Refusal};
 use std::alloc::Global;
 use std::fmt;
 
@@ -36,13 +35,20 @@ impl fmt::Display for Counts {
     }
 }
 
-/// A way to a place for words.
+/// A way to a place for words. `takes` tells how many words it may write or read at once, which no call changes.
 pub(crate) trait Way: Drop {
+    ghost takes: { Self → ℕ → Type 0 };
+
     /// Writes the words, at a port as those of this object.
-    fn put(&mut self, object: usize, words: &[u64; ROW_WORDS]) -> Result<(), Failed>;
+    fn put(&mut self, object: usize, words: &[u64]) -> Result<(), Failed>
+        requires { takes self.old (length words.now) }
+        ensures { (n : ℕ) → takes self.old n → takes self.new n };
 
     /// Reads words, at a port those of this object.
-    fn get(&mut self, object: usize, words: &mut [u64; ROW_WORDS]) -> Result<(), Refusal>;
+    fn get(&mut self, object: usize, words: &mut [u64]) -> Result<(), Refusal>
+        requires { takes self.old (length words.old) }
+        ensures takes { (n : ℕ) → takes self.old n → takes self.new n }
+        ensures length { length words.new ≡ length words.old };
 
     /// What it has counted.
     fn counts(&self) -> Counts;
@@ -68,26 +74,21 @@ impl<D: Folder> PortWay<D> {
 
 /// The methods of `Way`, which the checker doesn't cover in an `impl` of a trait for every folder.
 impl<D: Folder> PortWay<D> {
-    fn put_cells(&mut self, object: usize, words: &[u64; ROW_WORDS]) -> Result<(), Failed> {
-        put_into_file(
-            &mut self.berth,
-            &mut self.port,
-            object,
-            &words[..PIECE_CELLS],
-        )
+    fn put_cells(&mut self, object: usize, words: &[u64]) -> Result<(), Failed>
+        requires { length words.now ≤ 256 }
+    {
+        put_into_file(&mut self.berth, &mut self.port, object, words)
     }
 
     // Nothing is asked of a berth into which nothing was put.
-    fn get_cells(&mut self, object: usize, words: &mut [u64; ROW_WORDS]) -> Result<(), Refusal> {
+    fn get_cells(&mut self, object: usize, words: &mut [u64]) -> Result<(), Refusal>
+        requires { length words.old ≤ 256 }
+        ensures { length words.new ≡ length words.old }
+    {
         if self.berth.version == 0 {
             return Err(Refusal::Wrong);
         }
-        get_from_file(
-            &self.berth,
-            &mut self.port,
-            object,
-            &mut words[..PIECE_CELLS],
-        )
+        get_from_file(&self.berth, &mut self.port, object, words)
     }
 
     fn counted(&self) -> Counts {
@@ -100,11 +101,13 @@ impl<D: Folder> PortWay<D> {
 }
 
 impl Way for PortWay<MemFolder> {
-    fn put(&mut self, object: usize, words: &[u64; ROW_WORDS]) -> Result<(), Failed> {
+    ghost takes = { λ _ n. n ≤ 256 };
+
+    fn put(&mut self, object: usize, words: &[u64]) -> Result<(), Failed> {
         self.put_cells(object, words)
     }
 
-    fn get(&mut self, object: usize, words: &mut [u64; ROW_WORDS]) -> Result<(), Refusal> {
+    fn get(&mut self, object: usize, words: &mut [u64]) -> Result<(), Refusal> {
         self.get_cells(object, words)
     }
 
@@ -114,11 +117,13 @@ impl Way for PortWay<MemFolder> {
 }
 
 impl<'a> Way for PortWay<DiskFolder<'a, HostRuntime>> {
-    fn put(&mut self, object: usize, words: &[u64; ROW_WORDS]) -> Result<(), Failed> {
+    ghost takes = { λ _ n. n ≤ 256 };
+
+    fn put(&mut self, object: usize, words: &[u64]) -> Result<(), Failed> {
         self.put_cells(object, words)
     }
 
-    fn get(&mut self, object: usize, words: &mut [u64; ROW_WORDS]) -> Result<(), Refusal> {
+    fn get(&mut self, object: usize, words: &mut [u64]) -> Result<(), Refusal> {
         self.get_cells(object, words)
     }
 
@@ -136,7 +141,9 @@ pub(crate) struct BerthWay<S: RawStore + Counted> {
 
 impl<S: RawStore + Counted> BerthWay<S> {
     /// A berth in a new cell of this store.
-    pub(crate) fn new(alloc: Global, store: S) -> Result<BerthWay<S>, Want> {
+    pub(crate) fn new(alloc: Global, store: S) -> Result<BerthWay<S>, Want>
+        ensures { IfOk result (λ way. (n : ℕ) → S.makes store n → S.fits way.berth.cell n) }
+    {
         let cell = store.cell(alloc)?;
         Ok(BerthWay {
             port: Port::new(store),
@@ -146,18 +153,18 @@ impl<S: RawStore + Counted> BerthWay<S> {
 }
 
 impl Way for BerthWay<FaultStore<FarHeap>> {
-    fn put(&mut self, object: usize, words: &[u64; ROW_WORDS]) -> Result<(), Failed> {
-        self.berth
-            .put(&mut self.port, object, &words[..PIECE_CELLS])
+    ghost takes = { λ w n. (n ≤ 256) × (length w.berth.cell.row.items ≡ n + 3) };
+
+    fn put(&mut self, object: usize, words: &[u64]) -> Result<(), Failed> {
+        self.berth.put(&mut self.port, object, words)
     }
 
     // Nothing is asked of a berth into which nothing was put.
-    fn get(&mut self, object: usize, words: &mut [u64; ROW_WORDS]) -> Result<(), Refusal> {
+    fn get(&mut self, object: usize, words: &mut [u64]) -> Result<(), Refusal> {
         if self.berth.version == 0 {
             return Err(Refusal::Wrong);
         }
-        self.berth
-            .get(&mut self.port, object, &mut words[..PIECE_CELLS])
+        self.berth.get(&mut self.port, object, words)
     }
 
     fn counts(&self) -> Counts {
@@ -202,18 +209,22 @@ pub(crate) struct StoreWay<S: RawStore + Counted> {
 
 impl<S: RawStore + Counted> StoreWay<S> {
     /// A new cell of this store.
-    pub(crate) fn new(alloc: Global, store: S) -> Result<StoreWay<S>, Want> {
+    pub(crate) fn new(alloc: Global, store: S) -> Result<StoreWay<S>, Want>
+        ensures { IfOk result (λ way. (n : ℕ) → S.makes store n → S.fits way.cell n) }
+    {
         let cell = store.cell(alloc)?;
         Ok(StoreWay { store, cell })
     }
 }
 
 impl<S: RawStore + Counted> Way for StoreWay<S> {
-    fn put(&mut self, _object: usize, words: &[u64; ROW_WORDS]) -> Result<(), Failed> {
+    ghost takes = { λ w n. S.fits w.cell n };
+
+    fn put(&mut self, _object: usize, words: &[u64]) -> Result<(), Failed> {
         self.store.write(&mut self.cell, words)
     }
 
-    fn get(&mut self, _object: usize, words: &mut [u64; ROW_WORDS]) -> Result<(), Refusal> {
+    fn get(&mut self, _object: usize, words: &mut [u64]) -> Result<(), Refusal> {
         match self.store.read(&self.cell, words) {
             Ok(()) => Ok(()),
             Err(Failed) => Err(Refusal::Failed),
@@ -258,19 +269,23 @@ impl<D: Folder + Counted> FolderWay<D> {
 }
 
 impl<D: Folder + Counted> Way for FolderWay<D> {
-    fn put(&mut self, _object: usize, words: &[u64; ROW_WORDS]) -> Result<(), Failed> {
-        let mut bytes = [0; ROW_BYTES];
-        LittleEndian::write_u64_into(words, &mut bytes);
-        self.folder.write(&mut self.file, &bytes)
+    ghost takes = { λ _ n. n ≤ 259 };
+
+    fn put(&mut self, _object: usize, words: &[u64]) -> Result<(), Failed> {
+        let mut room = [0; MOST_BYTES];
+        let bytes = &mut room[..8 * words.len()];
+        LittleEndian::write_u64_into(words, &mut *bytes);
+        self.folder.write(&mut self.file, &*bytes)
     }
 
-    fn get(&mut self, _object: usize, words: &mut [u64; ROW_WORDS]) -> Result<(), Refusal> {
-        let mut bytes = [0; ROW_BYTES];
-        let Ok(given) = self.folder.read(&self.file, &mut bytes) else {
+    fn get(&mut self, _object: usize, words: &mut [u64]) -> Result<(), Refusal> {
+        let mut room = [0; MOST_BYTES];
+        let bytes = &mut room[..8 * words.len()];
+        let Ok(given) = self.folder.read(&self.file, &mut *bytes) else {
             return Err(Refusal::Failed);
         };
         self.given = given;
-        LittleEndian::read_u64_into(&bytes, words);
+        LittleEndian::read_u64_into(&*bytes, words);
         Ok(())
     }
 

@@ -1,6 +1,6 @@
--- The bytes of an image: each number is four bytes, the lowest first, and each list is its count and its items.
+-- The bytes of an image: each number is four bytes, the lowest first, unless it is said, and each list is its count and its items.
 use Rattle.std.specs.Prelude.{ℕ, Bool, true, false, List, [], ◌∷◌, ◌++◌, length, Option, Some, None}
-use Rattle.std.specs.Int.{w32, to_le_bytes, cast_unsigned}
+use Rattle.std.specs.Int.{w16, w32, to_le_bytes, cast_unsigned}
 use Rattle.std.specs.List.{flat_map}
 use Rattle.code_form.specs.declared.form.Kind.{Kind}
 use Rattle.code_form.specs.declared.form.Kind.TheVariants as k
@@ -15,6 +15,10 @@ use Rattle.instruction_table.specs.Table.{Value, Values, cases_of, code_of, code
 -- a number modulo 2^32
 abbrev pub word : ℕ → List ℕ
 word n = to_le_bytes w32 n
+
+-- ... modulo 2^16, in two bytes
+abbrev pub half : ℕ → List ℕ
+half n = to_le_bytes w16 n
 
 -- a list: its count, then its items
 abbrev pub list_bytes : {A : Type 0} → (A → List ℕ) → List A → List ℕ
@@ -92,10 +96,18 @@ text_bytes t = word (length t) ++ t
 abbrev pub layout_bytes : List Kind → List ℕ
 layout_bytes l = list_bytes kind_bytes l
 
--- what each image begins with: the letters C0FI, and the version, which is 1
-abbrev pub header : List ℕ
-header = 67 ∷ 48 ∷ 70 ∷ 73 ∷ 1 ∷ 0 ∷ []
+-- the letters C0FI
+abbrev pub magic_bytes : List ℕ
+magic_bytes = 67 ∷ 48 ∷ 70 ∷ 73 ∷ []
 
--- an image
+-- texts, layouts and functions
+abbrev pub body_bytes : Image → List ℕ
+body_bytes C = list_bytes text_bytes C.head.texts ++ (list_bytes layout_bytes C.head.layouts ++ list_bytes function_bytes C.functions)
+
+-- an image, as it is written: the version, which is 2, and behind it how many cells a piece has
 abbrev pub image_bytes : Image → List ℕ
-image_bytes C = header ++ (list_bytes text_bytes C.head.texts ++ (list_bytes layout_bytes C.head.layouts ++ list_bytes function_bytes C.functions))
+image_bytes C = magic_bytes ++ (2 ∷ 0 ∷ (half C.piece ++ body_bytes C))
+
+-- an image in version 1, which has no room for the size of pieces
+abbrev pub first_bytes : Image → List ℕ
+first_bytes C = magic_bytes ++ (1 ∷ 0 ∷ body_bytes C)

@@ -1,8 +1,9 @@
--- Which images have bytes of their own: those whose numbers are in range.
-use Rattle.std.specs.Prelude.{◌≡◌, ℕ, ◌<◌, List, [], ◌∷◌, length, Option, Some, None}
+-- Which images have bytes of their own: those whose numbers are in range, and whose pieces have one of five sizes.
+use Rattle.std.specs.Prelude.{◌≡◌, ◌⊎◌, ℕ, ◌<◌, true, List, [], ◌∷◌, length, Option, Some, None}
 use Rattle.std.specs.Int.{w32}
 use Rattle.std.specs.Int.RustNames.{FitsSigned}
 use Rattle.std.specs.List.{AllByRecursion}
+use Rattle.cells.specs.Pieces.{is_piece}
 use Rattle.code_form.specs.declared.form.Kind.{Kind}
 use Rattle.code_form.specs.declared.form.Kind.TheVariants as k
 use Rattle.code_form.specs.declared.form.Fact.{Fact}
@@ -12,7 +13,7 @@ use Rattle.code_form.specs.Form.{Instruction, Image}
 use Rattle.instruction_table.specs.declared.operand.Operand.{Operand}
 use Rattle.instruction_table.specs.declared.operand.Operand.TheVariants.{Register, OptionalRegister, Scope, Block, Function, Layout, TextNumber, Number, Integer, Truth, Character, Registers}
 use Rattle.instruction_table.specs.Table.{Value, Values, cases_of, coded}
-use Rattle.image_bytes.specs.Bytes.{image_bytes}
+use Rattle.image_bytes.specs.Bytes.{first_bytes, image_bytes}
 
 -- a number that four bytes hold
 abbrev pub IsWord : ℕ → Type 0
@@ -99,10 +100,14 @@ TextFits t = AreFew IsLetter t
 abbrev pub LayoutFits : List Kind → Type 0
 LayoutFits l = AreFew CellFits l
 
+-- texts, layouts and functions
+abbrev pub BodyFits : Image → Type 0
+BodyFits C = AreFew TextFits C.head.texts × (AreFew LayoutFits C.head.layouts × AreFew FunctionFits C.functions)
+
 -- an image
 abbrev pub IsEncodable : Image → Type 0
-IsEncodable C = AreFew TextFits C.head.texts × (AreFew LayoutFits C.head.layouts × AreFew FunctionFits C.functions)
+IsEncodable C = (is_piece C.piece ≡ true) × BodyFits C
 
--- these bytes are those of the image
+-- these bytes are those of the image: as it is written, or, where its pieces have 64 cells, in version 1
 abbrev pub IsImage : List ℕ → Image → Type 0
-IsImage bytes C = IsEncodable C × (bytes ≡ image_bytes C)
+IsImage bytes C = IsEncodable C × ((bytes ≡ image_bytes C) ⊎ ((C.piece ≡ 64) × (bytes ≡ first_bytes C)))

@@ -7,6 +7,7 @@ use Rattle.code_form.specs.Form.{Simple, Return, Image}
 -- one function without parameters and scopes, which returns 0
 abbrev pub returns_zero : Image
 returns_zero = record {
+  piece = 64;
   head = record { texts = []; layouts = [] };
   functions = record {
     result = Some Int;
@@ -17,9 +18,19 @@ returns_zero = record {
   } ∷ [];
 }
 
--- its 55 bytes
+-- its 57 bytes
 abbrev pub bytes_of_returns_zero : List ℕ
 bytes_of_returns_zero =
+    67 ∷ 48 ∷ 70 ∷ 73 ∷ 2 ∷ 0 ∷ 64 ∷ 0
+    ∷ 0 ∷ 0 ∷ 0 ∷ 0 ∷ 0 ∷ 0 ∷ 0 ∷ 0 ∷ 1 ∷ 0 ∷ 0 ∷ 0
+    ∷ 1 ∷ 0 ∷ 0 ∷ 0 ∷ 0 ∷ 1 ∷ 0 ∷ 0 ∷ 0 ∷ 1 ∷ 0 ∷ 1 ∷ 0 ∷ 0 ∷ 0
+    ∷ 0 ∷ 0 ∷ 0 ∷ 0 ∷ 2 ∷ 0 ∷ 0 ∷ 0
+    ∷ 1 ∷ 0 ∷ 0 ∷ 0 ∷ 0 ∷ 0 ∷ 0 ∷ 0 ∷ 0
+    ∷ 98 ∷ 0 ∷ 0 ∷ 0 ∷ 0 ∷ []
+
+-- its 55 bytes in version 1
+abbrev pub first_bytes_of_returns_zero : List ℕ
+first_bytes_of_returns_zero =
     67 ∷ 48 ∷ 70 ∷ 73 ∷ 1 ∷ 0
     ∷ 0 ∷ 0 ∷ 0 ∷ 0 ∷ 0 ∷ 0 ∷ 0 ∷ 0 ∷ 1 ∷ 0 ∷ 0 ∷ 0
     ∷ 1 ∷ 0 ∷ 0 ∷ 0 ∷ 0 ∷ 1 ∷ 0 ∷ 0 ∷ 0 ∷ 1 ∷ 0 ∷ 1 ∷ 0 ∷ 0 ∷ 0

@@ -1,20 +1,20 @@
 //! The bytes of an image.
 ghost use Rattle.code_form.specs.Form.{block_of, function_of, image_of, instruction_of};
-ghost use Rattle.image_bytes.specs.Bytes.{block_bytes, fact_bytes, function_bytes, header, image_bytes, instruction_bytes, kind_bytes, layout_bytes, list_bytes, text_bytes, word};
+ghost use Rattle.image_bytes.specs.Bytes.{block_bytes, fact_bytes, function_bytes, image_bytes, instruction_bytes, kind_bytes, layout_bytes, list_bytes, text_bytes, word};
 ghost use Rattle.image_bytes.specs.Parts.{argument_bytes, parts_bytes};
 ghost use Rattle.instruction_table.specs.declared.fault.ImageFault.TheVariants.{OutOfMemory};
 ghost use Rattle.std.specs.List.{flat_map};
 ghost use Rattle.std.specs.Prelude.{◌≡◌, ◌≤◌, ◌++◌, IfOk, MatchResult, OnOk, map, string_bytes};
 
 use crate::put::{
-    put_argument, put_byte, put_count, put_fact, put_kind, put_result, put_text, put_word,
+    put_argument, put_byte, put_count, put_fact, put_half, put_kind, put_result, put_text, put_word,
 };
 use code_form::{Block, Fact, Function, Image, Instruction, Kind};
 use instruction_table::{Argument, ImageFault, Parts, parts_of};
 use std::alloc::{AllocError, Global};
 
-/// The letters C0FI, and version 1.
-static HEADER: [u8; 6] = [0x43, 0x30, 0x46, 0x49, 1, 0];
+/// The letters C0FI, and version 2.
+static HEADER: [u8; 6] = [0x43, 0x30, 0x46, 0x49, 2, 0];
 
 /// Operands more.
 fn put_arguments(out: &mut Vec<u8>, arguments: &[Argument]) -> Result<(), AllocError>
@@ -158,13 +158,14 @@ fn encoded(alloc: Global, image: &Image) -> Result<Vec<u8>, AllocError>
     ensures { IfOk result (λ v. v.items ≡ image_bytes (image_of image.now)) }
 {
     let mut out = Vec::from_slice(alloc, &HEADER)?;
+    put_half(&mut out, image.piece.cells() as u16)?;
     put_texts(&mut out, &image.texts)?;
     put_layouts(&mut out, &image.layouts)?;
     put_functions(&mut out, &image.functions)?;
     Ok(out)
 }
 
-/// The bytes of an image; numbers that the bytes have no room for are written modulo 2^32.
+/// The bytes of an image, in version 2; numbers that the bytes have no room for are written modulo 2^32.
 pub fn encode(alloc: Global, image: &Image) -> Result<Vec<u8>, ImageFault>
     ensures { MatchResult result (λ v. v.items ≡ image_bytes (image_of image.now)) (λ fault. fault ≡ OutOfMemory) }
 {

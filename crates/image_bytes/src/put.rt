@@ -1,5 +1,5 @@
 //! What stands in one field of an image's bytes.
-ghost use Rattle.image_bytes.specs.Bytes.{fact_bytes, kind_bytes, optional_bytes, result_bytes, text_bytes, truth_byte, word};
+ghost use Rattle.image_bytes.specs.Bytes.{fact_bytes, half, kind_bytes, optional_bytes, result_bytes, text_bytes, truth_byte, word};
 ghost use Rattle.image_bytes.specs.Parts.{argument_bytes};
 ghost use Rattle.std.specs.Prelude.{◌≡◌, ◌∷◌, ◌++◌, [], OnOk, string_bytes};
 
@@ -21,6 +21,13 @@ pub(crate) fn put_byte(out: &mut Vec<u8>, byte: u8) -> Result<(), AllocError>
 /// A number more.
 pub(crate) fn put_word(out: &mut Vec<u8>, number: u32) -> Result<(), AllocError>
     ensures { OnOk result (out.new.items ≡ out.old.items ++ word number) }
+{
+    out.extend_from_slice(&number.to_le_bytes())
+}
+
+/// A number of two bytes more.
+pub(crate) fn put_half(out: &mut Vec<u8>, number: u16) -> Result<(), AllocError>
+    ensures { OnOk result (out.new.items ≡ out.old.items ++ half number) }
 {
     out.extend_from_slice(&number.to_le_bytes())
 }

@@ -7,6 +7,7 @@ use Rattle.code_form.specs.Form.{Simple, Return, Image}
 -- one function without parameters and scopes, which returns 0
 abbrev pub returns_zero : Image
 returns_zero = record {
+  piece = 64;
   head = record { texts = []; layouts = [] };
   functions = record {
     result = Some Int;

@@ -1,25 +1,27 @@
 -- Reading undoes writing, and writing reading: of instructions, functions and images.
-use Rattle.std.proofs.Common.{◌≡◌, ℕ, Bool, true, false, eqb, ◌&&◌, List, [], ◌∷◌, ◌++◌, length, Option, Some, None, Result, Ok, refl, sym, ap, subst, ◌∙◌, arith}
+use Rattle.std.proofs.Common.{◌≡◌, ◌⊎◌, ℕ, Bool, true, false, cond, eqb, List, [], ◌∷◌, ◌++◌, length, Option, Some, None, Result, Ok, Err, refl, sym, ap, subst, ◌∙◌, arith, inl, inr}
 use Rattle.std.specs.List.{flat_map}
 use Rattle.std.proofs.lemmas.Bool.{eqb-true}
 use Rattle.std.proofs.lemmas.List.{append-nil}
 use Rattle.std.proofs.lemmas.List.Concat.{flat_map-cons}
+use Rattle.cells.specs.Pieces.{is_piece}
 use Rattle.code_form.specs.declared.form.Kind.{Kind}
 use Rattle.code_form.specs.Form as form
 use Rattle.code_form.specs.Form.{Instruction, Image}
 use Rattle.instruction_table.specs.declared.fault.ImageFault.{ImageFault}
-use Rattle.instruction_table.specs.declared.fault.ImageFault.TheVariants.{Magic, Version}
+use Rattle.instruction_table.specs.declared.fault.ImageFault.TheVariants.{BadOperand, Magic, Version}
 use Rattle.instruction_table.specs.declared.name.Name.{Name}
 use Rattle.instruction_table.specs.declared.operand.Operand.{Operand}
 use Rattle.instruction_table.specs.declared.operand.Operand.TheVariants.{Register, OptionalRegister, Scope, Block, Function, Layout, TextNumber, Number, Integer, Truth, Character, Registers}
 use Rattle.instruction_table.specs.Table.{Values, cases_of, code_of, coded, made, name_with}
 use Rattle.instruction_table.proofs.Tables.{each_is_found, each_is_made, found_has_code, made_of_these}
-use Rattle.image_bytes.specs.Bytes.{block_bytes, fact_bytes, function_bytes, image_bytes, instruction_bytes, kind_bytes, layout_bytes, list_bytes, result_bytes, text_bytes, value_bytes, values_bytes, word}
-use Rattle.image_bytes.specs.Encodable.{AreFew, BlockFits, CellFits, FactFits, FunctionFits, InstructionFits, IsByte, IsEncodable, IsImage, IsLetter, IsWord, KindFits, LayoutFits, ResultFits, TextFits, ValueFits, ValuesFit}
+use Rattle.image_bytes.specs.Bytes.{block_bytes, body_bytes, fact_bytes, first_bytes, function_bytes, half, image_bytes, instruction_bytes, kind_bytes, layout_bytes, list_bytes, magic_bytes, result_bytes, text_bytes, value_bytes, values_bytes, word}
+use Rattle.image_bytes.specs.Encodable.{AreFew, BlockFits, BodyFits, CellFits, FactFits, FunctionFits, InstructionFits, IsByte, IsImage, IsLetter, IsWord, KindFits, LayoutFits, ResultFits, TextFits, ValueFits, ValuesFit}
 use Rattle.image_reader.specs.Laws.{IsBytes, OneImage, ReadWasWritten, WrittenIsRead}
-use Rattle.image_reader.specs.Reading.{◌>>=◌, block_at, body_at, byte_at, cell_at, ended, fact_at, function_at, instruction_at, kind_at, layout_at, letter_at, list_at, magic, magic_at, named, number_at, pair_at, reads, result_at, text_at, value_at, values_at, version_at}
+use Rattle.image_reader.specs.Reading.{◌>>=◌, block_at, body_at, byte_at, cell_at, cells_at, ended, fact_at, function_at, half_at, instruction_at, kind_at, layout_at, letter_at, list_at, magic, magic_at, named, number_at, pair_at, piece_at, reads, result_at, text_at, value_at, values_at}
+use Rattle.image_reader.proofs.Pieces.{piece_is_small}
 use Rattle.image_reader.proofs.Parts.{cell_reader, fact_reader, integer_reader, kind_reader, letter_reader, optional_reader, result_reader, truth_reader}
-use Rattle.image_reader.proofs.Readers.{IsReader, Takes, bind_ok, byte_reader, given_reader, list_reader, mapped_again, mapped_reader, number_reader, ok_is, pair_reader, same_reader, tested_reader}
+use Rattle.image_reader.proofs.Readers.{IsHalf, IsReader, Takes, bind_ok, byte_reader, given_reader, half_reader, list_reader, mapped_again, mapped_reader, number_reader, ok_is, pair_reader, same_reader, tested_reader}
 
 -- ---- instructions
 
@@ -120,74 +122,114 @@ layout_reader : IsReader layout_at layout_bytes LayoutFits
 unfolding layout_at
 layout_reader = list_reader cell_at kind_bytes CellFits cell_reader
 
-abbrev body_bytes : Image → List ℕ
-body_bytes C = list_bytes text_bytes C.head.texts ++ (list_bytes layout_bytes C.head.layouts ++ list_bytes function_bytes C.functions)
-
-body_reader : IsReader body_at body_bytes IsEncodable
+body_reader : (n : ℕ) → IsReader (body_at n) body_bytes (λ C. (C.piece ≡ n) × BodyFits C)
 unfolding body_at
-body_reader =
+body_reader n =
     let last = pair_reader (list_at layout_at) (list_bytes layout_bytes) (AreFew LayoutFits) (list_at function_at) (list_bytes function_bytes) (AreFew FunctionFits) (list_reader layout_at layout_bytes LayoutFits layout_reader) (list_reader function_at function_bytes FunctionFits function_reader) in
-    mapped_reader (pair_at (list_at text_at) (pair_at (list_at layout_at) (list_at function_at))) (λ x. list_bytes text_bytes x.0 ++ (list_bytes layout_bytes x.1.0 ++ list_bytes function_bytes x.1.1)) (λ x. AreFew TextFits x.0 × (AreFew LayoutFits x.1.0 × AreFew FunctionFits x.1.1)) IsEncodable
-    (λ x. record { head = record { texts = x.0; layouts = x.1.0 }; functions = x.1.1 }) (λ C. (C.head.texts, (C.head.layouts, C.functions))) (λ x fits. (refl, fits)) (λ C fits. (refl, fits))
+    mapped_reader (pair_at (list_at text_at) (pair_at (list_at layout_at) (list_at function_at))) (λ x. list_bytes text_bytes x.0 ++ (list_bytes layout_bytes x.1.0 ++ list_bytes function_bytes x.1.1)) (λ x. AreFew TextFits x.0 × (AreFew LayoutFits x.1.0 × AreFew FunctionFits x.1.1)) (λ C. (C.piece ≡ n) × BodyFits C)
+    (λ x. record { piece = n; head = record { texts = x.0; layouts = x.1.0 }; functions = x.1.1 }) (λ C. (C.head.texts, (C.head.layouts, C.functions)))
+    (λ x fits. (refl, (refl, fits))) (λ C fits. (ap (λ (k : ℕ). record { piece = k; head = C.head; functions = C.functions }) (sym fits.0), fits.1))
     (pair_reader (list_at text_at) (list_bytes text_bytes) (AreFew TextFits) (pair_at (list_at layout_at) (list_at function_at)) (λ x. list_bytes layout_bytes x.0 ++ list_bytes function_bytes x.1) (λ x. AreFew LayoutFits x.0 × AreFew FunctionFits x.1) (list_reader text_at text_bytes TextFits text_reader) last)
 
 magic_reader : IsReader magic_at word (λ n. n ≡ magic)
 unfolding magic_at
 magic_reader = tested_reader number_at word IsWord (λ n. n ≡ magic) (λ n. eqb n magic) Magic (λ n e. eqb-true n magic e) (λ n h. (rw h refl, omega (arith, h))) number_reader
 
-both_true : (a b : Bool) → (a && b) ≡ true → (a ≡ true) × (b ≡ true)
-both_true true b e = (refl, e)
-both_true false b e = absurd cc
+cells_reader : IsReader cells_at half (λ n. is_piece n ≡ true)
+unfolding cells_at
+cells_reader = tested_reader half_at half IsHalf (λ n. is_piece n ≡ true) is_piece BadOperand (λ n e. e) (λ n h. (h, piece_is_small n h)) half_reader
 
-abbrev version_bytes : ℕ × ℕ → List ℕ
-version_bytes v = v.0 ∷ v.1 ∷ []
+-- where pieces have so many cells, these bytes tell it, by this version
+abbrev Tells : (version : ℕ) → List ℕ → ℕ × List ℕ → Type 0
+Tells v bytes x = ((v ≡ 1) × ((x.0 ≡ 64) × (bytes ≡ x.1))) ⊎ ((v ≡ 2) × (bytes ≡ half x.0 ++ x.1))
 
-abbrev IsFirst : ℕ × ℕ → Type 0
-IsFirst v = (v.0 ≡ 1) × (v.1 ≡ 0)
-
-is_first : (v : ℕ × ℕ) → (eqb v.0 1 && eqb v.1 0) ≡ true → IsFirst v
-is_first v e = let h = both_true (eqb v.0 1) (eqb v.1 0) e in (eqb-true v.0 1 h.0, eqb-true v.1 0 h.1)
-
-first_is : (v : ℕ × ℕ) → IsFirst v → ((eqb v.0 1 && eqb v.1 0) ≡ true) × (IsByte v.0 × IsByte v.1)
-first_is v h = (rw (h.0, h.1) refl, (omega (arith, h.0), omega (arith, h.1)))
-
-version_reader : IsReader version_at version_bytes IsFirst
-unfolding version_at
-version_reader = tested_reader (pair_at byte_at byte_at) version_bytes (λ v. IsByte v.0 × IsByte v.1) IsFirst (λ v. eqb v.0 1 && eqb v.1 0) Version is_first first_is
-    (pair_reader byte_at (λ b. b ∷ []) IsByte byte_at (λ b. b ∷ []) IsByte byte_reader byte_reader)
+piece_takes : (v : ℕ) (bytes : List ℕ) (x : ℕ × List ℕ) → IsBytes bytes → piece_at v bytes ≡ Ok x → Tells v bytes x × ((is_piece x.0 ≡ true) × IsBytes x.1)
+unfolding piece_at
+piece_takes v bytes x fits e = by_version (eqb v 1) (eqb v 2) refl refl e
+  where
+    by_version : (first second : Bool) → eqb v 1 ≡ first → eqb v 2 ≡ second → cond first (Ok (64, bytes)) (cond second (cells_at bytes) (Err Version)) ≡ Ok x → Tells v bytes x × ((is_piece x.0 ≡ true) × IsBytes x.1)
+    by_version true second is other e =
+        subst (λ (y : ℕ × List ℕ). Tells v bytes y × ((is_piece y.0 ≡ true) × IsBytes y.1)) (ok_is (64, bytes) x e) (inl (eqb-true v 1 is, (refl, refl)), (refl, fits))
+    by_version false true is other e = let t = cells_reader.takes bytes x fits e in (inr (eqb-true v 2 other, t.0.parts), (t.1, t.0.rest_fits))
+    by_version false false is other e = absurd cc
 
 -- nothing stood behind the image
 ended_ok : (C D : Image) (rest : List ℕ) → ended C rest ≡ Ok D → (C ≡ D) × (rest ≡ [])
 ended_ok C D [] e = (ok_is C D e, refl)
 ended_ok C D (b ∷ rest) e = absurd cc
 
+-- the bytes are those of the image, in the version that was found
+in_version : (bytes behind rest : List ℕ) (v : ℕ) (D : Image) → bytes ≡ magic_bytes ++ (half v ++ behind) → rest ≡ body_bytes D → Tells v behind (D.piece, rest) → (bytes ≡ image_bytes D) ⊎ ((D.piece ≡ 64) × (bytes ≡ first_bytes D))
+in_version bytes behind rest v D whole body (inl first) =
+    inr (first.1.0, whole ∙ ap (λ (w : ℕ). magic_bytes ++ (half w ++ behind)) first.0 ∙ ap (λ (bs : List ℕ). magic_bytes ++ (1 ∷ 0 ∷ bs)) (first.1.1 ∙ body))
+in_version bytes behind rest v D whole body (inr second) =
+    inl (whole ∙ ap (λ (w : ℕ). magic_bytes ++ (half w ++ behind)) second.0 ∙ ap (λ (bs : List ℕ). magic_bytes ++ (2 ∷ 0 ∷ bs)) (second.1 ∙ ap (λ (bs : List ℕ). half D.piece ++ bs) body))
+
+-- the letters, and a version behind them
+letters_and : (bytes rest behind : List ℕ) (letters v : ℕ) → bytes ≡ word letters ++ rest → letters ≡ magic → rest ≡ half v ++ behind → bytes ≡ magic_bytes ++ (half v ++ behind)
+letters_and bytes rest behind letters v first is second = first ∙ ap (λ (k : ℕ). word k ++ rest) is ∙ ap (λ (bs : List ℕ). word magic ++ bs) second
+
+-- a body, with nothing behind it
+whole_body : (rest behind : List ℕ) (C D : Image) → rest ≡ body_bytes C ++ behind → behind ≡ [] → C ≡ D → rest ≡ body_bytes D
+whole_body rest behind C D is none same = is ∙ ap (λ (bs : List ℕ). body_bytes C ++ bs) none ∙ append-nil (body_bytes C) ∙ ap body_bytes same
+
+-- how many cells a piece of it has
+same_cells : (n : ℕ) (C D : Image) → C.piece ≡ n → C ≡ D → n ≡ D.piece
+same_cells n C D is same = sym is ∙ ap (λ (X : Image). X.piece) same
+
 pub read_was_written : ReadWasWritten
 unfolding reads
 read_was_written bytes D fits e =
-    let m = bind_ok (magic_at bytes) (λ m. version_at m.1 >>= λ v. body_at v.1 >>= λ C. ended C.0 C.1) D e in
-    let v = bind_ok (version_at m.0.1) (λ v. body_at v.1 >>= λ C. ended C.0 C.1) D m.2 in
-    let b = bind_ok (body_at v.0.1) (λ C. ended C.0 C.1) D v.2 in
+    let m = bind_ok (magic_at bytes) (λ m. half_at m.1 >>= λ v. piece_at v.0 v.1 >>= λ n. body_at n.0 n.1 >>= λ C. ended C.0 C.1) D e in
+    let v = bind_ok (half_at m.0.1) (λ v. piece_at v.0 v.1 >>= λ n. body_at n.0 n.1 >>= λ C. ended C.0 C.1) D m.2 in
+    let n = bind_ok (piece_at v.0.0 v.0.1) (λ n. body_at n.0 n.1 >>= λ C. ended C.0 C.1) D v.2 in
+    let b = bind_ok (body_at n.0.0 n.0.1) (λ C. ended C.0 C.1) D n.2 in
     let end = ended_ok b.0.0 D b.0.1 b.2 in
     let one = magic_reader.takes bytes m.0 fits m.1 in
-    let two = version_reader.takes m.0.1 v.0 one.0.rest_fits v.1 in
-    let three = body_reader.takes v.0.1 b.0 two.0.rest_fits b.1 in
-    let letters : bytes ≡ word magic ++ m.0.1 = one.0.parts ∙ ap (λ (n : ℕ). word n ++ m.0.1) one.1 in
-    let version : m.0.1 ≡ version_bytes (1, 0) ++ v.0.1 = two.0.parts ∙ ap (λ (n : ℕ). n ∷ v.0.0.1 ∷ v.0.1) two.1.0 ∙ ap (λ (n : ℕ). 1 ∷ n ∷ v.0.1) two.1.1 in
-    let body : v.0.1 ≡ body_bytes D = three.0.parts ∙ ap (λ (rest : List ℕ). body_bytes b.0.0 ++ rest) end.1 ∙ append-nil (body_bytes b.0.0) ∙ ap body_bytes end.0 in
-    let whole : bytes ≡ image_bytes D = letters ∙ ap (λ (rest : List ℕ). word magic ++ rest) version ∙ ap (λ (rest : List ℕ). word magic ++ (version_bytes (1, 0) ++ rest)) body in
-    (subst IsEncodable end.0 three.1, whole)
+    let two = half_reader.takes m.0.1 v.0 one.0.rest_fits v.1 in
+    let three = piece_takes v.0.0 v.0.1 n.0 two.0.rest_fits n.1 in
+    let four = (body_reader n.0.0).takes n.0.1 b.0 three.1.1 b.1 in
+    let whole = letters_and bytes m.0.1 v.0.1 m.0.0 v.0.0 one.0.parts one.1 two.0.parts in
+    let body = whole_body n.0.1 b.0.1 b.0.0 D four.0.parts end.1 end.0 in
+    let cells = same_cells n.0.0 b.0.0 D four.1.0 end.0 in
+    let told : Tells v.0.0 v.0.1 (D.piece, n.0.1) = subst (λ (k : ℕ). Tells v.0.0 v.0.1 (k, n.0.1)) cells three.0 in
+    ((subst (λ (k : ℕ). is_piece k ≡ true) cells three.1.0, subst BodyFits end.0 four.1.1), in_version bytes v.0.1 n.0.1 v.0.0 D whole body told)
+
+-- a body is read behind its header
+body_is_read : (C : Image) → BodyFits C → (body_at C.piece (body_bytes C) >>= λ D. ended D.0 D.1) ≡ Ok C
+body_is_read C fits =
+    let body : body_at C.piece (body_bytes C) ≡ Ok (C, []) = ap (body_at C.piece) (sym (append-nil (body_bytes C))) ∙ (body_reader C.piece).again C [] (refl, fits) in
+    ap (λ (read : Result (Image × List ℕ) ImageFault). read >>= λ D. ended D.0 D.1) body
+
+-- what stands behind the letters and a version is read by it
+behind_version : (v : ℕ) (behind : List ℕ) → IsHalf v → reads (magic_bytes ++ (half v ++ behind)) ≡ (piece_at v behind >>= λ n. body_at n.0 n.1 >>= λ C. ended C.0 C.1)
+unfolding reads
+behind_version v behind small =
+    ap (λ (read : Result (ℕ × List ℕ) ImageFault). read >>= λ m. half_at m.1 >>= λ v. piece_at v.0 v.1 >>= λ n. body_at n.0 n.1 >>= λ C. ended C.0 C.1) (magic_reader.again magic (half v ++ behind) refl)
+    ∙ ap (λ (read : Result (ℕ × List ℕ) ImageFault). read >>= λ v. piece_at v.0 v.1 >>= λ n. body_at n.0 n.1 >>= λ C. ended C.0 C.1) (half_reader.again v behind small)
 
 pub written_is_read : WrittenIsRead
-unfolding reads
+unfolding piece_at
 written_is_read C fits =
-    let body : body_at (body_bytes C) ≡ Ok (C, []) = ap body_at (sym (append-nil (body_bytes C))) ∙ body_reader.again C [] fits in
-    ap (λ (read : Result (ℕ × List ℕ) ImageFault). read >>= λ m. version_at m.1 >>= λ v. body_at v.1 >>= λ D. ended D.0 D.1) (magic_reader.again magic (1 ∷ 0 ∷ body_bytes C) refl)
-    ∙ ap (λ (read : Result ((ℕ × ℕ) × List ℕ) ImageFault). read >>= λ v. body_at v.1 >>= λ D. ended D.0 D.1) (version_reader.again (1, 0) (body_bytes C) (refl, refl))
-    ∙ ap (λ (read : Result (Image × List ℕ) ImageFault). read >>= λ D. ended D.0 D.1) body
+    behind_version 2 (half C.piece ++ body_bytes C) (omega arith)
+    ∙ ap (λ (read : Result (ℕ × List ℕ) ImageFault). read >>= λ n. body_at n.0 n.1 >>= λ D. ended D.0 D.1) (cells_reader.again C.piece (body_bytes C) fits.0)
+    ∙ body_is_read C fits.1
+
+-- so are the bytes of version 1
+first_is_read : (C : Image) → BodyFits C → C.piece ≡ 64 → reads (first_bytes C) ≡ Ok C
+unfolding piece_at
+first_is_read C fits is =
+    behind_version 1 (body_bytes C) (omega arith)
+    ∙ ap (λ (n : ℕ). body_at n (body_bytes C) >>= λ D. ended D.0 D.1) (sym is)
+    ∙ body_is_read C fits
 
 -- bytes that are those of an image are read as it
 pub is_read : (bytes : List ℕ) (C : Image) → IsImage bytes C → reads bytes ≡ Ok C
-is_read bytes C is = ap reads is.1 ∙ written_is_read C is.0
+is_read bytes C is =
+    elim is.1 [
+      | inl second ↦ ap reads second ∙ written_is_read C is.0
+      | inr first ↦ ap reads first.1 ∙ first_is_read C is.0.1 first.0
+    ]
 
 abbrev done : Image → Result Image ImageFault
 done C = Ok C

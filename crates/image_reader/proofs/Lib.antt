@@ -1,4 +1,5 @@
 pub mod Images
 pub mod Loops
 pub mod Parts
+pub mod Pieces
 pub mod Readers

@@ -1,17 +1,17 @@
 -- Reading undoes writing, and writing reading: of values one behind the other, of lists, and of what stands behind a tag.
 use Rattle.std.proofs.Common.{◌≡◌, ℕ, zero, suc, ◌+◌, ◌<◌, ◌≤◌, Bool, true, false, cond, eqb, ltb, List, [], ◌∷◌, ◌++◌, length, take, drop, Result, Ok, Err, refl, sym, ap, subst, ◌∙◌, append_assoc, arith, inl, inr}
-use Rattle.std.specs.Int.{w32, from_le_bytes}
+use Rattle.std.specs.Int.{w16, w32, from_le_bytes}
 use Rattle.std.specs.List.{flat_map, AllByRecursion}
 use Rattle.std.proofs.lemmas.Bool.{cases_lt, ltb-false, le-ltb, eqb-true}
 use Rattle.std.proofs.lemmas.List.{take-append-drop, length-append, length-take, get_or-drop, get_or-take, get_or_past}
 use Rattle.std.proofs.lemmas.List.Concat.{flat_map-cons}
-use Rattle.std.proofs.lemmas.Nat.{le_bytes_4, from_le_bytes-to_le_bytes_4}
+use Rattle.std.proofs.lemmas.Nat.{le_bytes_2, le_bytes_4, from_le_bytes-to_le_bytes_2, from_le_bytes-to_le_bytes_4}
 use Rattle.instruction_table.specs.declared.fault.ImageFault.{ImageFault}
 use Rattle.instruction_table.specs.declared.fault.ImageFault.TheVariants.{Short}
-use Rattle.image_bytes.specs.Bytes.{list_bytes, word}
+use Rattle.image_bytes.specs.Bytes.{half, list_bytes, word}
 use Rattle.image_bytes.specs.Encodable.{AreFew, IsByte, IsWord}
 use Rattle.image_reader.specs.Laws.{IsBytes}
-use Rattle.image_reader.specs.Reading.{◌>>=◌, Reading, behind, byte_at, given, items_at, list_at, mapped, number_at, pair_at, tagged, tested}
+use Rattle.image_reader.specs.Reading.{◌>>=◌, Reading, behind, byte_at, given, half_at, items_at, list_at, mapped, number_at, pair_at, tagged, tested}
 
 IsBytes-drop : (n : ℕ) (bytes : List ℕ) → IsBytes bytes → IsBytes (drop n bytes)
 IsBytes-drop n bytes h i = rw get_or-drop (h (n + i))
@@ -94,6 +94,31 @@ number_again n rest lt =
 
 pub number_reader : IsReader number_at word IsWord
 number_reader = record { takes = number_takes; again = number_again }
+
+-- a number that two bytes hold
+abbrev pub IsHalf : ℕ → Type 0
+IsHalf n = n < 65536
+
+half_takes : (bytes : List ℕ) (x : ℕ × List ℕ) → IsBytes bytes → half_at bytes ≡ Ok x → Takes bytes (half x.0) x.1 × IsHalf x.0
+unfolding half_at
+half_takes bytes x fits e =
+    let g = guard_ok (ltb (length bytes) 2) Short (from_le_bytes w16 (take 2 bytes), drop 2 bytes) x e in
+    let long : 2 ≤ length bytes = ltb-false _ _ g.0 in
+    let front-fits = IsBytes-take 2 bytes fits in
+    let front : half (from_le_bytes w16 (take 2 bytes)) ≡ take 2 bytes = le_bytes_2 (take 2 bytes) (from_le_bytes w16 (take 2 bytes)) (omega (arith, length-take 2 bytes)) front-fits refl in
+    let below : from_le_bytes w16 (take 2 bytes) < 65536 = omega (arith, front-fits 0, front-fits 1) in
+    subst (λ (y : ℕ × List ℕ). Takes bytes (half y.0) y.1 × IsHalf y.0) g.1
+    (record { parts = sym (take-append-drop 2 bytes) ∙ ap (λ (t : List ℕ). t ++ drop 2 bytes) (sym front); rest_fits = IsBytes-drop 2 bytes fits }, below)
+
+half_again : (n : ℕ) (rest : List ℕ) → IsHalf n → half_at (half n ++ rest) ≡ Ok (n, rest)
+unfolding half_at
+half_again n rest lt =
+    let long : ltb (length (half n ++ rest)) 2 ≡ false = le-ltb _ _ (omega (arith, length-append (half n) rest)) in
+    ap (λ (short : Bool). cond short (Err Short) (Ok (from_le_bytes w16 (take 2 (half n ++ rest)), drop 2 (half n ++ rest)))) long
+    ∙ ap (λ (m : ℕ). Ok (m, rest)) (from_le_bytes-to_le_bytes_2 n lt)
+
+pub half_reader : IsReader half_at half IsHalf
+half_reader = record { takes = half_takes; again = half_again }
 
 -- ---- values by others
 

@@ -1,6 +1,7 @@
 -- What bytes say, read from the left: a value and the bytes behind it, or the first thing that is wrong.
-use Rattle.std.specs.Prelude.{ℕ, zero, suc, ℤ, Bool, ◌==◌, ◌&&◌, nat_lt, List, [], ◌∷◌, length, take, drop, Option, Some, None, Result, Ok, Err, if◌then◌else◌}
-use Rattle.std.specs.Int.{w32, from_le_bytes, cast_signed}
+use Rattle.std.specs.Prelude.{ℕ, zero, suc, ℤ, Bool, ◌==◌, nat_lt, List, [], ◌∷◌, length, take, drop, Option, Some, None, Result, Ok, Err, if◌then◌else◌}
+use Rattle.std.specs.Int.{w16, w32, from_le_bytes, cast_signed}
+use Rattle.cells.specs.Pieces.{is_piece}
 use Rattle.code_form.specs.declared.form.Kind.{Kind}
 use Rattle.code_form.specs.declared.form.Kind.TheVariants as k
 use Rattle.code_form.specs.declared.form.Fact.{Fact}
@@ -48,6 +49,10 @@ byte_at (b ∷ bytes) = Ok (b, bytes)
 -- a number of four bytes
 unfoldable pub number_at : Reading ℕ
 number_at bytes = if nat_lt (length bytes) 4 then Err Short else Ok (from_le_bytes w32 (take 4 bytes), drop 4 bytes)
+
+-- a number of two bytes
+unfoldable pub half_at : Reading ℕ
+half_at bytes = if nat_lt (length bytes) 2 then Err Short else Ok (from_le_bytes w16 (take 2 bytes), drop 2 bytes)
 
 -- so many values, one behind the other
 unfoldable pub items_at : {A : Type 0} → Reading A → ℕ → Reading (List A)
@@ -187,13 +192,17 @@ magic = from_le_bytes w32 (67 ∷ 48 ∷ 70 ∷ 73 ∷ [])
 unfoldable pub magic_at : Reading ℕ
 magic_at bytes = tested (λ n. n == magic) Magic number_at bytes
 
--- the version in two bytes, which is 1
-unfoldable pub version_at : Reading (ℕ × ℕ)
-version_at bytes = tested (λ v. v.0 == 1 && v.1 == 0) Version (pair_at byte_at byte_at) bytes
+-- how many cells a piece has
+unfoldable pub cells_at : Reading ℕ
+cells_at bytes = tested is_piece BadOperand half_at bytes
 
--- texts, layouts and functions
-unfoldable pub body_at : Reading Image
-body_at bytes = mapped (λ x. record { head = record { texts = x.0; layouts = x.1.0 }; functions = x.1.1 })
+-- the same behind this version: the first has pieces of 64 cells, and the second says how many; behind another no byte is read
+unfoldable pub piece_at : (version : ℕ) → Reading ℕ
+piece_at v bytes = if v == 1 then Ok (64, bytes) else (if v == 2 then cells_at bytes else Err Version)
+
+-- texts, layouts and functions, where pieces have so many cells
+unfoldable pub body_at : (cells : ℕ) → Reading Image
+body_at n bytes = mapped (λ x. record { piece = n; head = record { texts = x.0; layouts = x.1.0 }; functions = x.1.1 })
     (pair_at (list_at text_at) (pair_at (list_at layout_at) (list_at function_at))) bytes
 
 -- nothing stands behind the image
@@ -203,4 +212,4 @@ ended C (b ∷ bytes) = Err Trailing
 
 -- the image that these bytes are, or the first thing that is wrong with them
 unfoldable pub reads : List ℕ → Result Image ImageFault
-reads bytes = magic_at bytes >>= λ m. version_at m.1 >>= λ v. body_at v.1 >>= λ C. ended C.0 C.1
+reads bytes = magic_at bytes >>= λ m. half_at m.1 >>= λ v. piece_at v.0 v.1 >>= λ n. body_at n.0 n.1 >>= λ C. ended C.0 C.1

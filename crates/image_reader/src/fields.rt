@@ -1,9 +1,11 @@
 //! What stands in one field of an image's bytes.
+ghost use Rattle.cells.specs.Pieces.{cells_in};
 ghost use Rattle.image_reader.specs.Outcome.{Gives};
-ghost use Rattle.image_reader.specs.Reading.{behind, byte_at, cell_at, cell_cases, fact_at, fact_cases, integer_at, kind_at, kind_cases, letter_at, magic_at, number_at, optional_at, place_at, result_at, truth_at, version_at};
+ghost use Rattle.image_reader.specs.Reading.{behind, byte_at, cell_at, cell_cases, cells_at, fact_at, fact_cases, half_at, integer_at, kind_at, kind_cases, letter_at, magic_at, number_at, optional_at, piece_at, place_at, result_at, truth_at};
 ghost use Rattle.std.specs.Prelude.{◌<◌, IfOk};
 
 use crate::failure::Failure;
+use cells::Piece;
 use code_form::{Fact, Kind};
 use instruction_table::ImageFault;
 
@@ -34,6 +36,19 @@ pub(crate) fn number_of(bytes: &[u8]) -> Result<(u32, &[u8]), Failure>
     }
     let (front, rest) = bytes.split_at(4);
     let number = u32::from_le_bytes([front[0], front[1], front[2], front[3]]);
+    Ok((number, rest))
+}
+
+/// A number of two bytes.
+#[tactic(auto, unfolding(crate::specs::Reading::half_at))]
+pub(crate) fn half_of(bytes: &[u8]) -> Result<(u16, &[u8]), Failure>
+    ensures { Gives (λ x. (x.0, x.1.now)) result (half_at bytes.now) }
+{
+    if bytes.len() < 2 {
+        return Err(Failure::Fault(ImageFault::Short));
+    }
+    let (front, rest) = bytes.split_at(2);
+    let number = u16::from_le_bytes([front[0], front[1]]);
     Ok((number, rest))
 }
 
@@ -209,15 +224,26 @@ pub(crate) fn magic_of(bytes: &[u8]) -> Result<(u32, &[u8]), Failure>
     Err(Failure::Fault(ImageFault::Magic))
 }
 
-/// The version.
-#[tactic(auto, unfolding(crate::specs::Reading::version_at))]
-pub(crate) fn version_of(bytes: &[u8]) -> Result<((u8, u8), &[u8]), Failure>
-    ensures { Gives (λ x. ((x.0.0, x.0.1), x.1.now)) result (version_at bytes.now) }
+/// How many cells a piece has.
+#[tactic(auto, using(cells::proofs::Pieces::is_a_piece), unfolding(crate::specs::Reading::cells_at))]
+fn cells_of(bytes: &[u8]) -> Result<(Piece, &[u8]), Failure>
+    ensures { Gives (λ x. (cells_in x.0, x.1.now)) result (cells_at bytes.now) }
 {
-    let (low, rest) = byte_of(bytes)?;
-    let (high, rest) = byte_of(rest)?;
-    if low == 1 && high == 0 {
-        return Ok(((low, high), rest));
+    let (cells, rest) = half_of(bytes)?;
+    match Piece::new(u32::from(cells)) {
+        Some(piece) => Ok((piece, rest)),
+        None => Err(Failure::Fault(ImageFault::BadOperand)),
     }
-    Err(Failure::Fault(ImageFault::Version))
+}
+
+/// How many cells a piece has, by the version.
+#[tactic(auto, unfolding(crate::specs::Reading::piece_at))]
+pub(crate) fn piece_of(version: u16, bytes: &[u8]) -> Result<(Piece, &[u8]), Failure>
+    ensures { Gives (λ x. (cells_in x.0, x.1.now)) result (piece_at version bytes.now) }
+{
+    match version {
+        1 => Ok((Piece::Cells64, bytes)),
+        2 => cells_of(bytes),
+        _ => Err(Failure::Fault(ImageFault::Version)),
+    }
 }

@@ -10,6 +10,7 @@ use Rattle.c0_typed.specs.declared.tree.Function.{Function}
 use Rattle.code_form.specs.declared.form.Kind.{Kind}
 use Rattle.middle_form.specs.Form as m
 use Rattle.lower_expressions.specs.Expressions as parts
+use Rattle.lower.specs.Exits.{whole}
 use Rattle.lower.specs.Lowered as l
 use Rattle.lower.specs.Building.{body_kinds, block_code, function_code, locals_of}
 use Rattle.lower_expressions.specs.Building.{conditions_code, conditions_kinds, kind_at, structs_in}
@@ -53,7 +54,7 @@ function_is c f e = ap (λ n. built c n f) e
 -- from its parts
 pub parts_are : (c : Context) (f : Function) (g : m.Function) → g.result ≡ l.result_kind (length (structs_in c)) c.singles.now (type_of f.result) → g.parameters ≡ length f.parameters.items
     → g.kinds ≡ map (kind_at c) f.parameters.items ++ (map (kind_at c) f.locals.items ++ (kind_at c f.result ∷ (conditions_kinds c f.preconditions.items ++ (body_kinds c f.body.items ++ conditions_kinds c f.postconditions.items))))
-    → g.body ≡ parts.sequence (conditions_code c f.preconditions.items (suc c.locals) ++ (m.Block (parts.sequence (block_code c f.body.items (suc c.locals + length (conditions_kinds c f.preconditions.items)) 0))
+    → g.body ≡ parts.sequence (conditions_code c f.preconditions.items (suc c.locals) ++ (m.Block (parts.sequence (block_code c f.body.items (suc c.locals + length (conditions_kinds c f.preconditions.items)) whole))
     ∷ conditions_code c f.postconditions.items (suc c.locals + length (conditions_kinds c f.preconditions.items) + length (body_kinds c f.body.items))))
     → g.value ≡ c.locals → g ≡ built c c.locals f
 parts_are c f g er ep ek eb ev =

@@ -6,13 +6,13 @@ use Rattle.cells.specs.Outcomes.{Done, Stopped, Cut, then_do}
 use Rattle.c0_typed.specs.Values.{Value, Tree, as_text}
 use Rattle.cells.specs.Stops.{ArithFault, ErrorCalled}
 use Rattle.c0_typed.specs.Trees.{Program, Ty, IntTy, BoolTy, TextTy}
-use Rattle.c0_typed.specs.Meaning.{State, Outcome, Way, Next, Returned, and_then, binary_value, checked, eval, exec, holds, if_true, local, loop, set_local, stop, struct_defaults, value_or}
+use Rattle.c0_typed.specs.Meaning.{State, Outcome, Way, Next, Returned, Broken, Continued, and_then, binary_value, checked, eval, exec, holds, if_true, local, loop, set_local, stop, struct_defaults, value_or}
 use Rattle.c0_typed.specs.Typing.{AllBool, Extends, Fits, FitsProgram, FreshSound, Has, Is, Kept}
 use Rattle.c0_typed.specs.Views.{block_row, exp_of, exps_of, place_of, program_of, stmt_of, texts_of}
 use Rattle.c0_typed.proofs.Soundness.{extends_refl, is_more, local_is}
 use Rattle.c0_typed.specs.declared.tree.Expression.{Expression}
 use Rattle.c0_typed.specs.declared.tree.Place.{Place}
-use Rattle.c0_typed.specs.declared.tree.Statement.{Statement, Row_of-Statement, end_of-Statement, more_of-Statement, Block', Set, Update, Store, StoreUpdate, Do, If', Loop', Return, ReturnValue, Assert, Error, Check}
+use Rattle.c0_typed.specs.declared.tree.Statement.{Statement, Row_of-Statement, end_of-Statement, more_of-Statement, Block', Set, Update, Store, StoreUpdate, Do, If', Loop', Return, ReturnValue, Break, Continue, Assert, Error, Check}
 use Rattle.c0_typed.specs.declared.tree.Typed.{Typed}
 use Rattle.code_form.specs.declared.form.Kind.{Kind}
 use Rattle.code_form.specs.declared.form.Kind.TheVariants as kind
@@ -25,7 +25,9 @@ use Rattle.middle_form.specs.Meaning as m
 use Rattle.lower.specs.Coded.{Coded}
 use Rattle.lower_tables.specs.Known.{Knows, KnowsAll, KnowsBlock, KnowsPlace, KnowsStatement}
 use Rattle.lower_expressions.specs.Expressions as parts
-use Rattle.lower.specs.Lowered.{block_code, block_kinds, lowered, stmt_code, stmt_kinds}
+use Rattle.lower.specs.Exits.{deeper, has_continue, inside}
+use Rattle.lower.specs.declared.exits.Exits.{Exits}
+use Rattle.lower.specs.Lowered.{block_code, block_kinds, lowered, stmt_code, stmt_kinds, turn_code}
 use Rattle.lower_expressions.specs.Expressions.{local_register, sequence, value_at}
 use Rattle.lower.proofs.Joint.{Joint, Lands, joint_done, joint_if, joint_on, joint_then_done, run_one}
 use Rattle.lower.proofs.Operators.{coded_truth}
@@ -34,12 +36,13 @@ use Rattle.lower.proofs.Running.{going_less, going_start}
 use Rattle.lower.proofs.Sides.{Going, HeapFacts, Valued}
 use Rattle.lower.proofs.Values.{LocalsAt, local_there, value_kind}
 use Rattle.lower.proofs.Arguments.{CallsOk}
+use Rattle.lower.proofs.Continues.{never_continues}
 use Rattle.lower.proofs.Expressions as e
 use Rattle.lower.proofs.Evaluating as r
 use Rattle.lower.proofs.Evaluated as v
 use Rattle.lower.proofs.Loops as loops
 use Rattle.lower.proofs.Loops.{checked_ok, condition_ok, loop_ok}
-use Rattle.lower.proofs.Steps.{Met, error_ok, met_from, seq_ok, set_ok, update_ok}
+use Rattle.lower.proofs.Steps.{BodyFlow, FlowIs, Met, MetBy, TurnsFlow, error_ok, in_block, in_none, met_from, seq_ok, set_ok, update_ok}
 use Rattle.lower.proofs.Storing.{store_case, store_update_case}
 
 module _ (typed : Typed) (singles : List Kind) (checks : Bool) (call : ℕ → List Value → State → Outcome Value) (call' : ℕ → List ℕ → m.State → m.Outcome ℕ) (types : List Ty) (locals : ℕ) (ks : List Kind)
@@ -81,16 +84,16 @@ module _ (typed : Typed) (singles : List Kind) (checks : Bool) (call : ℕ → L
   abbrev code_all : List Expression → ℕ → List Code
   code_all es d = loops.code_all typed singles checks call call' types locals ks locals_at long_types fp fresh facts calls_ok es d
 
-  abbrev pub code_stmt : Statement → ℕ → ℕ → List Code
+  abbrev pub code_stmt : Statement → ℕ → Exits → List Code
   code_stmt b d out = stmt_code p.structs singles (texts_of typed) typed.functions.items typed.main locals checks b d out
 
-  abbrev pub code_block : {i : _} → Row_of-Statement i → ℕ → ℕ → List Code
+  abbrev pub code_block : {i : _} → Row_of-Statement i → ℕ → Exits → List Code
   code_block bs d out = block_code p.structs singles (texts_of typed) typed.functions.items typed.main locals checks bs d out
 
   abbrev Runs : List Code → List ℕ → m.State → m.Outcome m.Left
   Runs cs rs w = m.run P call' ks (sequence cs) rs w
 
-  abbrev Meets : ℕ → List ℕ → List Kept → Way → State → m.Left → m.State → Type 0
+  abbrev Meets : Exits → List ℕ → List Kept → Way → State → m.Left → m.State → Type 0
   Meets out rs made way s x w = Met p H types locals out rs made way s x w
 
   abbrev Goes : ℕ → List ℕ → List Kept → State → List ℕ → m.State → Type 0
@@ -100,11 +103,11 @@ module _ (typed : Typed) (singles : List Kind) (checks : Bool) (call : ℕ → L
   Gives r t d rs made v s x w = Valued p H types locals r t d rs made v s x w
 
   abbrev pub StmtOk : Statement → Type 0
-  StmtOk b = (out d : ℕ) (made : List Kept) (s : State) (rs : List ℕ) (w : m.State) → suc locals ≤ d → At ks d (kinds_stmt b) → length rs ≡ length ks → KnowsStatement n singles b → Fits p types (stmt_of texts b) → Goes 0 rs made s rs w
+  StmtOk b = (out : Exits) (d : ℕ) (made : List Kept) (s : State) (rs : List ℕ) (w : m.State) → suc locals ≤ d → At ks d (kinds_stmt b) → length rs ≡ length ks → KnowsStatement n singles b → Fits p types (stmt_of texts b) → Goes 0 rs made s rs w
       → Joint made (Meets out rs) (exec checks ds call (stmt_of texts b) s) (Runs (code_stmt b d out) rs w)
 
   abbrev pub BlockOk : {i : _} → Row_of-Statement i → Type 0
-  BlockOk bs = (out d : ℕ) (made : List Kept) (s : State) (rs : List ℕ) (w : m.State) → suc locals ≤ d → At ks d (kinds_block bs) → length rs ≡ length ks → KnowsBlock n singles bs → Fits p types (block_row texts bs) → Goes 0 rs made s rs w
+  BlockOk bs = (out : Exits) (d : ℕ) (made : List Kept) (s : State) (rs : List ℕ) (w : m.State) → suc locals ≤ d → At ks d (kinds_block bs) → length rs ≡ length ks → KnowsBlock n singles bs → Fits p types (block_row texts bs) → Goes 0 rs made s rs w
       → Joint made (Meets out rs) (exec checks ds call (block_row texts bs) s) (Runs (code_block bs d out) rs w)
 
   exp_ok : (a : Expression) → e.ExpOk typed singles checks call call' types locals ks a
@@ -165,15 +168,25 @@ module _ (typed : Typed) (singles : List Kind) (checks : Bool) (call : ℕ → L
       (met_from p H types locals out rs xs new (exec checks ds call (stmt_of texts b) u) (Runs (code_stmt b b' out) xs z) g1.long (ok_b out b' new u xs z (omega arith) at_b (g1.long ∙ long) kn.1 h.1 g2))
       (met_from p H types locals out rs xs new (exec checks ds call (stmt_of texts c) u) (Runs (code_stmt c c' out) xs z) g1.long (ok_c out c' new u xs z (omega arith) at_c (g1.long ∙ long) kn.2 h.2 g2))))
 
-  -- behind a loop or a block
-  pub behind_ok : (out : ℕ) (rs : List ℕ) (made : List Kept) (o : Outcome Way) (x : m.Outcome m.Left) → Joint made (Meets (suc out) rs) o x → Joint made (Meets out rs) o (m.then_do x m.behind)
-  behind_ok out rs made o x h = joint_on made (Meets (suc out) rs) (Meets out rs) o x m.behind h (λ new way s b w ex q. land new way s b w q)
+  -- behind a loop
+  pub behind_ok : (out : Exits) (rs : List ℕ) (made : List Kept) (o : Outcome Way) (x : m.Outcome m.Left) → Joint made (MetBy p H types locals (TurnsFlow out) rs) o x → Joint made (Meets out rs) o (m.then_do x m.behind)
+  behind_ok out rs made o x h = joint_on made (MetBy p H types locals (TurnsFlow out) rs) (Meets out rs) o x m.behind h (λ new way s b w ex q. land new way s b w q)
     where
-      land : (new : List Kept) (way : Way) (s : State) (b : m.Left) (w : m.State) → Meets (suc out) rs new way s b w → Lands new (Meets out rs) way s (m.behind b w)
-      land new Next s (zero, xs) w q = (new, extends_refl new, record { flow = refl; going = q.going })
-      land new Next s (suc i, xs) w q = let z = q.flow in absurd (cc z)
-      land new Returned s (zero, xs) w q = let z = q.flow in absurd (cc z)
-      land new Returned s (suc i, xs) w q = (new, extends_refl new, record { flow = (let z = q.flow in cc z); going = q.going })
+      land : (new : List Kept) (way : Way) (s : State) (b : m.Left) (w : m.State) → MetBy p H types locals (TurnsFlow out) rs new way s b w → Lands new (Meets out rs) way s (m.behind b w)
+      land new way s (zero, xs) w q = (new, extends_refl new, record { flow = q.flow; going = q.going })
+      land new way s (suc i, xs) w q = (new, extends_refl new, record { flow = q.flow; going = q.going })
+
+  -- the body of a loop
+  body_case : (b : Statement) → StmtOk b → (out : Exits) (d : ℕ) (made : List Kept) (s : State) (rs : List ℕ) (w : m.State) → suc locals ≤ d → At ks d (kinds_stmt b) → length rs ≡ length ks → KnowsStatement n singles b → Fits p types (stmt_of texts b) → Goes 0 rs made s rs w
+      → Joint made (MetBy p H types locals (BodyFlow out) rs) (exec checks ds call (stmt_of texts b) s) (Runs (turn_code (has_continue b) (code_stmt b d (inside (has_continue b) out))) rs w)
+  body_case b ok_b out d made s rs w low at long kn h g = by (has_continue b) refl
+    where
+      by : (c : Bool) → has_continue b ≡ c → Joint made (MetBy p H types locals (BodyFlow out) rs) (exec checks ds call (stmt_of texts b) s) (Runs (turn_code c (code_stmt b d (inside c out))) rs w)
+      by true q =
+          subst (λ z. Joint made (MetBy p H types locals (BodyFlow out) rs) (exec checks ds call (stmt_of texts b) s) z) (sym (run_one P call' ks (f.Block (sequence (code_stmt b d (inside true out)))) rs w))
+          (in_block p H types locals out rs made (exec checks ds call (stmt_of texts b) s) (Runs (code_stmt b d (inside true out)) rs w) (ok_b (inside true out) d made s rs w low at long kn h g))
+      by false q =
+          in_none p H types locals out rs made (exec checks ds call (stmt_of texts b) s) (Runs (code_stmt b d (inside false out)) rs w) (never_continues checks ds call texts b q s) (ok_b (inside false out) d made s rs w low at long kn h g)
 
   loop_case : (es : Vec Expression Global) (a : Expression) (q : Box (Unit {0}) Global) (b : Statement) (r' : Box (Unit {0}) Global) (c : Statement) → StmtOk b → StmtOk c → StmtOk (Loop' es a q b r' c)
   loop_case es a q b r' c ok_b ok_c out d made s rs w low at long kn h g =
@@ -188,26 +201,34 @@ module _ (typed : Typed) (singles : List Kind) (checks : Bool) (call : ℕ → L
       let at_b = at_left ks b' (kinds_stmt b) (kinds_stmt c) rest2 in
       let at_c = at_right ks b' (kinds_stmt b) (kinds_stmt c) rest2 in
       let test : Code = sequence (code_all (parts.checked checks es.items) d ++ code a a') in
-      let body : Code = sequence (code_stmt b b' (suc out) ++ code_stmt c c' (suc out)) in
+      let body : Code = sequence (turn_code (has_continue b) (code_stmt b b' (inside (has_continue b) out)) ++ code_stmt c c' (deeper out)) in
       let meant : Outcome Way = loop (checked checks ds call (exps_of texts es.items)) (eval ds call (exp_of texts a)) (exec checks ds call (stmt_of texts b)) (exec checks ds call (stmt_of texts c)) s.turns s in
       subst (λ o. Joint made (Meets out rs) meant o)
       (sym (run_one P call' ks (f.Loop test (value_at locals a a') body) rs w ∙ ap (λ z. m.where_so z (m.then_do (m.loop (m.run P call' ks test) (value_at locals a a') (m.run P call' ks body) w.turns rs w) m.behind)) (has_it ks (value_at locals a a') kind.Bool (value_kind typed singles types locals ks locals_at a BoolTy a' at_a h.1))))
       (behind_ok out rs made meant (m.loop (m.run P call' ks test) (value_at locals a a') (m.run P call' ks body) w.turns rs w)
-      (subst (λ i. Joint made (Meets (suc out) rs) meant (m.loop (m.run P call' ks test) (value_at locals a a') (m.run P call' ks body) i rs w)) g.alike.turns
-      (loop_ok typed singles checks call call' types locals ks locals_at long_types fp fresh facts calls_ok es.items a (suc out) d low at_es at_a kn.0 kn.1 h.0 h.1 (exec checks ds call (stmt_of texts b)) (exec checks ds call (stmt_of texts c)) (code_stmt b b' (suc out)) (code_stmt c c' (suc out))
-      (λ made s rs w long g. ok_b (suc out) b' made s rs w (omega arith) at_b long kn.2 h.2 g) (λ made s rs w long g. ok_c (suc out) c' made s rs w (omega arith) at_c long kn.3 h.3 g) s.turns made s rs w long g)))
+      (subst (λ i. Joint made (MetBy p H types locals (TurnsFlow out) rs) meant (m.loop (m.run P call' ks test) (value_at locals a a') (m.run P call' ks body) i rs w)) g.alike.turns
+      (loop_ok typed singles checks call call' types locals ks locals_at long_types fp fresh facts calls_ok es.items a out d low at_es at_a kn.0 kn.1 h.0 h.1 (exec checks ds call (stmt_of texts b)) (exec checks ds call (stmt_of texts c)) (turn_code (has_continue b) (code_stmt b b' (inside (has_continue b) out))) (code_stmt c c' (deeper out))
+      (λ made s rs w long g. body_case b ok_b out b' made s rs w (omega arith) at_b long kn.2 h.2 g) (λ made s rs w long g. ok_c (deeper out) c' made s rs w (omega arith) at_c long kn.3 h.3 g) s.turns made s rs w long g)))
 
   return_case : StmtOk Return
   return_case out d made s rs w low at long kn h g =
-      subst (λ o. Joint made (Meets out rs) (Done Returned s) o) (sym (run_one P call' ks (f.Exit out) rs w)) (joint_done made (Meets out rs) Returned s (suc out, rs) w (record { flow = refl; going = g }))
+      subst (λ o. Joint made (Meets out rs) (Done Returned s) o) (sym (run_one P call' ks (f.Exit out.returns) rs w)) (joint_done made (Meets out rs) Returned s (suc out.returns, rs) w (record { flow = refl; going = g }))
+
+  break_case : StmtOk Break
+  break_case out d made s rs w low at long kn h g =
+      subst (λ o. Joint made (Meets out rs) (Done Broken s) o) (sym (run_one P call' ks (f.Exit out.breaks) rs w)) (joint_done made (Meets out rs) Broken s (suc out.breaks, rs) w (record { flow = refl; going = g }))
+
+  continue_case : StmtOk Continue
+  continue_case out d made s rs w low at long kn h g =
+      subst (λ o. Joint made (Meets out rs) (Done Continued s) o) (sym (run_one P call' ks (f.Exit out.continues) rs w)) (joint_done made (Meets out rs) Continued s (suc out.continues, rs) w (record { flow = refl; going = g }))
 
   return_value_case : (a : Expression) → StmtOk (ReturnValue a)
   return_value_case a out d made s rs w low at long kn h g =
-      then_exp a h.0 d made s rs w (f.Do (op.Move (local_register locals 0) (value_at locals a d)) ∷ (f.Exit out ∷ [])) (λ v t. Done Returned (set_local 0 v t)) (Meets out rs) (exp_ok a h.0 d made s rs w low at long kn h.2 (start 0 d rs rs made s w g)) (λ new y u xs z ex i c g1.
-      let done = set_ok typed singles checks call call' types locals ks locals_at long_types 0 h.0 d (value_at locals a d) y (f.Exit out ∷ []) new u rs xs z h.1 (value_kind typed singles types locals ks locals_at a h.0 d at h.2) long g1 i c in
+      then_exp a h.0 d made s rs w (f.Do (op.Move (local_register locals 0) (value_at locals a d)) ∷ (f.Exit out.returns ∷ [])) (λ v t. Done Returned (set_local 0 v t)) (Meets out rs) (exp_ok a h.0 d made s rs w low at long kn h.2 (start 0 d rs rs made s w g)) (λ new y u xs z ex i c g1.
+      let done = set_ok typed singles checks call call' types locals ks locals_at long_types 0 h.0 d (value_at locals a d) y (f.Exit out.returns ∷ []) new u rs xs z h.1 (value_kind typed singles types locals ks locals_at a h.0 d at h.2) long g1 i c in
       let zs : List ℕ = slice_set xs (local_register locals 0) (slice_index xs (value_at locals a d)) in
-      subst (λ o. Joint new (Meets out rs) (Done Returned (set_local 0 y u)) o) (sym (done.0 ∙ run_one P call' ks (f.Exit out) zs z))
-      (joint_done new (Meets out rs) Returned (set_local 0 y u) (suc out, zs) z (record { flow = refl; going = done.1 })))
+      subst (λ o. Joint new (Meets out rs) (Done Returned (set_local 0 y u)) o) (sym (done.0 ∙ run_one P call' ks (f.Exit out.returns) zs z))
+      (joint_done new (Meets out rs) Returned (set_local 0 y u) (suc out.returns, zs) z (record { flow = refl; going = done.1 })))
 
   error_case : (a : Expression) → StmtOk (Error a)
   error_case a out d made s rs w low at long kn h g =
@@ -235,6 +256,8 @@ module _ (typed : Typed) (singles : List Kind) (checks : Bool) (call : ℕ → L
     stmt_ok (If' a q b r' c) = if_case a q b r' c (stmt_ok b) (stmt_ok c)
     stmt_ok (Loop' es a q b r' c) = loop_case es a q b r' c (stmt_ok b) (stmt_ok c)
     stmt_ok Return = return_case
+    stmt_ok Break = break_case
+    stmt_ok Continue = continue_case
     stmt_ok (ReturnValue a) = return_value_case a
     stmt_ok (Assert a) = λ out d made s rs w low at long kn h g. condition_ok typed singles checks call call' types locals ks locals_at long_types fp fresh facts calls_ok a out d made s rs w low at long kn h g
     stmt_ok (Error a) = error_case a

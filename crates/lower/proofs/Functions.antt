@@ -8,7 +8,7 @@ use Rattle.cells.specs.Outcomes.{Done, Stopped, Cut, then_do}
 use Rattle.c0_typed.specs.Values.{Value, Void, Tree, as_truth}
 use Rattle.c0_typed.specs.Trees as t
 use Rattle.c0_typed.specs.Trees.{Program, Ty, VoidTy, IntTy, BoolTy, CharTy, TextTy, StructTy, PointerTy, ArrayTy, Exps, NoExp, More}
-use Rattle.c0_typed.specs.Meaning.{State, Outcome, Way, Next, Returned, all_hold, and_then, blank, checked, eval, exec, give, holds, if_true, in_function, local, locals_at_entry, stop, struct_defaults}
+use Rattle.c0_typed.specs.Meaning.{State, Outcome, Way, Next, Returned, Broken, Continued, all_hold, and_then, blank, checked, eval, exec, give, holds, if_true, in_function, local, locals_at_entry, stop, struct_defaults}
 use Rattle.c0_typed.specs.Typing.{AllBool, AreAll, Extends, Fits, FitsFunction, FitsProgram, FreshSound, Has, Is, IsHeap, Kept, local_types}
 use Rattle.c0_typed.specs.Views.{block_of, exp_of, exps_of, function_of, program_of, stmt_of, texts_of, type_of}
 use Rattle.c0_typed.proofs.Soundness.{blanks_are, extends_refl, local_is, result_blank}
@@ -26,6 +26,8 @@ use Rattle.lower.specs.Coded.{Coded}
 use Rattle.lower_tables.specs.Kinds as k
 use Rattle.lower_tables.specs.Known.{KnowsAll, KnowsBody, KnowsFunction}
 use Rattle.lower_expressions.specs.Expressions as parts
+use Rattle.lower.specs.Exits.{whole}
+use Rattle.lower.specs.declared.exits.Exits.{Exits}
 use Rattle.lower.specs.Lowered as l
 use Rattle.lower.specs.Lowered.{body_code, body_kinds, lowered}
 use Rattle.lower_expressions.specs.Expressions.{sequence}
@@ -42,10 +44,12 @@ use Rattle.lower.proofs.Executed as x
 use Rattle.lower.proofs.Loops as loops
 use Rattle.lower.proofs.Steps.{Met, are_long, met_from, seq_ok}
 
--- a statement that was done did not return
+-- a statement that was done goes on to the next
 abbrev NotReturned : Outcome Way → Type 0
 NotReturned (Done Next s) = Unit {0}
 NotReturned (Done Returned s) = ⊥
+NotReturned (Done Broken s) = ⊥
+NotReturned (Done Continued s) = ⊥
 NotReturned (Stopped z o) = Unit {0}
 NotReturned (Cut o) = Unit {0}
 
@@ -53,6 +57,8 @@ module _ (checks : Bool) (ds : List Tree) (call : ℕ → List Value → State �
   goes_on : (o : Outcome Way) (go : State → Outcome Way) → NotReturned o → ((s : State) → NotReturned (go s)) → NotReturned (and_then o go)
   goes_on (Done Next s) go h k = k s
   goes_on (Done Returned s) go h k = absurd h
+  goes_on (Done Broken s) go h k = absurd h
+  goes_on (Done Continued s) go h k = absurd h
   goes_on (Stopped z o) go h k = tt
   goes_on (Cut o) go h k = tt
 
@@ -133,7 +139,7 @@ module _ (typed : Typed) (singles : List Kind) (checks : Bool) (call : ℕ → L
   abbrev Runs : List Code → List ℕ → m.State → m.Outcome m.Left
   Runs cs rs w = m.run P call' ks (sequence cs) rs w
 
-  abbrev Meets : ℕ → List ℕ → List Kept → Way → State → m.Left → m.State → Type 0
+  abbrev Meets : Exits → List ℕ → List Kept → Way → State → m.Left → m.State → Type 0
   Meets out rs made way s x w = Met p H types locals out rs made way s x w
 
   abbrev Goes : ℕ → List ℕ → List Kept → State → List ℕ → m.State → Type 0
@@ -150,14 +156,14 @@ module _ (typed : Typed) (singles : List Kind) (checks : Bool) (call : ℕ → L
 
   -- the statements of a body
   body_ok : (bs : List Statement) (d : ℕ) (made : List Kept) (s : State) (rs : List ℕ) (w : m.State) → suc locals ≤ d → At ks d (kinds_body bs) → length rs ≡ length ks → KnowsBody n singles bs → Fits p types (block_of texts bs) → Goes 0 rs made s rs w
-      → Joint made (Meets 0 rs) (exec checks ds call (block_of texts bs) s) (Runs (code_body bs d) rs w)
-  body_ok [] d made s rs w low at long kn fit go = joint_done made (Meets 0 rs) Next s (0, rs) w (record { flow = refl; going = go })
+      → Joint made (Meets whole rs) (exec checks ds call (block_of texts bs) s) (Runs (code_body bs d) rs w)
+  body_ok [] d made s rs w low at long kn fit go = joint_done made (Meets whole rs) Next s (0, rs) w (record { flow = refl; going = go })
   body_ok (b ∷ bs) d made s rs w low at long kn fit go =
       let kinds_b : List Kind = l.stmt_kinds p.structs singles (texts_of typed) typed.functions.items typed.main checks b in
       let next : ℕ = d + length kinds_b in
-      seq_ok typed singles checks call call' types locals ks locals_at long_types 0 rs w made (exec checks ds call (stmt_of texts b) s) (l.stmt_code p.structs singles (texts_of typed) typed.functions.items typed.main locals checks b d 0) (code_body bs next) (exec checks ds call (block_of texts bs))
-      (x.stmt_ok typed singles checks call call' types locals ks locals_at long_types fp fresh facts calls_ok b 0 d made s rs w low (at_left ks d kinds_b (kinds_body bs) at) long kn.0 fit.0 go) (λ new y xs z ex g1.
-      met_from p H types locals 0 rs xs new (exec checks ds call (block_of texts bs) y) (Runs (code_body bs next) xs z) g1.long
+      seq_ok typed singles checks call call' types locals ks locals_at long_types whole rs w made (exec checks ds call (stmt_of texts b) s) (l.stmt_code p.structs singles (texts_of typed) typed.functions.items typed.main locals checks b d whole) (code_body bs next) (exec checks ds call (block_of texts bs))
+      (x.stmt_ok typed singles checks call call' types locals ks locals_at long_types fp fresh facts calls_ok b whole d made s rs w low (at_left ks d kinds_b (kinds_body bs) at) long kn.0 fit.0 go) (λ new y xs z ex g1.
+      met_from p H types locals whole rs xs new (exec checks ds call (block_of texts bs) y) (Runs (code_body bs next) xs z) g1.long
       (body_ok bs next new y xs z (omega arith) (at_right ks d kinds_b (kinds_body bs) at) (g1.long ∙ long) kn.1 fit.1 (going_start p H types locals 0 0 rs xs new y z g1)))
 
   -- code that falls through, however the statement was left
@@ -166,11 +172,15 @@ module _ (typed : Typed) (singles : List Kind) (checks : Bool) (call : ℕ → L
     pub going : Goes 0 rs made s x.1 w
 
   -- behind a block
-  past_block : (rs : List ℕ) (made : List Kept) (o : Outcome Way) (z : m.Outcome m.Left) → Joint made (Meets 0 rs) o z → Joint made (Past rs) o (m.then_do z m.behind)
+  past_block : (rs : List ℕ) (made : List Kept) (o : Outcome Way) (z : m.Outcome m.Left) → Joint made (Meets whole rs) o z → Joint made (Past rs) o (m.then_do z m.behind)
   past_block rs made (Done Next s) (m.Done (zero, xs) w) j = (j.0, j.1, record { falls = refl; going = j.2.going })
   past_block rs made (Done Next s) (m.Done (suc i, xs) w) j = let q = j.2.flow in absurd (cc q)
   past_block rs made (Done Returned s) (m.Done (zero, xs) w) j = let q = j.2.flow in absurd (cc q)
+  past_block rs made (Done Broken s) (m.Done (zero, xs) w) j = let q = j.2.flow in absurd (cc q)
+  past_block rs made (Done Continued s) (m.Done (zero, xs) w) j = let q = j.2.flow in absurd (cc q)
   past_block rs made (Done Returned s) (m.Done (suc i, xs) w) j = (j.0, j.1, record { falls = (let q = j.2.flow in cc q); going = j.2.going })
+  past_block rs made (Done Broken s) (m.Done (suc i, xs) w) j = (j.0, j.1, record { falls = (let q = j.2.flow in cc q); going = j.2.going })
+  past_block rs made (Done Continued s) (m.Done (suc i, xs) w) j = (j.0, j.1, record { falls = (let q = j.2.flow in cc q); going = j.2.going })
   past_block rs made (Done way s) (m.Stopped y o) j = absurd j
   past_block rs made (Done way s) (m.Cut o) j = absurd j
   past_block rs made (Done way s) m.Stuck j = absurd j
@@ -178,11 +188,13 @@ module _ (typed : Typed) (singles : List Kind) (checks : Bool) (call : ℕ → L
   past_block rs made (Cut o) z j = ap (λ i. m.then_do i m.behind) j
 
   -- conditions, and what follows
-  past_then : (S : List Kept → Way → State → m.Left → m.State → Type 0) (rs : List ℕ) (made : List Kept) (o : Outcome Way) (z : m.Outcome m.Left) (go : State → Outcome Way) (on : List ℕ → m.State → m.Outcome m.Left) → NotReturned o → Joint made (Meets 0 rs) o z
+  past_then : (S : List Kept → Way → State → m.Left → m.State → Type 0) (rs : List ℕ) (made : List Kept) (o : Outcome Way) (z : m.Outcome m.Left) (go : State → Outcome Way) (on : List ℕ → m.State → m.Outcome m.Left) → NotReturned o → Joint made (Meets whole rs) o z
       → ((new : List Kept) (s : State) (xs : List ℕ) (w : m.State) → Extends made new → Goes 0 rs new s xs w → Joint new S (go s) (on xs w)) → Joint made S (and_then o go) (m.then_do z (m.falls on))
   past_then S rs made (Done Next s) (m.Done (zero, xs) w) go on q j k = joint_from made j.0 S (go s) (on xs w) j.1 (k j.0 s xs w j.1 j.2.going)
   past_then S rs made (Done Next s) (m.Done (suc i, xs) w) go on q j k = let y = j.2.flow in absurd (cc y)
   past_then S rs made (Done Returned s) z go on q j k = absurd q
+  past_then S rs made (Done Broken s) z go on q j k = absurd q
+  past_then S rs made (Done Continued s) z go on q j k = absurd q
   past_then S rs made (Done Next s) (m.Stopped y o) go on q j k = absurd j
   past_then S rs made (Done Next s) (m.Cut o) go on q j k = absurd j
   past_then S rs made (Done Next s) m.Stuck go on q j k = absurd j
@@ -190,10 +202,12 @@ module _ (typed : Typed) (singles : List Kind) (checks : Bool) (call : ℕ → L
   past_then S rs made (Cut o) z go on q j k = ap (λ i. m.then_do i (m.falls on)) j
 
   -- they fall through
-  past_from : (rs : List ℕ) (made : List Kept) (o : Outcome Way) (z : m.Outcome m.Left) → NotReturned o → Joint made (Meets 0 rs) o z → Joint made (Past rs) o z
+  past_from : (rs : List ℕ) (made : List Kept) (o : Outcome Way) (z : m.Outcome m.Left) → NotReturned o → Joint made (Meets whole rs) o z → Joint made (Past rs) o z
   past_from rs made (Done Next s) (m.Done (zero, xs) w) q j = (j.0, j.1, record { falls = refl; going = j.2.going })
   past_from rs made (Done Next s) (m.Done (suc i, xs) w) q j = let y = j.2.flow in absurd (cc y)
   past_from rs made (Done Returned s) z q j = absurd q
+  past_from rs made (Done Broken s) z q j = absurd q
+  past_from rs made (Done Continued s) z q j = absurd q
   past_from rs made (Done Next s) (m.Stopped y o) q j = absurd j
   past_from rs made (Done Next s) (m.Cut o) q j = absurd j
   past_from rs made (Done Next s) m.Stuck q j = absurd j
@@ -226,10 +240,10 @@ module _ (typed : Typed) (singles : List Kind) (checks : Bool) (call : ℕ → L
       let at_inside = at_left ks inside_at inside behind (at_right ks before_at before (inside ++ behind) at_rest) in
       subst (λ z. Joint made (Past rs) (and_then (checked checks ds call g.requires s) (exec checks ds call g.body)) z) (sym (run_append P call' ks entry_code (block ∷ []) rs w))
       (past_then (Past rs) rs made (checked checks ds call g.requires s) (Runs entry_code rs w) (exec checks ds call g.body) (m.run P call' ks (sequence (block ∷ []))) (checked_goes_on checks ds call g.requires s)
-      (loops.checked_ok typed singles checks call call' types locals ks locals_at long_types fp fresh facts calls_ok h.preconditions.items 0 before_at made s rs w (omega arith) at_before long known.0 fits.3 go) (λ new y xs z ex g1.
+      (loops.checked_ok typed singles checks call call' types locals ks locals_at long_types fp fresh facts calls_ok h.preconditions.items whole before_at made s rs w (omega arith) at_before long known.0 fits.3 go) (λ new y xs z ex g1.
       subst (λ i. Joint new (Past rs) (exec checks ds call g.body y) i) (sym (run_one P call' ks block xs z))
       (past_block rs new (exec checks ds call g.body y) (Runs (code_body h.body.items inside_at) xs z)
-      (met_from p H types locals 0 rs xs new (exec checks ds call g.body y) (Runs (code_body h.body.items inside_at) xs z) g1.long
+      (met_from p H types locals whole rs xs new (exec checks ds call g.body y) (Runs (code_body h.body.items inside_at) xs z) g1.long
       (body_ok h.body.items inside_at new y xs z (omega arith) at_inside (g1.long ∙ long) known.1 fits.5 (going_start p H types locals 0 0 rs xs new y z g1))))))
 
   abbrev Back : State → List Kept → Value → State → ℕ → m.State → Type 0
@@ -299,5 +313,5 @@ module _ (typed : Typed) (singles : List Kind) (checks : Bool) (call : ℕ → L
           let g1 = q.going in
           joint_then new (Past xs) (Back s) (checked checks ds call g.ensures y) (Runs end_code xs z) (λ way u. give checks ds call s.locals u) result
           (past_from xs new (checked checks ds call g.ensures y) (Runs end_code xs z) (checked_goes_on checks ds call g.ensures y)
-          (loops.checked_ok typed singles checks call call' types locals ks locals_at long_types fp fresh facts calls_ok h.postconditions.items 0 behind_at new y xs z (omega arith) at_end (g1.long ∙ long) known.2 fits.4 (going_start p H types locals 0 0 rs xs new y z g1)))
+          (loops.checked_ok typed singles checks call call' types locals ks locals_at long_types fp fresh facts calls_ok h.postconditions.items whole behind_at new y xs z (omega arith) at_end (g1.long ∙ long) known.2 fits.4 (going_start p H types locals 0 0 rs xs new y z g1)))
           (λ last way u b z2 ex2 q2. given last xs way u b z2 q2)

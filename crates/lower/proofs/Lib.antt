@@ -1,6 +1,7 @@
 pub mod Arguments
 pub mod Calling
 pub mod CodeFunctions
+pub mod Continues
 pub mod Defaults
 pub mod Accesses
 pub mod Entry

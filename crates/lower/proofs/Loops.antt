@@ -4,7 +4,7 @@ use Rattle.std.specs.Prelude.{slice_get, slice_index, slice_set, map}
 use Rattle.cells.specs.Outcomes.{Done, Stopped, Cut, then_do}
 use Rattle.c0_typed.specs.Values.{Value, Tree, as_truth}
 use Rattle.c0_typed.specs.Trees.{Program, Ty, BoolTy}
-use Rattle.c0_typed.specs.Meaning.{State, Outcome, Way, Next, Returned, all_hold, and_then, checked, eval, holds, if_true, loop, struct_defaults, turn}
+use Rattle.c0_typed.specs.Meaning.{State, Outcome, Way, Next, Returned, after_body, all_hold, and_then, checked, eval, holds, if_true, loop, struct_defaults, turn}
 use Rattle.c0_typed.specs.Typing.{AllBool, Extends, FitsProgram, FreshSound, Has, Is, Kept}
 use Rattle.c0_typed.specs.Views.{exp_of, exps_of, program_of, texts_of}
 use Rattle.c0_typed.proofs.Soundness.{extends_refl}
@@ -21,6 +21,8 @@ use Rattle.middle_form.specs.Meaning as m
 use Rattle.lower.specs.Coded.{Coded}
 use Rattle.lower_tables.specs.Known.{Knows, KnowsAll}
 use Rattle.lower_expressions.specs.Expressions as parts
+use Rattle.lower.specs.Exits.{deeper}
+use Rattle.lower.specs.declared.exits.Exits.{Exits}
 use Rattle.lower.specs.Lowered.{lowered}
 use Rattle.lower_expressions.specs.Expressions.{conditions_code, conditions_kinds, sequence, value_at}
 use Rattle.lower.proofs.Joint.{Joint, Lands, joint_done, joint_from, joint_if, joint_on, joint_turn, run_append, run_one}
@@ -32,7 +34,7 @@ use Rattle.lower.proofs.Values.{LocalsAt, value_kind}
 use Rattle.lower.proofs.Arguments.{CallsOk}
 use Rattle.lower.proofs.Expressions as e
 use Rattle.lower.proofs.Evaluated as v
-use Rattle.lower.proofs.Steps.{Met, assert_ok, met_from, met_then, seq_ok}
+use Rattle.lower.proofs.Steps.{BodyFlow, FlowIs, Met, MetBy, TurnsFlow, assert_ok, body_then, met_by_from, met_from, met_then, seq_ok, turned_then}
 
 module _ (typed : Typed) (singles : List Kind) (checks : Bool) (call : ℕ → List Value → State → Outcome Value) (call' : ℕ → List ℕ → m.State → m.Outcome ℕ) (types : List Ty) (locals : ℕ) (ks : List Kind)
     (locals_at : LocalsAt typed singles types locals ks) (long_types : length types ≡ suc locals) (fp : FitsProgram (program_of typed)) (fresh : FreshSound) (facts : HeapFacts (program_of typed) singles (lowered singles checks typed).head)
@@ -70,14 +72,14 @@ module _ (typed : Typed) (singles : List Kind) (checks : Bool) (call : ℕ → L
   abbrev Runs : List Code → List ℕ → m.State → m.Outcome m.Left
   Runs cs rs w = m.run P call' ks (sequence cs) rs w
 
-  abbrev Meets : ℕ → List ℕ → List Kept → Way → State → m.Left → m.State → Type 0
+  abbrev Meets : Exits → List ℕ → List Kept → Way → State → m.Left → m.State → Type 0
   Meets out rs made way s x w = Met p H types locals out rs made way s x w
 
   abbrev Goes : ℕ → List ℕ → List Kept → State → List ℕ → m.State → Type 0
   Goes d rs made s xs w = Going p H types locals d rs made s xs w
 
   -- a condition and its check
-  pub condition_ok : (a : Expression) (out d : ℕ) (made : List Kept) (s : State) (rs : List ℕ) (w : m.State) → suc locals ≤ d → At ks d (kinds a) → length rs ≡ length ks → Knows n singles a → Has p types (exp_of texts a) BoolTy → Goes 0 rs made s rs w
+  pub condition_ok : (a : Expression) (out : Exits) (d : ℕ) (made : List Kept) (s : State) (rs : List ℕ) (w : m.State) → suc locals ≤ d → At ks d (kinds a) → length rs ≡ length ks → Knows n singles a → Has p types (exp_of texts a) BoolTy → Goes 0 rs made s rs w
       → Joint made (Meets out rs) (then_do (eval ds call (exp_of texts a) s) holds) (Runs (code a d ++ (f.Do (op.Assert (value_at locals a d)) ∷ [])) rs w)
   condition_ok a out d made s rs w low at long kn h g =
       e.exp_then typed singles checks call call' types locals ks a BoolTy d made s rs w (f.Do (op.Assert (value_at locals a d)) ∷ []) holds (Meets out rs)
@@ -88,7 +90,7 @@ module _ (typed : Typed) (singles : List Kind) (checks : Bool) (call : ℕ → L
   fresh_going rs xs made s w g = going_start p H types locals 0 0 rs xs made s w g
 
   -- conditions in order
-  pub conditions_ok : (es : List Expression) (out d : ℕ) (made : List Kept) (s : State) (rs : List ℕ) (w : m.State) → suc locals ≤ d → At ks d (kinds_all es) → length rs ≡ length ks → KnowsAll n singles es → AllBool p types (exps_of texts es) → Goes 0 rs made s rs w
+  pub conditions_ok : (es : List Expression) (out : Exits) (d : ℕ) (made : List Kept) (s : State) (rs : List ℕ) (w : m.State) → suc locals ≤ d → At ks d (kinds_all es) → length rs ≡ length ks → KnowsAll n singles es → AllBool p types (exps_of texts es) → Goes 0 rs made s rs w
       → Joint made (Meets out rs) (all_hold checks ds call (exps_of texts es) s) (Runs (code_all es d) rs w)
   conditions_ok [] out d made s rs w low at long kn h g = joint_done made (Meets out rs) Next s (0, rs) w (record { flow = refl; going = g })
   conditions_ok (a ∷ es) out d made s rs w low at long kn h g =
@@ -101,7 +103,7 @@ module _ (typed : Typed) (singles : List Kind) (checks : Bool) (call : ℕ → L
       met_from p H types locals out rs xs new _ _ g1.long (conditions_ok es out (d + length (kinds a)) new y xs z (omega arith) (at_right ks d (kinds a) (kinds_all es) at) (g1.long ∙ long) kn.1 h.1 (fresh_going rs xs new y z g1))))
 
   -- those that are looked at
-  pub checked_ok : (es : List Expression) (out d : ℕ) (made : List Kept) (s : State) (rs : List ℕ) (w : m.State) → suc locals ≤ d → At ks d (kinds_all (parts.checked checks es)) → length rs ≡ length ks → KnowsAll n singles es → AllBool p types (exps_of texts es) → Goes 0 rs made s rs w
+  pub checked_ok : (es : List Expression) (out : Exits) (d : ℕ) (made : List Kept) (s : State) (rs : List ℕ) (w : m.State) → suc locals ≤ d → At ks d (kinds_all (parts.checked checks es)) → length rs ≡ length ks → KnowsAll n singles es → AllBool p types (exps_of texts es) → Goes 0 rs made s rs w
       → Joint made (Meets out rs) (checked checks ds call (exps_of texts es) s) (Runs (code_all (parts.checked checks es) d) rs w)
   checked_ok es out d made s rs w low at long kn h g = by checks refl
     where
@@ -123,7 +125,7 @@ module _ (typed : Typed) (singles : List Kind) (checks : Bool) (call : ℕ → L
   appended xs ys on rs w = ap (λ z. m.then_do z (m.falls on)) (run_append P call' ks xs ys rs w) ∙ falls_twice (Runs xs rs w) (m.run P call' ks (sequence ys)) on
 
   -- A loop: what must hold before its condition, its condition, and what is done where it holds
-  module _ (es : List Expression) (c : Expression) (out d : ℕ) (low : suc locals ≤ d) (at_es : At ks d (kinds_all (parts.checked checks es))) (at_c : At ks (d + length (kinds_all (parts.checked checks es))) (kinds c))
+  module _ (es : List Expression) (c : Expression) (out : Exits) (d : ℕ) (low : suc locals ≤ d) (at_es : At ks d (kinds_all (parts.checked checks es))) (at_c : At ks (d + length (kinds_all (parts.checked checks es))) (kinds c))
       (kn_es : KnowsAll n singles es) (kn_c : Knows n singles c) (has_es : AllBool p types (exps_of texts es)) (has_c : Has p types (exp_of texts c) BoolTy) where
     b : ℕ
     b = d + length (kinds_all (parts.checked checks es))
@@ -131,56 +133,59 @@ module _ (typed : Typed) (singles : List Kind) (checks : Bool) (call : ℕ → L
     rc : ℕ
     rc = value_at locals c (d + length (kinds_all (parts.checked checks es)))
 
+    abbrev Turns : List ℕ → List Kept → Way → State → m.Left → m.State → Type 0
+    Turns rs made way s x w = MetBy p H types locals (TurnsFlow out) rs made way s x w
+
     test : List Code
     test = code_all (parts.checked checks es) d ++ code c (d + length (kinds_all (parts.checked checks es)))
 
     -- one turn
-    turn_ok : (more : State → Outcome Way) (more' : List ℕ → m.State → m.Outcome m.Left) → ((made : List Kept) (s : State) (rs : List ℕ) (w : m.State) → length rs ≡ length ks → Goes 0 rs made s rs w → Joint made (Meets out rs) (more s) (more' rs w))
+    turn_ok : (more : State → Outcome Way) (more' : List ℕ → m.State → m.Outcome m.Left) → ((made : List Kept) (s : State) (rs : List ℕ) (w : m.State) → length rs ≡ length ks → Goes 0 rs made s rs w → Joint made (Turns rs) (more s) (more' rs w))
         → (made : List Kept) (s : State) (rs : List ℕ) (w : m.State) → length rs ≡ length ks → Goes 0 rs made s rs w
-        → Joint made (Meets out rs) (and_then (checked checks ds call (exps_of texts es) s) (λ y. then_do (eval ds call (exp_of texts c) y) (λ v u. if_true v (more u) (Done Next u))))
+        → Joint made (Turns rs) (and_then (checked checks ds call (exps_of texts es) s) (λ y. then_do (eval ds call (exp_of texts c) y) (λ v u. if_true v (more u) (Done Next u))))
         (m.then_do (Runs (code_all (parts.checked checks es) d ++ code c (d + length (kinds_all (parts.checked checks es)))) rs w) (m.falls (λ qs y. if_zero (slice_index qs (value_at locals c (d + length (kinds_all (parts.checked checks es))))) (m.on qs y) (more' qs y))))
     turn_ok more more' more_ok made s rs w long g =
-        subst (λ z. Joint made (Meets out rs) (and_then (checked checks ds call (exps_of texts es) s) (λ y. then_do (eval ds call (exp_of texts c) y) (λ v u. if_true v (more u) (Done Next u)))) z)
+        subst (λ z. Joint made (Turns rs) (and_then (checked checks ds call (exps_of texts es) s) (λ y. then_do (eval ds call (exp_of texts c) y) (λ v u. if_true v (more u) (Done Next u)))) z)
         (sym (appended (code_all (parts.checked checks es) d) (code c (d + length (kinds_all (parts.checked checks es)))) (λ qs y. if_zero (slice_index qs (value_at locals c (d + length (kinds_all (parts.checked checks es))))) (m.on qs y) (more' qs y)) rs w))
-        (met_then p H types locals out rs made (checked checks ds call (exps_of texts es) s) (Runs (code_all (parts.checked checks es) d) rs w) (λ y. then_do (eval ds call (exp_of texts c) y) (λ v u. if_true v (more u) (Done Next u)))
+        (turned_then p H types locals out rs made (checked checks ds call (exps_of texts es) s) (Runs (code_all (parts.checked checks es) d) rs w) (λ y. then_do (eval ds call (exp_of texts c) y) (λ v u. if_true v (more u) (Done Next u)))
         (λ qs y. m.then_do (Runs (code c (d + length (kinds_all (parts.checked checks es)))) qs y) (m.falls (λ qs y. if_zero (slice_index qs (value_at locals c (d + length (kinds_all (parts.checked checks es))))) (m.on qs y) (more' qs y))))
-        (checked_ok es out d made s rs w low at_es long kn_es has_es g) (λ new y xs z ex g1.
+        (checked_ok es (deeper out) d made s rs w low at_es long kn_es has_es g) (λ new y xs z ex g1.
         let place : ℕ = d + length (kinds_all (parts.checked checks es)) in
-        met_from p H types locals out rs xs new (then_do (eval ds call (exp_of texts c) y) (λ v u. if_true v (more u) (Done Next u))) _ g1.long
-        (joint_valued p H types locals new (value_at locals c place) BoolTy place xs (eval ds call (exp_of texts c) y) (Runs (code c place) xs z) (λ v u. if_true v (more u) (Done Next u)) (λ qs y. if_zero (slice_index qs (value_at locals c place)) (m.on qs y) (more' qs y)) (Meets out xs)
+        met_by_from p H types locals (TurnsFlow out) rs xs new (then_do (eval ds call (exp_of texts c) y) (λ v u. if_true v (more u) (Done Next u))) _ g1.long
+        (joint_valued p H types locals new (value_at locals c place) BoolTy place xs (eval ds call (exp_of texts c) y) (Runs (code c place) xs z) (λ v u. if_true v (more u) (Done Next u)) (λ qs y. if_zero (slice_index qs (value_at locals c place)) (m.on qs y) (more' qs y)) (Turns xs)
         (v.exp_ok typed singles checks call call' types locals ks locals_at long_types fp fresh facts calls_ok c BoolTy place new y xs z (omega arith) at_c (g1.long ∙ long) kn_c has_c (going_start p H types locals 0 place rs xs new y z g1)) (λ last x u ys y2 ex2 i co g2.
-        joint_if last (Meets out xs) x (slice_index ys (value_at locals c place)) (more u) (Done Next u) (more' ys y2) (m.on ys y2) (coded_truth H p last x (slice_index ys (value_at locals c place)) i co)
-        (met_from p H types locals out xs ys last (more u) (more' ys y2) g2.long (more_ok last u ys y2 (g2.long ∙ g1.long ∙ long) (going_start p H types locals place 0 xs ys last u y2 g2)))
-        (joint_done last (Meets out xs) Next u (0, ys) y2 (record { flow = refl; going = going_less p H types locals 0 place xs ys last u y2 (omega arith) g2 }))))))
+        joint_if last (Turns xs) x (slice_index ys (value_at locals c place)) (more u) (Done Next u) (more' ys y2) (m.on ys y2) (coded_truth H p last x (slice_index ys (value_at locals c place)) i co)
+        (met_by_from p H types locals (TurnsFlow out) xs ys last (more u) (more' ys y2) g2.long (more_ok last u ys y2 (g2.long ∙ g1.long ∙ long) (going_start p H types locals place 0 xs ys last u y2 g2)))
+        (joint_done last (Turns xs) Next u (0, ys) y2 (record { flow = refl; going = going_less p H types locals 0 place xs ys last u y2 (omega arith) g2 }))))))
 
     -- so many turns
     pub loop_ok : (body step : State → Outcome Way) (bs ss : List Code)
-        → ((made : List Kept) (s : State) (rs : List ℕ) (w : m.State) → length rs ≡ length ks → Goes 0 rs made s rs w → Joint made (Meets out rs) (body s) (Runs bs rs w))
-        → ((made : List Kept) (s : State) (rs : List ℕ) (w : m.State) → length rs ≡ length ks → Goes 0 rs made s rs w → Joint made (Meets out rs) (step s) (Runs ss rs w))
+        → ((made : List Kept) (s : State) (rs : List ℕ) (w : m.State) → length rs ≡ length ks → Goes 0 rs made s rs w → Joint made (MetBy p H types locals (BodyFlow out) rs) (body s) (Runs bs rs w))
+        → ((made : List Kept) (s : State) (rs : List ℕ) (w : m.State) → length rs ≡ length ks → Goes 0 rs made s rs w → Joint made (Meets (deeper out) rs) (step s) (Runs ss rs w))
         → (k : ℕ) (made : List Kept) (s : State) (rs : List ℕ) (w : m.State) → length rs ≡ length ks → Goes 0 rs made s rs w
-        → Joint made (Meets out rs) (loop (checked checks ds call (exps_of texts es)) (eval ds call (exp_of texts c)) body step k s)
+        → Joint made (Turns rs) (loop (checked checks ds call (exps_of texts es)) (eval ds call (exp_of texts c)) body step k s)
         (m.loop (m.run P call' ks (sequence (code_all (parts.checked checks es) d ++ code c (d + length (kinds_all (parts.checked checks es)))))) (value_at locals c (d + length (kinds_all (parts.checked checks es)))) (m.run P call' ks (sequence (bs ++ ss))) k rs w)
     loop_ok body step bs ss body_ok step_ok zero made s rs w long g = turn_ok (λ u. Cut u.output) (λ qs y. m.Cut y.output) (λ made s rs w long g. ap m.Cut (sym g.alike.output)) made s rs w long g
     loop_ok body step bs ss body_ok step_ok (suc k) made s rs w long g =
-        turn_ok (λ u. turn u (λ w. and_then (body w) (λ x. and_then (step x) (loop (checked checks ds call (exps_of texts es)) (eval ds call (exp_of texts c)) body step k))))
+        turn_ok (λ u. turn u (λ w. after_body (body w) (λ x. and_then (step x) (loop (checked checks ds call (exps_of texts es)) (eval ds call (exp_of texts c)) body step k))))
         (λ qs y. m.turn y (λ u. m.then_do (Runs (bs ++ ss) qs u) (m.falls (m.loop (m.run P call' ks (sequence (code_all (parts.checked checks es) d ++ code c (d + length (kinds_all (parts.checked checks es)))))) (value_at locals c (d + length (kinds_all (parts.checked checks es)))) (m.run P call' ks (sequence (bs ++ ss))) k))))
         (λ made s rs w long g. again made s rs w long g (loop_ok body step bs ss body_ok step_ok k)) made s rs w long g
       where
         Rest : Type 0
         Rest = (made : List Kept) (s : State) (rs : List ℕ) (w : m.State) → length rs ≡ length ks → Goes 0 rs made s rs w
-            → Joint made (Meets out rs) (loop (checked checks ds call (exps_of texts es)) (eval ds call (exp_of texts c)) body step k s)
+            → Joint made (Turns rs) (loop (checked checks ds call (exps_of texts es)) (eval ds call (exp_of texts c)) body step k s)
             (m.loop (m.run P call' ks (sequence (code_all (parts.checked checks es) d ++ code c (d + length (kinds_all (parts.checked checks es)))))) (value_at locals c (d + length (kinds_all (parts.checked checks es)))) (m.run P call' ks (sequence (bs ++ ss))) k rs w)
 
         again : (made : List Kept) (s : State) (rs : List ℕ) (w : m.State) → length rs ≡ length ks → Goes 0 rs made s rs w → Rest
-            → Joint made (Meets out rs) (turn s (λ w. and_then (body w) (λ x. and_then (step x) (loop (checked checks ds call (exps_of texts es)) (eval ds call (exp_of texts c)) body step k))))
+            → Joint made (Turns rs) (turn s (λ w. after_body (body w) (λ x. and_then (step x) (loop (checked checks ds call (exps_of texts es)) (eval ds call (exp_of texts c)) body step k))))
             (m.turn w (λ u. m.then_do (Runs (bs ++ ss) rs u) (m.falls (m.loop (m.run P call' ks (sequence (code_all (parts.checked checks es) d ++ code c (d + length (kinds_all (parts.checked checks es)))))) (value_at locals c (d + length (kinds_all (parts.checked checks es)))) (m.run P call' ks (sequence (bs ++ ss))) k))))
         again made s rs w long g rest =
-            joint_turn made (Meets out rs) s w (λ w. and_then (body w) (λ x. and_then (step x) (loop (checked checks ds call (exps_of texts es)) (eval ds call (exp_of texts c)) body step k))) (λ u. m.then_do (Runs (bs ++ ss) rs u) (m.falls (m.loop (m.run P call' ks (sequence (code_all (parts.checked checks es) d ++ code c (d + length (kinds_all (parts.checked checks es)))))) (value_at locals c (d + length (kinds_all (parts.checked checks es)))) (m.run P call' ks (sequence (bs ++ ss))) k))) g.alike.turns g.alike.output (λ i.
+            joint_turn made (Turns rs) s w (λ w. after_body (body w) (λ x. and_then (step x) (loop (checked checks ds call (exps_of texts es)) (eval ds call (exp_of texts c)) body step k))) (λ u. m.then_do (Runs (bs ++ ss) rs u) (m.falls (m.loop (m.run P call' ks (sequence (code_all (parts.checked checks es) d ++ code c (d + length (kinds_all (parts.checked checks es)))))) (value_at locals c (d + length (kinds_all (parts.checked checks es)))) (m.run P call' ks (sequence (bs ++ ss))) k))) g.alike.turns g.alike.output (λ i.
             let s1 : State = record s { turns = i } in
             let w1 : m.State = record w { turns = i } in
             let g1 : Goes 0 rs made s1 rs w1 = record { state = g.state; keeps = g.keeps; long = g.long; matched = g.matched; alike = record { turns = refl; output = g.alike.output; heap = g.alike.heap } } in
-            subst (λ z. Joint made (Meets out rs) (and_then (body s1) (λ x. and_then (step x) (loop (checked checks ds call (exps_of texts es)) (eval ds call (exp_of texts c)) body step k))) z) (sym (appended bs ss (m.loop (m.run P call' ks (sequence (code_all (parts.checked checks es) d ++ code c (d + length (kinds_all (parts.checked checks es)))))) (value_at locals c (d + length (kinds_all (parts.checked checks es)))) (m.run P call' ks (sequence (bs ++ ss))) k) rs w1))
-            (met_then p H types locals out rs made (body s1) (Runs bs rs w1) (λ x. and_then (step x) (loop (checked checks ds call (exps_of texts es)) (eval ds call (exp_of texts c)) body step k)) (λ qs y. m.then_do (Runs ss qs y) (m.falls (m.loop (m.run P call' ks (sequence (code_all (parts.checked checks es) d ++ code c (d + length (kinds_all (parts.checked checks es)))))) (value_at locals c (d + length (kinds_all (parts.checked checks es)))) (m.run P call' ks (sequence (bs ++ ss))) k))) (body_ok made s1 rs w1 long g1) (λ new y xs z ex g2.
-            met_from p H types locals out rs xs new (and_then (step y) (loop (checked checks ds call (exps_of texts es)) (eval ds call (exp_of texts c)) body step k)) _ g2.long
-            (met_then p H types locals out xs new (step y) (Runs ss xs z) (loop (checked checks ds call (exps_of texts es)) (eval ds call (exp_of texts c)) body step k) (m.loop (m.run P call' ks (sequence (code_all (parts.checked checks es) d ++ code c (d + length (kinds_all (parts.checked checks es)))))) (value_at locals c (d + length (kinds_all (parts.checked checks es)))) (m.run P call' ks (sequence (bs ++ ss))) k) (step_ok new y xs z (g2.long ∙ long) (fresh_going rs xs new y z g2)) (λ last u ys y2 ex2 g3.
-            met_from p H types locals out xs ys last (loop (checked checks ds call (exps_of texts es)) (eval ds call (exp_of texts c)) body step k u) _ g3.long (rest last u ys y2 (g3.long ∙ g2.long ∙ long) (fresh_going xs ys last u y2 g3)))))))
+            subst (λ z. Joint made (Turns rs) (after_body (body s1) (λ x. and_then (step x) (loop (checked checks ds call (exps_of texts es)) (eval ds call (exp_of texts c)) body step k))) z) (sym (appended bs ss (m.loop (m.run P call' ks (sequence (code_all (parts.checked checks es) d ++ code c (d + length (kinds_all (parts.checked checks es)))))) (value_at locals c (d + length (kinds_all (parts.checked checks es)))) (m.run P call' ks (sequence (bs ++ ss))) k) rs w1))
+            (body_then p H types locals out rs made (body s1) (Runs bs rs w1) (λ x. and_then (step x) (loop (checked checks ds call (exps_of texts es)) (eval ds call (exp_of texts c)) body step k)) (λ qs y. m.then_do (Runs ss qs y) (m.falls (m.loop (m.run P call' ks (sequence (code_all (parts.checked checks es) d ++ code c (d + length (kinds_all (parts.checked checks es)))))) (value_at locals c (d + length (kinds_all (parts.checked checks es)))) (m.run P call' ks (sequence (bs ++ ss))) k))) (body_ok made s1 rs w1 long g1) (λ new y xs z ex g2.
+            met_by_from p H types locals (TurnsFlow out) rs xs new (and_then (step y) (loop (checked checks ds call (exps_of texts es)) (eval ds call (exp_of texts c)) body step k)) _ g2.long
+            (turned_then p H types locals out xs new (step y) (Runs ss xs z) (loop (checked checks ds call (exps_of texts es)) (eval ds call (exp_of texts c)) body step k) (m.loop (m.run P call' ks (sequence (code_all (parts.checked checks es) d ++ code c (d + length (kinds_all (parts.checked checks es)))))) (value_at locals c (d + length (kinds_all (parts.checked checks es)))) (m.run P call' ks (sequence (bs ++ ss))) k) (step_ok new y xs z (g2.long ∙ long) (fresh_going rs xs new y z g2)) (λ last u ys y2 ex2 g3.
+            met_by_from p H types locals (TurnsFlow out) xs ys last (loop (checked checks ds call (exps_of texts es)) (eval ds call (exp_of texts c)) body step k u) _ g3.long (rest last u ys y2 (g3.long ∙ g2.long ∙ long) (fresh_going xs ys last u y2 g3)))))))

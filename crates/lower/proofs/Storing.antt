@@ -26,6 +26,7 @@ use Rattle.middle_form.specs.Meaning as m
 use Rattle.lower.specs.Coded.{Coded, kept_offset}
 use Rattle.lower_tables.specs.Kinds as k
 use Rattle.lower_tables.specs.Known.{Knows, KnowsPlace}
+use Rattle.lower.specs.declared.exits.Exits.{Exits}
 use Rattle.lower.specs.Lowered.{lowered}
 use Rattle.lower_expressions.specs.Expressions.{sequence, value_at}
 use Rattle.lower.proofs.Joint.{Joint, joint_done, joint_then, run_one}
@@ -88,7 +89,7 @@ module _ (typed : Typed) (singles : List Kind) (checks : Bool) (call : ℕ → L
   abbrev Runs : List Code → List ℕ → m.State → m.Outcome m.Left
   Runs cs rs w = m.run P call' ks (sequence cs) rs w
 
-  abbrev Meets : ℕ → List ℕ → List Kept → Way → State → m.Left → m.State → Type 0
+  abbrev Meets : Exits → List ℕ → List Kept → Way → State → m.Left → m.State → Type 0
   Meets out rs made way s x w = Met p H types locals out rs made way s x w
 
   abbrev Goes : ℕ → List ℕ → List Kept → State → List ℕ → m.State → Type 0
@@ -146,7 +147,7 @@ module _ (typed : Typed) (singles : List Kind) (checks : Bool) (call : ℕ → L
       same (Some o) f = f o refl
 
   -- a store, at last
-  keep_ok : (q : Place) (u : Ty) (d out ra : ℕ) (rs qs xs : List ℕ) (v : Value) (made : List Kept) (at : Spot) (s : State) (w : m.State) → length qs ≡ length rs → IsSmall u → slice_get ks ra ≡ Some (k.kind_of n singles u)
+  keep_ok : (q : Place) (u : Ty) (d : ℕ) (out : Exits) (ra : ℕ) (rs qs xs : List ℕ) (v : Value) (made : List Kept) (at : Spot) (s : State) (w : m.State) → length qs ≡ length rs → IsSmall u → slice_get ks ra ≡ Some (k.kind_of n singles u)
       → Finds q u d qs made at s (0, xs) w → Is p made u v → Coded H v (slice_index xs ra)
       → Joint made (Meets out rs) (Done Next (record s { heap = store s.heap at v })) (Runs (f.Store (base q d) (off q d) (shift q) ra ∷ []) xs w)
   keep_ok q u d out ra rs qs xs v made at s w same small ka h i c =
@@ -162,7 +163,7 @@ module _ (typed : Typed) (singles : List Kind) (checks : Bool) (call : ℕ → L
   abbrev PlaceOk : Place → Type 0
   PlaceOk q = v.PlaceOk typed singles checks call call' types locals ks locals_at long_types fp fresh facts calls_ok q
 
-  pub store_case : (q : Place) (a : Expression) → PlaceOk q → ExpOk a → (t : Ty) (out d : ℕ) (made : List Kept) (s : State) (rs : List ℕ) (w : m.State) → suc locals ≤ d → At ks d (kinds_place q ++ kinds a) → length rs ≡ length ks → KnowsPlace n singles q → Knows n singles a
+  pub store_case : (q : Place) (a : Expression) → PlaceOk q → ExpOk a → (t : Ty) (out : Exits) (d : ℕ) (made : List Kept) (s : State) (rs : List ℕ) (w : m.State) → suc locals ≤ d → At ks d (kinds_place q ++ kinds a) → length rs ≡ length ks → KnowsPlace n singles q → Knows n singles a
       → IsSmall t → Holds p types (place_of texts q) t → Has p types (exp_of texts a) t → Goes 0 rs made s rs w
       → Joint made (Meets out rs) (then_do (locate ds call (place_of texts q) s) (λ at y. then_do (eval ds call (exp_of texts a) y) (λ x z. Done Next (record z { heap = store z.heap at x }))))
       (Runs (code_place q d ++ (code a (d + length (kinds_place q)) ++ (f.Store (base q d) (off q d) (shift q) (value_at locals a (d + length (kinds_place q))) ∷ []))) rs w)
@@ -180,7 +181,7 @@ module _ (typed : Typed) (singles : List Kind) (checks : Bool) (call : ℕ → L
       (placed_keep q t d rs rs xs ys new more x y y2 z z2 r ex2 (g2.keeps (base q d) (base_before q t d low holds)) (λ o e. g2.keeps o (off_before q d o e)) g3) i2 c2))
 
   -- a store of an operator's value, at last
-  operate_ok : (o : Int32Op) (q : Place) (d b out ra : ℕ) (rs qs xs : List ℕ) (old v : Value) (made : List Kept) (at : Spot) (s : State) (w : m.State) → suc locals ≤ d → d < length qs → length qs ≡ length rs → slice_get ks d ≡ Some kind.Int → slice_get ks ra ≡ Some kind.Int
+  operate_ok : (o : Int32Op) (q : Place) (d b : ℕ) (out : Exits) (ra : ℕ) (rs qs xs : List ℕ) (old v : Value) (made : List Kept) (at : Spot) (s : State) (w : m.State) → suc locals ≤ d → d < length qs → length qs ≡ length rs → slice_get ks d ≡ Some kind.Int → slice_get ks ra ≡ Some kind.Int
       → Holds p types (place_of texts q) IntTy → Finds q IntTy (suc d) qs made at s (0, xs) w → Is p made IntTy old → Coded H old (slice_index xs d) → Is p made IntTy v → Coded H v (slice_index xs ra)
       → Joint made (Meets out rs) (then_do (value_or ArithFault (binary_value o old v) s) (λ x z. Done Next (record z { heap = store z.heap at x }))) (Runs (f.Do (op.Binary o d d ra) ∷ (f.Store (base q (suc d)) (off q (suc d)) (shift q) d ∷ [])) xs w)
   operate_ok o q d b out ra rs qs xs old v made at s w low sh long kd ka holds h io co i c = by (op_value o (as_number old) (as_number v)) refl
@@ -210,7 +211,7 @@ module _ (typed : Typed) (singles : List Kind) (checks : Bool) (call : ℕ → L
           (z, refl, ops_fit o (as_number old) (as_number v) z (number_fits p made old io) (number_fits p made v i) e)
           (put_same xs d (of_int z) (subst (λ y. d < y) (sym g.long) sh)))
 
-  pub store_update_case : (o : Int32Op) (q : Place) (a : Expression) → PlaceOk q → ExpOk a → (out d : ℕ) (made : List Kept) (s : State) (rs : List ℕ) (w : m.State) → suc locals ≤ d → At ks d (kind.Int ∷ (kinds_place q ++ kinds a)) → length rs ≡ length ks → KnowsPlace n singles q → Knows n singles a
+  pub store_update_case : (o : Int32Op) (q : Place) (a : Expression) → PlaceOk q → ExpOk a → (out : Exits) (d : ℕ) (made : List Kept) (s : State) (rs : List ℕ) (w : m.State) → suc locals ≤ d → At ks d (kind.Int ∷ (kinds_place q ++ kinds a)) → length rs ≡ length ks → KnowsPlace n singles q → Knows n singles a
       → Holds p types (place_of texts q) IntTy → Has p types (exp_of texts a) IntTy → Goes 0 rs made s rs w
       → Joint made (Meets out rs) (then_do (locate ds call (place_of texts q) s) (λ at y. then_do (eval ds call (exp_of texts a) y) (λ x z. then_do (value_or ArithFault (binary_value o (load y.heap at) x) z) (λ u x. Done Next (record x { heap = store x.heap at u })))))
       (Runs (code_place q (suc d) ++ (f.Load d (base q (suc d)) (off q (suc d)) (shift q) ∷ (code a (suc d + length (kinds_place q)) ++ (f.Do (op.Binary o d d (value_at locals a (suc d + length (kinds_place q)))) ∷ (f.Store (base q (suc d)) (off q (suc d)) (shift q) d ∷ []))))) rs w)

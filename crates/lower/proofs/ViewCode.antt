@@ -1,5 +1,6 @@
 -- The code of a program's trees of the definitions: that of each tree that is read as them.
 use Rattle.std.proofs.Common.{◌≡◌, ℕ, zero, suc, ◌+◌, Bool, true, false, cond, List, [], ◌∷◌, ◌++◌, length, Option, Some, None, refl, sym, ap, ◌∙◌}
+use Rattle.std.specs.Prelude.{◌||◌}
 use Rattle.cells.specs.declared.int32.Int32Op.{Int32Op}
 use Rattle.c0_typed.specs.Values as v
 use Rattle.c0_typed.specs.Trees as t
@@ -14,7 +15,7 @@ use Rattle.c0_typed.specs.declared.tree.Output.{Output}
 use Rattle.c0_typed.specs.declared.tree.Output.TheVariants as o
 use Rattle.c0_typed.specs.declared.tree.Expression.{Expression, Row_of-Expression, end_of-Expression, more_of-Expression, Constant, Null, Local, Unary', Binary', Compare', And', Or', Choose', Call', Print', Load', Alloc, AllocArray', Length'}
 use Rattle.c0_typed.specs.declared.tree.Place.{Place, Deref', Index', Field'}
-use Rattle.c0_typed.specs.declared.tree.Statement.{Statement, Row_of-Statement, end_of-Statement, more_of-Statement, Block', Set, Update, Store, StoreUpdate, Do, If', Loop', Return, ReturnValue, Assert, Error, Check}
+use Rattle.c0_typed.specs.declared.tree.Statement.{Statement, Row_of-Statement, end_of-Statement, more_of-Statement, Block', Set, Update, Store, StoreUpdate, Do, If', Loop', Return, ReturnValue, Break, Continue, Assert, Error, Check}
 use Rattle.c0_typed.specs.declared.tree.Function.{Function}
 use Rattle.code_form.specs.declared.form.Kind.{Kind}
 use Rattle.code_form.specs.declared.form.Kind.TheVariants as kind
@@ -28,6 +29,8 @@ use Rattle.middle_form.specs.Form.{Code}
 use Rattle.middle_form.specs.Form as m
 use Rattle.lower_tables.specs.Kinds.{cells_of, field_offset, kind_of, layout_number}
 use Rattle.lower_expressions.specs.Expressions as parts
+use Rattle.lower.specs.Exits.{deeper, has_continue, inside, some_continue, whole}
+use Rattle.lower.specs.declared.exits.Exits.{Exits}
 use Rattle.lower.specs.Lowered as l
 use Rattle.lower_tables.specs.Texts.{number_among}
 use Rattle.lower_expressions.specs.Expressions.{local_register, result_register, sequence, swapped}
@@ -59,10 +62,11 @@ pub record Conditions : Type 0 where
   pub kinds : List Kind
   pub code : ℕ → List Code
 
--- of a statement in so many loops and blocks
+-- of a statement
 pub record Step : Type 0 where
   pub kinds : List Kind
-  pub code : ℕ → ℕ → List Code
+  pub code : ℕ → Exits → List Code
+  pub continues : Bool
 
 -- ---- operators
 
@@ -243,19 +247,20 @@ more_conditions a rest = record {
 }
 
 abbrev no_step : Step
-no_step = record { kinds = []; code = λ d out. [] }
+no_step = record { kinds = []; code = λ d out. []; continues = false }
 
 abbrev then_step : Step → Step → Step
-then_step a b = record { kinds = a.kinds ++ b.kinds; code = λ d out. a.code d out ++ b.code (d + length a.kinds) out }
+then_step a b = record { kinds = a.kinds ++ b.kinds; code = λ d out. a.code d out ++ b.code (d + length a.kinds) out; continues = a.continues || b.continues }
 
--- a value, and then code that has its register, in so many loops and blocks
-abbrev last_step : (ℕ → ℕ → List Code) → Part → Step
-last_step o a = record { kinds = a.kinds; code = λ d out. a.code d ++ o (a.at d) out }
+-- a value, and then code that has its register, left by these exits
+abbrev last_step : (ℕ → Exits → List Code) → Part → Step
+last_step o a = record { kinds = a.kinds; code = λ d out. a.code d ++ o (a.at d) out; continues = false }
 
 abbrev stored : Spot → Part → Step
 stored q a = record {
   kinds = q.kinds ++ a.kinds;
   code = λ d out. q.code d ++ (a.code (d + length q.kinds) ++ (m.Store (q.base d) (q.offset d) q.displacement (a.at (d + length q.kinds)) ∷ []));
+  continues = false;
 }
 
 abbrev updated : Int32Op → Spot → Part → Step
@@ -264,12 +269,14 @@ updated p q a = record {
   code = λ d out. q.code (suc d) ++ (m.Load d (q.base (suc d)) (q.offset (suc d)) q.displacement
       ∷ (a.code (suc d + length q.kinds) ++ (m.Do (op.Binary p d d (a.at (suc d + length q.kinds)))
       ∷ (m.Store (q.base (suc d)) (q.offset (suc d)) q.displacement d ∷ []))));
+  continues = false;
 }
 
 abbrev if_step : Part → Step → Step → Step
 if_step a b s = record {
   kinds = a.kinds ++ (b.kinds ++ s.kinds);
   code = λ d out. a.code d ++ (m.Choose (a.at d) (sequence (b.code (d + length a.kinds) out)) (sequence (s.code (d + length a.kinds + length b.kinds) out)) ∷ []);
+  continues = b.continues || s.continues;
 }
 
 abbrev loop_step : Conditions → Part → Step → Step → Step
@@ -278,16 +285,23 @@ loop_step cs a body step = record {
   code = λ d out.
       m.Loop (sequence (cs.code d ++ a.code (d + length cs.kinds)))
       (a.at (d + length cs.kinds))
-      (sequence (body.code (d + length cs.kinds + length a.kinds) (suc out)
-      ++ step.code (d + length cs.kinds + length a.kinds + length body.kinds) (suc out)))
+      (sequence (l.turn_code body.continues (body.code (d + length cs.kinds + length a.kinds) (inside body.continues out))
+      ++ step.code (d + length cs.kinds + length a.kinds + length body.kinds) (deeper out)))
       ∷ [];
+  continues = step.continues;
 }
 
 abbrev check_step : Conditions → Step
-check_step cs = record { kinds = cs.kinds; code = λ d out. cs.code d }
+check_step cs = record { kinds = cs.kinds; code = λ d out. cs.code d; continues = false }
 
 abbrev return_step : Step
-return_step = record { kinds = []; code = λ d out. m.Exit out ∷ [] }
+return_step = record { kinds = []; code = λ d out. m.Exit out.returns ∷ []; continues = false }
+
+abbrev break_step : Step
+break_step = record { kinds = []; code = λ d out. m.Exit out.breaks ∷ []; continues = false }
+
+abbrev continue_step : Step
+continue_step = record { kinds = []; code = λ d out. m.Exit out.continues ∷ []; continues = true }
 
 -- ---- the code of the definitions' trees, over a program whose functions give these types, in a function with so many locals
 module _ (structs : List (List t.Ty)) (singles : List Kind) (texts : List (List ℕ)) (given : ℕ → t.Ty) (main locals : ℕ) where
@@ -339,11 +353,13 @@ module _ (structs : List (List t.Ty)) (singles : List Kind) (texts : List (List 
   step checks (t.Update x p a) = last_step (λ at out. m.Do (op.Binary p (local_register locals x) (local_register locals x) at) ∷ []) (exp_part a)
   step checks (t.Store q a) = stored (place_part q) (exp_part a)
   step checks (t.StoreUpdate q p a) = updated p (place_part q) (exp_part a)
-  step checks (t.Do a) = record { kinds = (exp_part a).kinds; code = λ d out. (exp_part a).code d }
+  step checks (t.Do a) = record { kinds = (exp_part a).kinds; code = λ d out. (exp_part a).code d; continues = false }
   step checks (t.If c a b) = if_step (exp_part c) (step checks a) (step checks b)
   step checks (t.Loop invariants c body next) = loop_step (conditions checks invariants) (exp_part c) (step checks body) (step checks next)
   step checks t.Return = return_step
-  step checks (t.ReturnValue a) = last_step (λ at out. m.Do (op.Move (local_register locals 0) at) ∷ (m.Exit out ∷ [])) (exp_part a)
+  step checks t.Break = break_step
+  step checks t.Continue = continue_step
+  step checks (t.ReturnValue a) = last_step (λ at out. m.Do (op.Move (local_register locals 0) at) ∷ (m.Exit out.returns ∷ [])) (exp_part a)
   step checks (t.Assert a) = last_step (λ at out. m.Do (op.Assert at) ∷ []) (exp_part a)
   step checks (t.Error a) = last_step (λ at out. m.Fail at ∷ []) (exp_part a)
   step checks (t.Check es) = check_step (conditions checks es)
@@ -437,12 +453,14 @@ module _ (structs : List (List t.Ty)) (singles : List Kind) (texts : List (List 
   step_made checks a = record {
     kinds = l.stmt_kinds structs singles texts functions main checks a;
     code = λ d out. l.stmt_code structs singles texts functions main locals checks a d out;
+    continues = has_continue a;
   }
 
   abbrev block_made : {n : _} → Bool → Row_of-Statement n → Step
   block_made checks all = record {
     kinds = l.block_kinds structs singles texts functions main checks all;
     code = λ d out. l.block_code structs singles texts functions main locals checks all d out;
+    continues = some_continue all;
   }
 
   module _ (checks : Bool) where
@@ -456,11 +474,13 @@ module _ (structs : List (List t.Ty)) (singles : List Kind) (texts : List (List 
       step_is (Update x p a) = λ i. last_step (λ at out. m.Do (op.Binary p (local_register locals x) (local_register locals x) at) ∷ []) (exp_is a i)
       step_is (Store q a) = λ i. stored (place_is q i) (exp_is a i)
       step_is (StoreUpdate q p a) = λ i. updated p (place_is q i) (exp_is a i)
-      step_is (Do a) = λ i. record { kinds = (exp_is a i).kinds; code = λ d out. (exp_is a i).code d }
+      step_is (Do a) = λ i. record { kinds = (exp_is a i).kinds; code = λ d out. (exp_is a i).code d; continues = false }
       step_is (If' a p b q s) = λ i. if_step (exp_is a i) (step_is b i) (step_is s i)
       step_is (Loop' invariants a p body q next) = λ i. loop_step (conditions_are checks invariants.items i) (exp_is a i) (step_is body i) (step_is next i)
       step_is Return = refl
-      step_is (ReturnValue a) = λ i. last_step (λ at out. m.Do (op.Move (local_register locals 0) at) ∷ (m.Exit out ∷ [])) (exp_is a i)
+      step_is Break = refl
+      step_is Continue = refl
+      step_is (ReturnValue a) = λ i. last_step (λ at out. m.Do (op.Move (local_register locals 0) at) ∷ (m.Exit out.returns ∷ [])) (exp_is a i)
       step_is (Assert a) = λ i. last_step (λ at out. m.Do (op.Assert at) ∷ []) (exp_is a i)
       step_is (Error a) = λ i. last_step (λ at out. m.Fail at ∷ []) (exp_is a i)
       step_is (Check es) = λ i. check_step (conditions_are checks es.items i)
@@ -474,7 +494,7 @@ module _ (structs : List (List t.Ty)) (singles : List Kind) (texts : List (List 
     body_kinds_are [] = refl
     body_kinds_are (a ∷ rest) = λ i. (step_is a i).kinds ++ body_kinds_are rest i
 
-    pub body_code_is : (all : List Statement) (d : ℕ) → (S (block_of texts all)).code d 0 ≡ l.body_code structs singles texts functions main locals checks all d
+    pub body_code_is : (all : List Statement) (d : ℕ) → (S (block_of texts all)).code d whole ≡ l.body_code structs singles texts functions main locals checks all d
     body_code_is [] d = refl
-    body_code_is (a ∷ rest) d = (λ i. (step_is a i).code d 0 ++ (S (block_of texts rest)).code (d + length (step_is a i).kinds) 0)
-        ∙ ap (λ cs. l.stmt_code structs singles texts functions main locals checks a d 0 ++ cs) (body_code_is rest (d + length (l.stmt_kinds structs singles texts functions main checks a)))
+    body_code_is (a ∷ rest) d = (λ i. (step_is a i).code d whole ++ (S (block_of texts rest)).code (d + length (step_is a i).kinds) whole)
+        ∙ ap (λ cs. l.stmt_code structs singles texts functions main locals checks a d whole ++ cs) (body_code_is rest (d + length (l.stmt_kinds structs singles texts functions main checks a)))

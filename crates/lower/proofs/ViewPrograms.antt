@@ -14,6 +14,7 @@ use Rattle.lower_tables.specs.Gathered.{singles_of}
 use Rattle.lower_tables.specs.Kinds.{kind_of, layouts_of}
 use Rattle.lower.specs.Laws.{SameProgramSameCode}
 use Rattle.lower_expressions.specs.Expressions as parts
+use Rattle.lower.specs.Exits.{whole}
 use Rattle.lower.specs.Lowered as l
 use Rattle.lower.specs.Lowered.{lowered, result_kind, with_main_first}
 use Rattle.lower_expressions.specs.Expressions.{sequence}
@@ -52,7 +53,7 @@ module _ (structs : List (List t.Ty)) (singles : List Kind) (texts : List (List 
   function_with parameters n f =
       assembled n parameters (result_kind (length structs) singles f.result) (map kind_at f.parameters) (map kind_at f.locals) (kind_at f.result)
       (conditions structs singles texts type_given main n checks f.requires)
-      (step structs singles texts type_given main n checks f.body).kinds (λ d. (step structs singles texts type_given main n checks f.body).code d 0)
+      (step structs singles texts type_given main n checks f.body).kinds (λ d. (step structs singles texts type_given main n checks f.body).code d whole)
       (conditions structs singles texts type_given main n checks f.ensures)
 
   abbrev function_made : t.Function → m.Function

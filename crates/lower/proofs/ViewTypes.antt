@@ -5,7 +5,7 @@ use Rattle.c0_typed.specs.Trees as t
 use Rattle.c0_typed.specs.Views.{block_of, block_row, exp_of, exps_of, function_of, place_of, program_of, row_of, stmt_of, struct_of, texts_of, type_of}
 use Rattle.c0_typed.specs.declared.tree.Expression.{Expression, Row_of-Expression, end_of-Expression, more_of-Expression, Constant, Null, Local, Unary', Binary', Compare', And', Or', Choose', Call', Print', Load', Alloc, AllocArray', Length'}
 use Rattle.c0_typed.specs.declared.tree.Place.{Place, Deref', Index', Field'}
-use Rattle.c0_typed.specs.declared.tree.Statement.{Statement, Row_of-Statement, end_of-Statement, more_of-Statement, Block', Set, Update, Store, StoreUpdate, Do, If', Loop', Return, ReturnValue, Assert, Error, Check}
+use Rattle.c0_typed.specs.declared.tree.Statement.{Statement, Row_of-Statement, end_of-Statement, more_of-Statement, Block', Set, Update, Store, StoreUpdate, Do, If', Loop', Return, ReturnValue, Break, Continue, Assert, Error, Check}
 use Rattle.c0_typed.specs.declared.tree.Function.{Function}
 use Rattle.c0_typed.specs.declared.tree.Typed.{Typed}
 use Rattle.code_form.specs.declared.form.Kind.{Kind}
@@ -53,6 +53,8 @@ types_of (t.Do a) = types_in a
 types_of (t.If c a b) = types_in c ++ (types_of a ++ types_of b)
 types_of (t.Loop invariants c body step) = types_in_all invariants ++ (types_in c ++ (types_of body ++ types_of step))
 types_of t.Return = []
+types_of t.Break = []
+types_of t.Continue = []
 types_of (t.ReturnValue a) = types_in a
 types_of (t.Assert a) = types_in a
 types_of (t.Error a) = types_in a
@@ -110,6 +112,8 @@ module _ (texts : List (List ℕ)) where
     stmt_types (If' a p b q s) = ap₂ ◌++◌ (exp_types a) (ap₂ ◌++◌ (stmt_types b) (stmt_types s))
     stmt_types (Loop' invariants a p body q step) = ap₂ ◌++◌ (all_types invariants.items) (ap₂ ◌++◌ (exp_types a) (ap₂ ◌++◌ (stmt_types body) (stmt_types step)))
     stmt_types Return = refl
+    stmt_types Break = refl
+    stmt_types Continue = refl
     stmt_types (ReturnValue a) = exp_types a
     stmt_types (Assert a) = exp_types a
     stmt_types (Error a) = exp_types a

@@ -1,4 +1,5 @@
 pub mod Building
 pub mod Coded
+pub mod Exits
 pub mod Laws
 pub mod Lowered

@@ -1,11 +1,11 @@
 -- The structured code of typed programs: of statements, functions and whole programs, over that of expressions.
-use Rattle.std.specs.Prelude.{ℕ, zero, suc, ◌+◌, Bool, List, [], ◌∷◌, ◌++◌, length, map, set, slice_get, Option, Some, None}
+use Rattle.std.specs.Prelude.{ℕ, zero, suc, ◌+◌, Bool, true, false, List, [], ◌∷◌, ◌++◌, length, map, set, slice_get, Option, Some, None}
 use Rattle.c0_typed.specs.Trees as t
 use Rattle.c0_typed.specs.Views.{struct_of, texts_of, type_of}
 use Rattle.c0_typed.specs.declared.tree.ValueType.{ValueType}
 use Rattle.c0_typed.specs.declared.tree.Expression.{Expression}
 use Rattle.c0_typed.specs.declared.tree.Place.{Place}
-use Rattle.c0_typed.specs.declared.tree.Statement.{Statement, Row_of-Statement, end_of-Statement, more_of-Statement, Block', Set, Update, Store, StoreUpdate, Do, If', Loop', Return, ReturnValue, Assert, Error, Check}
+use Rattle.c0_typed.specs.declared.tree.Statement.{Statement, Row_of-Statement, end_of-Statement, more_of-Statement, Block', Set, Update, Store, StoreUpdate, Do, If', Loop', Return, ReturnValue, Break, Continue, Assert, Error, Check}
 use Rattle.c0_typed.specs.declared.tree.Function.{Function}
 use Rattle.c0_typed.specs.declared.tree.Typed.{Typed}
 use Rattle.code_form.specs.declared.form.Kind.{Kind}
@@ -17,6 +17,13 @@ use Rattle.middle_form.specs.Form as m
 use Rattle.lower_tables.specs.Kinds.{kind_of, layouts_of}
 use Rattle.lower_expressions.specs.Expressions.{checked, local_register, sequence, value_at}
 use Rattle.lower_expressions.specs.Expressions as parts
+use Rattle.lower.specs.Exits.{deeper, has_continue, inside, whole}
+use Rattle.lower.specs.declared.exits.Exits.{Exits}
+
+-- the code of the body of a loop: in a block where it has a `continue`
+abbrev pub turn_code : Bool → List Code → List Code
+turn_code true cs = m.Block (sequence cs) ∷ []
+turn_code false cs = cs
 
 -- the kind of the result of a function of this type
 abbrev pub result_kind : ℕ → List Kind → t.Ty → Option Kind
@@ -73,6 +80,8 @@ module _ (structs : List (List t.Ty)) (singles : List Kind) (texts : List (List 
       stmt_kinds (If' a p b q s) = exp_kinds a ++ (stmt_kinds b ++ stmt_kinds s)
       stmt_kinds (Loop' invariants a p body q step) = conditions_kinds (checked checks invariants.items) ++ (exp_kinds a ++ (stmt_kinds body ++ stmt_kinds step))
       stmt_kinds Return = []
+      stmt_kinds Break = []
+      stmt_kinds Continue = []
       stmt_kinds (ReturnValue a) = exp_kinds a
       stmt_kinds (Assert a) = exp_kinds a
       stmt_kinds (Error a) = exp_kinds a
@@ -93,8 +102,8 @@ module _ (structs : List (List t.Ty)) (singles : List Kind) (texts : List (List 
     -- where contracts are checked or not
     module _ (checks : Bool) where
       abbrev mutual
-        -- the code of a statement, with its registers from d on; a return leaves so many loops and blocks, and one more
-        pub stmt_code : Statement → ℕ → ℕ → List Code
+        -- the code of a statement, with its registers from d on, left by these exits
+        pub stmt_code : Statement → ℕ → Exits → List Code
         stmt_code (Block' shape all) d out = block_code all d out
         stmt_code (Set x a) d out = exp_code locals a d ++ (m.Do (op.Move (local_register locals x) (value_at locals a d)) ∷ [])
         stmt_code (Update x p a) d out = exp_code locals a d ++ (m.Do (op.Binary p (local_register locals x) (local_register locals x) (value_at locals a d)) ∷ [])
@@ -110,24 +119,26 @@ module _ (structs : List (List t.Ty)) (singles : List Kind) (texts : List (List 
         stmt_code (Loop' invariants a p body q step) d out =
             m.Loop (sequence (conditions_code locals (checked checks invariants.items) d ++ exp_code locals a (d + length (conditions_kinds (checked checks invariants.items)))))
             (value_at locals a (d + length (conditions_kinds (checked checks invariants.items))))
-            (sequence (stmt_code body (d + length (conditions_kinds (checked checks invariants.items)) + length (exp_kinds a)) (suc out)
-            ++ stmt_code step (d + length (conditions_kinds (checked checks invariants.items)) + length (exp_kinds a) + length (stmt_kinds checks body)) (suc out)))
+            (sequence (turn_code (has_continue body) (stmt_code body (d + length (conditions_kinds (checked checks invariants.items)) + length (exp_kinds a)) (inside (has_continue body) out))
+            ++ stmt_code step (d + length (conditions_kinds (checked checks invariants.items)) + length (exp_kinds a) + length (stmt_kinds checks body)) (deeper out)))
             ∷ []
-        stmt_code Return d out = m.Exit out ∷ []
-        stmt_code (ReturnValue a) d out = exp_code locals a d ++ (m.Do (op.Move (local_register locals 0) (value_at locals a d)) ∷ (m.Exit out ∷ []))
+        stmt_code Return d out = m.Exit out.returns ∷ []
+        stmt_code Break d out = m.Exit out.breaks ∷ []
+        stmt_code Continue d out = m.Exit out.continues ∷ []
+        stmt_code (ReturnValue a) d out = exp_code locals a d ++ (m.Do (op.Move (local_register locals 0) (value_at locals a d)) ∷ (m.Exit out.returns ∷ []))
         stmt_code (Assert a) d out = exp_code locals a d ++ (m.Do (op.Assert (value_at locals a d)) ∷ [])
         stmt_code (Error a) d out = exp_code locals a d ++ (m.Fail (value_at locals a d) ∷ [])
         stmt_code (Check es) d out = conditions_code locals (checked checks es.items) d
 
         -- of the statements of a block, in order
-        pub block_code : {n : _} → Row_of-Statement n → ℕ → ℕ → List Code
+        pub block_code : {n : _} → Row_of-Statement n → ℕ → Exits → List Code
         block_code end_of-Statement d out = []
         block_code (more_of-Statement a rest) d out = stmt_code a d out ++ block_code rest (d + length (stmt_kinds checks a)) out
 
       -- of the statements of a body, in order; a return leaves the block round them
       abbrev pub body_code : List Statement → ℕ → List Code
       body_code [] d = []
-      body_code (a ∷ rest) d = stmt_code a d 0 ++ body_code rest (d + length (stmt_kinds checks a))
+      body_code (a ∷ rest) d = stmt_code a d whole ++ body_code rest (d + length (stmt_kinds checks a))
 
   -- ---- functions
 

@@ -1,6 +1,7 @@
 //! Structured code of typed programs.
 #![tactic(auto)]
 
+mod exits;
 mod laws;
 mod lowering;
 mod program;

@@ -10,6 +10,7 @@ ghost use Rattle.lower_tables.specs.Tables.{structs_of};
 ghost use Rattle.middle_form.specs.Views.{function_of, program_of};
 ghost use Rattle.std.specs.Prelude.{◌≡◌, ◌++◌, ◌∷◌, ◌+◌, ◌<◌, ◌^◌, [], IfOk, OnOk, length, map, string_bytes};
 
+use crate::exits::Exits;
 use crate::statement_code::statements;
 use c0_typed::{Function, Typed, ValueType};
 use code_form::Kind;
@@ -71,7 +72,7 @@ fn function_with(
     let mut code = Vec::new(context.alloc);
     conditions(context, &mut kinds, &mut code, &function.preconditions)?;
     let mut body = Vec::new(context.alloc);
-    statements(context, &mut kinds, &mut body, &function.body, 0)?;
+    statements(context, &mut kinds, &mut body, &function.body, Exits::whole())?;
     code.push(Code::Block(sequence(context.alloc, body)?))?;
     conditions(context, &mut kinds, &mut code, &function.postconditions)?;
     Ok(middle_form::Function {

@@ -2,11 +2,14 @@
 ghost use Rattle.c0_typed.specs.declared.tree.Statement.TheViews.{If, Loop};
 ghost use Rattle.c0_typed.specs.declared.tree.Statement.{Assert, Error, ReturnValue, Set, Store, StoreUpdate, Update};
 ghost use Rattle.lower.specs.Building.{block_code, body_kinds, stmt_code, stmt_kinds};
+ghost use Rattle.lower.specs.Exits.{has_continue, inside};
+ghost use Rattle.lower.specs.Lowered.{turn_code};
 ghost use Rattle.lower_expressions.specs.Building.{codes, conditions_code, conditions_kinds};
 ghost use Rattle.lower_expressions.specs.Expressions.{sequence as in_order};
 ghost use Rattle.middle_form.specs.Views.{code_of};
 ghost use Rattle.std.specs.Prelude.{◌≡◌, ◌++◌, ◌∷◌, ◌+◌, [], IfOk, OnOk, length};
 
+use crate::exits::{Exits, statement_continues};
 use c0_typed::{Expression, Place, Statement};
 use cells::Int32Op;
 use code_form::{Kind, Operation};
@@ -18,14 +21,14 @@ use lower_expressions::place_code::{load_cell, place, store_cell};
 use middle_form::Code;
 use std::alloc::AllocError;
 
-/// The code of a statement in so many loops and blocks, and one more, which a return leaves.
+/// The code of a statement, left by these exits.
 #[cycle(statements)]
 pub(crate) fn statement(
     context: &Context,
     kinds: &mut Vec<Kind>,
     code: &mut Vec<Code>,
     whole: &Statement,
-    out: u32,
+    out: Exits,
 ) -> Result<(), AllocError>
     ensures registers { OnOk result (kinds.new.items ≡ kinds.old.items ++ stmt_kinds context.now whole.now) }
     ensures added { OnOk result (codes code.new.items ≡ codes code.old.items ++ stmt_code context.now whole.now (length kinds.old.items) out) }
@@ -51,7 +54,15 @@ pub(crate) fn statement(
             repeat(context, kinds, code, invariants, condition, body, step, out)
         }
         Statement::Return => {
-            code.push(Code::Exit(out))?;
+            code.push(Code::Exit(out.returns))?;
+            Ok(())
+        }
+        Statement::Break => {
+            code.push(Code::Exit(out.breaks))?;
+            Ok(())
+        }
+        Statement::Continue => {
+            code.push(Code::Exit(out.continues))?;
             Ok(())
         }
         Statement::ReturnValue(value) => give_back(context, kinds, code, value, out),
@@ -68,7 +79,7 @@ fn set(
     code: &mut Vec<Code>,
     local: u32,
     value: &Expression,
-    out: u32,
+    out: Exits,
 ) -> Result<(), AllocError>
     ensures registers { OnOk result (kinds.new.items ≡ kinds.old.items ++ stmt_kinds context.now (Set local value.now)) }
     ensures added { OnOk result (codes code.new.items ≡ codes code.old.items ++ stmt_code context.now (Set local value.now) (length kinds.old.items) out) }
@@ -87,7 +98,7 @@ fn update(
     local: u32,
     operator: Int32Op,
     value: &Expression,
-    out: u32,
+    out: Exits,
 ) -> Result<(), AllocError>
     ensures registers { OnOk result (kinds.new.items ≡ kinds.old.items ++ stmt_kinds context.now (Update local operator value.now)) }
     ensures added { OnOk result (codes code.new.items ≡ codes code.old.items ++ stmt_code context.now (Update local operator value.now) (length kinds.old.items) out) }
@@ -114,7 +125,7 @@ fn store(
     code: &mut Vec<Code>,
     to: &Place,
     value: &Expression,
-    out: u32,
+    out: Exits,
 ) -> Result<(), AllocError>
     ensures registers { OnOk result (kinds.new.items ≡ kinds.old.items ++ stmt_kinds context.now (Store to.now value.now)) }
     ensures added { OnOk result (codes code.new.items ≡ codes code.old.items ++ stmt_code context.now (Store to.now value.now) (length kinds.old.items) out) }
@@ -133,7 +144,7 @@ fn store_update(
     to: &Place,
     operator: Int32Op,
     value: &Expression,
-    out: u32,
+    out: Exits,
 ) -> Result<(), AllocError>
     ensures registers { OnOk result (kinds.new.items ≡ kinds.old.items ++ stmt_kinds context.now (StoreUpdate to.now operator value.now)) }
     ensures added { OnOk result (codes code.new.items ≡ codes code.old.items ++ stmt_code context.now (StoreUpdate to.now operator value.now) (length kinds.old.items) out) }
@@ -165,7 +176,7 @@ fn choice(
     condition: &Expression,
     first: &Box<Statement>,
     second: &Box<Statement>,
-    out: u32,
+    out: Exits,
 ) -> Result<(), AllocError>
     ensures registers { OnOk result (kinds.new.items ≡ kinds.old.items ++ stmt_kinds context.now (If condition.now first.now second.now)) }
     ensures added { OnOk result (codes code.new.items ≡ codes code.old.items ++ stmt_code context.now (If condition.now first.now second.now) (length kinds.old.items) out) }
@@ -187,7 +198,7 @@ fn branch(
     context: &Context,
     kinds: &mut Vec<Kind>,
     whole: &Statement,
-    out: u32,
+    out: Exits,
 ) -> Result<Box<Code>, AllocError>
     ensures code { IfOk result (λ b. code_of b.value ≡ in_order (stmt_code context.now whole.now (length kinds.old.items) out)) }
     ensures registers { OnOk result (kinds.new.items ≡ kinds.old.items ++ stmt_kinds context.now whole.now) }
@@ -198,7 +209,29 @@ fn branch(
     Ok(made)
 }
 
-/// A loop: its invariants come before its condition. More loops round it than numbers of 32 bits tell apart can't be had.
+/// The body of a loop: in a block, which a `continue` leaves, where it has one.
+#[cycle(statements)]
+fn body_of(
+    context: &Context,
+    kinds: &mut Vec<Kind>,
+    code: &mut Vec<Code>,
+    body: &Statement,
+    out: Exits,
+) -> Result<(), AllocError>
+    ensures registers { OnOk result (kinds.new.items ≡ kinds.old.items ++ stmt_kinds context.now body.now) }
+    ensures added { OnOk result (codes code.new.items ≡ codes code.old.items ++ turn_code (has_continue body.now) (stmt_code context.now body.now (length kinds.old.items) (inside (has_continue body.now) out))) }
+{
+    let in_block = statement_continues(body);
+    let inside = out.inside(in_block)?;
+    if in_block {
+        let block = branch(context, kinds, body, inside)?;
+        code.push(Code::Block(block))?;
+        return Ok(());
+    }
+    statement(context, kinds, code, body, inside)
+}
+
+/// A loop: its invariants come before its condition.
 #[cycle(statements)]
 fn repeat(
     context: &Context,
@@ -208,20 +241,18 @@ fn repeat(
     condition: &Expression,
     body: &Box<Statement>,
     step: &Box<Statement>,
-    out: u32,
+    out: Exits,
 ) -> Result<(), AllocError>
     ensures registers { OnOk result (kinds.new.items ≡ kinds.old.items ++ stmt_kinds context.now (Loop invariants.now condition.now body.now step.now)) }
     ensures added { OnOk result (codes code.new.items ≡ codes code.old.items ++ stmt_code context.now (Loop invariants.now condition.now body.now step.now) (length kinds.old.items) out) }
 {
-    let Some(inside) = out.checked_add(1) else {
-        return Err(AllocError);
-    };
+    let third = out.deeper()?;
     let mut test = Vec::new(context.alloc);
     conditions(context, kinds, &mut test, invariants)?;
     let condition = expression(context, kinds, &mut test, condition)?;
     let mut turn = Vec::new(context.alloc);
-    statement(context, kinds, &mut turn, body, inside)?;
-    statement(context, kinds, &mut turn, step, inside)?;
+    body_of(context, kinds, &mut turn, body, out)?;
+    statement(context, kinds, &mut turn, step, third)?;
     let test = sequence(context.alloc, test)?;
     let body = sequence(context.alloc, turn)?;
     code.push(Code::Loop {
@@ -238,7 +269,7 @@ fn give_back(
     kinds: &mut Vec<Kind>,
     code: &mut Vec<Code>,
     value: &Expression,
-    out: u32,
+    out: Exits,
 ) -> Result<(), AllocError>
     ensures registers { OnOk result (kinds.new.items ≡ kinds.old.items ++ stmt_kinds context.now (ReturnValue value.now)) }
     ensures added { OnOk result (codes code.new.items ≡ codes code.old.items ++ stmt_code context.now (ReturnValue value.now) (length kinds.old.items) out) }
@@ -246,7 +277,7 @@ fn give_back(
     let from = expression(context, kinds, code, value)?;
     let to = local_register(context.locals, 0);
     let _to = put(code, to, Operation::Move { to, from })?;
-    code.push(Code::Exit(out))?;
+    code.push(Code::Exit(out.returns))?;
     Ok(())
 }
 
@@ -256,7 +287,7 @@ fn asserted(
     kinds: &mut Vec<Kind>,
     code: &mut Vec<Code>,
     condition: &Expression,
-    out: u32,
+    out: Exits,
 ) -> Result<(), AllocError>
     ensures registers { OnOk result (kinds.new.items ≡ kinds.old.items ++ stmt_kinds context.now (Assert condition.now)) }
     ensures added { OnOk result (codes code.new.items ≡ codes code.old.items ++ stmt_code context.now (Assert condition.now) (length kinds.old.items) out) }
@@ -278,7 +309,7 @@ fn error(
     kinds: &mut Vec<Kind>,
     code: &mut Vec<Code>,
     text: &Expression,
-    out: u32,
+    out: Exits,
 ) -> Result<(), AllocError>
     ensures registers { OnOk result (kinds.new.items ≡ kinds.old.items ++ stmt_kinds context.now (Error text.now)) }
     ensures added { OnOk result (codes code.new.items ≡ codes code.old.items ++ stmt_code context.now (Error text.now) (length kinds.old.items) out) }
@@ -295,7 +326,7 @@ pub(crate) fn statements(
     kinds: &mut Vec<Kind>,
     code: &mut Vec<Code>,
     all: &[Statement],
-    out: u32,
+    out: Exits,
 ) -> Result<(), AllocError>
     ensures registers { OnOk result (kinds.new.items ≡ kinds.old.items ++ body_kinds context.now all.now) }
     ensures added { OnOk result (codes code.new.items ≡ codes code.old.items ++ block_code context.now all.now (length kinds.old.items) out) }

@@ -6,7 +6,7 @@ use Rattle.c0_typed.specs.Typing.{IsSmall}
 use Rattle.c0_typed.specs.Views.{type_of}
 use Rattle.c0_typed.specs.declared.tree.Expression.{Expression, Row_of-Expression, end_of-Expression, more_of-Expression, Constant, Null, Local, Unary', Binary', Compare', And', Or', Choose', Call', Print', Load', Alloc, AllocArray', Length'}
 use Rattle.c0_typed.specs.declared.tree.Place.{Place, Deref', Index', Field'}
-use Rattle.c0_typed.specs.declared.tree.Statement.{Statement, Row_of-Statement, end_of-Statement, more_of-Statement, Block', Set, Update, Store, StoreUpdate, Do, If', Loop', Return, ReturnValue, Assert, Error, Check}
+use Rattle.c0_typed.specs.declared.tree.Statement.{Statement, Row_of-Statement, end_of-Statement, more_of-Statement, Block', Set, Update, Store, StoreUpdate, Do, If', Loop', Return, ReturnValue, Break, Continue, Assert, Error, Check}
 use Rattle.c0_typed.specs.declared.tree.Function.{Function}
 use Rattle.code_form.specs.declared.form.Kind.{Kind}
 use Rattle.code_form.specs.declared.form.Kind.TheVariants as kind
@@ -218,6 +218,8 @@ module _ (n : ℕ) (s : List Kind) where
         let x = both (types_of body) (types_of step) y.1 in
         (knows_all invariants.items z.0, knows a y.0, knows_statement body x.0, knows_statement step x.1)
     knows_statement Return h = tt
+    knows_statement Break h = tt
+    knows_statement Continue h = tt
     knows_statement (ReturnValue a) h = knows a h
     knows_statement (Assert a) h = knows a h
     knows_statement (Error a) h = knows a h

@@ -4,7 +4,7 @@ use Rattle.c0_typed.specs.Trees as t
 use Rattle.c0_typed.specs.Views.{type_of}
 use Rattle.c0_typed.specs.declared.tree.Expression.{Expression, Row_of-Expression, end_of-Expression, more_of-Expression, Constant, Null, Local, Unary', Binary', Compare', And', Or', Choose', Call', Print', Load', Alloc, AllocArray', Length'}
 use Rattle.c0_typed.specs.declared.tree.Place.{Place, Deref', Index', Field'}
-use Rattle.c0_typed.specs.declared.tree.Statement.{Statement, Row_of-Statement, end_of-Statement, more_of-Statement, Block', Set, Update, Store, StoreUpdate, Do, If', Loop', Return, ReturnValue, Assert, Error, Check}
+use Rattle.c0_typed.specs.declared.tree.Statement.{Statement, Row_of-Statement, end_of-Statement, more_of-Statement, Block', Set, Update, Store, StoreUpdate, Do, If', Loop', Return, ReturnValue, Break, Continue, Assert, Error, Check}
 use Rattle.c0_typed.specs.declared.tree.Function.{Function}
 use Rattle.c0_typed.specs.declared.tree.Typed.{Typed}
 use Rattle.code_form.specs.declared.form.Kind.{Kind}
@@ -78,6 +78,8 @@ abbrev mutual
   types_of (If' a p b q s) = types_in a ++ (types_of b ++ types_of s)
   types_of (Loop' invariants a p body q step) = types_in_all invariants.items ++ (types_in a ++ (types_of body ++ types_of step))
   types_of Return = []
+  types_of Break = []
+  types_of Continue = []
   types_of (ReturnValue a) = types_in a
   types_of (Assert a) = types_in a
   types_of (Error a) = types_in a

@@ -6,7 +6,7 @@ use Rattle.c0_typed.specs.Views.{struct_of, type_of}
 use Rattle.c0_typed.specs.declared.tree.ValueType.{ValueType}
 use Rattle.c0_typed.specs.declared.tree.Expression.{Expression, Row_of-Expression, end_of-Expression, more_of-Expression, Constant, Null, Local, Unary', Binary', Compare', And', Or', Choose', Call', Print', Load', Alloc, AllocArray', Length'}
 use Rattle.c0_typed.specs.declared.tree.Place.{Place, Deref', Index', Field'}
-use Rattle.c0_typed.specs.declared.tree.Statement.{Statement, Row_of-Statement, end_of-Statement, more_of-Statement, Block', Set, Update, Store, StoreUpdate, Do, If', Loop', Return, ReturnValue, Assert, Error, Check}
+use Rattle.c0_typed.specs.declared.tree.Statement.{Statement, Row_of-Statement, end_of-Statement, more_of-Statement, Block', Set, Update, Store, StoreUpdate, Do, If', Loop', Return, ReturnValue, Break, Continue, Assert, Error, Check}
 use Rattle.c0_typed.specs.declared.tree.Function.{Function}
 use Rattle.c0_typed.specs.declared.tree.Typed.{Typed}
 use Rattle.code_form.specs.declared.form.Kind.{Kind}
@@ -65,6 +65,8 @@ module _ (n : ℕ) (singles : List Kind) where
     KnowsStatement (If' a p b q s) = Knows a × KnowsStatement b × KnowsStatement s
     KnowsStatement (Loop' invariants a p body q step) = KnowsAll invariants.items × Knows a × KnowsStatement body × KnowsStatement step
     KnowsStatement Return = Unit {0}
+    KnowsStatement Break = Unit {0}
+    KnowsStatement Continue = Unit {0}
     KnowsStatement (ReturnValue a) = Knows a
     KnowsStatement (Assert a) = Knows a
     KnowsStatement (Error a) = Knows a

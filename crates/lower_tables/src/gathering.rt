@@ -179,7 +179,7 @@ fn from_statement(
             from_statement(structs, singles, body)?;
             from_statement(structs, singles, step)
         }
-        Statement::Return => Ok(()),
+        Statement::Return | Statement::Break | Statement::Continue => Ok(()),
         Statement::Check(all) => from_expressions(structs, singles, all),
     }
 }

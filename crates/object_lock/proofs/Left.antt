@@ -1,7 +1,7 @@
 -- What a step of each call leaves in the word that it changes.
 use Rattle.std.proofs.Common.{◌≡◌, ℕ, ap, sym, refl, ◌∙◌}
 use Rattle.std.specs.Prelude.{false, true, ◌-◌}
-use Rattle.pointer_word.specs.Words.{Place, Away, Here, Word, counted, cleared}
+use Rattle.pointer_word.specs.Words.{Place, Away, Here, counted, cleared}
 use Rattle.pointer_word.specs.Hands.{upd, Note}
 use Rattle.pointer_word.specs.Machine.{State as Machine}
 use Rattle.pointer_word.specs.Sound.{Inv}

@@ -8,7 +8,7 @@ use mathlib.Core.Option.{some}
 use lib.ListN.{get_elem?}
 use Rattle.pointer_word.specs.Hands.{empty_handed}
 use Rattle.remote_store.specs.declared.berth.Berth.{Berth}
-use Rattle.object_lock.specs.Kept.{berth_keeps}
+use Rattle.object_lock.specs.Kept.{berth_fits, berth_keeps}
 use Rattle.object_lock.specs.Seats.{View, first_part, next_owner, whole_part, next_mover}
 use Rattle.object_lock.specs.SeatViews.{TableView, SeatView}
 use Rattle.object_lock.specs.Fresh.{IsFresh, IsFreshOwner, IsFreshMover, IsLastOwner, IsLastMover, AreNumbered}
@@ -33,8 +33,8 @@ each_on P (y ∷ ys) x f p zero l = f zero (omega arith)
 each_on P (y ∷ ys) x f p (suc o) l = each_on (λ i. P (suc i)) ys x (λ i m. f (suc i) (omega arith)) p o (omega arith)
 
 -- a berth into which nothing was put keeps zeros
-pub keeps_zeros : {C : Type 0} (content : C → Option (List ℕ)) (b : Berth C) (o : ℕ) → b.version ≡ 0 → berth_keeps content b o []
-keeps_zeros content b o e = inl (e, λ i l. refl)
+pub keeps_zeros : {C : Type 0} (fits : C → ℕ → Type 0) (content : C → Option (List ℕ)) (n : ℕ) (b : Berth C) (o : ℕ) → berth_fits fits n b → b.version ≡ 0 → berth_keeps fits content n b o []
+keeps_zeros fits content n b o f e = (f, inl (e, λ i l. refl))
 
 module _ {W C : Type 0} where
   -- one seat more, with the next number

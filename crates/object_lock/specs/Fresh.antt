@@ -2,7 +2,6 @@
 use Rattle.std.specs.Prelude.{◌≡◌, ℕ, suc, ◌+◌, ◌-◌, ◌*◌, ◌<◌, ◌≤◌, true, List, map, replicate, None}
 use Rattle.std.specs.List.{range_with_len}
 use Rattle.pointer_word.specs.Hands.{empty_handed, blank}
-use Rattle.remote_store.specs.Kept.{piece_cells}
 use Rattle.object_lock.specs.Seats.{Sizes}
 use Rattle.object_lock.specs.SeatViews.{TableView, SeatView, IsSeat}
 
@@ -22,9 +21,9 @@ IsFreshMover t s = IsFresh t s × (s.view.high ≡ s.view.low)
 abbrev pub AreNumbered : {W C : Type 0} → ℕ → ℕ → List (SeatView W C) → Type 0
 AreNumbered first count seats = map (λ s. s.view.number) seats ≡ range_with_len first count
 
--- the numbers of a table of this many objects and frames
-abbrev pub sizes_of : ℕ → ℕ → Sizes
-sizes_of objects frames = record { objects = objects; frames = frames; cells = piece_cells }
+-- the numbers of a table of this many objects and frames, with pieces of n cells
+abbrev pub sizes_of : ℕ → ℕ → ℕ → Sizes
+sizes_of objects frames n = record { objects = objects; frames = frames; cells = n }
 
 -- The last seat of a table that is being made, which may make more: it is fresh, and that of program k; the objects of all programs from k on are its own
 abbrev pub IsLastOwner : {W C : Type 0} → TableView → ℕ → ℕ → ℕ → SeatView W C → Type 0

@@ -42,10 +42,10 @@ Opened o old new (H.Here f) = (f < old.view.sizes.frames) × ((g : ℕ) → (not
 Opened o old new H.Away = ((note old.view o).frame ≡ None) × (new ≡ record old { view = with_note old.view o (opened (note old.view o) None) })
 Opened o old new H.Coming = ((note old.view o).frame ≡ None) × (new ≡ record old { view = with_note old.view o (opened (note old.view o) None) })
 
-module _ {W C : Type 0} (content : C → Option (List ℕ)) where
+module _ {W C : Type 0} (fits : C → ℕ → Type 0) (content : C → Option (List ℕ)) where
   -- The object o was begun: its berth is in hand, and what that keeps is promised. Or it is in a frame, which is noted. Or nothing changed
   abbrev pub Begun : ℕ → SeatView W C → SeatView W C → Begin → Type 0
-  Begun o old new B.Taken = (b : Berth C) × (ws : List ℕ) × berth_keeps content b o ws × (new ≡ record old { view = with_hand old.view (bringing old.view.hand o ws); brought = Some b })
+  Begun o old new B.Taken = (b : Berth C) × (ws : List ℕ) × berth_keeps fits content old.view.sizes.cells b o ws × (new ≡ record old { view = with_hand old.view (bringing old.view.hand o ws); brought = Some b })
   Begun o old new (B.Here f) = (f < old.view.sizes.frames) × ((g : ℕ) → (note old.view o).frame ≡ Some g → g ≡ f) × (new ≡ record old { view = with_note old.view o (told (note old.view o) (Some f)) })
   Begun o old new B.Busy = new ≡ old
 
@@ -60,10 +60,10 @@ named zero = None
 named (suc o) = Some o
 
 -- A fetcher began the object o: its berth is in hand, and what that keeps is promised. Else nothing changed
-abbrev pub Fetched : {W C : Type 0} → (C → Option (List ℕ)) → ℕ → SeatView W C → SeatView W C → Begin → Type 0
-Fetched {W} {C} content o old new B.Taken = (b : Berth C) × (ws : List ℕ) × berth_keeps content b o ws × (new ≡ record old { view = with_hand old.view (bringing old.view.hand o ws); brought = Some b })
-Fetched content o old new (B.Here f) = (f < old.view.sizes.frames) × (new ≡ old)
-Fetched content o old new B.Busy = new ≡ old
+abbrev pub Fetched : {W C : Type 0} → (C → ℕ → Type 0) → (C → Option (List ℕ)) → ℕ → SeatView W C → SeatView W C → Begin → Type 0
+Fetched {W} {C} fits content o old new B.Taken = (b : Berth C) × (ws : List ℕ) × berth_keeps fits content old.view.sizes.cells b o ws × (new ≡ record old { view = with_hand old.view (bringing old.view.hand o ws); brought = Some b })
+Fetched fits content o old new (B.Here f) = (f < old.view.sizes.frames) × (new ≡ old)
+Fetched fits content o old new B.Busy = new ≡ old
 
 -- the object o was marked in the frame f, and its berth is in hand, or nothing changed
 abbrev pub Marked : {W C : Type 0} → ℕ → ℕ → SeatView W C → SeatView W C → Bool → Type 0
@@ -81,5 +81,5 @@ Left f old new true = new ≡ record old { view = with_hand old.view (leaving ol
 Left f old new false = new ≡ old
 
 -- the berth of the object o that is moved out keeps the n cells that were copied
-abbrev pub HasPut : {W C : Type 0} → (C → Option (List ℕ)) → ℕ → ℕ → SeatView W C → Type 0
-HasPut {W} {C} content n o s = (b : Berth C) × (ws : List ℕ) × (s.taken ≡ Some b) × berth_keeps content b o ws × ((i : ℕ) → i < n → seen s.view.hand.copied i ≡ Some (listed ws i))
+abbrev pub HasPut : {W C : Type 0} → (C → ℕ → Type 0) → (C → Option (List ℕ)) → ℕ → ℕ → SeatView W C → Type 0
+HasPut {W} {C} fits content n o s = (b : Berth C) × (ws : List ℕ) × (s.taken ≡ Some b) × berth_keeps fits content n b o ws × ((i : ℕ) → i < n → seen s.view.hand.copied i ≡ Some (listed ws i))

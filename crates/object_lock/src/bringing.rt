@@ -25,8 +25,8 @@ impl<S: RawStore> ObjectTable<S> {
         requires hold { 0 < count → Owns mover.old.view obj × (count ≡ (note mover.old.view obj).count) }
         requires empty { HasNothing mover.old.view.hand }
         ensures table { IsSeat self.now mover.new }
-        ensures told { 0 < count → Begun S.content obj mover.old mover.new result }
-        ensures fetched { count ≡ 0 → Fetched S.content obj mover.old mover.new result }
+        ensures told { 0 < count → Begun S.fits S.content obj mover.old mover.new result }
+        ensures fetched { count ≡ 0 → Fetched S.fits S.content obj mover.old mover.new result }
         ensures step { Steps S.honest (Begins mover.old.view.number obj count (not (count == 0))) mover.old.view mover.new.view (λ x. result ≡ tried count (x.word obj)) }
     {
         let coming = Word::coming(count, mover.number);

@@ -18,11 +18,11 @@ pub fn changed_note()
 /// Each kind of step of the table is one call of the machine: it carries the rule of a table that shows a machine to the rule of
 /// the machine that the call leaves.
 pub fn each_step<S: RawStore>()
-    ensures { EachStep (slot_keeps S.content) slot_has S.honest }
+    ensures { (n : ℕ) → EachStep (slot_keeps S.fits S.content n) (slot_has S.fits n) S.honest }
 {}
 
 /// While no seat has made a call of a mover, as when the table was made: each object is away, its word is the count of its holds, which is 0 for
 /// an owner that has none, nothing was put into its berth, which is at home, and each frame is free.
 pub fn new_table<S: RawStore>()
-    ensures { NewTable (slot_keeps S.content) slot_has S.honest }
+    ensures { (n : ℕ) → NewTable (slot_keeps S.fits S.content n) (slot_has S.fits n) S.honest }
 {}

@@ -3,6 +3,7 @@ ghost use Rattle.std.specs.Prelude.{◌≡◌, ◌≢◌, ℕ, ◌+◌, ◌-◌,
 ghost use mathlib.Core.Option.{some};
 ghost use lib.ListN.{get_elem?};
 ghost use Rattle.std.specs.List.{All};
+ghost use Rattle.cells.specs.Pieces.{cells_in};
 ghost use Rattle.object_lock.specs.Kept.{slot_keeps, slot_has};
 ghost use Rattle.object_lock.specs.NewTable.{BeginsAway};
 ghost use Rattle.object_lock.specs.Seats.{first_part, next_owner, whole_part, next_mover};
@@ -12,8 +13,8 @@ ghost use Rattle.object_lock.specs.Fresh.{IsFresh, IsFreshOwner, IsFreshMover, I
 use crate::seat::{MoverSeat, OwnerSeat};
 use crate::shape::Shape;
 use crate::table::{LockWords, ObjectTable};
-use cells::Want;
-use remote_store::{Berth, Config, PIECE_CELLS, Port, RawStore, Stores};
+use cells::{Piece, Want};
+use remote_store::{Berth, Config, Port, RawStore, Stores};
 use std::alloc::Global;
 
 /// A slot for each object, with a berth into which nothing was put yet.
@@ -22,7 +23,7 @@ fn empty_berths<S: RawStore>(
     store: &S,
     objects: usize,
 ) -> Result<Vec<Option<Berth<S::Cell>>>, Want>
-    ensures made { IfOk result (λ v. (length v.items ≡ objects) × ((o : ℕ) → o < length v.items → (b : _) × (get_elem? v.items o ≡ some b) × slot_keeps S.content b o [])) }
+    ensures made { IfOk result (λ v. (length v.items ≡ objects) × ((o : ℕ) → o < length v.items → (b : _) × (get_elem? v.items o ≡ some b) × ((n : ℕ) → S.makes store.now (n + 3) → slot_keeps S.fits S.content n b o []))) }
     ensures wants { IfErr result (λ want. want ≢ Want.NoObjects) }
 {
     let mut slots = Vec::new(alloc);
@@ -171,19 +172,21 @@ impl<S: RawStore> ObjectTable<S> {
         Ok((owners, movers))
     }
 
-    /// A table of `config`'s numbers, whose objects are all away and in whose store nothing was put yet, with the seats of
+    /// A table of `config`'s numbers, with frames for pieces of this size, whose objects are all away and in whose store nothing was put yet, with the seats of
     /// the programs and those of the evacuators and then the fetchers. `OutOfMemory` where a growth was refused, and
     /// the wants of making the stores and their cells.
     pub fn new<M: Stores<S = S> + Drop>(
         alloc: Global,
         programs: u32,
         config: &Config<M>,
+        piece: Piece,
     ) -> Result<(ObjectTable<S>, Vec<OwnerSeat<S>>, Vec<MoverSeat<S>>), Want>
         requires limits { IsWithinLimits programs config.now.frames config.now.objects config.now.evacuators config.now.fetchers }
-        ensures made { IfOk result (λ t. (t.0.sizes ≡ sizes_of config.now.objects config.now.frames)
+        requires store { M.makes config.now.stores (cells_in piece + 3) }
+        ensures made { IfOk result (λ t. (t.0.sizes ≡ sizes_of config.now.objects config.now.frames (cells_in piece))
             × AreNumbered 1 programs t.1.items × All (IsFreshOwner t.0 (config.now.objects / programs)) t.1.items
             × AreNumbered (suc programs) (config.now.evacuators + config.now.fetchers) t.2.items × All (IsFreshMover t.0) t.2.items) }
-        ensures away { IfOk result (λ t. BeginsAway (slot_keeps S.content) slot_has S.honest t.0.sizes (t.1.items ++ t.2.items)) }
+        ensures away { IfOk result (λ t. BeginsAway (slot_keeps S.fits S.content t.0.sizes.cells) (slot_has S.fits t.0.sizes.cells) S.honest t.0.sizes (t.1.items ++ t.2.items)) }
         ensures wants { IfErr result (λ want. want ≢ Want.NoObjects) }
     {
         let port = Port::new(config.stores.one(alloc)?);
@@ -191,7 +194,7 @@ impl<S: RawStore> ObjectTable<S> {
         let shape = Shape {
             objects: config.objects as u64,
             frames: config.frames as u64,
-            cells: PIECE_CELLS as u64,
+            cells: piece.cells() as u64,
             share: share as u64,
             owned: (share * programs) as u64,
         };

@@ -88,7 +88,7 @@ impl<S: RawStore> ObjectTable<S> {
         requires table { IsSeat self.now mover.old }
         requires low { obj < self.now.sizes.objects }
         requires hands { (mover.old.view.hand.leaving ≡ Some obj) × HasNoFrame mover.old.view.hand }
-        requires put { HasPut S.content self.now.sizes.cells obj mover.old }
+        requires put { HasPut S.fits S.content self.now.sizes.cells obj mover.old }
         ensures table { IsSeat self.now mover.new }
         ensures told { Committed mover.old mover.new result }
         ensures step { Steps S.honest (Commits mover.old.view.number obj mover.old.view.hand.source) mover.old.view mover.new.view

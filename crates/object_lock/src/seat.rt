@@ -1,12 +1,12 @@
 //! A seat with its way to the store.
-ghost use Rattle.std.specs.Prelude.{◌≡◌, ℕ, ◌+◌, ◌%◌, ◌<◌, ◌==◌, not, false, Some, IfOk, IsOk, MatchResult, length};
+ghost use Rattle.std.specs.Prelude.{◌≡◌, ℕ, ◌+◌, ◌%◌, ◌<◌, ◌≤◌, ◌==◌, not, false, Some, IfOk, IsOk, MatchResult, length};
 ghost use Rattle.pointer_word.specs.Hands.{listed};
-ghost use Rattle.remote_store.specs.Kept.{Took, RefusedFor, next_version, piece_cells};
+ghost use Rattle.remote_store.specs.Kept.{Took, RefusedFor, next_version};
 ghost use Rattle.object_lock.specs.Kept.{berth_keeps};
 ghost use Rattle.object_lock.specs.SeatViews.{version_of};
 
 use crate::table::Token;
-use remote_store::{Berth, Failed, PIECE_CELLS, Port, RawStore, Refusal};
+use remote_store::{Berth, Failed, MOST_CELLS, Port, RawStore, Refusal};
 use std::marker::Model;
 
 /// A mover's seat at a table: its port, and the berths that it has in hand.
@@ -33,7 +33,7 @@ impl<S: RawStore> Model for MoverSeat<S> {
 
     ghost view = { λ s. record { table = s.seat.table_id; id = s.seat.id; view = s.seat.me.0; brought = s.brought; taken = s.taken; store = s.port.store; refusals = s.port.refusals } };
 
-    ghost invariant = { λ s. InHand S.content s.number s.low s.high s.source s.seat.me.0 s.seat.me.1 s.brought s.taken };
+    ghost invariant = { λ s. InHand S.fits S.content s.number s.low s.high s.source s.seat.me.0 s.seat.me.1 s.brought s.taken };
 }
 
 impl<S: RawStore> MoverSeat<S> {
@@ -69,7 +69,7 @@ impl<S: RawStore> MoverSeat<S> {
     pub fn stored(&self, obj: usize) -> bool
         requires { self.now.view.hand.bringing ≡ Some obj }
         ensures version { result ≡ not (version_of self.now.brought == 0) }
-        ensures zeros { result ≡ false → (i : ℕ) → i < piece_cells → listed self.now.view.hand.promised i ≡ 0 }
+        ensures zeros { result ≡ false → (i : ℕ) → i < self.now.view.sizes.cells → listed self.now.view.hand.promised i ≡ 0 }
     {
         // Only the condition speaks of the object: its berth is the one in hand.
         let _ = obj;
@@ -84,15 +84,15 @@ impl<S: RawStore> MoverSeat<S> {
     pub fn get(&mut self, obj: usize, words: &mut [u64]) -> Result<(), Refusal>
         requires brings { self.old.view.hand.bringing ≡ Some obj }
         requires stored { 0 < version_of self.old.brought }
-        requires words { length words.old ≡ PIECE_CELLS }
-        ensures length { length words.new ≡ PIECE_CELLS }
+        requires words { (length words.old ≡ self.old.view.sizes.cells) × (length words.old ≤ MOST_CELLS) }
+        ensures length { length words.new ≡ length words.old }
         ensures same { self.new ≡ record self.old { store = self.new.store; refusals = self.new.refusals } }
         ensures got { IfOk result (λ _. S.honest → words.new ≡ self.old.view.hand.promised) }
         ensures sure { S.reliable → IsOk result }
         ensures counted { MatchResult result (λ _. (self.new.refusals ≡ self.old.refusals) × (S.failures self.new.store ≡ S.failures self.old.store))
             (λ why. (words.new ≡ words.old) × (self.new.refusals ≡ (self.old.refusals + 1) % 18446744073709551616) × (why ≡ Refusal.Failed → S.failures self.new.store ≡ (S.failures self.old.store + 1) % 18446744073709551616)) }
-        ensures read { (b : _) × (self.old.brought ≡ Some b) × MatchResult result (λ _. Took piece_cells (λ row. S.read_gives self.old.store b.cell row self.new.store) b.version obj words.new)
-            (λ why. RefusedFor piece_cells (S.failures self.new.store ≡ (S.failures self.old.store + 1) % 18446744073709551616)
+        ensures read { (b : _) × (self.old.brought ≡ Some b) × MatchResult result (λ _. Took (length words.old) (λ row. S.read_gives self.old.store b.cell row self.new.store) b.version obj words.new)
+            (λ why. RefusedFor (length words.old) (S.failures self.new.store ≡ (S.failures self.old.store + 1) % 18446744073709551616)
             (λ row. S.read_gives self.old.store b.cell row self.new.store × (S.failures self.new.store ≡ S.failures self.old.store)) b.version obj why) }
     {
         match &self.brought {
@@ -105,11 +105,11 @@ impl<S: RawStore> MoverSeat<S> {
     /// failure nothing is known of what the berth keeps.
     pub fn put(&mut self, obj: usize, words: &[u64]) -> Result<(), Failed>
         requires leaves { self.old.view.hand.leaving ≡ Some obj }
-        requires words { length words.now ≡ PIECE_CELLS }
+        requires words { (length words.now ≡ self.old.view.sizes.cells) × (length words.now ≤ MOST_CELLS) }
         ensures same { self.new ≡ record self.old { taken = self.new.taken; store = self.new.store; refusals = self.new.refusals } }
         ensures version { version_of self.new.taken ≡ next_version (version_of self.old.taken) }
         ensures sure { S.reliable → IsOk result }
-        ensures put { IfOk result (λ _. (b : _) × (self.new.taken ≡ Some b) × berth_keeps S.content b obj words.now) }
+        ensures put { IfOk result (λ _. (b : _) × (self.new.taken ≡ Some b) × berth_keeps S.fits S.content self.old.view.sizes.cells b obj words.now) }
         ensures counted { MatchResult result (λ _. (self.new.refusals ≡ self.old.refusals) × (S.failures self.new.store ≡ S.failures self.old.store))
             (λ _. (self.new.refusals ≡ (self.old.refusals + 1) % 18446744073709551616) × (S.failures self.new.store ≡ (S.failures self.old.store + 1) % 18446744073709551616)) }
     {

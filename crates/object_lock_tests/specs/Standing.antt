@@ -37,9 +37,9 @@ pub record IsMoving {W C : Type 0} (t : TableView) (s : SeatView W C) (o f : ℕ
   pub alone : s.view.hand.bringing ≡ None
 
 -- and has put its cells into its berth
-pub record IsPut {W C : Type 0} (content : C → Option (List ℕ)) (t : TableView) (s : SeatView W C) (o f : ℕ) : Type 0 where
+pub record IsPut {W C : Type 0} (fits : C → ℕ → Type 0) (content : C → Option (List ℕ)) (t : TableView) (s : SeatView W C) (o f : ℕ) : Type 0 where
   pub moving : IsMoving t s o f
-  pub put : HasPut content t.sizes.cells o s
+  pub put : HasPut fits content t.sizes.cells o s
 
 -- the mover has moved an object out of the frame f, and not released it
 pub record IsFreeing {W C : Type 0} (t : TableView) (s : SeatView W C) (f : ℕ) : Type 0 where

@@ -4,15 +4,15 @@ ghost use Rattle.pointer_word.specs.Hands.{listed};
 ghost use Rattle.pointer_word.specs.Calls.{Filled};
 ghost use Rattle.pointer_word.specs.Asked.{HasNoFrame, HasNothing};
 ghost use Rattle.pointer_word.specs.Ordered.{IsCopied};
-ghost use Rattle.remote_store.specs.Kept.{piece_cells};
 ghost use Rattle.object_lock.specs.Seats.{Owns, note, with_hand};
 ghost use Rattle.object_lock.specs.Seating.{IsMovingOut};
 ghost use Rattle.object_lock.specs.SeatViews.{IsSeat};
 ghost use Rattle.object_lock.specs.Fresh.{IsFreshMover, IsFreshOwner, sizes_of};
 ghost use Rattle.object_lock.specs.Telling.{HasPut};
 
+use cells::Piece;
 use object_lock::{Begin, Held, MoverSeat, ObjectTable, OwnerSeat};
-use remote_store::{Config, FarHeap, PIECE_CELLS, RawStore, Stores};
+use remote_store::{Config, MOST_CELLS, RawStore, Stores};
 use std::alloc::Global;
 
 /// Fills the claimed frame with zeros, which are what was promised.
@@ -23,12 +23,12 @@ pub(crate) fn fill_zeros<S: RawStore>(
 )
     requires table { IsSeat table.now mover.old × (frame < table.now.sizes.frames) }
     requires claimed { mover.old.view.hand.claimed ≡ Some frame }
-    requires zeros { (i : ℕ) → i < piece_cells → listed mover.old.view.hand.promised i ≡ 0 }
+    requires zeros { (i : ℕ) → i < table.now.sizes.cells → listed mover.old.view.hand.promised i ≡ 0 }
     ensures table { IsSeat table.now mover.new }
     ensures same { mover.new ≡ record mover.old { view = with_hand mover.old.view (record mover.old.view.hand { filled = mover.new.view.hand.filled }) } }
     ensures filled { Filled S.honest table.now.sizes.cells mover.new.view.hand }
 {
-    for i in 0..PIECE_CELLS {
+    for i in 0..table.cells() {
         table.fill(mover, frame, i, 0);
     }
 }
@@ -42,13 +42,13 @@ pub(crate) fn fill_words<S: RawStore>(
 )
     requires table { IsSeat table.now mover.old × (frame < table.now.sizes.frames) }
     requires claimed { mover.old.view.hand.claimed ≡ Some frame }
-    requires words { length words.now ≡ PIECE_CELLS }
-    requires promised { S.honest → (i : ℕ) → i < piece_cells → listed words.now i ≡ listed mover.old.view.hand.promised i }
+    requires words { length words.now ≡ table.now.sizes.cells }
+    requires promised { S.honest → (i : ℕ) → i < table.now.sizes.cells → listed words.now i ≡ listed mover.old.view.hand.promised i }
     ensures table { IsSeat table.now mover.new }
     ensures same { mover.new ≡ record mover.old { view = with_hand mover.old.view (record mover.old.view.hand { filled = mover.new.view.hand.filled }) } }
     ensures filled { Filled S.honest table.now.sizes.cells mover.new.view.hand }
 {
-    for i in 0..PIECE_CELLS {
+    for i in 0..words.len() {
         table.fill(mover, frame, i, words[i]);
     }
 }
@@ -96,33 +96,35 @@ pub(crate) fn bring_back<S: RawStore>(
     if !table.try_claim(owner, frame, obj) || !owner.stored(obj) {
         return None;
     }
-    let mut words = [0u64; PIECE_CELLS];
-    let Ok(()) = owner.get(obj, &mut words) else {
+    let mut buffer = [0; MOST_CELLS];
+    let cells = table.cells();
+    let words = &mut buffer[..cells];
+    let Ok(()) = owner.get(obj, &mut *words) else {
         return None;
     };
-    fill_words(table, owner, frame, &words);
+    fill_words(table, owner, frame, &*words);
     table.arrive(owner, obj, frame);
     Some(table.load(owner, obj, frame, 0))
 }
 
 /// Copies the cells of the object that the mover is moving out of the frame.
-pub(crate) fn copy_cells<S: RawStore>(
+fn copy_cells<S: RawStore>(
     table: &ObjectTable<S>,
     mover: &mut MoverSeat<S>,
     frame: usize,
-) -> [u64; PIECE_CELLS]
+    words: &mut [u64],
+)
     requires table { IsSeat table.now mover.old × (frame < table.now.sizes.frames) }
     requires leaves { IsMovingOut mover.old.view.hand frame }
+    requires words { length words.old ≡ table.now.sizes.cells }
     ensures table { IsSeat table.now mover.new }
-    ensures length { length result ≡ PIECE_CELLS }
+    ensures length { length words.new ≡ table.now.sizes.cells }
     ensures same { mover.new ≡ record mover.old { view = with_hand mover.old.view (record mover.old.view.hand { copied = mover.new.view.hand.copied }) } }
-    ensures copied { IsCopied mover.new.view.hand result piece_cells }
+    ensures copied { IsCopied mover.new.view.hand words.new table.now.sizes.cells }
 {
-    let mut words = [0u64; PIECE_CELLS];
-    for i in 0..PIECE_CELLS {
+    for i in 0..words.len() {
         words[i] = table.copy_word(mover, frame, i);
     }
-    words
 }
 
 /// Copies the cells of the object that the mover is moving out, and puts them into its berth.
@@ -136,20 +138,24 @@ pub(crate) fn copy_and_put<S: RawStore>(
     requires leaves { (mover.old.view.hand.leaving ≡ Some obj) × (mover.old.view.hand.source ≡ frame) }
     ensures table { IsSeat table.now mover.new }
     ensures same { mover.new ≡ record mover.old { view = with_hand mover.old.view (record mover.old.view.hand { copied = mover.new.view.hand.copied }); taken = mover.new.taken; store = mover.new.store; refusals = mover.new.refusals } }
-    ensures put { result ≡ true → HasPut S.content table.now.sizes.cells obj mover.new }
+    ensures put { result ≡ true → HasPut S.fits S.content table.now.sizes.cells obj mover.new }
 {
-    let words = copy_cells(table, mover, frame);
-    mover.put(obj, &words).is_ok()
+    let mut buffer = [0; MOST_CELLS];
+    let cells = table.cells();
+    let words = &mut buffer[..cells];
+    copy_cells(table, mover, frame, &mut *words);
+    mover.put(obj, &*words).is_ok()
 }
 
-/// A table of four frames, the seat of its only program, which is mover 1, and that of another mover, which is mover 2.
+/// A table of four frames for pieces of 64 cells, the seat of its only program, which is mover 1, and that of another mover, which is mover 2.
 pub(crate) fn owner_and_mover<M: Stores + Drop>(
     alloc: Global,
     objects: u32,
     stores: M,
 ) -> Option<(ObjectTable<M::S>, OwnerSeat<M::S>, MoverSeat<M::S>)>
-    requires { (0 < objects) × (objects ≤ 16777216) }
-    ensures { IfSome result (λ t. (t.0.sizes ≡ sizes_of objects 4) × IsFreshOwner t.0 (objects / 1) t.1 × IsFreshMover t.0 t.2) }
+    requires objects { (0 < objects) × (objects ≤ 16777216) }
+    requires store { M.makes stores 67 }
+    ensures { IfSome result (λ t. (t.0.sizes ≡ sizes_of objects 4 64) × IsFreshOwner t.0 (objects / 1) t.1 × IsFreshMover t.0 t.2) }
 {
     let config = Config {
         frames: 4,
@@ -160,7 +166,12 @@ pub(crate) fn owner_and_mover<M: Stores + Drop>(
         quantum: 1_000,
         stores,
     };
-    let Ok((table, mut owners, mut movers)) = ObjectTable::<M::S>::new(alloc, 1, &config) else {
+    let Ok((table, mut owners, mut movers)) = ObjectTable::<M::S>::new(
+        alloc,
+        1,
+        &config,
+        Piece::Cells64,
+    ) else {
         return None;
     };
     let Some(owner) = owners.pop() else {

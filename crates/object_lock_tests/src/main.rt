@@ -15,6 +15,7 @@ use crate::scenario::{SCENARIOS, Scenario, play};
 use crate::shares::{parts_among_one, parts_among_two};
 use crate::tape::Tape;
 use crate::two_threads::{count_beside_a_mover, read_beside_a_mover};
+use cells::Piece;
 use remote_store::{FarHeap, FaultPlan, FaultStores};
 use std::alloc::Global;
 use std::io;
@@ -33,7 +34,7 @@ fn show<O: Write>(out: &mut O, name: &str, tape: &Tape) -> io::Result<()> {
 
 /// What is told where calls of the store fail by the plan. Nothing where memory ran out.
 fn play_faults(alloc: Global, scenario: Scenario, plan: FaultPlan, tape: &mut Tape) {
-    let Ok(stores) = FaultStores::new(alloc, FarHeap, plan) else {
+    let Ok(stores) = FaultStores::new(alloc, FarHeap::new(Piece::Cells64), plan) else {
         return;
     };
     play(alloc, scenario, stores, tape);
@@ -43,7 +44,8 @@ fn main(rt: HostRuntime) -> io::Result<()> {
     let mut out = io::writer(&rt);
     for (name, scenario) in SCENARIOS {
         let mut tape = Tape::new();
-        play(rt.alloc(), scenario, FarHeap, &mut tape);
+        let stores = FarHeap::new(Piece::Cells64);
+        play(rt.alloc(), scenario, stores, &mut tape);
         show(&mut out, name, &tape)?;
     }
     let mut tape = Tape::new();

@@ -94,12 +94,9 @@ fn act<S: RawStore>(
 
 /// Plays the scenario at a new table of two objects and four frames, whose program is mover 1, and whose other mover is mover 2: the objects of
 /// the program, and what each call told. Nothing where memory ran out.
-pub(crate) fn play<M: Stores + Drop>(
-    alloc: Global,
-    scenario: Scenario,
-    stores: M,
-    tape: &mut Tape,
-) {
+pub(crate) fn play<M: Stores + Drop>(alloc: Global, scenario: Scenario, stores: M, tape: &mut Tape)
+    requires { M.makes stores 67 }
+{
     let Some((table, mut owner, mut mover)) = owner_and_mover(alloc, 2, stores) else {
         return;
     };

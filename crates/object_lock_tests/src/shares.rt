@@ -1,7 +1,9 @@
 //! How objects are parted among programs.
+ghost use Rattle.std.specs.Prelude.{◌≡◌};
 ghost use Rattle.object_lock.specs.Fresh.{IsWithinLimits};
 
 use crate::tape::Tape;
+use cells::Piece;
 use object_lock::ObjectTable;
 use remote_store::{Config, FarHeap};
 use std::alloc::Global;
@@ -9,9 +11,15 @@ use std::alloc::Global;
 /// The seats of so many programs, evacuators and fetchers: how many of them there are, the numbers of the table, and the objects of
 /// each program, with how many puts and gets were refused through its port.
 fn parts(alloc: Global, programs: u32, config: &Config<FarHeap>, tape: &mut Tape)
-    requires { IsWithinLimits programs config.now.frames config.now.objects config.now.evacuators config.now.fetchers }
+    requires limits { IsWithinLimits programs config.now.frames config.now.objects config.now.evacuators config.now.fetchers }
+    requires store { config.now.stores.words ≡ 67 }
 {
-    let Ok((table, owners, movers)) = ObjectTable::<FarHeap>::new(alloc, programs, config) else {
+    let Ok((table, owners, movers)) = ObjectTable::<FarHeap>::new(
+        alloc,
+        programs,
+        config,
+        Piece::Cells64,
+    ) else {
         return;
     };
     tape.number(owners.len() as u64);
@@ -34,7 +42,7 @@ pub(crate) fn parts_among_one(alloc: Global, tape: &mut Tape) {
         fetchers: 0,
         workers: 4,
         quantum: 1_000,
-        stores: FarHeap,
+        stores: FarHeap::new(Piece::Cells64),
     };
     parts(alloc, 1, &config, tape);
 }
@@ -48,7 +56,7 @@ pub(crate) fn parts_among_two(alloc: Global, tape: &mut Tape) {
         fetchers: 2,
         workers: 4,
         quantum: 1_000,
-        stores: FarHeap,
+        stores: FarHeap::new(Piece::Cells64),
     };
     parts(alloc, 2, &config, tape);
 }

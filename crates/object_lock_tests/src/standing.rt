@@ -1,6 +1,5 @@
 //! Calls of the table by where their seats stand between them.
 ghost use Rattle.std.specs.Prelude.{◌≡◌, ◌<◌, true, IfSome, MatchBool};
-ghost use Rattle.remote_store.specs.Kept.{piece_cells};
 ghost use Rattle.object_lock.specs.SeatViews.{IsSeat};
 ghost use Rattle.object_lock_tests.specs.Standing.{IsFreeing, IsIdle, IsMoving, IsOpen, IsPut, IsShut};
 
@@ -55,7 +54,7 @@ pub(crate) fn open<S: RawStore>(
     }
 }
 
-/// The cell `i` of the object.
+/// The cell `i` of the object, one of the first 16, which pieces of each size have.
 pub(crate) fn read<S: RawStore>(
     table: &ObjectTable<S>,
     owner: &mut OwnerSeat<S>,
@@ -64,13 +63,13 @@ pub(crate) fn read<S: RawStore>(
     i: usize,
 ) -> u64
     requires open { IsOpen table.now owner.old obj frame }
-    requires low { i < piece_cells }
+    requires low { i < 16 }
     ensures same { owner.new ≡ owner.old }
 {
     table.load(owner, obj, frame, i)
 }
 
-/// Begins to write the object.
+/// Begins to write the object, and stores the value in its cell `i`, one of the first 16.
 pub(crate) fn write<S: RawStore>(
     table: &ObjectTable<S>,
     owner: &mut OwnerSeat<S>,
@@ -80,7 +79,7 @@ pub(crate) fn write<S: RawStore>(
     value: u64,
 )
     requires open { IsOpen table.now owner.old obj frame }
-    requires low { i < piece_cells }
+    requires low { i < 16 }
     ensures { IsOpen table.now owner.new obj frame }
 {
     table.begin_write(owner, obj);
@@ -138,7 +137,7 @@ pub(crate) fn put<S: RawStore>(
     frame: usize,
 ) -> bool
     requires moving { IsMoving table.now mover.old obj frame }
-    ensures { MatchBool result (IsPut S.content table.now mover.new obj frame) (IsMoving table.now mover.new obj frame) }
+    ensures { MatchBool result (IsPut S.fits S.content table.now mover.new obj frame) (IsMoving table.now mover.new obj frame) }
 {
     copy_and_put(table, mover, obj, frame)
 }
@@ -150,7 +149,7 @@ pub(crate) fn commit<S: RawStore>(
     obj: usize,
     frame: usize,
 ) -> bool
-    requires put { IsPut S.content table.now mover.old obj frame }
+    requires put { IsPut S.fits S.content table.now mover.old obj frame }
     ensures { MatchBool result (IsFreeing table.now mover.new frame) (IsMoving table.now mover.new obj frame) }
 {
     // For the proof alone: the condition speaks of the frame.
@@ -165,7 +164,7 @@ pub(crate) fn give_up_put<S: RawStore>(
     obj: usize,
     frame: usize,
 )
-    requires put { IsPut S.content table.now mover.old obj frame }
+    requires put { IsPut S.fits S.content table.now mover.old obj frame }
     ensures { IsIdle table.now mover.new }
 {
     give_up(table, mover, obj, frame);

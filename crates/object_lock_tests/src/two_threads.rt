@@ -1,8 +1,7 @@
 //! An owner and a mover at one table, each in a thread of its own.
-ghost use Rattle.std.specs.Prelude.{◌≡◌, ◌<◌, ℕ, None, Some, MatchOption, length};
+ghost use Rattle.std.specs.Prelude.{◌≡◌, ◌<◌, ◌≤◌, ℕ, None, Some, MatchOption, length};
 ghost use Rattle.pointer_word.specs.Asked.{HasNoFrame, HasNothing};
 ghost use Rattle.pointer_word.specs.Hands.{claiming, listed};
-ghost use Rattle.remote_store.specs.Kept.{piece_cells};
 ghost use Rattle.object_lock.specs.Seats.{Owns, note, with_hand};
 ghost use Rattle.object_lock.specs.SeatViews.{IsSeat};
 ghost use Rattle.object_lock_tests.specs.Standing.{IsIdle, IsOpen, IsShut};
@@ -10,8 +9,9 @@ ghost use Rattle.object_lock_tests.specs.Standing.{IsIdle, IsOpen, IsShut};
 use crate::fixtures::{fill_words, owner_and_mover};
 use crate::standing::{bring_with, close, leave, move_out, read, release, write};
 use crate::tape::Tape;
+use cells::Piece;
 use object_lock::{Begin, Held, MoverSeat, ObjectTable, OwnerSeat};
-use remote_store::{FarHeap, PIECE_CELLS, RawStore};
+use remote_store::{FarHeap, MOST_CELLS, RawStore};
 use std::alloc::Global;
 use std::sync::Wait;
 use std::thread;
@@ -57,24 +57,21 @@ fn claim<R: Wait, S: RawStore>(
     unreachable!()
 }
 
-// The words that the berth of the object keeps that is being brought in: zeros where nothing was put there.
-fn words_of<R: Wait, S: RawStore>(
-    rt: &R,
-    owner: &mut OwnerSeat<S>,
-    obj: usize,
-) -> [u64; PIECE_CELLS]
+// Reads the words that the berth of the object keeps that is being brought in over zeros, which stay where nothing was put there.
+fn read_words<R: Wait, S: RawStore>(rt: &R, owner: &mut OwnerSeat<S>, obj: usize, words: &mut [u64])
     requires brings { owner.old.view.hand.bringing ≡ Some obj }
-    ensures length { length result ≡ PIECE_CELLS }
+    requires words { (length words.old ≡ owner.old.view.sizes.cells) × (length words.old ≤ MOST_CELLS) }
+    requires zeros { (i : ℕ) → listed words.old i ≡ 0 }
+    ensures length { length words.new ≡ length words.old }
     ensures same { owner.new ≡ record owner.old { store = owner.new.store; refusals = owner.new.refusals } }
-    ensures got { S.honest → (i : ℕ) → i < piece_cells → listed result i ≡ listed owner.old.view.hand.promised i }
+    ensures got { S.honest → (i : ℕ) → i < length words.old → listed words.new i ≡ listed owner.old.view.hand.promised i }
 {
-    let mut words = [0u64; PIECE_CELLS];
     if !owner.stored(obj) {
-        return words;
+        return;
     }
     for _ in rt.forever() {
-        if owner.get(obj, &mut words).is_ok() {
-            return words;
+        if owner.get(obj, &mut *words).is_ok() {
+            return;
         }
     }
     unreachable!()
@@ -94,8 +91,11 @@ fn bring_begun<R: Wait, S: RawStore>(
     ensures here { Owns owner.new.view obj × ((note owner.new.view obj).count ≡ 1) × ((note owner.new.view obj).frame ≡ Some result) × HasNothing owner.new.view.hand }
 {
     let frame = claim(rt, table, owner, obj);
-    let words = words_of(rt, owner, obj);
-    fill_words(table, owner, frame, &words);
+    let mut buffer = [0; MOST_CELLS];
+    let cells = table.cells();
+    let words = &mut buffer[..cells];
+    read_words(rt, owner, obj, &mut *words);
+    fill_words(table, owner, frame, &*words);
     table.arrive(owner, obj, frame);
     frame
 }
@@ -241,7 +241,7 @@ pub(crate) fn count_beside_a_mover<R: Threads + Wait + Sync>(
     rt: &R,
     tape: &mut Tape,
 ) {
-    let Some((table, owner, mover)) = owner_and_mover(alloc, 1, FarHeap) else {
+    let Some((table, owner, mover)) = owner_and_mover(alloc, 1, FarHeap::new(Piece::Cells64)) else {
         return;
     };
     if owner.low() == 0 && owner.high() == 1 {
@@ -255,7 +255,8 @@ pub(crate) fn read_beside_a_mover<R: Threads + Wait + Sync>(
     rt: &R,
     tape: &mut Tape,
 ) {
-    let Some((table, mut owner, mover)) = owner_and_mover(alloc, 1, FarHeap) else {
+    let Some((table, mut owner, mover)) = owner_and_mover(alloc, 1, FarHeap::new(Piece::Cells64))
+    else {
         return;
     };
     if owner.low() != 0 || owner.high() != 1 {

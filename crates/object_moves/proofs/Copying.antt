@@ -1,5 +1,5 @@
 -- The words of a frame that is being copied.
-use Rattle.std.proofs.Common.{◌≡◌, ℕ, ◌+◌, ◌<◌, List, [], ◌∷◌, ◌++◌, length, set, sym, ap, ◌∙◌, arith, below_more}
+use Rattle.std.proofs.Common.{◌≡◌, ℕ, ◌+◌, ◌<◌, List, [], ◌∷◌, ◌++◌, length, set, sym, ap, subst, ◌∙◌, arith, below_more}
 use Rattle.std.specs.Prelude.{Option, Some}
 use mathlib.Core.Path.{Path}
 use Rattle.remote_store.specs.declared.berth.Berth.{Berth}
@@ -32,6 +32,6 @@ pub moving : {W C : Type 0} (s t : SeatView W C) (o f : ℕ) → CopiesOnly s t 
 moving {W} {C} s t o f same m = (o, ap (λ (x : SeatView W C). x.view.hand.leaving) same ∙ m.0, ap (λ (x : SeatView W C). x.view.hand.source) same ∙ m.1)
 
 -- what was copied and put is what the berth keeps
-pub has_put : {W C : Type 0} (content : C → Option (List ℕ)) (n o : ℕ) (s t : SeatView W C) (ws : List ℕ) → IsCopied s.view.hand ws n → t ≡ record s { taken = t.taken; store = t.store; refusals = t.refusals }
-    → (b : Berth C) × Path (Option (Berth C)) t.taken (Some b) × berth_keeps content b o ws → HasPut content n o t
-has_put {W} {C} content n o s t ws copied same k = (k.0, ws, k.1, k.2, λ i l. ap (λ (x : SeatView W C). seen x.view.hand.copied i) same ∙ copied i l)
+pub has_put : {W C : Type 0} (fits : C → ℕ → Type 0) (content : C → Option (List ℕ)) (n m o : ℕ) (s t : SeatView W C) (ws : List ℕ) → IsCopied s.view.hand ws n → t ≡ record s { taken = t.taken; store = t.store; refusals = t.refusals } → m ≡ n
+    → (b : Berth C) × Path (Option (Berth C)) t.taken (Some b) × berth_keeps fits content m b o ws → HasPut fits content n o t
+has_put {W} {C} fits content n m o s t ws copied same e k = (k.0, ws, k.1, subst (λ (j : ℕ). berth_keeps fits content j k.0 o ws) e k.2, λ i l. ap (λ (x : SeatView W C). seen x.view.hand.copied i) same ∙ copied i l)

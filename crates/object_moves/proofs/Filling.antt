@@ -1,5 +1,5 @@
 -- The words of a frame that is being filled.
-use Rattle.std.proofs.Common.{◌≡◌, ◌≢◌, ℕ, zero, suc, ◌+◌, ◌==◌, cond, Bool, List, [], ◌∷◌, ◌++◌, sym, refl, ap, ◌∙◌, eq-eqb, ne_eqb, arith, below_more}
+use Rattle.std.proofs.Common.{◌≡◌, ◌≢◌, ℕ, zero, suc, ◌+◌, ◌==◌, cond, Bool, List, [], ◌∷◌, ◌++◌, take, sym, refl, ap, ◌∙◌, eq-eqb, ne_eqb, arith, below_more}
 use Rattle.std.specs.Prelude.{Option, Some, None, replicate}
 use Rattle.pointer_word.specs.Hands.{later, listed, seen}
 use Rattle.object_moves.specs.Taken.{FilledBelow}
@@ -20,7 +20,9 @@ filled_more ps ws i h = below_more _ _ (λ k l. seen_else ps i k (listed ws i) (
 pub filled_next : (ps qs : List (ℕ × ℕ)) (ws : List ℕ) (i : ℕ) → FilledBelow ps ws i → qs ≡ ps ++ (i, listed ws i) ∷ [] → FilledBelow qs ws (i + 1)
 filled_next ps qs ws i h e k l = ap (λ (z : List (ℕ × ℕ)). seen z k) e ∙ filled_more ps ws i h k l
 
-pub zeros : (n i : ℕ) → listed (replicate n 0) i ≡ 0
-zeros zero i = refl
-zeros (suc n) zero = refl
-zeros (suc n) (suc i) = zeros n i
+-- the first of zeros are zeros
+pub zeros : (k n i : ℕ) → listed (take k (replicate n 0)) i ≡ 0
+zeros zero n i = refl
+zeros (suc k) zero i = refl
+zeros (suc k) (suc n) zero = refl
+zeros (suc k) (suc n) (suc i) = zeros k n i

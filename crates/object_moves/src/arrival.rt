@@ -1,18 +1,18 @@
 //! How an object is brought into a frame that was claimed for it.
-ghost use Rattle.std.specs.Prelude.{◌≡◌, ◌<◌, ℕ, Some, MatchBool, length};
+ghost use Rattle.std.specs.Prelude.{◌≡◌, ◌<◌, ◌≤◌, ℕ, Some, MatchBool, length};
 ghost use Rattle.object_lock.specs.SeatViews.{IsSeat};
 ghost use Rattle.object_moves.specs.Moving.{ArrivedOr, BringsInto};
 ghost use Rattle.object_moves.specs.Taken.{FilledBelow, FillsOnly, Refused};
 ghost use Rattle.pointer_word.specs.Hands.{listed};
 
 use object_lock::{MoverSeat, ObjectTable};
-use remote_store::{PIECE_CELLS, RawStore};
+use remote_store::{MOST_CELLS, RawStore};
 
 /// Reads the words that the berth of the object keeps that is being brought in over zeros, which stay where nothing was put there. False
 /// where the store refuses.
 pub fn read<S: RawStore>(mover: &mut MoverSeat<S>, obj: usize, words: &mut [u64]) -> bool
     requires brings { mover.old.view.hand.bringing ≡ Some obj }
-    requires words { length words.old ≡ PIECE_CELLS }
+    requires words { (length words.old ≡ mover.old.view.sizes.cells) × (length words.old ≤ MOST_CELLS) }
     requires zeros { (i : ℕ) → listed words.old i ≡ 0 }
     ensures same { mover.new ≡ record mover.old { store = mover.new.store; refusals = mover.new.refusals } }
     ensures length { length words.new ≡ length words.old }
@@ -48,6 +48,33 @@ pub fn fill<S: RawStore>(
     }
 }
 
+/// Brings the object that was begun into the frame that was claimed for it, by way of `words`, which are zeros.
+fn bring_by_way_of<S: RawStore>(
+    table: &ObjectTable<S>,
+    mover: &mut MoverSeat<S>,
+    obj: usize,
+    frame: usize,
+    words: &mut [u64],
+) -> bool
+    requires table { IsSeat table.now mover.old }
+    requires low { (obj < table.now.sizes.objects) × (frame < table.now.sizes.frames) }
+    requires hands { BringsInto obj frame mover.old.view.hand }
+    requires words { length words.old ≡ table.now.sizes.cells }
+    requires zeros { (i : ℕ) → listed words.old i ≡ 0 }
+    ensures table { IsSeat table.now mover.new }
+    ensures told { ArrivedOr S.reliable obj frame mover.old mover.new result }
+{
+    if read(mover, obj, &mut *words) {
+        fill(table, mover, frame, &*words);
+        table.arrive(mover, obj, frame);
+        true
+    } else {
+        table.release(mover, frame);
+        table.retreat(mover, obj);
+        false
+    }
+}
+
 /// Brings the object that was begun into the frame that was claimed for it: reads its words, fills the frame with them, and arrives. False where the
 /// store refused: then the frame is released, and the object stays in its store cell. In both cases it is out of the mover's hands, and the frame too.
 /// It may be the mover's own, or another's, which has no notes here.
@@ -63,14 +90,7 @@ pub fn bring_into<S: RawStore>(
     ensures table { IsSeat table.now mover.new }
     ensures told { ArrivedOr S.reliable obj frame mover.old mover.new result }
 {
-    let mut words = [0; PIECE_CELLS];
-    if read(mover, obj, &mut words) {
-        fill(table, mover, frame, &words);
-        table.arrive(mover, obj, frame);
-        true
-    } else {
-        table.release(mover, frame);
-        table.retreat(mover, obj);
-        false
-    }
+    let mut buffer = [0; MOST_CELLS];
+    let cells = table.cells();
+    bring_by_way_of(table, mover, obj, frame, &mut buffer[..cells])
 }

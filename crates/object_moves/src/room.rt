@@ -12,7 +12,7 @@ ghost use Rattle.pointer_word.specs.Words.{Here, counted};
 
 use crate::moved::Moved;
 use object_lock::{MoverSeat, ObjectTable, OwnerSeat};
-use remote_store::{Failed, PIECE_CELLS, RawStore};
+use remote_store::{Failed, MOST_CELLS, RawStore};
 
 /// Copies the cells of the frame, in which the mover has marked the object.
 fn copy<S: RawStore>(
@@ -49,7 +49,7 @@ fn let_go<S: RawStore>(
     requires table { IsSeat table.now mover.old }
     requires low { (obj < table.now.sizes.objects) × (frame < table.now.sizes.frames) }
     requires hands { MovesOut obj frame mover.old.view.hand }
-    requires put { HasPut S.content table.now.sizes.cells obj mover.old }
+    requires put { HasPut S.fits S.content table.now.sizes.cells obj mover.old }
     ensures table { IsSeat table.now mover.new }
     ensures told { LetsGo mover.old mover.new result }
 {
@@ -59,6 +59,31 @@ fn let_go<S: RawStore>(
     } else {
         table.abort(mover, obj);
         Moved::Stayed
+    }
+}
+
+/// Moves the object, which the mover has marked in the frame, out of it, by way of `words`.
+fn move_by_way_of<S: RawStore>(
+    table: &ObjectTable<S>,
+    mover: &mut MoverSeat<S>,
+    obj: usize,
+    frame: usize,
+    words: &mut [u64],
+) -> Moved
+    requires table { IsSeat table.now mover.old }
+    requires low { (obj < table.now.sizes.objects) × (frame < table.now.sizes.frames) }
+    requires hands { MovesOut obj frame mover.old.view.hand }
+    requires words { length words.old ≡ table.now.sizes.cells }
+    ensures table { IsSeat table.now mover.new }
+    ensures told { MovesAway S.reliable mover.old mover.new result }
+{
+    copy(table, mover, obj, frame, &mut *words);
+    match mover.put(obj, &*words) {
+        Ok(()) => let_go(table, mover, obj, frame),
+        Err(Failed) => {
+            table.abort(mover, obj);
+            Moved::Failed
+        }
     }
 }
 
@@ -77,15 +102,9 @@ pub fn move_out<S: RawStore>(
     ensures table { IsSeat table.now mover.new }
     ensures told { MovesAway S.reliable mover.old mover.new result }
 {
-    let mut words = [0; PIECE_CELLS];
-    copy(table, mover, obj, frame, &mut words);
-    match mover.put(obj, &words) {
-        Ok(()) => let_go(table, mover, obj, frame),
-        Err(Failed) => {
-            table.abort(mover, obj);
-            Moved::Failed
-        }
-    }
+    let mut buffer = [0; MOST_CELLS];
+    let cells = table.cells();
+    move_by_way_of(table, mover, obj, frame, &mut buffer[..cells])
 }
 
 /// Has the object leave the frame, where it is clean there and has no hold: nothing is copied or put, and the frame is free then. Whether it left;

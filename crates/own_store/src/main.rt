@@ -7,6 +7,7 @@ use crate::store::TalliedHeaps;
 use cells::Ended;
 use executor::{OpenGate, run_all};
 use image_reader::decode;
+use region::piece_of;
 use remote_store::Config;
 use scope_verifier::{Verified, verify};
 use std::alloc::Global;
@@ -33,7 +34,8 @@ fn run<R: Threads + Wait + Clock + Sync>(
     alloc: Global,
     bytes: &[u8],
 ) -> Option<(Ended, u64)> {
-    let (stores, rows) = TalliedHeaps::new(alloc).ok()?;
+    let programs = programs_of(alloc, bytes)?;
+    let (stores, rows) = TalliedHeaps::new(alloc, piece_of(&programs)).ok()?;
     let config = Config {
         frames: 8,
         objects: 2_000,
@@ -43,7 +45,6 @@ fn run<R: Threads + Wait + Clock + Sync>(
         quantum: 1_000,
         stores,
     };
-    let programs = programs_of(alloc, bytes)?;
     let mut ends = run_all(alloc, rt, programs, config, &OpenGate).ok()?;
     let ended = ends.pop()?;
     Some((ended, rows.load(Ordering::SeqCst)))

@@ -7,9 +7,9 @@ use Rattle.scope_placement.specs.Placed.{in_order}
 use Rattle.guard_hoisting.specs.Building.{is_straight}
 use Rattle.prefetch_pass.specs.Prefetched.{hinted}
 
-pub hinted_in_order : (ds : List ℕ) (cs : List s.Code) → in_order (map (hinted ds) cs) ≡ hinted ds (in_order cs)
-hinted_in_order ds [] = refl
-hinted_in_order ds (x ∷ rest) = ap (s.Then (hinted ds x)) (hinted_in_order ds rest)
+pub hinted_in_order : (cells : ℕ) (ds : List ℕ) (cs : List s.Code) → in_order (map (hinted cells ds) cs) ≡ hinted cells ds (in_order cs)
+hinted_in_order cells ds [] = refl
+hinted_in_order cells ds (x ∷ rest) = ap (s.Then (hinted cells ds x)) (hinted_in_order cells ds rest)
 
 pub map_same : {A : Type 0} (xs : List A) → map (λ (y : A). y) xs ≡ xs
 map_same [] = refl
@@ -20,21 +20,21 @@ row_is_not_straight end_of-ScopedCode e = cc e
 row_is_not_straight (more_of-ScopedCode a rest) e = cc e
 
 -- it stays as it is, but for loads and stores
-pub hinted_alone : (ds : List ℕ) (a : ScopedCode) → ((to z r : ℕ) (off : Option ℕ) (disp : ℕ) → a ≡ Load to z r off disp → ⊥) → ((z r : ℕ) (off : Option ℕ) (disp from : ℕ) → a ≡ Store z r off disp from → ⊥)
+pub hinted_alone : (cells : ℕ) (ds : List ℕ) (a : ScopedCode) → ((to z r : ℕ) (off : Option ℕ) (disp : ℕ) → a ≡ Load to z r off disp → ⊥) → ((z r : ℕ) (off : Option ℕ) (disp from : ℕ) → a ≡ Store z r off disp from → ⊥)
     → ((to z r : ℕ) (off : Option ℕ) (disp : ℕ) → a ≡ LoadBy to z r off disp → ⊥) → ((z r : ℕ) (off : Option ℕ) (disp from : ℕ) → a ≡ StoreBy z r off disp from → ⊥)
-    → is_straight (scoped_code_of a) ≡ true → scoped_code_of a ≡ hinted ds (scoped_code_of a)
-hinted_alone ds (Sequence' shape all) l t k u e = absurd (row_is_not_straight all e)
-hinted_alone ds (Do o) l t k u e = refl
-hinted_alone ds (Load to z r off disp) l t k u e = absurd (l to z r off disp refl)
-hinted_alone ds (Store z r off disp from) l t k u e = absurd (t z r off disp from refl)
-hinted_alone ds (LoadBy to z r off disp) l t k u e = absurd (k to z r off disp refl)
-hinted_alone ds (StoreBy z r off disp from) l t k u e = absurd (u z r off disp from refl)
-hinted_alone ds (Aim z r off disp) l t k u e = refl
-hinted_alone ds (Leave z) l t k u e = refl
-hinted_alone ds (Loose z) l t k u e = refl
-hinted_alone ds (Call to g args) l t k u e = refl
-hinted_alone ds (Fail a) l t k u e = refl
-hinted_alone ds (Choose' a p b q c) l t k u e = absurd (cc e)
-hinted_alone ds (Loop' p test a q body) l t k u e = absurd (cc e)
-hinted_alone ds (Block' p a) l t k u e = absurd (cc e)
-hinted_alone ds (Exit j) l t k u e = refl
+    → is_straight (scoped_code_of a) ≡ true → scoped_code_of a ≡ hinted cells ds (scoped_code_of a)
+hinted_alone cells ds (Sequence' shape all) l t k u e = absurd (row_is_not_straight all e)
+hinted_alone cells ds (Do o) l t k u e = refl
+hinted_alone cells ds (Load to z r off disp) l t k u e = absurd (l to z r off disp refl)
+hinted_alone cells ds (Store z r off disp from) l t k u e = absurd (t z r off disp from refl)
+hinted_alone cells ds (LoadBy to z r off disp) l t k u e = absurd (k to z r off disp refl)
+hinted_alone cells ds (StoreBy z r off disp from) l t k u e = absurd (u z r off disp from refl)
+hinted_alone cells ds (Aim z r off disp) l t k u e = refl
+hinted_alone cells ds (Leave z) l t k u e = refl
+hinted_alone cells ds (Loose z) l t k u e = refl
+hinted_alone cells ds (Call to g args) l t k u e = refl
+hinted_alone cells ds (Fail a) l t k u e = refl
+hinted_alone cells ds (Choose' a p b q c) l t k u e = absurd (cc e)
+hinted_alone cells ds (Loop' p test a q body) l t k u e = absurd (cc e)
+hinted_alone cells ds (Block' p a) l t k u e = absurd (cc e)
+hinted_alone cells ds (Exit j) l t k u e = refl

@@ -1,5 +1,5 @@
--- Code of a few loops, and what comes in place of it, written out.
-use Rattle.std.specs.Prelude.{ℤ, pos, negsuc, List, [], ◌∷◌, Some}
+-- Code of a few loops, and what comes in place of it, written out; over pieces of 64 cells where nothing else is said.
+use Rattle.std.specs.Prelude.{ℕ, ℤ, pos, negsuc, List, [], ◌∷◌, Some}
 use Rattle.cells.specs.declared.int32.Int32Op.TheVariants.{Add, Sub}
 use Rattle.code_form.specs.declared.form.Operation.TheVariants.{Binary, CheckIndex, Compare, Const, Move, Prefetch}
 use Rattle.code_form.specs.declared.form.Relation.TheVariants as relation
@@ -8,9 +8,9 @@ use Rattle.scope_placement.specs.Placed.{in_order}
 use Rattle.prefetch_pass.specs.Prefetched.{hinted}
 use Rattle.prefetch_pass.specs.Raised.{offsets_with}
 
--- what comes in place of code. In what follows: 0 a sum, 1 an index, 2 how many, 3 the condition, 4 an array, 5 an offset, 6 an element, 7 and 8 numbers
-abbrev pub with_hints : Code → Code
-with_hints a = hinted (offsets_with a [] []) a
+-- what comes in place of code, over pieces of so many cells. In what follows: 0 a sum, 1 an index, 2 how many, 3 the condition, 4 an array, 5 an offset, 6 an element, 7 and 8 numbers
+abbrev pub with_hints : ℕ → Code → Code
+with_hints n a = hinted n (offsets_with a [] []) a
 
 -- a loop while the index is less, with these parts
 abbrev pub over : List Code → Code
@@ -24,9 +24,9 @@ checks = Do (CheckIndex 5 4 1 1)
 abbrev pub reads : Code
 reads = Load 6 0 4 (Some 5) 0
 
--- the hint for the cell 64 further on
-abbrev pub hint : Code
-hint = in_order (reads ∷ Do (Prefetch 4 (Some 5) 64) ∷ [])
+-- ... and the hint for the cell so many further on
+abbrev pub hint : ℕ → Code
+hint n = in_order (reads ∷ Do (Prefetch 4 (Some 5) n) ∷ [])
 
 -- a number is added to the index
 abbrev pub adds : ℤ → List Code
@@ -37,8 +37,8 @@ abbrev pub scan : Code
 scan = over (checks ∷ reads ∷ adds (pos 1))
 
 -- behind the load stands a hint
-abbrev pub scan_hinted : Code
-scan_hinted = over (checks ∷ hint ∷ adds (pos 1))
+abbrev pub scan_hinted : ℕ → Code
+scan_hinted n = over (checks ∷ hint n ∷ adds (pos 1))
 
 -- the fourth cell of an element is written, and the index raised by 3, as the value of a sum
 abbrev pub setting : Code
@@ -49,7 +49,7 @@ abbrev pub setting_hinted : Code
 setting_hinted =
     over (checks ∷ in_order (Store 0 4 (Some 5) 3 1 ∷ Do (Prefetch 4 (Some 5) 67) ∷ []) ∷ Do (Const 8 (pos 3)) ∷ Do (Binary Add 7 1 8) ∷ Do (Move 1 7) ∷ [])
 
--- the last displacement but 64 has a hint, and the next has none
+-- the last displacement to which 64 can be added has a hint, and the next has none
 abbrev pub far : Code
 far = over (checks ∷ Load 6 0 4 (Some 5) 4294967231 ∷ Load 6 0 4 (Some 5) 4294967232 ∷ adds (pos 1))
 
@@ -83,7 +83,7 @@ outer = over (inner (checks ∷ reads ∷ []) ∷ adds (pos 1))
 
 -- behind the load in the inner loop stands a hint
 abbrev pub outer_hinted : Code
-outer_hinted = over (inner (checks ∷ hint ∷ []) ∷ adds (pos 1))
+outer_hinted = over (inner (checks ∷ hint 64 ∷ []) ∷ adds (pos 1))
 
 -- the outer loop raises the index, and the inner one sets it
 abbrev pub set_inside : Code
@@ -95,4 +95,4 @@ raised_inside = over (Do (Move 1 2) ∷ inner (checks ∷ reads ∷ adds (pos 1)
 
 -- behind the load in the inner loop stands a hint
 abbrev pub raised_inside_hinted : Code
-raised_inside_hinted = over (Do (Move 1 2) ∷ inner (checks ∷ hint ∷ adds (pos 1)) ∷ [])
+raised_inside_hinted = over (Do (Move 1 2) ∷ inner (checks ∷ hint 64 ∷ adds (pos 1)) ∷ [])

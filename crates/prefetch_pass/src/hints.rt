@@ -1,4 +1,5 @@
 //! The program in whose loops hints are set.
+ghost use Rattle.cells.specs.Pieces.{cells_in};
 ghost use Rattle.middle_form.specs.ScopedViews.{scoped_code_of, scoped_function_of, scoped_program_of};
 ghost use Rattle.prefetch_pass.specs.Prefetched.{hinted, hinted_for, prefetched_function, prefetched_program, with_hint as with_hint_of};
 ghost use Rattle.guard_hoisting.specs.Building.{is_straight};
@@ -6,30 +7,29 @@ ghost use Rattle.std.specs.Prelude.{◌≡◌, ◌<◌, ◌+◌, IfOk, map, true
 
 use crate::changes::is_among;
 use crate::offsets::offsets_of;
+use cells::Piece;
 use code_form::Operation;
 use middle_form::{Scoped, ScopedCode, ScopedFunction};
 use std::alloc::{AllocError, Global};
 
-/// How many cells further on a hint is for.
-const AHEAD: u32 = 64;
-
-/// A load or a store, and behind it a hint for the cell 64 further on.
+/// A load or a store, and behind it a hint for the cell so many further on.
 fn hinted_access(
     alloc: Global,
     access: ScopedCode,
     register: u32,
     offset: u32,
     displacement: u32,
+    ahead: u32,
 ) -> Result<ScopedCode, AllocError>
-    requires { displacement + 64 < 4294967296 }
-    ensures { IfOk result (λ c. scoped_code_of c ≡ hinted_for register offset displacement (scoped_code_of access)) }
+    requires { displacement + ahead < 4294967296 }
+    ensures { IfOk result (λ c. scoped_code_of c ≡ hinted_for ahead register offset displacement (scoped_code_of access)) }
 {
     let mut parts = Vec::new(alloc);
     parts.push(access)?;
     parts.push(ScopedCode::Do(Operation::Prefetch {
         register,
         offset: Some(offset),
-        displacement: displacement + AHEAD,
+        displacement: displacement + ahead,
     }))?;
     Ok(ScopedCode::Sequence(parts))
 }
@@ -42,22 +42,28 @@ fn with_hint(
     register: u32,
     offset: Option<u32>,
     displacement: u32,
+    ahead: u32,
 ) -> Result<ScopedCode, AllocError>
-    ensures { IfOk result (λ c. scoped_code_of c ≡ with_hint_of offsets.now register offset displacement (scoped_code_of access)) }
+    ensures { IfOk result (λ c. scoped_code_of c ≡ with_hint_of ahead offsets.now register offset displacement (scoped_code_of access)) }
 {
     let Some(offset) = offset else {
         return Ok(access);
     };
-    if is_among(offsets, offset) && displacement < u32::MAX - (AHEAD - 1) {
-        hinted_access(alloc, access, register, offset, displacement)
+    if is_among(offsets, offset) && displacement <= u32::MAX - ahead {
+        hinted_access(alloc, access, register, offset, displacement, ahead)
     } else {
         Ok(access)
     }
 }
 
 /// Code that has no other code in it.
-fn hint_straight(alloc: Global, code: ScopedCode, offsets: &[u32]) -> Result<ScopedCode, AllocError>
-    ensures { IfOk result (λ c. is_straight (scoped_code_of code) ≡ true → scoped_code_of c ≡ hinted offsets.now (scoped_code_of code)) }
+fn hint_straight(
+    alloc: Global,
+    code: ScopedCode,
+    offsets: &[u32],
+    ahead: u32,
+) -> Result<ScopedCode, AllocError>
+    ensures { IfOk result (λ c. is_straight (scoped_code_of code) ≡ true → scoped_code_of c ≡ hinted ahead offsets.now (scoped_code_of code)) }
 {
     match code {
         ScopedCode::Load {
@@ -83,21 +89,26 @@ fn hint_straight(alloc: Global, code: ScopedCode, offsets: &[u32]) -> Result<Sco
             offset,
             displacement,
             ..
-        } => with_hint(alloc, code, offsets, register, offset, displacement),
+        } => with_hint(alloc, code, offsets, register, offset, displacement, ahead),
         other => Ok(other),
     }
 }
 
 /// Code with its hints.
 #[cycle(hinting)]
-fn hint_code(alloc: Global, code: ScopedCode, offsets: &[u32]) -> Result<ScopedCode, AllocError>
-    ensures { IfOk result (λ c. scoped_code_of c ≡ hinted offsets.now (scoped_code_of code)) }
+fn hint_code(
+    alloc: Global,
+    code: ScopedCode,
+    offsets: &[u32],
+    ahead: u32,
+) -> Result<ScopedCode, AllocError>
+    ensures { IfOk result (λ c. scoped_code_of c ≡ hinted ahead offsets.now (scoped_code_of code)) }
 {
     match code {
         ScopedCode::Sequence(all) => {
             let mut parts = Vec::new(alloc);
             for part in all {
-                parts.push(hint_code(alloc, part, offsets)?)?;
+                parts.push(hint_code(alloc, part, offsets, ahead)?)?;
             }
             Ok(ScopedCode::Sequence(parts))
         }
@@ -107,20 +118,22 @@ fn hint_code(alloc: Global, code: ScopedCode, offsets: &[u32]) -> Result<ScopedC
             else_code,
         } => Ok(ScopedCode::Choose {
             condition,
-            then_code: hint_whole(alloc, then_code, offsets)?,
-            else_code: hint_whole(alloc, else_code, offsets)?,
+            then_code: hint_whole(alloc, then_code, offsets, ahead)?,
+            else_code: hint_whole(alloc, else_code, offsets, ahead)?,
         }),
         ScopedCode::Loop {
             test,
             condition,
             body,
         } => Ok(ScopedCode::Loop {
-            test: hint_whole(alloc, test, offsets)?,
+            test: hint_whole(alloc, test, offsets, ahead)?,
             condition,
-            body: hint_whole(alloc, body, offsets)?,
+            body: hint_whole(alloc, body, offsets, ahead)?,
         }),
-        ScopedCode::Block(inner) => Ok(ScopedCode::Block(hint_whole(alloc, inner, offsets)?)),
-        straight => hint_straight(alloc, straight, offsets),
+        ScopedCode::Block(inner) => Ok(ScopedCode::Block(hint_whole(
+            alloc, inner, offsets, ahead,
+        )?)),
+        straight => hint_straight(alloc, straight, offsets, ahead),
     }
 }
 
@@ -130,16 +143,21 @@ fn hint_whole(
     alloc: Global,
     code: Box<ScopedCode>,
     offsets: &[u32],
+    ahead: u32,
 ) -> Result<Box<ScopedCode>, AllocError>
-    ensures { IfOk result (λ c. scoped_code_of c.value ≡ hinted offsets.now (scoped_code_of code.value)) }
+    ensures { IfOk result (λ c. scoped_code_of c.value ≡ hinted ahead offsets.now (scoped_code_of code.value)) }
 {
-    let code = hint_code(alloc, Box::into_inner(code), offsets)?;
+    let code = hint_code(alloc, Box::into_inner(code), offsets, ahead)?;
     Ok(Box::new(alloc, code)?)
 }
 
 /// A function.
-fn prefetch_function(alloc: Global, function: ScopedFunction) -> Result<ScopedFunction, AllocError>
-    ensures { IfOk result (λ g. scoped_function_of g ≡ prefetched_function (scoped_function_of function)) }
+fn prefetch_function(
+    alloc: Global,
+    function: ScopedFunction,
+    ahead: u32,
+) -> Result<ScopedFunction, AllocError>
+    ensures { IfOk result (λ g. scoped_function_of g ≡ prefetched_function ahead (scoped_function_of function)) }
 {
     let ScopedFunction {
         result,
@@ -150,7 +168,7 @@ fn prefetch_function(alloc: Global, function: ScopedFunction) -> Result<ScopedFu
         value,
     } = function;
     let offsets = offsets_of(alloc, &body)?;
-    let body = hint_code(alloc, body, &offsets)?;
+    let body = hint_code(alloc, body, &offsets, ahead)?;
     Ok(ScopedFunction {
         result,
         parameters,
@@ -165,27 +183,29 @@ fn prefetch_function(alloc: Global, function: ScopedFunction) -> Result<ScopedFu
 fn prefetch_functions(
     alloc: Global,
     functions: Vec<ScopedFunction>,
+    ahead: u32,
 ) -> Result<Vec<ScopedFunction>, AllocError>
-    ensures { IfOk result (λ v. map scoped_function_of v.items ≡ map prefetched_function (map scoped_function_of functions.items)) }
+    ensures { IfOk result (λ v. map scoped_function_of v.items ≡ map (prefetched_function ahead) (map scoped_function_of functions.items)) }
 {
     let mut made = Vec::new(alloc);
     for function in functions {
-        made.push(prefetch_function(alloc, function)?)?;
+        made.push(prefetch_function(alloc, function, ahead)?)?;
     }
     Ok(made)
 }
 
-/// The program with a hint behind each load and each store of an element at an index that is only raised in its loop; the page of this crate says which
-/// those are. It means what it did, and keeps the discipline of scopes where it did. The only error is that of memory, and nothing is kept behind it.
-pub fn prefetch(alloc: Global, scoped: Scoped) -> Result<Scoped, AllocError>
-    ensures { IfOk result (λ s. scoped_program_of s ≡ prefetched_program (scoped_program_of scoped)) }
+/// The program with a hint for the cell one piece further on behind each load and each store of an element at an index that is only raised in its loop; the
+/// page of this crate says which those are. It means what it did, and keeps the discipline of scopes where it did. The only error is that of memory, and
+/// nothing is kept behind it.
+pub fn prefetch(alloc: Global, scoped: Scoped, piece: Piece) -> Result<Scoped, AllocError>
+    ensures { IfOk result (λ s. scoped_program_of s ≡ prefetched_program (cells_in piece) (scoped_program_of scoped)) }
 {
     let Scoped {
         texts,
         layouts,
         functions,
     } = scoped;
-    let functions = prefetch_functions(alloc, functions)?;
+    let functions = prefetch_functions(alloc, functions, piece.cells() as u32)?;
     Ok(Scoped {
         texts,
         layouts,

@@ -43,18 +43,21 @@ pub fn prefetched_has_the_same_scopes()
     ensures { HasTheSameScopes }
 {}
 
-/// What comes in place of ten loops. A scan has its hint, and so has a store at an index that is raised by 3; of two displacements the one that 64 more
-/// keep within 32 bits. An index that is lowered, by a difference or by a number below 0, set otherwise, or raised by what a register holds has none. One
-/// that the loop round it raises has it, unless the inner loop sets it; and the inner loop alone decides of one that it raises.
+/// What comes in place of ten loops. A scan has its hint, a piece further on whatever the size of pieces, and so has a store at an index that is raised by 3;
+/// of two displacements the one that a piece more keeps within 32 bits. An index that is lowered, by a difference or by a number below 0, set otherwise, or
+/// raised by what a register holds has none. One that the loop round it raises has it, unless the inner loop sets it; and the inner loop alone decides of one
+/// that it raises.
 pub fn computed()
-    ensures scan { with_hints scan ≡ scan_hinted }
-    ensures setting { with_hints setting ≡ setting_hinted }
-    ensures far { with_hints far ≡ far_hinted }
-    ensures lowered { with_hints lowered ≡ lowered }
-    ensures sum { with_hints lowered_by_sum ≡ lowered_by_sum }
-    ensures set { with_hints set_too ≡ set_too }
-    ensures register { with_hints by_register ≡ by_register }
-    ensures outer { with_hints outer ≡ outer_hinted }
-    ensures set_inside { with_hints set_inside ≡ set_inside }
-    ensures raised_inside { with_hints raised_inside ≡ raised_inside_hinted }
+    ensures scan { with_hints 64 scan ≡ scan_hinted 64 }
+    ensures least { with_hints 16 scan ≡ scan_hinted 16 }
+    ensures most { with_hints 256 scan ≡ scan_hinted 256 }
+    ensures setting { with_hints 64 setting ≡ setting_hinted }
+    ensures far { with_hints 64 far ≡ far_hinted }
+    ensures lowered { with_hints 64 lowered ≡ lowered }
+    ensures sum { with_hints 64 lowered_by_sum ≡ lowered_by_sum }
+    ensures set { with_hints 64 set_too ≡ set_too }
+    ensures register { with_hints 64 by_register ≡ by_register }
+    ensures outer { with_hints 64 outer ≡ outer_hinted }
+    ensures set_inside { with_hints 64 set_inside ≡ set_inside }
+    ensures raised_inside { with_hints 64 raised_inside ≡ raised_inside_hinted }
 {}

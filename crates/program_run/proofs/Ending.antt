@@ -10,7 +10,6 @@ use Rattle.code_form.specs.Form.{Image}
 use Rattle.code_form.specs.Effects.{code_run}
 use Rattle.code_form.specs.Code.{Core, allocations_of, code, output_of, sizes, stop_of}
 use Rattle.code_form.specs.Placed.{next_object, pieces}
-use Rattle.remote_store.specs.Kept.{piece_cells}
 use Rattle.session.specs.State.{Caused, HasRoom as HasRoomFor, IsAt, IsGoing, State, cells_in}
 use Rattle.program_run.specs.Executed.{EndsAs, IsExecutedOver, IsOver, WantsFor, objects_of}
 use Rattle.program_run.specs.Runs.{HasCome, is_over}
@@ -21,7 +20,7 @@ from_zero n base [] = omega arith
 from_zero n base (c ∷ older) = let rest = from_zero n base older in omega arith
 
 -- why a session with so many objects wants something
-wants_for : (reliable : Type 0) (objects before : ℕ) (t : State) (w : Want) → (w ≡ StoreFailed → reliable → ⊥) → t.view.sizes.cells ≡ piece_cells → t.view.high ≡ t.view.low + objects → Caused reliable before t w → WantsFor reliable objects t.image t.core w
+wants_for : (reliable : Type 0) (objects before : ℕ) (t : State) (w : Want) → (w ≡ StoreFailed → reliable → ⊥) → t.view.sizes.cells ≡ t.image.piece → t.view.high ≡ t.view.low + objects → Caused reliable before t w → WantsFor reliable objects t.image t.core w
 wants_for reliable objects before t NoObjects other size share c =
     let p : ℕ = t.view.sizes.cells in
     let from : next_object p t.view.low (cells_in t) ≡ t.view.low + next_object p 0 (cells_in t) = from_zero p t.view.low (cells_in t) in
@@ -40,13 +39,13 @@ wants_for reliable objects before t OutOfMemory other size share c =
     )
 wants_for reliable objects before t StoreFailed other size share c = other refl
 
-ends_as : (reliable : Type 0) (objects before : ℕ) (t : State) (r : Run) → (r ≡ Wanted StoreFailed → reliable → ⊥) → t.view.sizes.cells ≡ piece_cells → t.view.high ≡ t.view.low + objects → IsOver reliable before t r → EndsAs reliable objects t.image t.core r
+ends_as : (reliable : Type 0) (objects before : ℕ) (t : State) (r : Run) → (r ≡ Wanted StoreFailed → reliable → ⊥) → t.view.sizes.cells ≡ t.image.piece → t.view.high ≡ t.view.low + objects → IsOver reliable before t r → EndsAs reliable objects t.image t.core r
 ends_as reliable objects before t Running other size share over = over
 ends_as reliable objects before t (Stopped x) other size share over = over
 ends_as reliable objects before t (Wanted w) other size share over = (over.0, wants_for reliable objects before t w (λ e. other (ap Wanted e)) size share over.1)
 
 -- what a session came to is what the code's run came to
-pub executed : (reliable : Type 0) (objects before : ℕ) (C : Image) (t : State) (out : Vec ℕ Global) (r : Run) (n : ℕ) → t.image ≡ C → t.view.sizes.cells ≡ piece_cells → t.view.high ≡ t.view.low + objects → IsAt t → out.items ≡ output_of t.core → n ≡ t.completed → IsOver reliable before t r → (r ≡ Wanted StoreFailed → reliable → ⊥)
+pub executed : (reliable : Type 0) (objects before : ℕ) (C : Image) (t : State) (out : Vec ℕ Global) (r : Run) (n : ℕ) → t.image ≡ C → t.view.sizes.cells ≡ t.image.piece → t.view.high ≡ t.view.low + objects → IsAt t → out.items ≡ output_of t.core → n ≡ t.completed → IsOver reliable before t r → (r ≡ Wanted StoreFailed → reliable → ⊥)
     → IsExecutedOver reliable objects C (record { output = out; run = r; completed = n })
 executed reliable objects before C t out r n image size share at printed count over other =
     let reached : t.core ≡ (code_run (code C) n).0 = at.core ∙ ap (λ D. (code_run (code D) t.completed).0) image ∙ ap (λ k. (code_run (code C) k).0) (sym count) in
@@ -58,7 +57,7 @@ executed reliable objects before C t out r n image size share at printed count o
     let OfCore : Core → Type 0 = λ c. EndsAs reliable objects C c r in
     record {
       going = λ k less. ap (λ D. stop_of (code_run (code D) k).0) (sym image) ∙ at.going k (subst (λ j. k < j) count less);
-      few = subst (λ (c : Core). objects_of (sizes (allocations_of c)) ≤ objects) reached (subst (λ q. next_object q 0 (cells_in t) ≤ objects) size less);
+      few = subst (λ (c : Core). objects_of C (sizes (allocations_of c)) ≤ objects) reached (subst (λ q. next_object q 0 (cells_in t) ≤ objects) (size ∙ ap (λ (D : Image). D.piece) image) less);
       output = printed ∙ ap output_of reached;
       ends = subst OfCore reached (subst OfImage image (ends_as reliable objects before t r other size share over));
     }

@@ -13,26 +13,25 @@ use Rattle.code_form.specs.Growth.{may_grow, rest_of}
 use Rattle.code_form.specs.Placed.{next_object, pieces}
 use Rattle.code_form.specs.Touches.{touch_of}
 use Rattle.code_form.specs.declared.touch.Touch.TheVariants.{Allocs}
-use Rattle.remote_store.specs.Kept.{piece_cells}
 use Rattle.session.specs.State.{Caused, IsGoing, State}
 
 -- the next instruction allocates this many cells
 abbrev pub AllocatesNext : Image → Core → ℕ → Type 0
 AllocatesNext C c n = touch_of (effect C c) ≡ Allocs n
 
--- the number of objects that allocations take
-abbrev pub objects_of : List ℕ → ℕ
-objects_of cells = next_object piece_cells 0 cells
+-- the number of objects that allocations of an image take: one for each piece
+abbrev pub objects_of : Image → List ℕ → ℕ
+objects_of C cells = next_object C.piece 0 cells
 
 -- an allocation that is next takes no more objects in all than there are
 abbrev pub HasRoom : ℕ → Image → Core → Type 0
-HasRoom objects C c = (n : ℕ) → AllocatesNext C c n → objects_of (sizes (allocations_of c)) + pieces piece_cells n ≤ objects
+HasRoom objects C c = (n : ℕ) → AllocatesNext C c n → objects_of C (sizes (allocations_of c)) + pieces C.piece n ≤ objects
 
 -- why a program wants something: its next instruction is an allocation, which would take more objects in all than there are; or memory
 -- may have to grow for its next instruction, which takes no more objects than there are, and a growth was refused; or the store, which
 -- is not reliable, failed
 abbrev pub WantsFor : Type 0 → ℕ → Image → Core → Want → Type 0
-WantsFor reliable objects C c NoObjects = (n : ℕ) × AllocatesNext C c n × (objects < objects_of (sizes (allocations_of c)) + pieces piece_cells n)
+WantsFor reliable objects C c NoObjects = (n : ℕ) × AllocatesNext C c n × (objects < objects_of C (sizes (allocations_of c)) + pieces C.piece n)
 WantsFor reliable objects C c OutOfMemory = (may_grow (touch_of (effect C c)) (rest_of c) ≡ true) × HasRoom objects C c
 WantsFor reliable objects C c StoreFailed = reliable → ⊥
 
@@ -58,7 +57,7 @@ HasRunOn reliable n s t (Wanted w) = IsOver reliable s.refusals t (Wanted w)
 -- that were completed, before each of which it had not stopped, and which took no more objects than there are
 pub record IsExecutedOver (reliable : Type 0) (objects : ℕ) (C : Image) (e : Ended) : Type 0 where
   pub going : (n : ℕ) → n < e.completed → stop_of (code_run (code C) n).0 ≡ None
-  pub few : objects_of (sizes (allocations_of (code_run (code C) e.completed).0)) ≤ objects
+  pub few : objects_of C (sizes (allocations_of (code_run (code C) e.completed).0)) ≤ objects
   pub output : e.output.items ≡ output_of (code_run (code C) e.completed).0
   pub ends : EndsAs reliable objects C (code_run (code C) e.completed).0 e.run
 

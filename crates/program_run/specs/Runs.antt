@@ -4,7 +4,6 @@ use Rattle.cells.specs.declared.ending.Run.{Run}
 use Rattle.cells.specs.declared.ending.Run.TheVariants.{Running, Stopped, Wanted}
 use Rattle.cells.specs.declared.ending.Want.TheVariants.{StoreFailed}
 use Rattle.code_form.specs.Code.{Covered}
-use Rattle.remote_store.specs.Kept.{piece_cells}
 use Rattle.session.specs.State.{IsAt, IsGoing, State}
 use Rattle.scope_verifier.specs.declared.acceptance.Verified.{Verified}
 use Rattle.program_run.specs.Executed.{IsOver}
@@ -42,10 +41,10 @@ HasCome reliable s Running = IsGoing s × (s.refusals ≡ 0)
 HasCome reliable s (Stopped x) = IsOver reliable 0 s (Stopped x)
 HasCome reliable s (Wanted w) = IsOver reliable 0 s (Wanted w)
 
--- A session of a verified image that has come so far; over a store that is honest and reliable it never wants the store
+-- A session of a verified image, over a table of its pieces, that has come so far; over a store that is honest and reliable it never wants the store
 pub record IsOnRun (honest reliable : Type 0) (s : State) (r : Run) : Type 0 where
   pub at : honest → IsAt s
-  pub cells : s.view.sizes.cells ≡ piece_cells
+  pub cells : s.view.sizes.cells ≡ s.image.piece
   pub share : s.view.low ≤ s.view.high
   pub covered : Covered s.image
   pub come : HasCome reliable s r

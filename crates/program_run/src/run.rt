@@ -7,7 +7,6 @@ ghost use Rattle.object_lock.specs.Fresh.{IsFresh};
 ghost use Rattle.program_run.specs.Executed.{HasRunOn, IsExecutedOver};
 ghost use Rattle.program_run.specs.Runs.{HasTurned, begun};
 ghost use Rattle.region.specs.Admission.{image_at};
-ghost use Rattle.remote_store.specs.Kept.{piece_cells};
 ghost use Rattle.session.specs.State.{IsAt, IsGoing, SameProgram};
 
 use crate::gate::Gate;
@@ -83,7 +82,7 @@ impl<'a, S: RawStore> ProgramRun<'a, S> {
         requires own { seat.view.low ≤ seat.view.high }
         requires program { (0 < seat.view.number) × (seat.view.number ≤ length region.now.programs) }
         requires pass { pass ≡ hints.now }
-        requires cells { region.now.table.sizes.cells ≡ piece_cells }
+        requires cells { region.now.table.sizes.cells ≡ (image_at region.now.programs (seat.view.number - 1)).piece }
         ensures begun { IfOk result (λ p. p ≡ begun region.now.programs (seat.view.number - 1) (seat.view.high - seat.view.low)) }
         ensures wants { IfErr result (λ want. want ≡ OutOfMemory) }
     {

@@ -1,9 +1,12 @@
 //! Whether there are frames enough.
 ghost use Rattle.object_lock.specs.Fresh.{IsWithinLimits};
-ghost use Rattle.region.specs.Admission.{IsAdmitted, IsRefused, IsWithinWork, needed};
-ghost use Rattle.std.specs.Prelude.{◌≡◌, ◌⊎◌, ◌≤◌, MatchResult, false, length, min, true};
+ghost use Rattle.cells.specs.Pieces.{cells_in};
+ghost use Rattle.region.specs.Admission.{DiffersFirst, IsAdmitted, IsRefused, IsWithinWork, image_at, needed};
+ghost use Rattle.world_semantics.specs.Pieces.{HaveOnePiece, piece_of as first_piece};
+ghost use Rattle.std.specs.Prelude.{◌≡◌, ◌⊎◌, ◌≤◌, MatchOption, MatchResult, false, length, min, true};
 
 use crate::fault::AdmitFault;
+use cells::Piece;
 use remote_store::{Config, Stores};
 use scope_verifier::Verified;
 use scope_verifier_laws::accepted_is_verified;
@@ -66,8 +69,35 @@ fn is_within_work<M: Stores + Drop>(config: &Config<M>) -> bool
         && config.quantum <= MOST_QUANTUM
 }
 
+/// The size of the pieces of programs that have one, which is that of the first; of no program, 64 cells.
+pub fn piece_of(programs: &[Verified]) -> Piece
+    ensures { cells_in result ≡ first_piece (image_at programs.now) }
+{
+    match programs.first() {
+        Some(program) => program.image().piece,
+        None => Piece::Cells64,
+    }
+}
+
+/// The first program whose pieces have another size than those of program 0.
+fn first_other(programs: &[Verified]) -> Option<u32>
+    requires { length programs.now ≤ 256 }
+    ensures { MatchOption result (HaveOnePiece (image_at programs.now) (length programs.now)) (λ k. DiffersFirst programs.now k) }
+{
+    let cells = piece_of(programs).cells();
+    let mut index = 0u32;
+    for program in programs {
+        if program.image().piece.cells() != cells {
+            return Some(index);
+        }
+        index += 1;
+    }
+    None
+}
+
 /// Whether programs are admitted to a system of these numbers. `TooMany` comes first: there is no program or no worker, a worker
-/// would run no instruction at once, or some number is beyond its limit. `TooSmall` comes then: there are fewer frames than the programs, evacuators and fetchers may need at once.
+/// would run no instruction at once, or some number is beyond its limit. `PieceDiffers` comes then: pieces have other sizes. `TooSmall` comes last: there are fewer
+/// frames than the programs, evacuators and fetchers may need at once.
 pub fn fits<M: Stores + Drop>(programs: &[Verified], config: &Config<M>) -> Result<(), AdmitFault>
     ensures { MatchResult result
         (λ _. IsAdmitted programs.now config.now.frames config.now.objects config.now.evacuators config.now.fetchers × IsWithinWork config.now.workers config.now.quantum)
@@ -79,6 +109,9 @@ pub fn fits<M: Stores + Drop>(programs: &[Verified], config: &Config<M>) -> Resu
     }
     if !is_within_work(config) {
         return Err(AdmitFault::TooMany);
+    }
+    if let Some(program) = first_other(programs) {
+        return Err(AdmitFault::PieceDiffers { program });
     }
     let need = need(programs, config.evacuators, config.fetchers);
     let have = u64::from(config.frames);

@@ -14,6 +14,8 @@ pub enum AdmitFault {
     TooMany,
     /// A growth was refused, or the store could not be reached.
     OutOfMemory,
+    /// The pieces of this program have another size than those of program 0.
+    PieceDiffers { program: u32 },
 }
 
 impl AdmitFault {
@@ -25,6 +27,7 @@ impl AdmitFault {
             AdmitFault::TooSmall { .. } => 1,
             AdmitFault::TooMany => 2,
             AdmitFault::OutOfMemory => 3,
+            AdmitFault::PieceDiffers { .. } => 4,
         }
     }
 }
@@ -38,6 +41,7 @@ impl fmt::Display for AdmitFault {
             AdmitFault::TooSmall { need, have } => write!(f, "too small: need {need} have {have}"),
             AdmitFault::TooMany => write!(f, "too many"),
             AdmitFault::OutOfMemory => write!(f, "out of memory"),
+            AdmitFault::PieceDiffers { program } => write!(f, "piece differs: program {program}"),
         }
     }
 }

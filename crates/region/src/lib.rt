@@ -6,7 +6,7 @@ mod fault;
 mod found;
 mod region;
 
-pub use admission::{fits, need};
+pub use admission::{fits, need, piece_of};
 pub use fault::AdmitFault;
 pub use found::Found;
 pub use region::{Region, admit};

@@ -4,13 +4,14 @@ ghost use Rattle.object_lock.specs.Kept.{slot_has, slot_keeps};
 ghost use Rattle.object_lock.specs.NewTable.{BeginsAway};
 ghost use Rattle.object_lock.specs.SeatViews.{IsSeat};
 ghost use Rattle.object_moves.specs.Taken.{AreTaken, ClaimsOne, HasOnly};
-ghost use Rattle.region.specs.Admission.{IsAdmitted, IsRefused, IsWithinWork};
+ghost use Rattle.region.specs.Admission.{IsAdmitted, IsRefused, IsWithinWork, image_at};
+ghost use Rattle.world_semantics.specs.Pieces.{piece_of as first_piece};
 ghost use Rattle.region.specs.Finding.{frame_found};
 ghost use Rattle.region.specs.declared.fault.AdmitFault.TheVariants.{OutOfMemory};
 ghost use Rattle.std.specs.List.{All};
 ghost use Rattle.std.specs.Prelude.{◌≡◌, ◌⊎◌, ◌+◌, ◌*◌, ◌/◌, ◌<◌, ◌≤◌, ◌++◌, IfErr, IfOk, None, Some, length, slice_get, suc};
 
-use crate::admission::fits;
+use crate::admission::{fits, piece_of};
 use crate::fault::AdmitFault;
 use crate::found::Found;
 use object_lock::{MoverSeat, ObjectTable, OwnerSeat};
@@ -97,7 +98,7 @@ impl<S: RawStore> Region<S> {
     }
 }
 
-/// Admits programs to a system of these numbers, where `fits` answers that they fit: then all objects are away, nothing was put into the store, and the seats
+/// Admits programs to a system of these numbers, where `fits` answers that they fit: then frames have as many cells as the pieces of the programs, all objects are away, nothing was put into the store, and the seats
 /// are those of the programs, in their order, and those of the evacuators and then the fetchers. Else the fault is that of `fits`. `OutOfMemory` comes last:
 /// a growth was refused, or the store could not be reached. After a refusal nothing is kept.
 pub fn admit<S: RawStore, M: Stores<S = S> + Drop>(
@@ -105,18 +106,20 @@ pub fn admit<S: RawStore, M: Stores<S = S> + Drop>(
     programs: Vec<Verified>,
     config: Config<M>,
 ) -> Result<(Region<S>, Vec<OwnerSeat<S>>, Vec<MoverSeat<S>>), AdmitFault>
+    requires { M.makes config.stores (first_piece (image_at programs.items) + 3) }
     ensures admitted { IfOk result (λ t. IsAdmitted programs.items config.frames config.objects config.evacuators config.fetchers) }
     ensures work { IfOk result (λ t. IsWithinWork config.workers config.quantum) }
-    ensures region { IfOk result (λ t. (t.0.programs ≡ programs.items) × (t.0.table.sizes ≡ sizes_of config.objects config.frames)) }
+    ensures region { IfOk result (λ t. (t.0.programs ≡ programs.items) × (t.0.table.sizes ≡ sizes_of config.objects config.frames (first_piece (image_at programs.items)))) }
     ensures numbers { IfOk result (λ t. (t.0.objects ≡ config.objects / length programs.items * length programs.items) × (t.0.fetchers ≡ config.fetchers)) }
     ensures owners { IfOk result (λ t. AreNumbered 1 (length programs.items) t.1.items × All (IsFreshOwner t.0.table (config.objects / length programs.items)) t.1.items) }
     ensures movers { IfOk result (λ t. AreNumbered (suc (length programs.items)) (config.evacuators + config.fetchers) t.2.items × All (IsFreshMover t.0.table) t.2.items) }
-    ensures away { IfOk result (λ t. BeginsAway (slot_keeps S.content) slot_has S.honest t.0.table.sizes (t.1.items ++ t.2.items)) }
+    ensures away { IfOk result (λ t. BeginsAway (slot_keeps S.fits S.content t.0.table.sizes.cells) (slot_has S.fits t.0.table.sizes.cells) S.honest t.0.table.sizes (t.1.items ++ t.2.items)) }
     ensures refused { IfErr result (λ fault. (fault ≡ OutOfMemory) ⊎ IsRefused programs.items config.frames config.objects config.evacuators config.fetchers config.workers config.quantum fault) }
 {
     fits(&programs, &config)?;
     let count = programs.len() as u32;
-    match ObjectTable::new(alloc, count, &config) {
+    let piece = piece_of(&programs);
+    match ObjectTable::new(alloc, count, &config, piece) {
         Ok((table, owners, movers)) => {
             let region = Region {
                 table,

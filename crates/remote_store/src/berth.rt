@@ -1,9 +1,9 @@
 //! An object's place in the store.
-ghost use Rattle.std.specs.Prelude.{◌≡◌, ℕ, ◌+◌, ◌%◌, ◌<◌, List, length, IfOk, IsOk, MatchResult};
-ghost use Rattle.remote_store.specs.Kept.{Keeps, Took, RefusedFor, next_version, piece_cells};
+ghost use Rattle.std.specs.Prelude.{◌≡◌, ℕ, ◌+◌, ◌%◌, ◌<◌, ◌≤◌, List, length, IfOk, IsOk, MatchResult};
+ghost use Rattle.remote_store.specs.Kept.{Keeps, Took, RefusedFor, next_version};
 
 use crate::port::{Failed, Port, Refusal};
-use crate::raw::{PIECE_CELLS, ROW_WORDS, RawStore};
+use crate::raw::{HEADER_WORDS, MOST_CELLS, MOST_WORDS, RawStore};
 
 /// The store cell of an object, and the version that was put there last. At version 0 nothing was put yet.
 #[derive(Drop)]
@@ -28,9 +28,11 @@ impl<C: Drop> Berth<C> {
         obj: usize,
         words: &[u64],
     ) -> Result<(), Failed>
-        requires { length words.now ≡ PIECE_CELLS }
+        requires most { length words.now ≤ MOST_CELLS }
+        requires fits { S.fits self.old.cell (length words.now + 3) }
+        ensures fits { (n : ℕ) → S.fits self.old.cell n → S.fits self.new.cell n }
         ensures version { self.new.version ≡ next_version self.old.version }
-        ensures put { IfOk result (λ _. Keeps piece_cells self.new.version (S.content self.new.cell) obj words.now) }
+        ensures put { IfOk result (λ _. Keeps (length words.now) self.new.version (S.content self.new.cell) obj words.now) }
         ensures sure { S.reliable → IsOk result }
         ensures counted { MatchResult result (λ _. (port.new.refusals ≡ port.old.refusals) × (S.failures port.new.store ≡ S.failures port.old.store))
             (λ _. (port.new.refusals ≡ (port.old.refusals + 1) % 18446744073709551616) × (S.failures port.new.store ≡ (S.failures port.old.store + 1) % 18446744073709551616)) }
@@ -40,12 +42,13 @@ impl<C: Drop> Berth<C> {
         } else {
             self.version + 1
         };
-        let mut row = [0; ROW_WORDS];
+        let mut buffer = [0; MOST_WORDS];
+        let row = &mut buffer[..words.len() + HEADER_WORDS];
         row[0] = obj as u64;
         row[1] = self.version;
-        row[2] = PIECE_CELLS as u64;
-        row[3..].copy_from_slice(words);
-        let written = port.store.write(&mut self.cell, &row);
+        row[2] = words.len() as u64;
+        row[HEADER_WORDS..].copy_from_slice(words);
+        let written = port.store.write(&mut self.cell, &*row);
         if written.is_err() {
             port.refusals = port.refusals.wrapping_add(1);
         }
@@ -60,26 +63,29 @@ impl<C: Drop> Berth<C> {
         obj: usize,
         words: &mut [u64],
     ) -> Result<(), Refusal>
-        requires { (length words.old ≡ PIECE_CELLS) × (0 < self.now.version) }
-        ensures length { length words.new ≡ PIECE_CELLS }
-        ensures sure { S.reliable → (ws : List ℕ) → Keeps piece_cells self.now.version (S.content self.now.cell) obj ws → IsOk result }
-        ensures got { IfOk result (λ _. S.honest → (ws : List ℕ) → Keeps piece_cells self.now.version (S.content self.now.cell) obj ws → words.new ≡ ws) }
+        requires most { length words.old ≤ MOST_CELLS }
+        requires fits { S.fits self.now.cell (length words.old + 3) }
+        requires stored { 0 < self.now.version }
+        ensures length { length words.new ≡ length words.old }
+        ensures sure { S.reliable → (ws : List ℕ) → Keeps (length words.old) self.now.version (S.content self.now.cell) obj ws → IsOk result }
+        ensures got { IfOk result (λ _. S.honest → (ws : List ℕ) → Keeps (length words.old) self.now.version (S.content self.now.cell) obj ws → words.new ≡ ws) }
         ensures counted { MatchResult result (λ _. (port.new.refusals ≡ port.old.refusals) × (S.failures port.new.store ≡ S.failures port.old.store))
             (λ why. (words.new ≡ words.old) × (port.new.refusals ≡ (port.old.refusals + 1) % 18446744073709551616) × (why ≡ Refusal.Failed → S.failures port.new.store ≡ (S.failures port.old.store + 1) % 18446744073709551616)) }
-        ensures read { MatchResult result (λ _. Took piece_cells (λ row. S.read_gives port.old.store self.now.cell row port.new.store) self.now.version obj words.new)
-            (λ why. RefusedFor piece_cells (S.failures port.new.store ≡ (S.failures port.old.store + 1) % 18446744073709551616)
+        ensures read { MatchResult result (λ _. Took (length words.old) (λ row. S.read_gives port.old.store self.now.cell row port.new.store) self.now.version obj words.new)
+            (λ why. RefusedFor (length words.old) (S.failures port.new.store ≡ (S.failures port.old.store + 1) % 18446744073709551616)
             (λ row. S.read_gives port.old.store self.now.cell row port.new.store × (S.failures port.new.store ≡ S.failures port.old.store)) self.now.version obj why) }
     {
-        let mut row = [0; ROW_WORDS];
-        let Ok(()) = port.store.read(&self.cell, &mut row) else {
+        let mut buffer = [0; MOST_WORDS];
+        let row = &mut buffer[..words.len() + HEADER_WORDS];
+        let Ok(()) = port.store.read(&self.cell, &mut *row) else {
             port.refusals = port.refusals.wrapping_add(1);
             return Err(Refusal::Failed);
         };
-        if row[0] != obj as u64 || row[1] != self.version || row[2] != PIECE_CELLS as u64 {
+        if row[0] != obj as u64 || row[1] != self.version || row[2] != words.len() as u64 {
             port.refusals = port.refusals.wrapping_add(1);
             return Err(Refusal::Wrong);
         }
-        words.copy_from_slice(&row[3..]);
+        words.copy_from_slice(&row[HEADER_WORDS..]);
         Ok(())
     }
 }

@@ -4,7 +4,7 @@ ghost use Rattle.remote_store.specs.Faults.{FailsAt, MayFail};
 
 use crate::config::Stores;
 use crate::port::Failed;
-use crate::raw::{ROW_WORDS, RawStore};
+use crate::raw::RawStore;
 use cells::Want;
 use std::alloc::{AllocError, Global};
 use std::sync::Arc;
@@ -87,12 +87,17 @@ impl<S: RawStore> RawStore for FaultStore<S> {
 
     ghost read_gives = { λ before c row after. S.read_gives before.store c row after.store };
 
+    ghost fits = { λ c n. S.fits c n };
+
+    ghost makes = { λ s n. S.makes s.store n };
+
     fn cell(&self, alloc: Global) -> Result<S::Cell, Want> {
         self.store.cell(alloc)
     }
 
     fn write(&mut self, c: &mut S::Cell, w: &[u64]) -> Result<(), Failed>
-        requires { length w.now ≡ ROW_WORDS }
+        requires { S.fits c.old (length w.now) }
+        ensures fits { (n : ℕ) → S.fits c.old n → S.fits c.new n }
         ensures put { IfOk result (λ _. S.content c.new ≡ Some w.now) }
         ensures sure { ⊥ → IsOk result }
         ensures counted { MatchResult result (λ _. self.new.failures ≡ self.old.failures) (λ _. self.new.failures ≡ (self.old.failures + 1) % 18446744073709551616) }
@@ -112,11 +117,11 @@ impl<S: RawStore> RawStore for FaultStore<S> {
     }
 
     fn read(&mut self, c: &S::Cell, w: &mut [u64]) -> Result<(), Failed>
-        requires { length w.old ≡ ROW_WORDS }
+        requires { S.fits c.now (length w.old) }
         ensures length { length w.new ≡ length w.old }
-        ensures got { IfOk result (λ _. S.honest → (ws : List ℕ) → S.content c.now ≡ Some ws → Reads ws w.new) }
+        ensures got { IfOk result (λ _. S.honest → (ws : List ℕ) → S.content c.now ≡ Some ws → length ws ≡ length w.old → Reads ws w.new) }
         ensures gave { IfOk result (λ _. S.read_gives self.old.store c.now w.new self.new.store) }
-        ensures sure { ⊥ → IsOk result × ((ws : List ℕ) → S.content c.now ≡ Some ws → w.new ≡ ws) }
+        ensures sure { ⊥ → IsOk result × ((ws : List ℕ) → S.content c.now ≡ Some ws → length ws ≡ length w.old → w.new ≡ ws) }
         ensures counted { MatchResult result (λ _. self.new.failures ≡ self.old.failures) (λ _. self.new.failures ≡ (self.old.failures + 1) % 18446744073709551616) }
         ensures plan { self.new.calls ≡ self.old.calls }
         ensures cause { MatchResult result (λ _. S.failures self.new.store ≡ S.failures self.old.store)
@@ -158,10 +163,13 @@ impl<M: Stores + Drop> FaultStores<M> {
 impl<M: Stores + Drop> Stores for FaultStores<M> {
     type S = FaultStore<M::S>;
 
+    ghost makes = { λ m n. M.makes m.stores n };
+
     fn one(&self, alloc: Global) -> Result<FaultStore<M::S>, Want>
         ensures wants { IfErr result (λ want. want ≢ Want.NoObjects) }
         ensures plan { IfOk result (λ way. way.calls.plan ≡ self.now.calls.plan) }
         ensures failures { IfOk result (λ way. way.failures ≡ 0) }
+        ensures makes { IfOk result (λ way. (n : ℕ) → M.makes self.now.stores n → M.S.makes way.store n) }
     {
         let store = self.stores.one(alloc)?;
         let Ok(count) = Arc::try_clone(&self.calls.count) else {

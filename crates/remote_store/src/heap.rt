@@ -1,20 +1,34 @@
 //! A store in memory.
-ghost use Rattle.std.specs.Prelude.{◌≡◌, ◌≢◌, Some, IfErr, IsOk};
+ghost use Rattle.cells.specs.Pieces.{cells_in};
+ghost use Rattle.std.specs.Prelude.{◌≡◌, ◌≢◌, ◌+◌, Some, IfErr, IfOk, IsOk, length};
 
 use crate::config::Stores;
 use crate::port::Failed;
-use crate::raw::{ROW_WORDS, RawStore};
-use cells::Want;
+use crate::raw::{HEADER_WORDS, RawStore};
+use cells::{Piece, Want};
 use std::alloc::Global;
 
-/// A store in memory. It is honest and reliable.
+/// A store in memory, whose cells hold rows of one number of words. It is honest and reliable.
 #[derive(Clone, Copy)]
-pub struct FarHeap;
+pub struct FarHeap {
+    words: usize,
+}
+
+impl FarHeap {
+    /// A store for pieces of this size.
+    pub fn new(piece: Piece) -> FarHeap
+        ensures { result.words ≡ cells_in piece + 3 }
+    {
+        FarHeap {
+            words: piece.cells() + HEADER_WORDS,
+        }
+    }
+}
 
 /// A cell of the store in memory.
 #[derive(Drop)]
 pub struct FarCell {
-    row: Box<[u64; ROW_WORDS]>,
+    row: Vec<u64>,
 }
 
 impl RawStore for FarHeap {
@@ -26,12 +40,16 @@ impl RawStore for FarHeap {
 
     ghost failures = { λ _. 0 };
 
-    ghost content = { λ c. Some c.row.value };
+    ghost content = { λ c. Some c.row.items };
 
-    ghost read_gives = { λ _ c row _. row ≡ c.row.value };
+    ghost read_gives = { λ _ c row _. row ≡ c.row.items };
+
+    ghost fits = { λ c n. length c.row.items ≡ n };
+
+    ghost makes = { λ s n. s.words ≡ n };
 
     fn cell(&self, alloc: Global) -> Result<FarCell, Want> {
-        match Box::new(alloc, [0; ROW_WORDS]) {
+        match Vec::from_elem(alloc, 0u64, self.words) {
             Ok(row) => Ok(FarCell { row }),
             Err(_refused) => Err(Want::OutOfMemory),
         }
@@ -43,8 +61,7 @@ impl RawStore for FarHeap {
     }
 
     fn read(&mut self, c: &FarCell, w: &mut [u64]) -> Result<(), Failed> {
-        let row: &[u64; ROW_WORDS] = &c.row;
-        w.copy_from_slice(row);
+        w.copy_from_slice(&c.row);
         Ok(())
     }
 }
@@ -52,10 +69,13 @@ impl RawStore for FarHeap {
 impl Stores for FarHeap {
     type S = FarHeap;
 
+    ghost makes = { λ s n. s.words ≡ n };
+
     fn one(&self, _alloc: Global) -> Result<FarHeap, Want>
         ensures wants { IfErr result (λ want. want ≢ Want.NoObjects) }
         ensures made { IsOk result }
+        ensures way { IfOk result (λ s. s ≡ self.now) }
     {
-        Ok(FarHeap)
+        Ok(FarHeap { words: self.words })
     }
 }

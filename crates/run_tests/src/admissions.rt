@@ -1,9 +1,12 @@
 //! Which programs are admitted.
+ghost use Rattle.region.specs.Admission.{image_at};
+ghost use Rattle.world_semantics.specs.Pieces.{piece_of as first_piece};
+ghost use Rattle.std.specs.Prelude.{◌+◌};
 
 use crate::setting::Setting;
 use crate::shelf::Shelf;
 use code_form::Image;
-use region::{AdmitFault, admit, fits, need};
+use region::{AdmitFault, admit, fits, need, piece_of};
 use remote_store::{Config, Stores};
 use scope_verifier::{Verified, verify};
 use std::alloc::{AllocError, Global};
@@ -29,7 +32,9 @@ fn admitted<M: Stores + Drop>(
     alloc: Global,
     programs: Vec<Verified>,
     config: Config<M>,
-) -> Result<(usize, usize, usize), AdmitFault> {
+) -> Result<(usize, usize, usize), AdmitFault>
+    requires { M.makes config.stores (first_piece (image_at programs.items) + 3) }
+{
     fits(&programs, &config)?;
     let (region, owners, movers) = admit(alloc, programs, config)?;
     Ok((region.programs(), owners.len(), movers.len()))
@@ -65,7 +70,7 @@ pub(crate) fn tell(
     let Some(programs) = verified(alloc, images)? else {
         return String::from_str(alloc, "an image that is not verified");
     };
-    let Some(config) = setting.any_config(alloc) else {
+    let Some(config) = setting.any_config(alloc, piece_of(&programs)) else {
         return Err(AllocError);
     };
     let need = need(&programs, config.evacuators, config.fetchers);

@@ -1,5 +1,6 @@
 //! The bytes of an image cut short, and with one of them changed.
 
+use crate::versions::is_written_again;
 use image_bytes::encode;
 use image_reader::decode;
 use instruction_table::ImageFault;
@@ -27,7 +28,7 @@ fn goes_through(alloc: Global, bytes: &[u8]) -> bool {
         Ok(image) => match encode(alloc, &image) {
             Err(_) => false,
             Ok(again) => {
-                again.as_slice() == bytes
+                is_written_again(bytes, &again)
                     && verify(alloc, image).err() != Some(VerifyFault::OutOfMemory)
             }
         },

@@ -1,6 +1,7 @@
 //! What is told of the bytes of an image.
 
 use crate::changes::{passing_changes, short_beginnings};
+use crate::versions::is_written_again;
 use code_form::Image;
 use image_bytes::encode;
 use image_listing::list;
@@ -22,7 +23,7 @@ pub enum Asked {
 fn listing(alloc: Global, bytes: &[u8], image: &Image) -> Result<String, ImageFault> {
     let again = encode(alloc, image)?;
     let mut text = list(alloc, image)?;
-    if again.as_slice() != bytes {
+    if !is_written_again(bytes, &again) {
         text.push_str("other bytes\n")?;
     }
     Ok(text)

@@ -2,11 +2,12 @@
 //! then how many rows there were; the status is 1 where one was shown.
 //!
 //! Before the name of a file stands what its rows and those of the files behind it are:
-//! - `list`: an image's bytes, and its listing, or `fault` and its number; the bytes of what is read must be the same again;
+//! - `list`: an image's bytes, and its listing, or `fault` and its number; the bytes of what is read must be the same again, or, of version 1, those of version 2 for pieces
+//!   of 64 cells;
 //! - `verify`: `scopes` and the number of scopes of an image that is verified, `verify fault` and its number of another, `fault` and its number where there
 //!   is none;
 //! - `change`: how many beginnings of the bytes are refused since they are too short, and how many of all changes of one byte go through: they are
-//!   refused by a number, or are an image with these bytes, which is verified or refused by a number;
+//!   refused by a number, or are an image with these bytes, in the version that is written, which is verified or refused by a number;
 //! - `images`: an image's bytes, under its name, and its listing; the rows behind it name it;
 //! - `touches`: a line for each instruction of a run tells what it touches, whether it is blocked, and whether the run has stopped, with plain ones in a row on one
 //!   line; then how the run stopped, and what it printed. `loads` has what its loads are given, in order;
@@ -36,6 +37,7 @@ mod setting;
 mod shelf;
 mod steps;
 mod touches;
+mod versions;
 
 use crate::setting::Setting;
 use crate::shelf::Shelf;

@@ -1,7 +1,7 @@
 //! Schedules that a generator makes.
 ghost use Rattle.std.specs.Prelude.{◌<◌, ◌≤◌, length};
 
-use crate::setting::Setting;
+use crate::setting::{Setting, size_of};
 use crate::shelf::Shelf;
 use crate::steps::put_ends;
 use cells::Run;
@@ -126,7 +126,10 @@ fn put_seed(
 ) -> Result<(), AllocError>
     requires { (0 < length images.now) × (length images.now ≤ 256) }
 {
-    let Some(config) = setting.config(alloc) else {
+    let Some(piece) = size_of(images) else {
+        return text.push_str("pieces of other sizes\n");
+    };
+    let Some(config) = setting.config(alloc, piece) else {
         return text.push_str("numbers out of range\n");
     };
     let numbers = Numbers {

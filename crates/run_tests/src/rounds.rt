@@ -11,7 +11,7 @@ use crate::shelf::Shelf;
 use evacuator::round;
 use object_lock::{MoverSeat, ObjectTable, OwnerSeat};
 use object_moves::take;
-use region::{Region, admit};
+use region::{Region, admit, piece_of};
 use remote_store::RawStore;
 use scope_verifier::Verified;
 use std::alloc::{AllocError, Global};
@@ -132,7 +132,7 @@ fn tell_programs<R: Wait>(
     programs: Vec<Verified>,
     setting: &Setting<'_>,
 ) -> Result<String, AllocError> {
-    let Some(config) = setting.any_config(alloc) else {
+    let Some(config) = setting.any_config(alloc, piece_of(&programs)) else {
         return Err(AllocError);
     };
     match admit(alloc, programs, config) {

@@ -1,6 +1,6 @@
 //! Schedules, replayed.
 
-use crate::setting::Setting;
+use crate::setting::{Setting, size_of};
 use crate::shelf::Shelf;
 use crate::touches::put_output;
 use cells::Ended;
@@ -49,7 +49,10 @@ pub(crate) fn tell(
     if images.is_empty() || images.len() > 256 {
         return String::from_str(alloc, "no image, or too many");
     }
-    let Some(config) = setting.config(alloc) else {
+    let Some(piece) = size_of(&images) else {
+        return String::from_str(alloc, "pieces of other sizes");
+    };
+    let Some(config) = setting.config(alloc, piece) else {
         return String::from_str(alloc, "numbers out of range");
     };
     let schedule = schedule(alloc, setting)?;

@@ -84,10 +84,10 @@ fn tell_image<R: Wait>(
 ) -> Result<String, AllocError>
     requires image { most_scopes (image_of image.now).functions ≤ 4 }
 {
-    let Some(config) = setting.config(alloc) else {
+    let Some(config) = setting.config(alloc, image.piece) else {
         return String::from_str(alloc, "numbers out of range");
     };
-    match ObjectTable::<FaultStore<FarHeap>>::new(alloc, 1, &config) {
+    match ObjectTable::<FaultStore<FarHeap>>::new(alloc, 1, &config, image.piece) {
         Ok((table, mut owners, _movers)) => match owners.pop() {
             Some(seat) => tell_seat(rt, alloc, &table, image, seat, &setting.numbers),
             None => Err(AllocError),

@@ -1,8 +1,12 @@
 //! What a row says of its run.
+ghost use Rattle.cells.specs.Pieces.{cells_in};
 ghost use Rattle.object_lock.specs.Fresh.{IsWithinLimits};
-ghost use Rattle.std.specs.Prelude.{◌≡◌, ◌<◌, ◌≤◌, IfSome};
+ghost use Rattle.std.specs.Prelude.{◌≡◌, ◌<◌, ◌≤◌, ◌+◌, IfSome, length};
+ghost use Rattle.world.specs.Opened.{images_of};
+ghost use Rattle.world_semantics.specs.Pieces.{HaveOnePiece, piece_of};
 
 use crate::shelf::Shelf;
+use cells::Piece;
 use code_form::Image;
 use remote_store::{Config, FarHeap, FaultPlan, FaultStores};
 use std::alloc::{AllocError, Global};
@@ -31,6 +35,23 @@ pub struct Setting<'a> {
     pub(crate) written: bool,
     pub(crate) numbers: Vec<u64>,
     pub(crate) lines: Vec<Repeated<'a>>,
+}
+
+/// The size of the pieces of these images. None where they have several.
+#[tactic(auto, using(crate::proofs::Sizes::size_at))]
+pub(crate) fn size_of(images: &[Image]) -> Option<Piece>
+    requires { 0 < length images.now }
+    ensures size { IfSome result (λ p. cells_in p ≡ piece_of (images_of images.now)) }
+    ensures same { IfSome result (λ p. HaveOnePiece (images_of images.now) (length images.now)) }
+{
+    let piece = images[0].piece;
+    let cells = piece.cells();
+    for image in images {
+        if image.piece.cells() != cells {
+            return None;
+        }
+    }
+    Some(piece)
 }
 
 /// Sets the number to what the word is. Whether it is one.
@@ -168,9 +189,15 @@ impl<'a> Setting<'a> {
         Ok(Some(images))
     }
 
-    /// Its numbers, whatever they are, and stores that fail by its plan. None where memory ran out.
-    pub(crate) fn any_config(&self, alloc: Global) -> Option<Config<FaultStores<FarHeap>>> {
-        let stores = FaultStores::new(alloc, FarHeap, self.plan).ok()?;
+    /// Its numbers, whatever they are, and stores for pieces of this size that fail by its plan. None where memory ran out.
+    pub(crate) fn any_config(
+        &self,
+        alloc: Global,
+        piece: Piece,
+    ) -> Option<Config<FaultStores<FarHeap>>>
+        ensures store { IfSome result (λ c. c.stores.stores.words ≡ cells_in piece + 3) }
+    {
+        let stores = FaultStores::new(alloc, FarHeap::new(piece), self.plan).ok()?;
         Some(Config {
             frames: self.frames,
             objects: self.objects,
@@ -182,8 +209,9 @@ impl<'a> Setting<'a> {
         })
     }
 
-    /// Its numbers, and stores that fail by its plan. None where a number is out of its range, or memory ran out.
-    pub(crate) fn config(&self, alloc: Global) -> Option<Config<FaultStores<FarHeap>>>
+    /// Its numbers, and stores for pieces of this size that fail by its plan. None where a number is out of its range, or memory ran out.
+    pub(crate) fn config(&self, alloc: Global, piece: Piece) -> Option<Config<FaultStores<FarHeap>>>
+        ensures store { IfSome result (λ c. c.stores.stores.words ≡ cells_in piece + 3) }
         ensures frames { IfSome result (λ c. (0 < c.frames) × (c.frames ≤ 1048576)) }
         ensures objects { IfSome result (λ c. (0 < c.objects) × (c.objects ≤ 16777216)) }
         ensures movers { IfSome result (λ c. (c.evacuators ≤ 64) × (c.fetchers ≤ 64)) }
@@ -199,7 +227,7 @@ impl<'a> Setting<'a> {
         if evacuators > 64 || fetchers > 64 {
             return None;
         }
-        let Ok(stores) = FaultStores::new(alloc, FarHeap, self.plan) else {
+        let Ok(stores) = FaultStores::new(alloc, FarHeap::new(piece), self.plan) else {
             return None;
         };
         Some(Config {

@@ -2,7 +2,7 @@
 ghost use Rattle.std.specs.Prelude.{◌<◌, ◌≤◌, length};
 
 use crate::schedules::put_ended;
-use crate::setting::{Repeated, Setting};
+use crate::setting::{Repeated, Setting, size_of};
 use crate::shelf::Shelf;
 use code_form::Image;
 use remote_store::{FarHeap, FaultStore, RawStore};
@@ -89,7 +89,10 @@ fn tell_images(
 ) -> Result<String, AllocError>
     requires { (0 < length images.now) × (length images.now ≤ 256) }
 {
-    let Some(config) = setting.config(alloc) else {
+    let Some(piece) = size_of(images) else {
+        return String::from_str(alloc, "pieces of other sizes");
+    };
+    let Some(config) = setting.config(alloc, piece) else {
         return String::from_str(alloc, "numbers out of range");
     };
     match World::<FaultStore<FarHeap>>::new(alloc, images, &config) {

@@ -1,17 +1,18 @@
 -- A replay without what the store answered.
-use Rattle.std.proofs.Common.{◌≡◌, ◌∙◌, ℕ, zero, suc, List, [], ◌∷◌, length, Option, Some, None, map, refl, ap, subst, sym}
-use Rattle.std.specs.Prelude.{slice_get, slice_index_or}
+use Rattle.std.proofs.Common.{◌≡◌, ◌∙◌, ℕ, zero, suc, List, [], ◌∷◌, length, Some, map, refl, ap, subst, sym}
+use Rattle.std.specs.Prelude.{slice_index_or}
 use Rattle.cells.specs.declared.ending.Ended.{Ended}
 use Rattle.code_form.specs.Form.{Image, image_of}
 use Rattle.code_form.specs.declared.form.Image.{Image as RustImage}
-use Rattle.region.specs.Admission.{image_at, image_by}
+use Rattle.region.specs.Admission.{image_at}
 use Rattle.pointer_word.specs.Machine.{Far}
 use Rattle.remote_store.specs.declared.berth.Berth.{Berth}
 use Rattle.remote_store.specs.declared.port.Port.{Port}
 use Rattle.schedule_lines.specs.Lines.{Line}
-use Rattle.schedule_replay.specs.Replayed.{IsReplayed, IsUnreplayed, Leads, NoneIsRefused, RefusesNone, StopsAt, line_of}
+use Rattle.schedule_replay.specs.Replayed.{IsReplayed, IsUnreplayed, Leads, NoneIsRefused, RefusesNone, line_of}
 use Rattle.scope_verifier.specs.declared.acceptance.Verified.{Verified}
 use Rattle.world.specs.Opened.{images_of, no_image}
+use Rattle.world_semantics.specs.Pieces.{HaveOnePiece, piece_of}
 use Rattle.world.specs.Parts.{Parts}
 use Rattle.world.specs.Reports.{AreLines, IsRefusal, IsReport, LinesLead, event_of}
 use Rattle.world.specs.Telling.{asked_by}
@@ -42,6 +43,16 @@ as_many images programs same = sym (mapped image_of images) ∙ ap length same �
     mapped f [] = refl
     mapped f (x ∷ xs) = ap suc (mapped f xs)
 
+-- they have pieces of one size, as the programs have
+pub one_piece : (images : List RustImage) (programs : List Verified) → map image_of images ≡ map (λ (p : Verified). image_of p.image) programs → HaveOnePiece (image_at programs) (length programs)
+    → HaveOnePiece (images_of images) (length images)
+one_piece images programs same one =
+    subst (λ (f : ℕ → Image). HaveOnePiece f (length images)) (sym (images_are images programs same)) (subst (λ n. HaveOnePiece (image_at programs) n) (sym (as_many images programs same)) one)
+
+-- of as many cells
+pub same_piece : (images : List RustImage) (programs : List Verified) → map image_of images ≡ map (λ (p : Verified). image_of p.image) programs → piece_of (image_at programs) ≡ piece_of (images_of images)
+same_piece images programs same = ap piece_of (sym (images_are images programs same))
+
 -- ---- what the store answered
 
 -- an event has one world behind it
@@ -66,7 +77,7 @@ module _ {S C : Type 0} (h r : Type 0) (failures : S → ℕ) (gives : S → C �
         ap (λ (xs : List Line). l ∷ xs) rest.1,
         (led.1, led.3, led.4, rest.2),
         (
-          refuses_none x.berths told.before told.after w.lock.far (asked_by z w l.actor) led.0 told.answered,
+          refuses_none x.berths.items told.before told.after w.lock.far (asked_by z w l.actor) led.0 told.answered,
           λ u is. subst (λ (t : World). NoneIsRefused r z images t rest.0) (one_world z images w led.1 u (event_of l led.0) led.3 is) rest.3,
         ),
       )
@@ -106,16 +117,16 @@ module _ {S C : Type 0} (h r : Type 0) (failures : S → ℕ) (gives : S → C �
 
 -- ---- of programs
 
-module _ {S C : Type 0} (h r : Type 0) (failures : S → ℕ) (gives : S → C → List ℕ → S → Type 0) (images : List RustImage) (programs : List Verified) (sizes : ℕ → Sizes)
+module _ {S C : Type 0} (h r : Type 0) (failures : S → ℕ) (gives : S → C → List ℕ → S → Type 0) (images : List RustImage) (programs : List Verified) (sizes : ℕ → ℕ → Sizes)
     (same : map image_of images ≡ map (λ (p : Verified). image_of p.image) programs) where
-  pub programs_replayed : (schedule : List ℕ) (ends : List Ended) → IsReport h r failures gives (sizes (length images)) (images_of images) schedule ends → IsReplayed h r (sizes (length programs)) (image_at programs) schedule ends
+  pub programs_replayed : (schedule : List ℕ) (ends : List Ended) → IsReport h r failures gives (sizes (length images) (piece_of (images_of images))) (images_of images) schedule ends → IsReplayed h r (sizes (length programs) (piece_of (image_at programs))) (image_at programs) schedule ends
   programs_replayed schedule ends report =
-      subst (λ (n : ℕ). IsReplayed h r (sizes n) (image_at programs) schedule ends) (as_many images programs same)
-      (subst (λ (f : ℕ → Image). IsReplayed h r (sizes (length images)) f schedule ends) (images_are images programs same)
-      (replayed h r failures gives (sizes (length images)) (images_of images) schedule ends report))
+      subst (λ (n : ℕ). IsReplayed h r (sizes n (piece_of (image_at programs))) (image_at programs) schedule ends) (as_many images programs same)
+      (subst (λ (f : ℕ → Image). IsReplayed h r (sizes (length images) (piece_of f)) f schedule ends) (images_are images programs same)
+      (replayed h r failures gives (sizes (length images) (piece_of (images_of images))) (images_of images) schedule ends report))
 
-  pub programs_unreplayed : (schedule : List ℕ) (why : Refused) → IsRefusal h r failures gives (sizes (length images)) (images_of images) schedule why → IsUnreplayed h r (sizes (length programs)) (image_at programs) schedule why
+  pub programs_unreplayed : (schedule : List ℕ) (why : Refused) → IsRefusal h r failures gives (sizes (length images) (piece_of (images_of images))) (images_of images) schedule why → IsUnreplayed h r (sizes (length programs) (piece_of (image_at programs))) (image_at programs) schedule why
   programs_unreplayed schedule why refusal =
-      subst (λ (n : ℕ). IsUnreplayed h r (sizes n) (image_at programs) schedule why) (as_many images programs same)
-      (subst (λ (f : ℕ → Image). IsUnreplayed h r (sizes (length images)) f schedule why) (images_are images programs same)
-      (unreplayed h r failures gives (sizes (length images)) (images_of images) schedule why refusal))
+      subst (λ (n : ℕ). IsUnreplayed h r (sizes n (piece_of (image_at programs))) (image_at programs) schedule why) (as_many images programs same)
+      (subst (λ (f : ℕ → Image). IsUnreplayed h r (sizes (length images) (piece_of f)) f schedule why) (images_are images programs same)
+      (unreplayed h r failures gives (sizes (length images) (piece_of (images_of images))) (images_of images) schedule why refusal))

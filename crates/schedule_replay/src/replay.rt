@@ -2,8 +2,9 @@
 ghost use Rattle.code_form.specs.Form.{image_of};
 ghost use Rattle.region.specs.Admission.{IsAdmitted, image_at};
 ghost use Rattle.schedule_replay.specs.Replayed.{IsReplayed, IsUnreplayed};
-ghost use Rattle.std.specs.Prelude.{◌≡◌, IfOk, MatchResult, length, map};
+ghost use Rattle.std.specs.Prelude.{◌≡◌, ◌+◌, IfOk, MatchResult, length, map};
 ghost use Rattle.world.specs.Opened.{sizes_of};
+ghost use Rattle.world_semantics.specs.Pieces.{piece_of};
 
 use cells::Ended;
 use code_form::Image;
@@ -23,7 +24,8 @@ fn images(alloc: Global, programs: Vec<Verified>) -> Result<Vec<Image>, AllocErr
     Ok(images)
 }
 
-/// What each of these programs has come to after all lines of a schedule, over stores that `config` makes. The programs are those that `fits` admits.
+/// What each of these programs has come to after all lines of a schedule, over stores that `config` makes. The programs are those that `fits` admits,
+/// and the stores make cells for their pieces.
 ///
 /// `Line` names the first line that can't be read or is not enabled, counted from 1. `OutOfMemory` where a growth was refused, or a store could not be
 /// made. After a refusal nothing is kept. A reliable store failed in none of the events.
@@ -33,10 +35,11 @@ pub fn replay_admitted<M: Stores + Drop>(
     config: &Config<M>,
     schedule: &[u8],
 ) -> Result<Vec<Ended>, Refused>
-    requires { IsAdmitted programs.items config.now.frames config.now.objects config.now.evacuators config.now.fetchers }
+    requires admitted { IsAdmitted programs.items config.now.frames config.now.objects config.now.evacuators config.now.fetchers }
+    requires store { M.makes config.now.stores (piece_of (image_at programs.items) + 3) }
     ensures { MatchResult result
-        (λ ends. IsReplayed M.S.honest M.S.reliable (sizes_of (length programs.items) config.now.frames config.now.objects config.now.evacuators config.now.fetchers) (image_at programs.items) schedule.now ends.items)
-        (λ refused. IsUnreplayed M.S.honest M.S.reliable (sizes_of (length programs.items) config.now.frames config.now.objects config.now.evacuators config.now.fetchers) (image_at programs.items) schedule.now refused) }
+        (λ ends. IsReplayed M.S.honest M.S.reliable (sizes_of (length programs.items) config.now.frames config.now.objects config.now.evacuators config.now.fetchers (piece_of (image_at programs.items))) (image_at programs.items) schedule.now ends.items)
+        (λ refused. IsUnreplayed M.S.honest M.S.reliable (sizes_of (length programs.items) config.now.frames config.now.objects config.now.evacuators config.now.fetchers (piece_of (image_at programs.items))) (image_at programs.items) schedule.now refused) }
 {
     let Ok(images) = images(alloc, programs) else {
         return Err(Refused::OutOfMemory);

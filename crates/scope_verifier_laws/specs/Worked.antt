@@ -9,7 +9,7 @@ use Rattle.code_form.specs.Form.{Instruction, Simple, Aim, Load, Store, Leave, J
 
 -- an image with these functions, and a layout of one number
 abbrev pub image_of_functions : List Function → Image
-image_of_functions fs = record { head = record { texts = []; layouts = (kind.Int ∷ []) ∷ [] }; functions = fs }
+image_of_functions fs = record { piece = 64; head = record { texts = []; layouts = (kind.Int ∷ []) ∷ [] }; functions = fs }
 
 -- a function over a pointer and a number, with so many scopes and these blocks
 abbrev pub main_of : ℕ → List Block → Function
@@ -61,4 +61,4 @@ main_takes = image_of_functions (record { result = Some kind.Int; parameters = 1
 
 -- an image with this kind in a layout
 abbrev pub with_cell : Kind → Image
-with_cell k = record { head = record { texts = []; layouts = (k ∷ []) ∷ [] }; functions = main_of 0 (record { facts = []; code = Return 1 ∷ [] } ∷ []) ∷ [] }
+with_cell k = record { piece = 64; head = record { texts = []; layouts = (k ∷ []) ∷ [] }; functions = main_of 0 (record { facts = []; code = Return 1 ∷ [] } ∷ []) ∷ [] }

@@ -1,5 +1,6 @@
 -- How the scopes' holds and the seat's stay the same.
 use Rattle.std.proofs.Common.{◌≡◌, ◌≢◌, ◌⊎◌, inl, inr, ℕ, suc, ◌+◌, ◌-◌, ◌<◌, Bool, true, false, cond, List, length, refl, sym, ap, ◌∙◌, subst, arith, ne_eqb}
+use Rattle.cells.specs.Pieces.{is_piece}
 use Rattle.std.specs.Prelude.{◌==◌, Option, Some, None, slice_index_or, slice_set}
 use Rattle.std.proofs.lemmas.Bool.Decides.{eqb_tells}
 use Rattle.std.proofs.lemmas.List.{get_or-set_same, get_or-set_other, length-set}
@@ -30,7 +31,7 @@ holding_with s k x v h l low high wide sizes counts others mine quiet = record {
   room = let a = h.room in omega arith;
   wide = let a = h.wide in omega arith;
   small = let a = h.small in omega arith;
-  cells = ap (λ (z : Sizes). z.cells) sizes ∙ h.cells;
+  cells = ap (λ (z : Sizes). is_piece z.cells) sizes ∙ h.cells;
   placed = subst (λ n. IsPlaced n v.low (cells_in s) s.firsts s.next) (sym (ap (λ (z : Sizes). z.cells) sizes))
       (subst (λ b. IsPlaced s.view.sizes.cells b (cells_in s) s.firsts s.next) (sym low) h.placed);
   held = λ j y e. elim (eqb_tells j k) [

@@ -6,5 +6,6 @@ mod Opening
 mod Places
 mod Plainly
 mod Running
+mod Scaling
 mod Ways
 mod Writing

@@ -1,5 +1,6 @@
 -- A hold that could not be opened, as the store refused a call.
 use Rattle.std.proofs.Common.{◌≡◌, inl, inr, ℕ, ◌+◌, ◌-◌, ◌<◌, Bool, true, false, List, length, refl, sym, ap, ◌∙◌, subst, arith}
+use Rattle.cells.specs.Pieces.{is_piece}
 use Rattle.std.specs.Prelude.{Some, None, MatchBool, slice_index_or}
 use Rattle.std.proofs.lemmas.List.{length-set}
 use Rattle.pointer_word.specs.Hands.{Note, blank, closed, opened}
@@ -32,7 +33,7 @@ module _ (reliable : Type 0) (s t : State) (o : ℕ) (ok : IsHolding s) (own : O
     room = let a = ok.room in let b = m.gives.high in omega arith;
     wide = let a = ok.wide in let b = m.gives.high in let c : length t.view.notes ≡ length s.view.notes = ap length m.gives.notes ∙ length-set s.view.notes o n in omega arith;
     small = let a = ok.small in let b = m.gives.high in omega arith;
-    cells = ap (λ (z : Sizes). z.cells) m.gives.sizes ∙ ok.cells;
+    cells = ap (λ (z : Sizes). is_piece z.cells) m.gives.sizes ∙ ok.cells;
     placed = subst (λ n. IsPlaced n t.view.low (cells_in s) s.firsts s.next) (sym (ap (λ (z : Sizes). z.cells) m.gives.sizes))
         (subst (λ b. IsPlaced s.view.sizes.cells b (cells_in s) s.firsts s.next) (sym m.gives.low) ok.placed);
     held = λ k h e. still k h e (ok.held k h e);

@@ -1,5 +1,6 @@
 -- A session at its beginning is where the run of its code begins; and a covered image's code is never stuck.
 use Rattle.std.proofs.Common.{◌≡◌, ◌≢◌, ◌⊎◌, ⊎_elim, inl, inr, ℕ, zero, suc, ◌+◌, ◌<◌, ◌≤◌, true, false, [], refl, sym, ap, ◌∙◌, subst, arith}
+use Rattle.cells.specs.Pieces.{is_piece}
 use Rattle.std.specs.Prelude.{Option, Some, None, replicate, slice_get, slice_index_or}
 use Rattle.cells.specs.Stops.{Stop}
 use Rattle.cells.specs.declared.ending.Run.{Run}
@@ -61,7 +62,7 @@ blank_seat t s f low =
       low = low;
       wide = seat.3;
       small = let a = seat.2 in let b = seat.4.0 in omega arith;
-      cells = ap (λ z. z.cells) seat.1 ∙ seat.4.2;
+      cells = ap (λ z. is_piece z.cells) seat.1 ∙ seat.4.2;
       quiet = (ap (λ h. h.bringing) hand, ap (λ h. h.leaving) hand, ap (λ h. h.claimed) hand, ap (λ h. h.freed) hand);
     }
 

@@ -1,5 +1,6 @@
 -- Each kind of instruction keeps the scopes' holds as its program's scopes have them.
 use Rattle.std.proofs.Common.{◌≡◌, ◌≢◌, inl, inr, ℕ, ◌+◌, ◌%◌, ◌<◌, ◌≤◌, Bool, true, false, cond, [], ◌∷◌, ◌++◌, length, refl, sym, ap, ◌∙◌, subst, arith}
+use Rattle.cells.proofs.Pieces.{piece_some}
 use Rattle.std.specs.Prelude.{◌==◌, Option, Some, None}
 use Rattle.std.proofs.lemmas.Bool.Decides.{eqb_tells}
 use Rattle.std.proofs.lemmas.List.{get_or-set_same, get_or-set_other}
@@ -71,7 +72,7 @@ may_finish s t x image core e none = ap cells_asked (touch_same s t image core �
 
 -- what is known of u, where s became t by holds and t became u by finishing
 module _ (laws : Laws) (s t u : State) (x : Touch) (v : ℕ) (safe : IsSafe s) (next : IsNext x s) (ok : IsHolding t) (image : t.image ≡ s.image) (core : t.core ≡ s.core)
-    (low : t.view.low ≡ s.view.low) (e : u ≡ finished t v) where
+    (low : t.view.low ≡ s.view.low) (size : t.view.sizes.cells ≡ s.view.sizes.cells) (e : u ≡ finished t v) where
   pub core_is : u.core ≡ resumed (effect s.image s.core) s.core v
   core_is = core_of_changed s t u v image core e
 
@@ -83,7 +84,7 @@ module _ (laws : Laws) (s t u : State) (x : Touch) (v : ℕ) (safe : IsSafe s) (
       let view : u.view ≡ t.view = ap (λ (y : State). y.view) e in
       let holds : u.holds ≡ t.holds = ap (λ (y : State). y.holds) e in
       let cells_t : cells_in u ≡ cells_in t = cells ∙ sym (ap (λ (c : Core). sizes (allocations_of c)) core) in
-      safe_with s u (holding_finished t u v e cells_t ok) (ap (λ (y : View). y.sizes.cells) view ∙ (ok.cells ∙ sym safe.holding.cells)) (ap (λ (y : View). y.low) view ∙ low) cells did.waits
+      safe_with s u (holding_finished t u v e cells_t ok) (ap (λ (y : View). y.sizes.cells) view ∙ size) (ap (λ (y : View). y.low) view ∙ low) cells did.waits
       (λ k. subst (λ hs. Matches s (cell_option (held u.core k)) (hold_at hs k)) (sym holds) (scopes k))
 
 -- ---- holds that stay
@@ -95,20 +96,20 @@ same_match s d k h e f m =
 
 pub safe_plain : Laws → (s u : State) → IsSafe s → IsNext touch.Plain s → u ≡ finished s 0 → IsSafe u
 safe_plain laws s u safe next e =
-    let d = did laws s s u touch.Plain 0 safe next safe.holding refl refl refl e in
-    safe_after laws s s u touch.Plain 0 safe next safe.holding refl refl refl e d.tidies (λ k. same_match s u.core k _ (d.tracks k) refl (safe.scopes k))
+    let d = did laws s s u touch.Plain 0 safe next safe.holding refl refl refl refl e in
+    safe_after laws s s u touch.Plain 0 safe next safe.holding refl refl refl refl e d.tidies (λ k. same_match s u.core k _ (d.tracks k) refl (safe.scopes k))
 
 pub safe_hinted : Laws → (s u : State) (w : Option Cell) → IsSafe s → IsNext (touch.Hints w) s → u ≡ finished s 0 → IsSafe u
 safe_hinted laws s u w safe next e =
     let x = touch.Hints w in
-    let d = did laws s s u x 0 safe next safe.holding refl refl refl e in
-    safe_after laws s s u x 0 safe next safe.holding refl refl refl e d.tidies (λ k. same_match s u.core k _ (d.tracks k) refl (safe.scopes k))
+    let d = did laws s s u x 0 safe next safe.holding refl refl refl refl e in
+    safe_after laws s s u x 0 safe next safe.holding refl refl refl refl e d.tidies (λ k. same_match s u.core k _ (d.tracks k) refl (safe.scopes k))
 
 pub safe_loaded : Laws → (s u : State) (k : ℕ) (a : Cell) (v : ℕ) → IsSafe s → IsNext (touch.Loads k a) s → u ≡ finished s v → IsSafe u
 safe_loaded laws s u k a v safe next e =
     let x = touch.Loads k a in
-    let d = did laws s s u x v safe next safe.holding refl refl refl e in
-    safe_after laws s s u x v safe next safe.holding refl refl refl e d.tidies (λ j. same_match s u.core j _ (d.tracks.1 j) refl (safe.scopes j))
+    let d = did laws s s u x v safe next safe.holding refl refl refl refl e in
+    safe_after laws s s u x v safe next safe.holding refl refl refl refl e d.tidies (λ j. same_match s u.core j _ (d.tracks.1 j) refl (safe.scopes j))
 
 -- ---- a hold that changes
 
@@ -124,8 +125,8 @@ one_match s t d k w safe ch here others m j =
 pub safe_aimed : Laws → (s t u : State) (k : ℕ) (w : Option Cell) → IsSafe s → IsNext (touch.Aims k w) s → IsHolding t → Changes k s t → Matches s w (hold_at t.holds k) → u ≡ finished t 0 → IsSafe u
 safe_aimed laws s t u k w safe next ok ch m e =
     let x = touch.Aims k w in
-    let d = did laws s t u x 0 safe next ok ch.image ch.core ch.low e in
-    safe_after laws s t u x 0 safe next ok ch.image ch.core ch.low e d.tidies (one_match s t u.core k w safe ch d.tracks.0 d.tracks.1 m)
+    let d = did laws s t u x 0 safe next ok ch.image ch.core ch.low (ap (λ (y : View). y.sizes.cells) ch.seat) e in
+    safe_after laws s t u x 0 safe next ok ch.image ch.core ch.low (ap (λ (y : View). y.sizes.cells) ch.seat) e d.tidies (one_match s t u.core k w safe ch d.tracks.0 d.tracks.1 m)
 
 shut_none : (s : State) (k : ℕ) (x : Option Hold) → k < length s.holds → hold_at s.holds k ≡ x → hold_at (shut_at s k x).holds k ≡ None
 shut_none s k None l e = e
@@ -135,9 +136,9 @@ pub safe_left : Laws → (s t u : State) (k : ℕ) → IsSafe s → IsNext (touc
 safe_left laws s t u k safe next ok ch l after e =
     let x = touch.Leaves k in
     let none : Option Cell = None in
-    let d = did laws s t u x 0 safe next ok ch.image ch.core ch.low e in
+    let d = did laws s t u x 0 safe next ok ch.image ch.core ch.low (ap (λ (y : View). y.sizes.cells) ch.seat) e in
     let gone : hold_at t.holds k ≡ None = ap (λ (y : State). hold_at y.holds k) after ∙ shut_none s k (hold_at s.holds k) l refl in
-    safe_after laws s t u x 0 safe next ok ch.image ch.core ch.low e d.tidies
+    safe_after laws s t u x 0 safe next ok ch.image ch.core ch.low (ap (λ (y : View). y.sizes.cells) ch.seat) e d.tidies
     (one_match s t u.core k none safe ch (ap cell_option d.tracks.0) d.tracks.1 (subst (λ h. Matches s none h) (sym gone) tt))
 
 -- ---- loads and stores
@@ -178,7 +179,7 @@ scope_low s k h l = let a = h.four in let b = h.few in omega arith
 
 -- a load or a store within the piece, where its object is
 pub cell_low : (s : State) (k : ℕ) (h : Hold) (x : ℕ) → IsHolding s → hold_at s.holds k ≡ Some h → (h.frame < s.view.sizes.frames) × (x % s.view.sizes.cells < s.view.sizes.cells)
-cell_low s k h x ok e = let b = ok.cells in ((ok.held k h e).room, mod-lt x (omega arith))
+cell_low s k h x ok e = ((ok.held k h e).room, mod-lt x (piece_some _ ok.cells))
 
 pub load_low : (s : State) (k : ℕ) (h : Hold) (x i : ℕ) → IsHolding s → hold_at s.holds k ≡ Some h → i ≡ x % s.view.sizes.cells → (h.frame < s.view.sizes.frames) × (i < s.view.sizes.cells)
 load_low s k h x i ok e p = let a = cell_low s k h x ok e in (a.0, subst (λ n. n < s.view.sizes.cells) (sym p) a.1)
@@ -201,13 +202,14 @@ safe_stored laws s t v u k a n i h safe next l e ok ch w d f =
     let image : v.image ≡ s.image = ap (λ (y : State). y.image) d ∙ ch.image in
     let core : v.core ≡ s.core = ap (λ (y : State). y.core) d ∙ ch.core in
     let low : v.view.low ≡ s.view.low = ap (λ (y : State). y.view.low) d ∙ ch.low in
+    let size : v.view.sizes.cells ≡ s.view.sizes.cells = ap (λ (y : State). y.view.sizes.cells) d ∙ ap (λ (y : View). y.sizes.cells) ch.seat in
     let holds : v.holds ≡ t.holds = ap (λ (y : State). y.holds) d in
-    let p = did laws s v u x 0 safe next hv image core low f in
+    let p = did laws s v u x 0 safe next hv image core low size f in
     let o = object_is s k a h safe (stores_cell laws s k a n safe next) e in
     let mine : Matches s (cell_option (held s.core k)) (hold_at v.holds k) =
     subst (λ z. Matches s z (hold_at v.holds k)) (sym (stores_cell laws s k a n safe next))
     (subst (λ z. Matches s (Some a) z) (sym (ap (λ hs. hold_at hs k) holds ∙ w)) o) in
-    safe_after laws s v u x 0 safe next hv image core low f p.tidies
+    safe_after laws s v u x 0 safe next hv image core low size f p.tidies
     (λ j. subst (λ z. Matches s (cell_option z) (hold_at v.holds j)) (sym (p.tracks.1 j)) (kept v mine holds j))
   where
     kept : (v' : State) → Matches s (cell_option (held s.core k)) (hold_at v'.holds k) → v'.holds ≡ t.holds → (j : ℕ) → Matches s (cell_option (held s.core j)) (hold_at v'.holds j)
@@ -221,8 +223,8 @@ safe_stored laws s t v u k a n i h safe next l e ok ch w d f =
 
 pub safe_ended : Laws → (s t u : State) → IsSafe s → IsNext touch.Ends s → IsHolding t → Closes s t → AllShut t → u ≡ finished t 0 → IsSafe u
 safe_ended laws s t u safe next ok ch all e =
-    let d = did laws s t u touch.Ends 0 safe next ok ch.image ch.core ch.low e in
-    safe_after laws s t u touch.Ends 0 safe next ok ch.image ch.core ch.low e d.tidies
+    let d = did laws s t u touch.Ends 0 safe next ok ch.image ch.core ch.low (ap (λ (y : View). y.sizes.cells) ch.seat) e in
+    safe_after laws s t u touch.Ends 0 safe next ok ch.image ch.core ch.low (ap (λ (y : View). y.sizes.cells) ch.seat) e d.tidies
     (λ k. subst (λ z. Matches s (cell_option z) (hold_at t.holds k)) (sym (d.tracks k)) (subst (λ z. Matches s None z) (sym (all k)) tt))
 
 no_match : (s u : State) (x : Option Cell) (h : Option Hold) → x ≡ None → Matches s x h → Matches u None h
@@ -351,7 +353,7 @@ upd_same f g o x n h p i =
 pub moves_stored : (honest : Type 0) → Laws → (s t v u : State) (k : ℕ) (a : Cell) (n i : ℕ) (h : Hold) → IsSafe s → IsNext (touch.Stores k a n) s → hold_at s.holds k ≡ Some h → IsHolding t → Changes k s t → HasWriter t k h
     → i ≡ a.index % t.view.sizes.cells → v ≡ written t h i n → u ≡ finished v 0 → Moves honest (touch.Stores k a n) s u
 moves_stored honest laws s t v u k a n i h safe next e ok ch w at d f =
-    let p : i ≡ a.index % s.view.sizes.cells = at ∙ ap (λ c. a.index % c) (ok.cells ∙ sym safe.holding.cells) in
+    let p : i ≡ a.index % s.view.sizes.cells = at ∙ ap (λ (y : View). a.index % y.sizes.cells) ch.seat in
     let image : v.image ≡ s.image = ap (λ (y : State). y.image) d ∙ ch.image in
     let core : v.core ≡ s.core = ap (λ (y : State). y.core) d ∙ ch.core in
     let o = object_is s k a h safe (stores_cell laws s k a n safe next) e in

@@ -8,7 +8,7 @@ use Rattle.object_lock.specs.Seats.{Owns, note, with_note}
 use Rattle.code_form.specs.declared.touch.Cell.{Cell}
 use Rattle.code_form.specs.Placed.{Addresses}
 use Rattle.code_form.specs.Touches.{IsCell}
-use Rattle.remote_store.specs.Kept.{piece_cells}
+use Rattle.cells.proofs.Pieces.{piece_some}
 use Rattle.session.specs.declared.hold.Hold.{Hold}
 use Rattle.session.specs.State.{State, cells_in, hold_at, object_of}
 use Rattle.session.specs.Keeping.{Changes, Closes, Holds, HoldsObject, IsHeld, IsHolding, a_hold, cleared, count_of, first_of, one, shut, shut_at, written}
@@ -132,7 +132,7 @@ holds_one s t k o ok l e own h = (a_hold o h.frame false, opened_hold s t k o ok
 
 -- a piece has cells
 pub some_cells : (s : State) → IsHolding s → 0 < s.view.sizes.cells
-some_cells s ok = let e = ok.cells in omega arith
+some_cells s ok = piece_some _ ok.cells
 
 -- the object of a cell of an allocation is one of the program's own
 pub object_owned : (s : State) (a : Cell) → IsHolding s → IsCell s.core a → Addresses s.view.sizes.cells s.view.low (cells_in s)
@@ -157,5 +157,5 @@ reference_known s a ok l =
     let b = z.1 in
     (z.0, omega arith)
 
-pub placed_at : (s : State) (a : Cell) (n : ℕ) → IsHolding s → n ≡ first_of s.firsts a.reference → first_of s.firsts a.reference + a.index / s.view.sizes.cells ≡ object_of s a → n + a.index / piece_cells ≡ object_of s a
-placed_at s a n ok e h = ap (λ k. k + a.index / piece_cells) e ∙ (ap (λ c. first_of s.firsts a.reference + a.index / c) (sym ok.cells) ∙ h)
+pub placed_at : (s : State) (a : Cell) (n m : ℕ) → n ≡ first_of s.firsts a.reference → m ≡ a.index / s.view.sizes.cells → first_of s.firsts a.reference + a.index / s.view.sizes.cells ≡ object_of s a → n + m ≡ object_of s a
+placed_at s a n m e f h = (λ i. e i + f i) ∙ h

@@ -4,6 +4,7 @@ use Rattle.cells.specs.declared.ending.Want.{Want}
 use Rattle.cells.specs.declared.ending.Want.TheVariants.{OutOfMemory, NoObjects, StoreFailed}
 use Rattle.cells.specs.declared.ending.Run.{Run}
 use Rattle.cells.specs.declared.ending.Run.TheVariants.{Running, Stopped, Wanted}
+use Rattle.cells.specs.Pieces.{is_piece}
 use Rattle.cells.specs.Stops.{stop_of as stop_read}
 pub use Rattle.code_execution.specs.Decisions.{is_simple, uses_scope}
 use Rattle.code_execution.specs.Plain.{plain_run}
@@ -15,7 +16,6 @@ use Rattle.code_form.specs.Tracked.{WaitsShut}
 use Rattle.code_form.specs.declared.touch.Touch.{Touch}
 use Rattle.code_form.specs.declared.touch.Touch.TheVariants as touch
 use Rattle.pointer_word.specs.Hands.{added, blank, closed, writable}
-use Rattle.remote_store.specs.Kept.{piece_cells}
 use Rattle.object_lock.specs.Seats.{Owns, View, note, with_note}
 use Rattle.session.specs.declared.hold.Hold.{Hold}
 use Rattle.object_moves.specs.Taken.{GivesUp, IsQuiet, Refused, Takes, seat_of}
@@ -56,7 +56,7 @@ pub record IsHolding (s : State) : Type 0 where
   pub room : s.next ≤ s.view.high
   pub wide : s.view.high ≤ length s.view.notes
   pub small : s.view.high ≤ 16777216
-  pub cells : s.view.sizes.cells ≡ piece_cells
+  pub cells : is_piece s.view.sizes.cells ≡ true
   pub placed : IsPlaced s.view.sizes.cells s.view.low (cells_in s) s.firsts s.next
   pub held : (k : ℕ) (h : Hold) → hold_at s.holds k ≡ Some h → IsHeld s.view h
   pub counted : (o : ℕ) → Owns s.view o → count_of o s.holds ≡ (note s.view o).count
@@ -239,7 +239,7 @@ pub record IsBlank (v : View) : Type 0 where
   pub low : v.low ≤ v.high
   pub wide : v.high ≤ length v.notes
   pub small : v.high ≤ 16777216
-  pub cells : v.sizes.cells ≡ piece_cells
+  pub cells : is_piece v.sizes.cells ≡ true
   pub quiet : IsQuiet v
 
 -- one instruction, which touches x, was completed; or the store refused a call

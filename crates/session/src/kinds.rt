@@ -2,14 +2,14 @@
 ghost use Rattle.code_form.specs.declared.touch.Touch.TheVariants.{Aims, Allocs, Ends, Hints, Leaves, Loads, Plain, Stores};
 ghost use Rattle.code_form.specs.Growth.{may_grow, rest_of};
 ghost use Rattle.code_form.specs.Placed.{pieces as pieces_of};
-ghost use Rattle.session.specs.Keeping.{Allocated, IsHolding, IsNext, IsSafe, Made, Moves, uses_scope};
+ghost use Rattle.session.specs.Keeping.{Allocated, IsNext, IsSafe, Made, Moves, uses_scope};
 ghost use Rattle.session.specs.State.{next_touch};
 ghost use Rattle.std.specs.Prelude.{◌≡◌, ◌+◌, ◌%◌, ◌<◌, ◌^◌, MatchResult, true};
 
-use crate::program::{Program, pieces};
+use crate::program::Program;
 use cells::Want;
 use code_form::{Cell, Touch, effect_laws};
-use remote_store::{PIECE_CELLS, RawStore};
+use remote_store::RawStore;
 use std::alloc::AllocError;
 use std::sync::Wait;
 
@@ -17,19 +17,17 @@ impl<'a, S: RawStore> Program<'a, S> {
     /// The place of a cell in its piece.
     #[inline(always)]
     fn place(&self, cell: Cell) -> usize
-        requires { IsHolding self.now }
         ensures { result ≡ cell.index % self.now.view.sizes.cells }
     {
-        (cell.index % PIECE_CELLS as u64) as usize
+        self.scale().place(cell.index) as usize
     }
 
     /// How many pieces this many cells are.
     #[inline(always)]
     fn pieces(&self, cells: u64) -> u64
-        requires { IsHolding self.now }
         ensures { result ≡ pieces_of self.now.view.sizes.cells cells }
     {
-        pieces(cells)
+        self.scale().pieces(cells)
     }
 
     /// Completes an instruction that touches nothing. `Err` where memory is refused: then nothing is changed.

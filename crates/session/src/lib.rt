@@ -6,6 +6,7 @@ mod hold;
 mod kinds;
 mod program;
 mod run;
+mod scale;
 mod session;
 
 pub use hold::Hold;

@@ -12,18 +12,18 @@ ghost use Rattle.session.specs.State.{AllShut, Matches, State, begin, hold_at, l
 ghost use Rattle.object_moves.specs.Taken.{IsQuiet};
 ghost use Rattle.object_lock.specs.SeatViews.{IsSeat};
 ghost use Rattle.object_lock.specs.Seats.{Owns, note};
-ghost use Rattle.remote_store.specs.Kept.{piece_cells};
 ghost use Rattle.std.specs.Prelude.{◌≡◌, ◌≢◌, ◌⊎◌, ◌+◌, ◌-◌, ◌/◌, ◌%◌, ◌<◌, ◌≤◌, ◌^◌, ℕ, IfOk, MatchBool, MatchOption, MatchResult, None, Some, false, length, option_map, slice_index, true};
 
 use crate::hint_sender::HintSender;
 use crate::hold::Hold;
+use crate::scale::Scale;
 use cells::{Stop, Want};
-use code_execution::{Execution, Hinted, Stretch};
+use code_execution::{Execution, Hinted};
 use code_form::{Cell, Image, Touch, heap_laws};
 use object_lock::{ObjectTable, OwnerSeat};
 use object_moves::take;
 use pointer_word::{Word, WordState};
-use remote_store::{PIECE_CELLS, RawStore};
+use remote_store::RawStore;
 use std::alloc::{AllocError, Global};
 use std::marker::Model;
 use std::sync::Wait;
@@ -33,6 +33,7 @@ use std::sync::Wait;
 pub(crate) struct Program<'a, S: RawStore> {
     alloc: Global,
     table: &'a ObjectTable<S>,
+    scale: Scale,
     owner: OwnerSeat<S>,
     execution: Execution<'a>,
     holds: Vec<Option<Hold>>,
@@ -50,13 +51,13 @@ pub(crate) struct Program<'a, S: RawStore> {
 impl<'a, S: RawStore> Model for Program<'a, S> {
     ghost use Rattle.session.specs.State.{State};
     ghost use Rattle.object_lock.specs.SeatViews.{IsSeat};
-    ghost use Rattle.std.specs.Prelude.{reverse};
+    ghost use Rattle.std.specs.Prelude.{◌≡◌, ◌^◌, reverse};
 
     ghost Value = { State };
 
     ghost view = { λ m. record { image = m.execution.image; core = m.execution.core; holds = m.holds.items; firsts = reverse m.firsts.items; next = m.next; view = m.owner.view; refusals = m.owner.refusals; completed = m.completed; want = m.want } };
 
-    ghost invariant = { λ m. IsSeat m.table.now m.owner };
+    ghost invariant = { λ m. IsSeat m.table.now m.owner × (2 ^ m.scale.shift ≡ m.table.now.sizes.cells) };
 }
 
 impl<'a, S: RawStore> Program<'a, S> {
@@ -77,6 +78,7 @@ impl<'a, S: RawStore> Program<'a, S> {
         Ok(Program {
             alloc,
             table,
+            scale: Scale::of(table),
             owner,
             execution,
             holds,
@@ -88,6 +90,14 @@ impl<'a, S: RawStore> Program<'a, S> {
             sender,
             hinted,
         })
+    }
+
+    /// The size of the table's pieces.
+    #[inline(always)]
+    pub(crate) fn scale(&self) -> Scale
+        ensures { 2 ^ result.shift ≡ self.now.view.sizes.cells }
+    {
+        self.scale
     }
 
     #[inline(always)]
@@ -363,7 +373,8 @@ impl<'a, S: RawStore> Program<'a, S> {
         ensures own { Owns self.now.view result }
     {
         heap_laws();
-        (self.first(cell.reference) + cell.index / PIECE_CELLS as u64) as usize
+        let whole = self.scale().before(cell.index);
+        (self.first(cell.reference) + whole) as usize
     }
 
     #[inline(always)]
@@ -442,7 +453,7 @@ impl<'a, S: RawStore> Program<'a, S> {
         if self.hinted.has(cell.reference, cell.index) {
             return;
         }
-        self.hinted.add(piece_of(cell));
+        self.hinted.add(self.scale.piece_of(cell));
         let object = self.object_at(cell);
         let word = Word {
             bits: self.table.word(&mut self.owner, object),
@@ -527,27 +538,4 @@ fn is_of(hold: &Option<Hold>, object: usize) -> bool
         Some(hold) => hold.object == object,
         None => false,
     }
-}
-
-/// The cells of the piece that a cell is in.
-fn piece_of(cell: Cell) -> Stretch
-    ensures reference { result.reference ≡ cell.reference }
-    ensures first { result.first ≡ cell.index - cell.index % piece_cells }
-    ensures end { result.end ≡ result.first + piece_cells ⊎ result.end ≡ 2 ^ 64 - 1 }
-{
-    let size = PIECE_CELLS as u64;
-    let first = cell.index - cell.index % size;
-    Stretch {
-        reference: cell.reference,
-        first,
-        end: first.saturating_add(size),
-    }
-}
-
-/// How many pieces this many cells are.
-pub(crate) fn pieces(cells: u64) -> u64
-    ensures { result ≡ pieces_of piece_cells cells }
-{
-    let size = PIECE_CELLS as u64;
-    cells / size + if cells % size == 0 { 0 } else { 1 }
 }

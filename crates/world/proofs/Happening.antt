@@ -10,8 +10,6 @@ use Rattle.code_form.specs.Form.{Image}
 use Rattle.pointer_word.specs.Hands.{upd}
 use Rattle.pointer_word.specs.Sound.{Inv}
 use Rattle.pointer_word.proofs.Upd.{same_or, upd-same, upd-other}
-use Rattle.remote_store.specs.Kept.{piece_cells}
-use Rattle.remote_store.specs.declared.berth.Berth.{Berth}
 use Rattle.remote_store.specs.declared.port.Port.{Port}
 use Rattle.world_memory.specs.Answered.{AnswersSo, Asked}
 use Rattle.world_actors.specs.Asking.{asked_idly, asked_in}
@@ -32,6 +30,7 @@ use Rattle.world_semantics.specs.Fetchers.{Fetching}
 use Rattle.world_semantics.specs.Programs.{Eviction, Setting}
 use Rattle.world_actors.specs.Seats.{Seat}
 use Rattle.world_semantics.specs.Steps.{IsSound}
+use Rattle.world_memory.specs.Berths.{Berths}
 use Rattle.world_memory.specs.Tables.{Tables}
 use Rattle.world_memory.specs.declared.lock.Lock.{Lock}
 use Rattle.world_semantics.specs.Turns.{Answer, evacuator_turn, fetcher_turn, program_turn, taken}
@@ -79,8 +78,8 @@ module _ {S C : Type 0} (content : C → Option (List ℕ)) (h : Type 0) (z : Si
   is_below : (a b : ℕ) → a < b → nat_lt a b ≡ true
   is_below a b l = grind (arith, nat_tests)
 
-  inv : Inv h piece_cells w.lock
-  inv = subst (λ n. Inv h n w.lock) is.cells sound.lock
+  inv : Inv h z.cells w.lock
+  inv = sound.lock
 
   -- ---- an evacuator
 
@@ -98,24 +97,24 @@ module _ {S C : Type 0} (content : C → Option (List ℕ)) (h : Type 0) (z : Si
         record {
           shows = is.shows;
           inv = inv;
-          fits = subst (λ n. FitsEvacuator n w.lock.far (w.lock.hand y.0.mover) (eviction_in y.0)) is.cells
-              (subst (λ m. FitsEvacuator z.cells w.lock.far (w.lock.hand m) (eviction_in y.0)) (sym own.1) (subst (FitsEvacuator z.cells w.lock.far (w.lock.hand (suc (z.programs + k)))) own.0 fits));
+          fits = subst (λ m. FitsEvacuator z.cells w.lock.far (w.lock.hand m) (eviction_in y.0)) (sym own.1) (subst (FitsEvacuator z.cells w.lock.far (w.lock.hand (suc (z.programs + k)))) own.0 fits);
+          wide = own.2;
         }
 
     -- its event is its turn
     event_is : (c : Choice) (a : Answer) → in_range z c ≡ true
-        → event z images w (record { actor = actor.Evacuator k; choice = c; answer = a }) ≡ with_evacuator w k (taken piece_cells w.lock (evacuator_turn piece_cells y.0.mover (eviction_in y.0) c a))
+        → event z images w (record { actor = actor.Evacuator k; choice = c; answer = a }) ≡ with_evacuator w k (taken z.cells w.lock (evacuator_turn z.cells y.0.mover (eviction_in y.0) c a))
     event_is c a inside =
         let own = is.evacuators k y here in
         let acts : ℕ → ℕ → Option Eviction → Option World = λ n m d. with_evacuator w k (taken n w.lock (evacuator_turn n m d c a)) in
         ap (λ b. cond b (acts z.cells (suc (z.programs + k)) (w.evacuators k)) None) (true_and (nat_lt k z.evacuators) (in_range z c) evacuator_there inside) ∙
-        (ap (λ n. acts n (suc (z.programs + k)) (w.evacuators k)) is.cells ∙ (ap (λ m. acts piece_cells m (w.evacuators k)) (sym own.1) ∙ ap (acts piece_cells y.0.mover) own.0))
+        (ap (λ m. acts z.cells m (w.evacuators k)) (sym own.1) ∙ ap (acts z.cells y.0.mover) own.0)
 
-    pub evacuator_stepped : (c : Choice) (t' : Tables) (berths' : List (Berth C)) (y' : Evacuator) (p' : Port S C) (honest told : Answer → Type 0) (same same' : Type 0) (r : Step) → in_range z c ≡ true → y'.mover ≡ y.0.mover → ((a : Answer) → honest a → told a) → (same → same')
-        → Goes w.lock (λ a. evacuator_turn piece_cells y.0.mover (eviction_in y.0) c a) honest (λ u d. Shows content z t' berths' u × (d ≡ eviction_in y')) same r
+    pub evacuator_stepped : (c : Choice) (t' : Tables) (berths' : Berths C) (y' : Evacuator) (p' : Port S C) (honest told : Answer → Type 0) (same same' : Type 0) (r : Step) → in_range z c ≡ true → y'.mover ≡ y.0.mover → length y'.words.items ≡ length y.0.words.items → ((a : Answer) → honest a → told a) → (same → same')
+        → Goes z.cells w.lock (λ a. evacuator_turn z.cells y.0.mover (eviction_in y.0) c a) honest (λ u d. Shows content z t' berths' u × (d ≡ eviction_in y')) same r
         → Stepped content h z images (record x { tables = t'; berths = berths'; evacuators = set x.evacuators k (y', p') }) w (actor.Evacuator k) c told same' r
-    evacuator_stepped c t' berths' y' p' honest told same same' step.NotEnabled inside mover tells back g = ((λ a. event_is c a inside ∙ ap (with_evacuator w k) (g.0 a)), back g.1)
-    evacuator_stepped c t' berths' y' p' honest told same same' step.Took inside mover tells back g =
+    evacuator_stepped c t' berths' y' p' honest told same same' step.NotEnabled inside mover wide tells back g = ((λ a. event_is c a inside ∙ ap (with_evacuator w k) (g.0 a)), back g.1)
+    evacuator_stepped c t' berths' y' p' honest told same same' step.Took inside mover wide tells back g =
         let a : Answer = g.0 in
         let r = g.2.0 in
         let e : Event = record { actor = actor.Evacuator k; choice = c; answer = a } in
@@ -131,9 +130,9 @@ module _ {S C : Type 0} (content : C → Option (List ℕ)) (h : Type 0) (z : Si
               shows = g.2.2.0;
               programs = is.programs;
               evacuators = λ j v q. elim (got_set x.evacuators k (y', p') j v q) [
-                | inl s ↦ subst (λ (v : Evacuator × Port S C). (upd w.evacuators k r.1 j ≡ eviction_in v.0) × (v.0.mover ≡ suc (z.programs + j))) (sym s.1)
-                    (upd-same w.evacuators k r.1 j s.0 ∙ g.2.2.1, mover ∙ ((is.evacuators k y here).1 ∙ ap (λ i. suc (z.programs + i)) (sym s.0)))
-                | inr s ↦ (upd-other w.evacuators k r.1 j s.0 ∙ (is.evacuators j v s.1).0, (is.evacuators j v s.1).1)
+                | inl s ↦ subst (λ (v : Evacuator × Port S C). (upd w.evacuators k r.1 j ≡ eviction_in v.0) × (v.0.mover ≡ suc (z.programs + j)) × (length v.0.words.items ≡ z.cells)) (sym s.1)
+                    (upd-same w.evacuators k r.1 j s.0 ∙ g.2.2.1, mover ∙ ((is.evacuators k y here).1 ∙ ap (λ i. suc (z.programs + i)) (sym s.0)), wide ∙ (is.evacuators k y here).2)
+                | inr s ↦ let was = is.evacuators j v s.1 in (upd-other w.evacuators k r.1 j s.0 ∙ was.0, was.1, was.2)
               ];
               fetchers = is.fetchers;
               reached = (is.reached.0 ++ e ∷ [], follows_push h z images (start images) w u is.reached.0 e is.reached.1 happens (λ _. tt));
@@ -161,32 +160,32 @@ module _ {S C : Type 0} (content : C → Option (List ℕ)) (h : Type 0) (z : Si
         record {
           shows = is.shows;
           inv = inv;
-          fits = subst (λ n. FitsFetcher h n w.lock.far (w.lock.hand y.0.mover) (fetching_in y.0)) is.cells
-              (subst (λ m. FitsFetcher h z.cells w.lock.far (w.lock.hand m) (fetching_in y.0)) (sym own.1) (subst (FitsFetcher h z.cells w.lock.far (w.lock.hand (suc (z.programs + z.evacuators + k)))) own.0 fits));
+          fits = subst (λ m. FitsFetcher h z.cells w.lock.far (w.lock.hand m) (fetching_in y.0)) (sym own.1) (subst (FitsFetcher h z.cells w.lock.far (w.lock.hand (suc (z.programs + z.evacuators + k)))) own.0 fits);
+          wide = own.2;
         }
 
     -- its event is its turn
     fetch_is : (c : Choice) (a : Answer) → in_range z c ≡ true
-        → event z images w (record { actor = actor.Fetcher k; choice = c; answer = a }) ≡ with_fetcher w k (taken piece_cells w.lock (fetcher_turn piece_cells y.0.mover (fetching_in y.0) c a))
+        → event z images w (record { actor = actor.Fetcher k; choice = c; answer = a }) ≡ with_fetcher w k (taken z.cells w.lock (fetcher_turn z.cells y.0.mover (fetching_in y.0) c a))
     fetch_is c a inside =
         let own = is.fetchers k y here in
         let m : ℕ = suc (z.programs + z.evacuators + k) in
         let acts : ℕ → ℕ → Option Fetching → Option World = λ n m d. with_fetcher w k (taken n w.lock (fetcher_turn n m d c a)) in
         ap (λ b. cond b (acts z.cells m (w.fetchers k)) None) (true_and (nat_lt k z.fetchers) (in_range z c) fetcher_there inside) ∙
-        (ap (λ n. acts n m (w.fetchers k)) is.cells ∙ (ap (λ m. acts piece_cells m (w.fetchers k)) (sym own.1) ∙ ap (acts piece_cells y.0.mover) own.0))
+        (ap (λ m. acts z.cells m (w.fetchers k)) (sym own.1) ∙ ap (acts z.cells y.0.mover) own.0)
 
-    pub fetcher_stepped : (c : Choice) (t' : Tables) (berths' : List (Berth C)) (y' : Fetcher) (p' : Port S C) (honest told : Answer → Type 0) (same same' : Type 0) (r : Step) → in_range z c ≡ true → y'.mover ≡ y.0.mover → ((a : Answer) → honest a → told a) → (same → same')
-        → Goes w.lock (λ a. fetcher_turn piece_cells y.0.mover (fetching_in y.0) c a) (λ a. (h → FetchesHonestly piece_cells w.lock (fetching_in y.0) a.read) × honest a) (λ u d. Shows content z t' berths' u × (d ≡ fetching_in y')) same r
+    pub fetcher_stepped : (c : Choice) (t' : Tables) (berths' : Berths C) (y' : Fetcher) (p' : Port S C) (honest told : Answer → Type 0) (same same' : Type 0) (r : Step) → in_range z c ≡ true → y'.mover ≡ y.0.mover → length y'.words.items ≡ length y.0.words.items → ((a : Answer) → honest a → told a) → (same → same')
+        → Goes z.cells w.lock (λ a. fetcher_turn z.cells y.0.mover (fetching_in y.0) c a) (λ a. (h → FetchesHonestly z.cells w.lock (fetching_in y.0) a.read) × honest a) (λ u d. Shows content z t' berths' u × (d ≡ fetching_in y')) same r
         → Stepped content h z images (record x { tables = t'; berths = berths'; fetchers = set x.fetchers k (y', p') }) w (actor.Fetcher k) c told same' r
-    fetcher_stepped c t' berths' y' p' honest told same same' step.NotEnabled inside mover tells back g = ((λ a. fetch_is c a inside ∙ ap (with_fetcher w k) (g.0 a)), back g.1)
-    fetcher_stepped c t' berths' y' p' honest told same same' step.Took inside mover tells back g =
+    fetcher_stepped c t' berths' y' p' honest told same same' step.NotEnabled inside mover wide tells back g = ((λ a. fetch_is c a inside ∙ ap (with_fetcher w k) (g.0 a)), back g.1)
+    fetcher_stepped c t' berths' y' p' honest told same same' step.Took inside mover wide tells back g =
         let a : Answer = g.0 in
         let r = g.2.0 in
         let e : Event = record { actor = actor.Fetcher k; choice = c; answer = a } in
         let u : World = record w { lock = r.0; fetchers = upd w.fetchers k r.1 } in
         let happens : event z images w e ≡ Some u = fetch_is c a inside ∙ ap (with_fetcher w k) g.2.1 in
         let reads : h → IsHonest z w (actor.Fetcher k) a = λ i.
-        subst (λ n. FetchesHonestly n w.lock (w.fetchers k) a.read) (sym is.cells) (subst (λ d. FetchesHonestly piece_cells w.lock d a.read) (sym (is.fetchers k y here).0) (g.1.0 i)) in (
+        subst (λ d. FetchesHonestly z.cells w.lock d a.read) (sym (is.fetchers k y here).0) (g.1.0 i) in (
           a,
           reads,
           tells a g.1.1,
@@ -198,9 +197,9 @@ module _ {S C : Type 0} (content : C → Option (List ℕ)) (h : Type 0) (z : Si
               programs = is.programs;
               evacuators = is.evacuators;
               fetchers = λ j v q. elim (got_set x.fetchers k (y', p') j v q) [
-                | inl s ↦ subst (λ (v : Fetcher × Port S C). (upd w.fetchers k r.1 j ≡ fetching_in v.0) × (v.0.mover ≡ suc (z.programs + z.evacuators + j))) (sym s.1)
-                    (upd-same w.fetchers k r.1 j s.0 ∙ g.2.2.1, mover ∙ ((is.fetchers k y here).1 ∙ ap (λ i. suc (z.programs + z.evacuators + i)) (sym s.0)))
-                | inr s ↦ (upd-other w.fetchers k r.1 j s.0 ∙ (is.fetchers j v s.1).0, (is.fetchers j v s.1).1)
+                | inl s ↦ subst (λ (v : Fetcher × Port S C). (upd w.fetchers k r.1 j ≡ fetching_in v.0) × (v.0.mover ≡ suc (z.programs + z.evacuators + j)) × (length v.0.words.items ≡ z.cells)) (sym s.1)
+                    (upd-same w.fetchers k r.1 j s.0 ∙ g.2.2.1, mover ∙ ((is.fetchers k y here).1 ∙ ap (λ i. suc (z.programs + z.evacuators + i)) (sym s.0)), wide ∙ (is.fetchers k y here).2)
+                | inr s ↦ let was = is.fetchers j v s.1 in (upd-other w.fetchers k r.1 j s.0 ∙ was.0, was.1, was.2)
               ];
               reached = (is.reached.0 ++ e ∷ [], follows_push h z images (start images) w u is.reached.0 e is.reached.1 happens reads);
               cells = is.cells;
@@ -235,22 +234,21 @@ module _ {S C : Type 0} (content : C → Option (List ℕ)) (h : Type 0) (z : Si
           shows = is.shows;
           program = own.0;
           inv = inv;
-          fits = subst (λ m. FitsMode h piece_cells w.lock.far (w.lock.hand m) (w.programs k).mode) (sym (ap (λ (g : Setting). g.mover) set_so))
-              (subst (λ n. FitsMode h n w.lock.far (w.lock.hand (suc k)) (w.programs k).mode) is.cells fits);
+          fits = subst (λ m. FitsMode h z.cells w.lock.far (w.lock.hand m) (w.programs k).mode) (sym (ap (λ (g : Setting). g.mover) set_so)) fits;
           limit = limit_is;
-          size = ap (λ (g : Setting). g.size) set_so ∙ is.cells;
+          size = ap (λ (g : Setting). g.size) set_so;
         }
 
     -- its event is its turn
     turn_event : (c : Choice) (a : Answer) → in_range z c ≡ true
-        → event z images w (record { actor = actor.Program k; choice = c; answer = a }) ≡ with_program w k (taken piece_cells w.lock (program_turn y.0.setting w.lock (w.programs k) c a))
+        → event z images w (record { actor = actor.Program k; choice = c; answer = a }) ≡ with_program w k (taken z.cells w.lock (program_turn y.0.setting w.lock (w.programs k) c a))
     turn_event c a inside =
         let acts : ℕ → Setting → Option World = λ n g. with_program w k (taken n w.lock (program_turn g w.lock (w.programs k) c a)) in
         ap (λ b. cond b (acts z.cells (setting z images k)) None) (true_and (nat_lt k z.programs) (in_range z c) program_there inside) ∙
-        (ap (λ n. acts n (setting z images k)) is.cells ∙ ap (acts piece_cells) (sym set_so))
+        ap (acts z.cells) (sym set_so)
 
-    pub program_stepped : (c : Choice) (t' : Tables) (berths' : List (Berth C)) (y' : Seat) (p' : Port S C) (honest told : Answer → Type 0) (same same' : Type 0) (r : Step) → in_range z c ≡ true → ((a : Answer) → honest a → told a) → (same → same')
-        → Goes w.lock (λ a. program_turn y.0.setting w.lock (w.programs k) c a) (λ a. (h → ReadsHonestly piece_cells w.lock (w.programs k).mode a.read) × honest a)
+    pub program_stepped : (c : Choice) (t' : Tables) (berths' : Berths C) (y' : Seat) (p' : Port S C) (honest told : Answer → Type 0) (same same' : Type 0) (r : Step) → in_range z c ≡ true → ((a : Answer) → honest a → told a) → (same → same')
+        → Goes z.cells w.lock (λ a. program_turn y.0.setting w.lock (w.programs k) c a) (λ a. (h → ReadsHonestly z.cells w.lock (w.programs k).mode a.read) × honest a)
         (λ u q. Shows content z t' berths' u × IsProgram y' q × (y'.setting ≡ y.0.setting)) same r
         → Stepped content h z images (record x { tables = t'; berths = berths'; programs = set x.programs k (y', p') }) w (actor.Program k) c told same' r
     program_stepped c t' berths' y' p' honest told same same' step.NotEnabled inside tells back g = ((λ a. turn_event c a inside ∙ ap (with_program w k) (g.0 a)), back g.1)
@@ -260,7 +258,7 @@ module _ {S C : Type 0} (content : C → Option (List ℕ)) (h : Type 0) (z : Si
         let e : Event = record { actor = actor.Program k; choice = c; answer = a } in
         let u : World = record w { lock = r.0; programs = upd w.programs k r.1 } in
         let happens : event z images w e ≡ Some u = turn_event c a inside ∙ ap (with_program w k) g.2.1 in
-        let reads : h → IsHonest z w (actor.Program k) a = λ i. subst (λ n. ReadsHonestly n w.lock (w.programs k).mode a.read) (sym is.cells) (g.1.0 i) in (
+        let reads : h → IsHonest z w (actor.Program k) a = g.1.0 in (
           a,
           reads,
           tells a g.1.1,
@@ -310,50 +308,49 @@ port_set {A} {P} xs k x' p' y q e = elim (got_set xs k (x', p') k (y, q) e) [ in
 pub same_memory : {S C : Type 0} (l m : Lock S C) → l ≡ m → l.memory ≡ m.memory
 same_memory {S} {C} l m e = ap (λ (k : Lock S C). k.memory) e
 
-pub same_berths : {S C : Type 0} (l m : Lock S C) → l ≡ m → l.berths.items ≡ m.berths.items
-same_berths {S} {C} l m e = ap (λ (k : Lock S C). k.berths.items) e
+pub same_berths : {S C : Type 0} (l m : Lock S C) → l ≡ m → l.berths ≡ m.berths
+same_berths {S} {C} l m e = ap (λ (k : Lock S C). k.berths) e
 
 -- an actor that did nothing is written back as it was, with its way to the store
-module _ {S C : Type 0} (x : Parts S C) (t : Tables) (berths : List (Berth C)) (same_tables : t ≡ x.tables) (same_berths : berths ≡ x.berths) where
+module _ {S C : Type 0} (x : Parts S C) (t : Tables) (berths : Berths C) (same_tables : t ≡ x.tables) (same_berths : berths ≡ x.berths) where
   pub program_back : (seats : List (Seat × Port S C)) → seats ≡ x.programs → record x { tables = t; berths = berths; programs = seats } ≡ x
   program_back seats e =
       ap (λ (y : Tables). record x { tables = y; berths = berths; programs = seats }) same_tables ∙
-      (ap (λ (y : List (Berth C)). record x { berths = y; programs = seats }) same_berths ∙ ap (λ (y : List (Seat × Port S C)). record x { programs = y }) e)
+      (ap (λ (y : Berths C). record x { berths = y; programs = seats }) same_berths ∙ ap (λ (y : List (Seat × Port S C)). record x { programs = y }) e)
 
   pub evacuator_back : (movers : List (Evacuator × Port S C)) → movers ≡ x.evacuators → record x { tables = t; berths = berths; evacuators = movers } ≡ x
   evacuator_back movers e =
       ap (λ (y : Tables). record x { tables = y; berths = berths; evacuators = movers }) same_tables ∙
-      (ap (λ (y : List (Berth C)). record x { berths = y; evacuators = movers }) same_berths ∙ ap (λ (y : List (Evacuator × Port S C)). record x { evacuators = y }) e)
+      (ap (λ (y : Berths C). record x { berths = y; evacuators = movers }) same_berths ∙ ap (λ (y : List (Evacuator × Port S C)). record x { evacuators = y }) e)
 
   pub fetcher_back : (movers : List (Fetcher × Port S C)) → movers ≡ x.fetchers → record x { tables = t; berths = berths; fetchers = movers } ≡ x
   fetcher_back movers e =
       ap (λ (y : Tables). record x { tables = y; berths = berths; fetchers = movers }) same_tables ∙
-      (ap (λ (y : List (Berth C)). record x { berths = y; fetchers = movers }) same_berths ∙ ap (λ (y : List (Fetcher × Port S C)). record x { fetchers = y }) e)
+      (ap (λ (y : Berths C). record x { berths = y; fetchers = movers }) same_berths ∙ ap (λ (y : List (Fetcher × Port S C)). record x { fetchers = y }) e)
 
-module _ {S C : Type 0} (reliable : Type 0) (failures : S → ℕ) (gives : S → C → List ℕ → S → Type 0) (z : Sizes) (w : World) (x : Parts S C) (k : ℕ) (t' : Tables) (berths' : List (Berth C)) where
+module _ {S C : Type 0} (reliable : Type 0) (failures : S → ℕ) (gives : S → C → List ℕ → S → Type 0) (z : Sizes) (w : World) (x : Parts S C) (k : ℕ) (t' : Tables) (berths' : Berths C) where
   -- the same answer by the same ways, to the same question
-  so_told : (p q p' q' : Port S C) (y y' : Asked) (a : Answer) → z.cells ≡ piece_cells → p' ≡ p → q' ≡ q → y' ≡ y → AnswersSo reliable failures gives piece_cells x.berths p q w.lock.far y a
-      → AnswersSo reliable failures gives z.cells x.berths p' q' w.lock.far y' a
-  so_told p q p' q' y y' a cells e f d told =
-      subst (λ (n : ℕ). AnswersSo reliable failures gives n x.berths p' q' w.lock.far y' a) (sym cells)
-      (subst (λ (i : Port S C). AnswersSo reliable failures gives piece_cells x.berths i q' w.lock.far y' a) (sym e)
-      (subst (λ (i : Port S C). AnswersSo reliable failures gives piece_cells x.berths p i w.lock.far y' a) (sym f) (subst (λ (i : Asked). AnswersSo reliable failures gives piece_cells x.berths p q w.lock.far i a) (sym d) told)))
+  so_told : (p q p' q' : Port S C) (y y' : Asked) (a : Answer) → p' ≡ p → q' ≡ q → y' ≡ y → AnswersSo reliable failures gives z.cells x.berths.items p q w.lock.far y a
+      → AnswersSo reliable failures gives z.cells x.berths.items p' q' w.lock.far y' a
+  so_told p q p' q' y y' a e f d told =
+      subst (λ (i : Port S C). AnswersSo reliable failures gives z.cells x.berths.items i q' w.lock.far y' a) (sym e)
+      (subst (λ (i : Port S C). AnswersSo reliable failures gives z.cells x.berths.items p i w.lock.far y' a) (sym f) (subst (λ (i : Asked). AnswersSo reliable failures gives z.cells x.berths.items p q w.lock.far i a) (sym d) told))
 
-  pub program_told : (y : Seat × Port S C) (y' : Seat) (p' : Port S C) → z.cells ≡ piece_cells → slice_get x.programs k ≡ Some y → (a : Answer) → AnswersSo reliable failures gives piece_cells x.berths y.1 p' w.lock.far (asked_in piece_cells (w.programs k).mode) a
+  pub program_told : (y : Seat × Port S C) (y' : Seat) (p' : Port S C) → slice_get x.programs k ≡ Some y → (a : Answer) → AnswersSo reliable failures gives z.cells x.berths.items y.1 p' w.lock.far (asked_in z.cells (w.programs k).mode) a
       → StoreTold reliable failures gives z w x (record x { tables = t'; berths = berths'; programs = set x.programs k (y', p') }) (actor.Program k) a
-  program_told y y' p' cells here a told = λ p q from to.
-      so_told y.1 p' p q (asked_in piece_cells (w.programs k).mode) (asked_in z.cells (w.programs k).mode) a cells (port_at x.programs k y from.0 p here from.1) (port_set x.programs k y' p' to.0 q to.1) (ap (λ n. asked_in n (w.programs k).mode) cells) told
+  program_told y y' p' here a told = λ p q from to.
+      so_told y.1 p' p q (asked_in z.cells (w.programs k).mode) (asked_in z.cells (w.programs k).mode) a (port_at x.programs k y from.0 p here from.1) (port_set x.programs k y' p' to.0 q to.1) refl told
 
-  pub evacuator_told : (y : Evacuator × Port S C) (y' : Evacuator) (p' : Port S C) → z.cells ≡ piece_cells → slice_get x.evacuators k ≡ Some y → w.evacuators k ≡ eviction_in y.0 → (a : Answer)
-      → UnreadSo (AnswersSo reliable failures gives piece_cells x.berths y.1 p' w.lock.far (asked_idly piece_cells (eviction_in y.0))) a
+  pub evacuator_told : (y : Evacuator × Port S C) (y' : Evacuator) (p' : Port S C) → slice_get x.evacuators k ≡ Some y → w.evacuators k ≡ eviction_in y.0 → (a : Answer)
+      → UnreadSo (AnswersSo reliable failures gives z.cells x.berths.items y.1 p' w.lock.far (asked_idly z.cells (eviction_in y.0))) a
       → StoreTold reliable failures gives z w x (record x { tables = t'; berths = berths'; evacuators = set x.evacuators k (y', p') }) (actor.Evacuator k) a
-  evacuator_told y y' p' cells here is a told = λ p q from to.
-      so_told y.1 p' p q (asked_idly piece_cells (eviction_in y.0)) (asked_idly z.cells (w.evacuators k)) a cells (port_at x.evacuators k y from.0 p here from.1) (port_set x.evacuators k y' p' to.0 q to.1)
-      (ap (λ n. asked_idly n (w.evacuators k)) cells ∙ ap (asked_idly piece_cells) is) told.1
+  evacuator_told y y' p' here is a told = λ p q from to.
+      so_told y.1 p' p q (asked_idly z.cells (eviction_in y.0)) (asked_idly z.cells (w.evacuators k)) a (port_at x.evacuators k y from.0 p here from.1) (port_set x.evacuators k y' p' to.0 q to.1)
+      (ap (asked_idly z.cells) is) told.1
 
-  pub fetcher_told : (y : Fetcher × Port S C) (y' : Fetcher) (p' : Port S C) → z.cells ≡ piece_cells → slice_get x.fetchers k ≡ Some y → w.fetchers k ≡ fetching_in y.0 → (a : Answer)
-      → AnswersSo reliable failures gives piece_cells x.berths y.1 p' w.lock.far (asked_ahead piece_cells (fetching_in y.0)) a
+  pub fetcher_told : (y : Fetcher × Port S C) (y' : Fetcher) (p' : Port S C) → slice_get x.fetchers k ≡ Some y → w.fetchers k ≡ fetching_in y.0 → (a : Answer)
+      → AnswersSo reliable failures gives z.cells x.berths.items y.1 p' w.lock.far (asked_ahead z.cells (fetching_in y.0)) a
       → StoreTold reliable failures gives z w x (record x { tables = t'; berths = berths'; fetchers = set x.fetchers k (y', p') }) (actor.Fetcher k) a
-  fetcher_told y y' p' cells here is a told = λ p q from to.
-      so_told y.1 p' p q (asked_ahead piece_cells (fetching_in y.0)) (asked_ahead z.cells (w.fetchers k)) a cells (port_at x.fetchers k y from.0 p here from.1) (port_set x.fetchers k y' p' to.0 q to.1)
-      (ap (λ n. asked_ahead n (w.fetchers k)) cells ∙ ap (asked_ahead piece_cells) is) told
+  fetcher_told y y' p' here is a told = λ p q from to.
+      so_told y.1 p' p q (asked_ahead z.cells (fetching_in y.0)) (asked_ahead z.cells (w.fetchers k)) a (port_at x.fetchers k y from.0 p here from.1) (port_set x.fetchers k y' p' to.0 q to.1)
+      (ap (asked_ahead z.cells) is) told

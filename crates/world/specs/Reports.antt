@@ -54,12 +54,12 @@ IsStuckAt z images w text = IsNoLine text ⊎ ((x : Line) × (rest : List ℕ) �
 module _ {S C : Type 0} (honest reliable : Type 0) (failures : S → ℕ) (gives : S → C → List ℕ → S → Type 0) where
   -- in the world w, which code held so before and so after, with a berth for each object, the store answered so to this actor, by its way to it
   pub record Told (z : Sizes) (w : World) (x y : Parts S C) (actor : Actor) (a : Answer) : Type 0 where
-    pub many : length x.berths ≡ z.objects
+    pub many : length x.berths.items ≡ z.objects
     pub before : Port S C
     pub after : Port S C
     pub from : IsPortOf x actor before
     pub to : IsPortOf y actor after
-    pub answered : AnswersSo reliable failures gives z.cells x.berths before after w.lock.far (asked_by z w actor) a
+    pub answered : AnswersSo reliable failures gives z.cells x.berths.items before after w.lock.far (asked_by z w actor) a
 
   -- these lines lead from one world to another, as the store answered to each
   abbrev pub LinesLead : Sizes → (ℕ → Image) → World → Parts S C → List Line → World → Parts S C → Type 0

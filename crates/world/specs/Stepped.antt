@@ -1,7 +1,7 @@
 -- Which world code holds, and what a step of it is.
-use Rattle.std.specs.Prelude.{◌≡◌, ℕ, suc, ◌+◌, List, length, Option, Some, None, slice_get}
+use Rattle.std.specs.Prelude.{◌≡◌, ℕ, suc, ◌+◌, true, List, length, Option, Some, None, slice_get}
 use Rattle.code_form.specs.Form.{Image}
-use Rattle.remote_store.specs.Kept.{piece_cells}
+use Rattle.cells.specs.Pieces.{is_piece}
 use Rattle.remote_store.specs.declared.port.Port.{Port}
 use Rattle.world_semantics.specs.declared.event.Actor.{Actor}
 use Rattle.world_semantics.specs.declared.event.Choice.{Choice}
@@ -22,10 +22,10 @@ module _ {S C : Type 0} (content : C → Option (List ℕ)) where
   pub record IsWorld (h : Type 0) (z : Sizes) (images : ℕ → Image) (x : Parts S C) (w : World) : Type 0 where
     pub shows : Shows content z x.tables x.berths w.lock
     pub programs : (k : ℕ) (y : Seat × Port S C) → slice_get x.programs k ≡ Some y → IsProgram y.0 (w.programs k) × (y.0.setting ≡ setting z images k)
-    pub evacuators : (k : ℕ) (y : Evacuator × Port S C) → slice_get x.evacuators k ≡ Some y → (w.evacuators k ≡ eviction_in y.0) × (y.0.mover ≡ suc (z.programs + k))
-    pub fetchers : (k : ℕ) (y : Fetcher × Port S C) → slice_get x.fetchers k ≡ Some y → (w.fetchers k ≡ fetching_in y.0) × (y.0.mover ≡ suc (z.programs + z.evacuators + k))
+    pub evacuators : (k : ℕ) (y : Evacuator × Port S C) → slice_get x.evacuators k ≡ Some y → (w.evacuators k ≡ eviction_in y.0) × (y.0.mover ≡ suc (z.programs + k)) × (length y.0.words.items ≡ z.cells)
+    pub fetchers : (k : ℕ) (y : Fetcher × Port S C) → slice_get x.fetchers k ≡ Some y → (w.fetchers k ≡ fetching_in y.0) × (y.0.mover ≡ suc (z.programs + z.evacuators + k)) × (length y.0.words.items ≡ z.cells)
     pub reached : (events : List Event) × Follows h z images (start images) events w
-    pub cells : z.cells ≡ piece_cells
+    pub cells : is_piece z.cells ≡ true
     pub programs_many : length x.programs ≡ z.programs
     pub evacuators_many : length x.evacuators ≡ z.evacuators
     pub fetchers_many : length x.fetchers ≡ z.fetchers

@@ -29,4 +29,4 @@ IsPortOf x (actor.Fetcher k) p = (y : Fetcher) × (slice_get x.fetchers k ≡ So
 module _ {S C : Type 0} (reliable : Type 0) (failures : S → ℕ) (gives : S → C → List ℕ → S → Type 0) where
   -- the store answered so to an actor of the world w, which code held so before and so after
   abbrev pub StoreTold : Sizes → World → Parts S C → Parts S C → Actor → Answer → Type 0
-  StoreTold z w x y actor a = (p q : Port S C) → IsPortOf x actor p → IsPortOf y actor q → AnswersSo reliable failures gives z.cells x.berths p q w.lock.far (asked_by z w actor) a
+  StoreTold z w x y actor a = (p q : Port S C) → IsPortOf x actor p → IsPortOf y actor q → AnswersSo reliable failures gives z.cells x.berths.items p q w.lock.far (asked_by z w actor) a

@@ -1,35 +1,15 @@
 //! How a world is made.
+ghost use Rattle.cells.specs.Pieces.{cells_in};
 ghost use Rattle.code_form.specs.Form.{image_of};
-ghost use Rattle.pointer_word.specs.Machine.{Never};
 ghost use Rattle.std.specs.Prelude.{◌≡◌, ◌≢◌, ◌+◌, ◌*◌, ◌<◌, ◌≤◌, ℕ, IfErr, IfOk, None, length};
-ghost use Rattle.world_memory.specs.Shown.{AreFar};
 ghost use Rattle.world.specs.Opened.{AreAtRest, AreBegun, AreIdle};
 
-use cells::Want;
+use cells::{Piece, Want};
 use code_form::Image;
-use remote_store::{Berth, Port, RawStore, Stores};
+use remote_store::{Port, RawStore, Stores};
 use std::alloc::Global;
 use world_actors::{Evacuator, Program};
 use world_fetchers::Fetcher;
-
-/// A berth for each object, into which nothing was put yet.
-pub(crate) fn new_berths<S: RawStore>(
-    alloc: Global,
-    store: &S,
-    objects: usize,
-) -> Result<Vec<Berth<S::Cell>>, Want>
-    ensures made { IfOk result (λ v. (length v.items ≡ objects) × AreFar S.content v.items (λ _. Never)) }
-    ensures wants { IfErr result (λ want. want ≢ Want.NoObjects) }
-{
-    let mut berths = Vec::new(alloc);
-    while berths.len() < objects {
-        let cell = store.cell(alloc)?;
-        if let Err(_refused) = berths.push(Berth::new(cell)) {
-            return Err(Want::OutOfMemory);
-        }
-    }
-    Ok(berths)
-}
 
 /// Each image's program at its beginning, with a share of the objects and a way to the store.
 pub(crate) fn new_programs<'a, S: RawStore, M: Stores<S = S>>(
@@ -71,16 +51,19 @@ pub(crate) fn new_evacuators<S: RawStore, M: Stores<S = S>>(
     stores: &M,
     programs: usize,
     count: usize,
+    piece: Piece,
 ) -> Result<Vec<(Evacuator, Port<S>)>, Want>
     requires { (programs ≤ 256) × (count ≤ 64) }
-    ensures made { IfOk result (λ v. (length v.items ≡ count) × AreIdle programs v.items) }
+    ensures made { IfOk result (λ v. (length v.items ≡ count) × AreIdle (cells_in piece) programs v.items) }
     ensures wants { IfErr result (λ want. want ≢ Want.NoObjects) }
 {
     let mut evacuators = Vec::new(alloc);
     while evacuators.len() < count {
         let number = programs + evacuators.len() + 1;
+        let Ok(evacuator) = Evacuator::new(alloc, number as u16, piece) else {
+            return Err(Want::OutOfMemory);
+        };
         let port = Port::new(stores.one(alloc)?);
-        let evacuator = Evacuator::new(number as u16);
         if let Err(_refused) = evacuators.push((evacuator, port)) {
             return Err(Want::OutOfMemory);
         }
@@ -94,16 +77,19 @@ pub(crate) fn new_fetchers<S: RawStore, M: Stores<S = S>>(
     stores: &M,
     before: usize,
     count: usize,
+    piece: Piece,
 ) -> Result<Vec<(Fetcher, Port<S>)>, Want>
     requires { (before ≤ 320) × (count ≤ 64) }
-    ensures made { IfOk result (λ v. (length v.items ≡ count) × AreAtRest before v.items) }
+    ensures made { IfOk result (λ v. (length v.items ≡ count) × AreAtRest (cells_in piece) before v.items) }
     ensures wants { IfErr result (λ want. want ≢ Want.NoObjects) }
 {
     let mut fetchers = Vec::new(alloc);
     while fetchers.len() < count {
         let number = before + fetchers.len() + 1;
+        let Ok(fetcher) = Fetcher::new(alloc, number as u16, piece) else {
+            return Err(Want::OutOfMemory);
+        };
         let port = Port::new(stores.one(alloc)?);
-        let fetcher = Fetcher::new(number as u16);
         if let Err(_refused) = fetchers.push((fetcher, port)) {
             return Err(Want::OutOfMemory);
         }

@@ -1,8 +1,9 @@
 //! Schedules, replayed.
-ghost use Rattle.std.specs.Prelude.{◌≡◌, ◌<◌, ◌≤◌, ℕ, MatchOption, MatchResult, length};
+ghost use Rattle.std.specs.Prelude.{◌≡◌, ◌+◌, ◌<◌, ◌≤◌, ℕ, MatchOption, MatchResult, length};
 ghost use Rattle.code_form.specs.Form.{Image as ImageOf};
 ghost use Rattle.world.specs.Stepped.{IsWorld};
 ghost use Rattle.world.specs.Opened.{images_of, sizes_of};
+ghost use Rattle.world_semantics.specs.Pieces.{HaveOnePiece, piece_of};
 ghost use Rattle.world.specs.Parts.{parts};
 ghost use Rattle.world.specs.Reports.{HasLed, IsRefusal, IsRefusedLine, IsReport};
 ghost use Rattle.world_semantics.specs.Worlds.{Sizes, World as Defined};
@@ -62,7 +63,7 @@ pub(crate) fn follow<S: RawStore>(world: &mut World<'_, S>, schedule: &[u8]) -> 
 /// then nothing, or a blank and a verb with its numbers (`look F`, `claim F`, `mark O F`, `begin O`), and a newline.
 ///
 /// `Line` names the first line that can't be read or is not enabled, counted from 1. `OutOfMemory` where a growth was refused, or a store
-/// could not be made. There are 1 to 256 images, and at most 64 evacuators and 64 fetchers.
+/// could not be made. There are 1 to 256 images, all of one piece, and at most 64 evacuators and 64 fetchers.
 pub fn replay<M: Stores + Drop>(
     alloc: Global,
     images: Vec<Image>,
@@ -74,9 +75,11 @@ pub fn replay<M: Stores + Drop>(
     requires objects { (0 < config.now.objects) × (config.now.objects ≤ 16777216) }
     requires evacuators { config.now.evacuators ≤ 64 }
     requires fetchers { config.now.fetchers ≤ 64 }
+    requires pieces { HaveOnePiece (images_of images.items) (length images.items) }
+    requires store { M.makes config.now.stores (piece_of (images_of images.items) + 3) }
     ensures { MatchResult result
-        (λ report. IsReport M.S.honest M.S.reliable M.S.failures M.S.read_gives (sizes_of (length images.items) config.now.frames config.now.objects config.now.evacuators config.now.fetchers) (images_of images.items) schedule.now report.ended.items)
-        (λ refused. IsRefusal M.S.honest M.S.reliable M.S.failures M.S.read_gives (sizes_of (length images.items) config.now.frames config.now.objects config.now.evacuators config.now.fetchers) (images_of images.items) schedule.now refused) }
+        (λ report. IsReport M.S.honest M.S.reliable M.S.failures M.S.read_gives (sizes_of (length images.items) config.now.frames config.now.objects config.now.evacuators config.now.fetchers (piece_of (images_of images.items))) (images_of images.items) schedule.now report.ended.items)
+        (λ refused. IsRefusal M.S.honest M.S.reliable M.S.failures M.S.read_gives (sizes_of (length images.items) config.now.frames config.now.objects config.now.evacuators config.now.fetchers (piece_of (images_of images.items))) (images_of images.items) schedule.now refused) }
 {
     let Ok(mut world) = World::new(alloc, &images, config) else {
         return Err(Refused::OutOfMemory);

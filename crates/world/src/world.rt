@@ -1,15 +1,15 @@
 //! The world: its memory, programs, evacuators and fetchers, and its events.
-ghost use Rattle.std.specs.Prelude.{◌≡◌, ◌≢◌, ◌<◌, ◌≤◌, ℕ, IfOk, IfErr, length, true};
+ghost use Rattle.std.specs.Prelude.{◌≡◌, ◌≢◌, ◌+◌, ◌<◌, ◌≤◌, ℕ, IfOk, IfErr, length, true};
 ghost use Rattle.code_form.specs.Form.{Image as ImageOf};
-ghost use Rattle.remote_store.specs.Kept.{piece_cells};
 ghost use Rattle.world.specs.Opened.{cell_of, images_of, sizes_of};
+ghost use Rattle.world_semantics.specs.Pieces.{HaveOnePiece, piece_of};
 ghost use Rattle.world.specs.Parts.{parts};
 ghost use Rattle.pointer_word.specs.Words.{pack};
 ghost use Rattle.world.specs.Stepped.{IsWorld, Stepped};
 ghost use Rattle.world.specs.Telling.{StoreTold};
 ghost use Rattle.world_semantics.specs.Worlds.{Sizes, World as Defined, in_range, start};
 
-use crate::make::{new_berths, new_evacuators, new_fetchers, new_programs};
+use crate::make::{new_evacuators, new_fetchers, new_programs};
 use cells::Want;
 use code_form::Image;
 use pointer_word::Word;
@@ -17,7 +17,7 @@ use remote_store::{Config, Port, RawStore, Stores};
 use std::alloc::Global;
 use world_actors::{Evacuator, Program};
 use world_fetchers::Fetcher;
-use world_memory::{Lock, Memory};
+use world_memory::{Berths, Lock, Memory};
 use world_semantics::event::{Actor, Choice, Step};
 
 /// A world as code keeps it: its memory with the berths, and each actor with its way to the store.
@@ -30,7 +30,7 @@ pub struct World<'a, S: RawStore> {
 }
 
 impl<'a, S: RawStore> World<'a, S> {
-    /// The opening world: every object away with no hold, every frame free and zero, nothing in the store, each program at its
+    /// The opening world, whose pieces are those of the images: every object away with no hold, every frame free and zero, nothing in the store, each program at its
     /// beginning, and each evacuator and each fetcher idle. `OutOfMemory` where a growth was refused, and the wants of making the stores and their cells.
     pub fn new<M: Stores<S = S> + Drop>(
         alloc: Global,
@@ -42,22 +42,31 @@ impl<'a, S: RawStore> World<'a, S> {
         requires objects { (0 < config.now.objects) × (config.now.objects ≤ 16777216) }
         requires evacuators { config.now.evacuators ≤ 64 }
         requires fetchers { config.now.fetchers ≤ 64 }
-        ensures opens { IfOk result (λ world. IsWorld S.content S.honest (sizes_of (length images.now) config.now.frames config.now.objects config.now.evacuators config.now.fetchers) (images_of images.now)
+        requires pieces { HaveOnePiece (images_of images.now) (length images.now) }
+        requires store { M.makes config.now.stores (piece_of (images_of images.now) + 3) }
+        ensures opens { IfOk result (λ world. IsWorld S.content S.honest (sizes_of (length images.now) config.now.frames config.now.objects config.now.evacuators config.now.fetchers (piece_of (images_of images.now))) (images_of images.now)
             (parts world) (start (images_of images.now))) }
         ensures wants { IfErr result (λ want. want ≢ Want.NoObjects) }
     {
         let objects = config.objects as usize;
-        let Ok(memory) = Memory::new(alloc, objects, config.frames as usize) else {
+        let piece = images[0].piece;
+        let Ok(memory) = Memory::new(alloc, objects, config.frames as usize, piece) else {
             return Err(Want::OutOfMemory);
         };
         let store = config.stores.one(alloc)?;
-        let berths = new_berths(alloc, &store, objects)?;
+        let berths = Berths::new(alloc, &store, objects, piece)?;
         let share = objects / images.len();
         let programs = new_programs(alloc, &config.stores, images, share as u64)?;
         let count = config.evacuators as usize;
-        let evacuators = new_evacuators(alloc, &config.stores, images.len(), count)?;
+        let evacuators = new_evacuators(alloc, &config.stores, images.len(), count, piece)?;
         let before = images.len() + count;
-        let fetchers = new_fetchers(alloc, &config.stores, before, config.fetchers as usize)?;
+        let fetchers = new_fetchers(
+            alloc,
+            &config.stores,
+            before,
+            config.fetchers as usize,
+            piece,
+        )?;
         Ok(World {
             lock: Lock { memory, berths },
             programs,
@@ -76,7 +85,6 @@ impl<'a, S: RawStore> World<'a, S> {
 
     /// The cell of this index of the frame where the object is, if it is in one.
     pub fn cell(&self, object: u32, index: usize) -> Option<u64>
-        requires { index < piece_cells }
         ensures { (z : Sizes) (images : ℕ → ImageOf) (w : Defined) → IsWorld S.content S.honest z images (parts self.now) w
             → result ≡ cell_of w.lock object index }
     {

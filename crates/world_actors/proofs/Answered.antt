@@ -4,7 +4,6 @@ use Rattle.std.specs.Prelude.{nat_lt}
 use Rattle.std.proofs.lemmas.Bool.Decides.{nat_tests}
 use Rattle.std.proofs.lemmas.List.{length-take-le, take_all}
 use Rattle.pointer_word.specs.Machine.{Far}
-use Rattle.remote_store.specs.Kept.{piece_cells}
 use Rattle.remote_store.specs.declared.berth.Berth.{Berth}
 use Rattle.remote_store.specs.declared.port.Port.{Port}
 use Rattle.world_memory.specs.Answered.{AnswersSo, Asked, Nothing, Puts}
@@ -19,16 +18,16 @@ below_false : (a b : ℕ) → b ≤ a → nat_lt a b ≡ false
 below_false a b l = grind (arith, nat_tests)
 
 -- a copy asks nothing of the store
-pub copy_asks : (o f k : ℕ) (words : List ℕ) → length words ≡ piece_cells → k < piece_cells → asked_out piece_cells (Copying o f (take k words)) ≡ Nothing
-copy_asks o f k words l below =
+pub copy_asks : (n o f k : ℕ) (words : List ℕ) → length words ≡ n → k < length words → asked_out n (Copying o f (take k words)) ≡ Nothing
+copy_asks n o f k words l below =
     let many : length (take k words) ≡ k = length-take-le k words (omega arith) in
-    ap (λ b. cond b Nothing (Puts o)) (below_true (length (take k words)) piece_cells (omega arith))
+    ap (λ b. cond b Nothing (Puts o)) (below_true (length (take k words)) n (omega arith))
 
 -- behind the copies the object is put
-pub put_asks : (o f k : ℕ) (words : List ℕ) → length words ≡ piece_cells → piece_cells ≤ k → asked_out piece_cells (Copying o f (take k words)) ≡ Puts o
-put_asks o f k words l full =
+pub put_asks : (n o f k : ℕ) (words : List ℕ) → length words ≡ n → length words ≤ k → asked_out n (Copying o f (take k words)) ≡ Puts o
+put_asks n o f k words l full =
     let many : length (take k words) ≡ length words = ap length (take_all k words (omega arith)) in
-    ap (λ b. cond b Nothing (Puts o)) (below_false (length (take k words)) piece_cells (omega arith))
+    ap (λ b. cond b Nothing (Puts o)) (below_false (length (take k words)) n (omega arith))
 
 module _ {S C : Type 0} (reliable : Type 0) (failures : S → ℕ) (gives : S → C → List ℕ → S → Type 0) (n : ℕ) (berths : List (Berth C)) (p q : Port S C) (far : ℕ → Far) (a : Answer) where
   -- where nothing is asked, nothing happens

@@ -12,8 +12,7 @@ use Rattle.pointer_word.specs.Legal.{holds, legal}
 use Rattle.pointer_word.proofs.Legal.{agrees_anyway, legal_may, may_legal}
 use Rattle.pointer_word.proofs.Ordered.{filled_all}
 use Rattle.pointer_word.proofs.Upd.{upd-same}
-use Rattle.remote_store.specs.Kept.{piece_cells}
-use Rattle.remote_store.specs.declared.berth.Berth.{Berth}
+use Rattle.world_memory.specs.Berths.{Berths}
 use Rattle.remote_store.specs.declared.port.Port.{Port}
 use Rattle.world_memory.specs.declared.memory.Object.{Object}
 use Rattle.world_memory.specs.declared.memory.Place.{Place as RustPlace}
@@ -86,29 +85,29 @@ program_finished x x' p v is e = subst (λ (y : Seat). IsProgram y (finished_as 
   completed = count_mod x.completed p.completed is.completed;
 })
 
-module _ {C : Type 0} (content : C → Option (List ℕ)) (h : Type 0) (z : Sizes) (t : Tables) (berths : List (Berth C)) (x : Seat) (s : State) (p : Program) (is : Seated content h z t berths x s p) where
+module _ {C : Type 0} (content : C → Option (List ℕ)) (h : Type 0) (z : Sizes) (t : Tables) (berths : Berths C) (x : Seat) (s : State) (p : Program) (is : Seated content h z t berths x s p) where
   -- a turn leads to what the tables, the berths and the program are now
-  abbrev pub TurnsTo : (Answer → Turn Program) → Tables → List (Berth C) → Seat → Type 0
-  TurnsTo turn t' berths' x' = Leads s turn (λ a. h → ReadsHonestly piece_cells s p.mode a.read) (λ u q. Shows content z t' berths' u × IsProgram x' q × (x'.setting ≡ x.setting))
+  abbrev pub TurnsTo : (Answer → Turn Program) → Tables → Berths C → Seat → Type 0
+  TurnsTo turn t' berths' x' = Leads z.cells s turn (λ a. h → ReadsHonestly z.cells s p.mode a.read) (λ u q. Shows content z t' berths' u × IsProgram x' q × (x'.setting ≡ x.setting))
 
-  pub calls_to : (turn : Answer → Turn Program) (t' : Tables) (berths' : List (Berth C)) (x' : Seat) (c : Call) (go : State → Program) → turn plain ≡ Calls c go → legal piece_cells s c ≡ true
+  pub calls_to : (turn : Answer → Turn Program) (t' : Tables) (berths' : Berths C) (x' : Seat) (c : Call) (go : State → Program) → turn plain ≡ Calls c go → legal z.cells s c ≡ true
       → Shows content z t' berths' (act s c) → IsProgram x' (go (act s c)) → x'.setting ≡ x.setting → TurnsTo turn t' berths' x'
   calls_to turn t' berths' x' c go e l shows program same =
-      leads_call s turn (λ a. h → ReadsHonestly piece_cells s p.mode a.read) (λ u q. Shows content z t' berths' u × IsProgram x' q × (x'.setting ≡ x.setting)) plain c go
-      (λ _. reads_none piece_cells s p.mode) e l (shows, program, same)
+      leads_call z.cells s turn (λ a. h → ReadsHonestly z.cells s p.mode a.read) (λ u q. Shows content z t' berths' u × IsProgram x' q × (x'.setting ≡ x.setting)) plain c go
+      (λ _. reads_none z.cells s p.mode) e l (shows, program, same)
 
   -- the same, where the store answered so
-  abbrev pub TurnsToSo : (Answer → Type 0) → (Answer → Turn Program) → Tables → List (Berth C) → Seat → Type 0
-  TurnsToSo told turn t' berths' x' = Leads s turn (λ a. (h → ReadsHonestly piece_cells s p.mode a.read) × told a) (λ u q. Shows content z t' berths' u × IsProgram x' q × (x'.setting ≡ x.setting))
+  abbrev pub TurnsToSo : (Answer → Type 0) → (Answer → Turn Program) → Tables → Berths C → Seat → Type 0
+  TurnsToSo told turn t' berths' x' = Leads z.cells s turn (λ a. (h → ReadsHonestly z.cells s p.mode a.read) × told a) (λ u q. Shows content z t' berths' u × IsProgram x' q × (x'.setting ≡ x.setting))
 
   pub alone_to : (turn : Answer → Turn Program) (x' : Seat) (q : Program) → turn plain ≡ Alone q → IsProgram x' q → x'.setting ≡ x.setting → TurnsTo turn t berths x'
-  alone_to turn x' q e program same = (plain, (λ _. reads_none piece_cells s p.mode), ((s, q), ap (taken piece_cells s) e, (is.shows, program, same)))
+  alone_to turn x' q e program same = (plain, (λ _. reads_none z.cells s p.mode), ((s, q), ap (taken z.cells s) e, (is.shows, program, same)))
 
   pub mode_is : (mode : RustMode) → x.mode ≡ mode → p.mode ≡ mode_of mode x.words
   mode_is mode e = is.program.mode ∙ ap (λ y. mode_of y x.words) e
 
-  pub fits_as : (mode : RustMode) → x.mode ≡ mode → FitsMode h piece_cells s.far (s.hand x.setting.mover) (mode_of mode x.words)
-  fits_as mode e = subst (FitsMode h piece_cells s.far (s.hand x.setting.mover)) (mode_is mode e) is.fits
+  pub fits_as : (mode : RustMode) → x.mode ≡ mode → FitsMode h z.cells s.far (s.hand x.setting.mover) (mode_of mode x.words)
+  fits_as mode e = subst (FitsMode h z.cells s.far (s.hand x.setting.mover)) (mode_is mode e) is.fits
 
   pub word_count : (o : ℕ) → (s.word o).count ≡ (object_at t o).count
   word_count o = ap (λ (w : Word). w.count) (is.shows.tables.objects o).word
@@ -131,8 +130,8 @@ module _ {C : Type 0} (content : C → Option (List ℕ)) (h : Type 0) (z : Size
 
   -- ---- beginning
 
-  begin_legal : (o : ℕ) → x.mode ≡ m.Missing o → 0 < (object_at t o).count → legal piece_cells s (Begins x.setting.mover o (s.note o).count true) ≡ true
-  begin_legal o e l = may_legal h piece_cells s (Begins x.setting.mover o (s.note o).count true) ((fits_as (m.Missing o) e).0, λ _. subst (λ n. 0 < n) (sym (note_count o)) l)
+  begin_legal : (o : ℕ) → x.mode ≡ m.Missing o → 0 < (object_at t o).count → legal z.cells s (Begins x.setting.mover o (s.note o).count true) ≡ true
+  begin_legal o e l = may_legal h z.cells s (Begins x.setting.mover o (s.note o).count true) ((fits_as (m.Missing o) e).0, λ _. subst (λ n. 0 < n) (sym (note_count o)) l)
 
   not_away : (o c : ℕ) (y : RustPlace) → is_away_at y ≡ false → begin_at s x.setting.mover o c true (place_of y) ≡ after_told s o
   not_away o c placed.Away e = cc
@@ -154,7 +153,7 @@ module _ {C : Type 0} (content : C → Option (List ℕ)) (h : Type 0) (z : Size
       let held : holds (u.hand j).bringing o ≡ true = ap (λ (k : Hand). holds k.bringing o) hand ∙ eq-eqb o o refl in
       let goes : began x.setting p o u ≡ in_mode p (Bringing o) = ap (λ b. cond b (in_mode p (Bringing o)) (found x.setting p o u)) held in
       calls_to (λ a. Calls (Begins j o c true) (began x.setting p o)) t' berths x' (Begins j o c true) (began x.setting p o) refl (begin_legal o e l)
-      (subst (λ (v : State). Shows content z t' berths v) (sym after) (record { tables = shown is.shows.tables (held_inside o l); far = is.shows.far; many = is.shows.many; objects_few = is.shows.objects_few; frames_few = is.shows.frames_few }))
+      (subst (λ (v : State). Shows content z t' berths v) (sym after) (record { tables = shown is.shows.tables (held_inside o l); far = is.shows.far; many = is.shows.many; objects_few = is.shows.objects_few; frames_few = is.shows.frames_few; size = is.shows.size }))
       (subst (λ (v : State). IsProgram x' (began x.setting p o v)) (sym after) (subst (IsProgram x') (sym goes) (program_mode x x' p (m.Bringing o) (Bringing o) is.program same refl)))
       (ap (λ (k : Seat). k.setting) same)
 
@@ -172,7 +171,7 @@ module _ {C : Type 0} (content : C → Option (List ℕ)) (h : Type 0) (z : Size
       let goes : began x.setting p o u ≡ cond (known f) (finished_as x.setting p 0) (in_mode p (Missing o)) =
       ap (λ b. cond b (in_mode p (Bringing o)) (found x.setting p o u)) free ∙ ap (λ y. cond (known y) (finished_as x.setting p 0) (in_mode p (Missing o))) noted in
       calls_to (λ a. Calls (Begins j o c true) (began x.setting p o)) t' berths x' (Begins j o c true) (began x.setting p o) refl (begin_legal o e l)
-      (subst (λ (v : State). Shows content z t' berths v) (sym after) (record { tables = shown is.shows.tables (held_inside o l); far = is.shows.far; many = is.shows.many; objects_few = is.shows.objects_few; frames_few = is.shows.frames_few }))
+      (subst (λ (v : State). Shows content z t' berths v) (sym after) (record { tables = shown is.shows.tables (held_inside o l); far = is.shows.far; many = is.shows.many; objects_few = is.shows.objects_few; frames_few = is.shows.frames_few; size = is.shows.size }))
       (subst (λ (v : State). IsProgram x' (began x.setting p o v)) (sym after) (subst (IsProgram x') (sym goes) (told is.program))) same
 
   -- ---- seeking a frame
@@ -180,10 +179,10 @@ module _ {C : Type 0} (content : C → Option (List ℕ)) (h : Type 0) (z : Size
   pub only : (o : ℕ) → x.mode ≡ m.Bringing o → OnlyBrings o (s.hand x.setting.mover)
   only o e = fits_as (m.Bringing o) e
 
-  claim_legal : (o f : ℕ) → x.mode ≡ m.Bringing o → legal piece_cells s (Claims x.setting.mover o f) ≡ true
-  claim_legal o f e = may_legal h piece_cells s (Claims x.setting.mover o f) (only o e).2.0
+  claim_legal : (o f : ℕ) → x.mode ≡ m.Bringing o → legal z.cells s (Claims x.setting.mover o f) ≡ true
+  claim_legal o f e = may_legal h z.cells s (Claims x.setting.mover o f) (only o e).2.0
 
-  pub claims_free : (o f : ℕ) (t' : Tables) (x' : Seat) (new : Bool) → x.mode ≡ m.Bringing o → f < z.frames → is_none (frame_at t f).held_for ≡ true
+  pub claims_free : (o f : ℕ) (t' : Tables) (x' : Seat) (new : Bool) → x.mode ≡ m.Bringing o → f < z.frames → is_none (frame_at t f) ≡ true
       → (Shown z t s → f < z.frames → AreTables z t' s.word s.note (upd s.frame f (suc o)) s.cell) → IsNew new (s.far o)
       → ((far : Far) (p : Program) → IsNew new far → IsProgram x p → IsProgram x' (in_mode p (as_mode (to_fill o f far)))) → x'.setting ≡ x.setting
       → TurnsTo (λ a. Calls (Claims x.setting.mover o f) (program_claimed x.setting p o f)) t' berths x'
@@ -192,18 +191,18 @@ module _ {C : Type 0} (content : C → Option (List ℕ)) (h : Type 0) (z : Size
       let u : State = after_claim s j o f in
       let y : Hand = claiming (s.hand j) f in
       let hand : u.hand j ≡ y = upd-same s.hand j y j refl in
-      let zero : (s.frame f == 0) ≡ true = ap (λ n. n == 0) (is.shows.tables.frames f) ∙ word_is (frame_at t f).held_for true none in
+      let zero : (s.frame f == 0) ≡ true = ap (λ n. n == 0) (is.shows.tables.frames f) ∙ word_is (frame_at t f) true none in
       let after : act s (Claims j o f) ≡ u = ap (λ b. cond b u s) zero in
       let held : holds (u.hand j).claimed f ≡ true = ap (λ (k : Hand). holds k.claimed f) hand ∙ eq-eqb f f refl in
       let goes : program_claimed x.setting p o f u ≡ in_mode p (as_mode (to_fill o f (s.far o))) = ap (λ b. cond b (in_mode p (as_mode (to_fill o f (s.far o)))) p) held in
       calls_to (λ a. Calls (Claims j o f) (program_claimed x.setting p o f)) t' berths x' (Claims j o f) (program_claimed x.setting p o f) refl (claim_legal o f e)
-      (subst (λ (v : State). Shows content z t' berths v) (sym after) (record { tables = shown is.shows.tables inside; far = is.shows.far; many = is.shows.many; objects_few = is.shows.objects_few; frames_few = is.shows.frames_few }))
+      (subst (λ (v : State). Shows content z t' berths v) (sym after) (record { tables = shown is.shows.tables inside; far = is.shows.far; many = is.shows.many; objects_few = is.shows.objects_few; frames_few = is.shows.frames_few; size = is.shows.size }))
       (subst (λ (v : State). IsProgram x' (program_claimed x.setting p o f v)) (sym after) (subst (IsProgram x') (sym goes) (starts (s.far o) p far is.program))) same
 
-  pub claims_held : (o f : ℕ) → x.mode ≡ m.Bringing o → is_none (frame_at t f).held_for ≡ false → TurnsTo (λ a. Calls (Claims x.setting.mover o f) (program_claimed x.setting p o f)) t berths x
+  pub claims_held : (o f : ℕ) → x.mode ≡ m.Bringing o → is_none (frame_at t f) ≡ false → TurnsTo (λ a. Calls (Claims x.setting.mover o f) (program_claimed x.setting p o f)) t berths x
   claims_held o f e none =
       let j = x.setting.mover in
-      let zero : (s.frame f == 0) ≡ false = ap (λ n. n == 0) (is.shows.tables.frames f) ∙ word_is (frame_at t f).held_for false none in
+      let zero : (s.frame f == 0) ≡ false = ap (λ n. n == 0) (is.shows.tables.frames f) ∙ word_is (frame_at t f) false none in
       let after : act s (Claims j o f) ≡ s = ap (λ b. cond b (after_claim s j o f) s) zero in
       let free : holds (s.hand j).claimed f ≡ false = ap (λ y. holds y f) (only o e).2.0 in
       let goes : program_claimed x.setting p o f s ≡ p = ap (λ b. cond b (in_mode p (as_mode (to_fill o f (s.far o)))) p) free in
@@ -211,24 +210,24 @@ module _ {C : Type 0} (content : C → Option (List ℕ)) (h : Type 0) (z : Size
       (subst (λ (v : State). Shows content z t berths v) (sym after) is.shows)
       (subst (λ (v : State). IsProgram x (program_claimed x.setting p o f v)) (sym after) (subst (IsProgram x) (sym goes) is.program)) refl
 
-  pub marks_other : (o v f : ℕ) (t' : Tables) (berths' : List (Berth C)) (x' : Seat) (b : Bool) → x.mode ≡ m.Bringing o
+  pub marks_other : (o v f : ℕ) (t' : Tables) (berths' : Berths C) (x' : Seat) (b : Bool) → x.mode ≡ m.Bringing o
       → Shows content z t' berths' (act s (Marks x.setting.mover v f)) × (holds ((act s (Marks x.setting.mover v f)).hand x.setting.mover).leaving v ≡ b)
       → IsProgram x' (cond b (in_mode p (Evicting o (Copying v f []))) p) → x'.setting ≡ x.setting → TurnsTo (λ a. Calls (Marks x.setting.mover v f) (marked_so x.setting p o v f)) t' berths' x'
   marks_other o v f t' berths' x' b e so program same =
       let j = x.setting.mover in
       let u : State = act s (Marks j v f) in
       let goes : marked_so x.setting p o v f u ≡ cond b (in_mode p (Evicting o (Copying v f []))) p = ap (λ y. cond y (in_mode p (Evicting o (Copying v f []))) p) so.1 in
-      calls_to (λ a. Calls (Marks j v f) (marked_so x.setting p o v f)) t' berths' x' (Marks j v f) (marked_so x.setting p o v f) refl (may_legal h piece_cells s (Marks j v f) (only o e).1)
+      calls_to (λ a. Calls (Marks j v f) (marked_so x.setting p o v f)) t' berths' x' (Marks j v f) (marked_so x.setting p o v f) refl (may_legal h z.cells s (Marks j v f) (only o e).1)
       so.0 (subst (IsProgram x') (sym goes) program) same
 
-  pub leaves_other : (o v f : ℕ) (t' : Tables) (berths' : List (Berth C)) (x' : Seat) (b : Bool) → x.mode ≡ m.Bringing o
+  pub leaves_other : (o v f : ℕ) (t' : Tables) (berths' : Berths C) (x' : Seat) (b : Bool) → x.mode ≡ m.Bringing o
       → Shows content z t' berths' (act s (Leaves x.setting.mover v f)) × (holds ((act s (Leaves x.setting.mover v f)).hand x.setting.mover).freed f ≡ b)
       → IsProgram x' (cond b (in_mode p (Evicting o (Freed f))) p) → x'.setting ≡ x.setting → TurnsTo (λ a. Calls (Leaves x.setting.mover v f) (left_so x.setting p o f)) t' berths' x'
   leaves_other o v f t' berths' x' b e so program same =
       let j = x.setting.mover in
       let u : State = act s (Leaves j v f) in
       let goes : left_so x.setting p o f u ≡ cond b (in_mode p (Evicting o (Freed f))) p = ap (λ y. cond y (in_mode p (Evicting o (Freed f))) p) so.1 in
-      calls_to (λ a. Calls (Leaves j v f) (left_so x.setting p o f)) t' berths' x' (Leaves j v f) (left_so x.setting p o f) refl (may_legal h piece_cells s (Leaves j v f) (only o e).2.1)
+      calls_to (λ a. Calls (Leaves j v f) (left_so x.setting p o f)) t' berths' x' (Leaves j v f) (left_so x.setting p o f) refl (may_legal h z.cells s (Leaves j v f) (only o e).2.1)
       so.0 (subst (IsProgram x') (sym goes) program) same
 
   -- ---- reading and filling
@@ -238,19 +237,19 @@ module _ {C : Type 0} (content : C → Option (List ℕ)) (h : Type 0) (z : Size
   was_put o f e = (fits_as (m.Reading o f) e).1
 
   -- what it asks of the store
-  pub asked_as_mode : (mode : RustMode) → x.mode ≡ mode → asked_in piece_cells p.mode ≡ asked_in piece_cells (mode_of mode x.words)
-  asked_as_mode mode e = ap (asked_in piece_cells) (mode_is mode e)
+  pub asked_as_mode : (mode : RustMode) → x.mode ≡ mode → asked_in z.cells p.mode ≡ asked_in z.cells (mode_of mode x.words)
+  asked_as_mode mode e = ap (asked_in z.cells) (mode_is mode e)
 
-  pub unasked_in : {S : Type 0} (reliable : Type 0) (failures : S → ℕ) (gives : S → C → List ℕ → S → Type 0) (q : Port S C) (a : Answer) (mode : RustMode) → x.mode ≡ mode → asked_in piece_cells (mode_of mode x.words) ≡ Nothing
-      → AnswersSo reliable failures gives piece_cells berths q q s.far (asked_in piece_cells p.mode) a
-  unasked_in reliable failures gives q a mode e none = unasked reliable failures gives piece_cells berths q q s.far a (asked_in piece_cells p.mode) (asked_as_mode mode e ∙ none) refl
+  pub unasked_in : {S : Type 0} (reliable : Type 0) (failures : S → ℕ) (gives : S → C → List ℕ → S → Type 0) (q : Port S C) (a : Answer) (mode : RustMode) → x.mode ≡ mode → asked_in z.cells (mode_of mode x.words) ≡ Nothing
+      → AnswersSo reliable failures gives z.cells berths.items q q s.far (asked_in z.cells p.mode) a
+  unasked_in reliable failures gives q a mode e none = unasked reliable failures gives z.cells berths.items q q s.far a (asked_in z.cells p.mode) (asked_as_mode mode e ∙ none) refl
 
-  pub reads : (o f : ℕ) (words : List ℕ) (x' : Seat) (told : Answer → Type 0) → told (reading true words) → x.mode ≡ m.Reading o f → (h → IsHonestRead piece_cells (s.far o) (Some words)) → x' ≡ record x { words = words; mode = m.Filling o f 0 }
+  pub reads : (o f : ℕ) (words : List ℕ) (x' : Seat) (told : Answer → Type 0) → told (reading true words) → x.mode ≡ m.Reading o f → (h → IsHonestRead z.cells (s.far o) (Some words)) → x' ≡ record x { words = words; mode = m.Filling o f 0 }
       → TurnsToSo told (λ a. Alone (in_mode p (as_mode (read_so o f a.read)))) t berths x'
   reads o f words x' told answered e honest same =
       let a : Answer = reading true words in (
         a,
-        ((λ k. subst (λ (y : Mode). ReadsHonestly piece_cells s y (Some words)) (sym (mode_is (m.Reading o f) e)) (honest k)), answered),
+        ((λ k. subst (λ (y : Mode). ReadsHonestly z.cells s y (Some words)) (sym (mode_is (m.Reading o f) e)) (honest k)), answered),
         (
           (s, in_mode p (Filling o f words 0)),
           refl,
@@ -266,7 +265,7 @@ module _ {C : Type 0} (content : C → Option (List ℕ)) (h : Type 0) (z : Size
       → TurnsToSo told (λ a. Alone (in_mode p (as_mode (read_so o f a.read)))) t berths x'
   reads_not o f words x' told answered same = (
     reading false words,
-    ((λ _. reads_none piece_cells s p.mode), answered),
+    ((λ _. reads_none z.cells s p.mode), answered),
     (
       (s, in_mode p (Releasing o f)),
       refl,
@@ -278,8 +277,8 @@ module _ {C : Type 0} (content : C → Option (List ℕ)) (h : Type 0) (z : Size
     ),
   )
 
-  pub filling : (o f : ℕ) (words : List ℕ) (k : ℕ) → mode_of x.mode x.words ≡ Filling o f words k → FitsMode h piece_cells s.far (s.hand x.setting.mover) (Filling o f words k)
-  filling o f words k e = subst (FitsMode h piece_cells s.far (s.hand x.setting.mover)) (is.program.mode ∙ e) is.fits
+  pub filling : (o f : ℕ) (words : List ℕ) (k : ℕ) → mode_of x.mode x.words ≡ Filling o f words k → FitsMode h z.cells s.far (s.hand x.setting.mover) (Filling o f words k)
+  filling o f words k e = subst (FitsMode h z.cells s.far (s.hand x.setting.mover)) (is.program.mode ∙ e) is.fits
 
   pub fills_one : (o f k v : ℕ) (words : List ℕ) (next : RustMode) (t' : Tables) (x' : Seat) → mode_of x.mode x.words ≡ Filling o f words k → v ≡ listed words k → Filling o f words (suc k) ≡ mode_of next x.words
       → (Shown z t s → f < z.frames → AreTables z t' s.word s.note s.frame (upd s.cell f (upd (s.cell f) k v))) → x' ≡ record x { mode = next }
@@ -292,29 +291,30 @@ module _ {C : Type 0} (content : C → Option (List ℕ)) (h : Type 0) (z : Size
       let tables : AreTables z t' s.word s.note s.frame (upd s.cell f (upd (s.cell f) k (listed words k))) =
       subst (λ n. AreTables z t' s.word s.note s.frame (upd s.cell f (upd (s.cell f) k n))) value (shown is.shows.tables inside) in
       calls_to (λ a. Calls (Fills j f k (listed words k)) (λ u. in_mode p (Filling o f words (suc k)))) t' berths x' (Fills j f k (listed words k)) (λ u. in_mode p (Filling o f words (suc k))) refl
-      (may_legal h piece_cells s (Fills j f k (listed words k)) claimed)
-      (record { tables = tables; far = is.shows.far; many = is.shows.many; objects_few = is.shows.objects_few; frames_few = is.shows.frames_few })
+      (may_legal h z.cells s (Fills j f k (listed words k)) claimed)
+      (record { tables = tables; far = is.shows.far; many = is.shows.many; objects_few = is.shows.objects_few; frames_few = is.shows.frames_few; size = is.shows.size })
       (program_mode x x' p next (Filling o f words (suc k)) is.program same becomes) (ap (λ (k : Seat). k.setting) same)
 
   -- ---- arriving
 
-  arrive_may : (o f k : ℕ) (words : List ℕ) → mode_of x.mode x.words ≡ Filling o f words k → piece_cells ≤ k → 0 < (s.note o).count → May h piece_cells s (Arrives x.setting.mover o f true)
+  arrive_may : (o f k : ℕ) (words : List ℕ) → mode_of x.mode x.words ≡ Filling o f words k → x.setting.size ≤ k → 0 < (s.note o).count → May h z.cells s (Arrives x.setting.mover o f true)
   arrive_may o f k words e full some =
       let fits = filling o f words k e in
-      (fits.0.0, fits.0.2, filled_all h piece_cells (s.hand x.setting.mover) words fits.2 (λ i l. fits.1 i (omega arith)), (λ _. some))
+      let size = is.size in
+      (fits.0.0, fits.0.2, filled_all h z.cells (s.hand x.setting.mover) words fits.2 (λ i l. fits.1 i (omega arith)), (λ _. some))
 
-  pub arrives_not : (o f : ℕ) (q : Program) → (object_at t o).count ≡ 0 → (a : Answer) → taken piece_cells s (Calls (Arrives x.setting.mover o f true) (λ u. q)) ≡ None
-  arrives_not o f q none a = refused_call s (Arrives x.setting.mover o f true) (λ u. q) (by_test (legal piece_cells s (Arrives x.setting.mover o f true)) refl)
+  pub arrives_not : (o f : ℕ) (q : Program) → (object_at t o).count ≡ 0 → (a : Answer) → taken z.cells s (Calls (Arrives x.setting.mover o f true) (λ u. q)) ≡ None
+  arrives_not o f q none a = refused_call z.cells s (Arrives x.setting.mover o f true) (λ u. q) (by_test (legal z.cells s (Arrives x.setting.mover o f true)) refl)
     where
-      by_test : (b : Bool) → legal piece_cells s (Arrives x.setting.mover o f true) ≡ b → legal piece_cells s (Arrives x.setting.mover o f true) ≡ false
+      by_test : (b : Bool) → legal z.cells s (Arrives x.setting.mover o f true) ≡ b → legal z.cells s (Arrives x.setting.mover o f true) ≡ false
       by_test false e = e
       by_test true e =
-          let may = legal_may ⊥ piece_cells s (Arrives x.setting.mover o f true) e (agrees_anyway piece_cells s (Arrives x.setting.mover o f true)) in
+          let may = legal_may ⊥ z.cells s (Arrives x.setting.mover o f true) e (agrees_anyway z.cells s (Arrives x.setting.mover o f true)) in
           let l : 0 < (s.note o).count = may.3 refl in
           let c = note_count o in
           absurd (omega arith)
 
-  pub arrives_there : (o f k : ℕ) (words : List ℕ) (t1 t2 : Tables) (x' : Seat) → mode_of x.mode x.words ≡ Filling o f words k → piece_cells ≤ k → 0 < (object_at t o).count
+  pub arrives_there : (o f k : ℕ) (words : List ℕ) (t1 t2 : Tables) (x' : Seat) → mode_of x.mode x.words ≡ Filling o f words k → x.setting.size ≤ k → 0 < (object_at t o).count
       → (Shown z t s → o < z.objects → AreTables z t1 (upd s.word o (counted (s.word o).count (Here f true))) s.note s.frame s.cell)
       → ((s : State) → Shown z t1 s → o < z.objects → Shown z t2 (after_told s o)) → x' ≡ finished x 0
       → TurnsTo (λ a. Calls (Arrives x.setting.mover o f true) (λ u. finished_as x.setting p 0)) t2 berths x'
@@ -323,8 +323,8 @@ module _ {C : Type 0} (content : C → Option (List ℕ)) (h : Type 0) (z : Size
       let inside = held_inside o some in
       let v : State = after_arrive s j o f in
       calls_to (λ a. Calls (Arrives j o f true) (λ u. finished_as x.setting p 0)) t2 berths x' (Arrives j o f true) (λ u. finished_as x.setting p 0) refl
-      (may_legal h piece_cells s (Arrives j o f true) (arrive_may o f k words e full (subst (λ n. 0 < n) (sym (note_count o)) some)))
-      (record { tables = told v (shown is.shows.tables inside) inside; far = is.shows.far; many = is.shows.many; objects_few = is.shows.objects_few; frames_few = is.shows.frames_few })
+      (may_legal h z.cells s (Arrives j o f true) (arrive_may o f k words e full (subst (λ n. 0 < n) (sym (note_count o)) some)))
+      (record { tables = told v (shown is.shows.tables inside) inside; far = is.shows.far; many = is.shows.many; objects_few = is.shows.objects_few; frames_few = is.shows.frames_few; size = is.shows.size })
       (program_finished x x' p 0 is.program same) (ap (λ (k : Seat). k.setting) same)
 
   -- ---- giving up
@@ -334,8 +334,8 @@ module _ {C : Type 0} (content : C → Option (List ℕ)) (h : Type 0) (z : Size
   releases o f t' x' e shown same =
       let j = x.setting.mover in
       let claimed = (fits_as (m.Releasing o f) e).2 in
-      calls_to (λ a. Calls (Unclaims j f) (λ u. in_mode p (Retreating o))) t' berths x' (Unclaims j f) (λ u. in_mode p (Retreating o)) refl (may_legal h piece_cells s (Unclaims j f) claimed)
-      (record { tables = shown is.shows.tables (claimed_inside h z t s j f is.inv is.shows.tables claimed); far = is.shows.far; many = is.shows.many; objects_few = is.shows.objects_few; frames_few = is.shows.frames_few })
+      calls_to (λ a. Calls (Unclaims j f) (λ u. in_mode p (Retreating o))) t' berths x' (Unclaims j f) (λ u. in_mode p (Retreating o)) refl (may_legal h z.cells s (Unclaims j f) claimed)
+      (record { tables = shown is.shows.tables (claimed_inside h z t s j f is.inv is.shows.tables claimed); far = is.shows.far; many = is.shows.many; objects_few = is.shows.objects_few; frames_few = is.shows.frames_few; size = is.shows.size })
       (program_mode x x' p (m.Retreating o) (Retreating o) is.program same refl) (ap (λ (k : Seat). k.setting) same)
 
   pub retreats : (o : ℕ) (t' : Tables) (x' : Seat) → x.mode ≡ m.Retreating o → (Shown z t s → o < z.objects → AreTables z t' (upd s.word o (counted (s.word o).count Away)) s.note s.frame s.cell) → x' ≡ record x { mode = m.Closing }
@@ -343,8 +343,8 @@ module _ {C : Type 0} (content : C → Option (List ℕ)) (h : Type 0) (z : Size
   retreats o t' x' e shown same =
       let j = x.setting.mover in
       let brings = (fits_as (m.Retreating o) e).0 in
-      calls_to (λ a. Calls (Retreats j o) (λ u. in_mode p Closing)) t' berths x' (Retreats j o) (λ u. in_mode p Closing) refl (may_legal h piece_cells s (Retreats j o) brings)
-      (record { tables = shown is.shows.tables (bringing_inside h z t s j o is.inv is.shows.tables brings); far = is.shows.far; many = is.shows.many; objects_few = is.shows.objects_few; frames_few = is.shows.frames_few })
+      calls_to (λ a. Calls (Retreats j o) (λ u. in_mode p Closing)) t' berths x' (Retreats j o) (λ u. in_mode p Closing) refl (may_legal h z.cells s (Retreats j o) brings)
+      (record { tables = shown is.shows.tables (bringing_inside h z t s j o is.inv is.shows.tables brings); far = is.shows.far; many = is.shows.many; objects_few = is.shows.objects_few; frames_few = is.shows.frames_few; size = is.shows.size })
       (program_mode x x' p m.Closing Closing is.program same refl) (ap (λ (k : Seat). k.setting) same)
 
   -- ---- moving another object out
@@ -352,18 +352,18 @@ module _ {C : Type 0} (content : C → Option (List ℕ)) (h : Type 0) (z : Size
   pub moving : (o : ℕ) (y : RustEviction) → x.mode ≡ m.Evicting o y → Moves content h z t berths x.setting.mover (eviction_of y x.words) s
   moving o y e = record { shows = is.shows; inv = is.inv; fits = (fits_as (m.Evicting o y) e).2 }
 
-  pub moves_on : (o : ℕ) (y : RustEviction) (r : Outcome) (t' : Tables) (berths' : List (Berth C)) (words : List ℕ) (mode : RustMode) (x' : Seat) (told : Answer → Type 0)
-      → Leads s (λ a. evicts piece_cells x.setting.mover a (eviction_of y x.words) On Done Failed) (UnreadSo told) (λ u q. Shows content z t' berths' u × (q ≡ r))
+  pub moves_on : (o : ℕ) (y : RustEviction) (r : Outcome) (t' : Tables) (berths' : Berths C) (words : List ℕ) (mode : RustMode) (x' : Seat) (told : Answer → Type 0)
+      → Leads z.cells s (λ a. evicts z.cells x.setting.mover a (eviction_of y x.words) On Done Failed) (UnreadSo told) (λ u q. Shows content z t' berths' u × (q ≡ r))
       → mode_of mode words ≡ resumes (λ d. Evicting o d) (Bringing o) (Retreating o) r → x' ≡ record x { words = words; mode = mode }
-      → TurnsToSo told (λ a. evicts piece_cells x.setting.mover a (eviction_of y x.words) (λ d. in_mode p (Evicting o d)) (in_mode p (Bringing o)) (in_mode p (Retreating o))) t' berths' x'
+      → TurnsToSo told (λ a. evicts x.setting.size x.setting.mover a (eviction_of y x.words) (λ d. in_mode p (Evicting o d)) (in_mode p (Bringing o)) (in_mode p (Retreating o))) t' berths' x'
   moves_on o y r t' berths' words mode x' told l so same =
       let go : Outcome → Program = resumes (λ d. in_mode p (Evicting o d)) (in_mode p (Bringing o)) (in_mode p (Retreating o)) in
-      let k = leads_on x.setting.mover s (eviction_of y x.words) (UnreadSo told) (λ d. in_mode p (Evicting o d)) (in_mode p (Bringing o)) (in_mode p (Retreating o)) (Shows content z t' berths') r (go r) refl l in (
+      let k = leads_on z.cells x.setting.mover s (eviction_of y x.words) (UnreadSo told) (λ d. in_mode p (Evicting o d)) (in_mode p (Bringing o)) (in_mode p (Retreating o)) (Shows content z t' berths') r (go r) refl l in (
         k.0,
-        ((λ _. subst (ReadsHonestly piece_cells s p.mode) (sym k.1.0) (reads_none piece_cells s p.mode)), k.1.1),
+        ((λ _. subst (ReadsHonestly z.cells s p.mode) (sym k.1.0) (reads_none z.cells s p.mode)), k.1.1),
         (
           k.2.0,
-          k.2.1,
+          ap (λ n. taken z.cells s (evicts n x.setting.mover k.0 (eviction_of y x.words) (λ d. in_mode p (Evicting o d)) (in_mode p (Bringing o)) (in_mode p (Retreating o)))) is.size ∙ k.2.1,
           (
             k.2.2.0,
             subst (IsProgram x') (sym k.2.2.1) (subst (λ (y : Seat). IsProgram y (go r)) (sym same) (becomes r so)),

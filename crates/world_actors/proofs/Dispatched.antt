@@ -5,7 +5,6 @@ use Rattle.std.proofs.lemmas.Bool.Decides.{nat_tests}
 use Rattle.pointer_word.specs.Hands.{listed}
 use Rattle.pointer_word.specs.Machine.{State}
 use Rattle.pointer_word.specs.Calls.{Arrives, Fills}
-use Rattle.remote_store.specs.Kept.{piece_cells}
 use Rattle.world_semantics.specs.declared.event.Choice.{Choice}
 use Rattle.world_semantics.specs.declared.event.Choice.TheVariants as choice
 use Rattle.world_actors.specs.declared.program.Mode.{Mode as RustMode}
@@ -23,17 +22,17 @@ pub below_false : (a b : ℕ) → b ≤ a → nat_lt a b ≡ false
 below_false a b l = grind (arith, nat_tests)
 
 -- it fills a cell, or is at the end
-pub fills_cell : (g : Setting) (p : Program) (a : Answer) (o f k : ℕ) (words : List ℕ) → g.size ≡ piece_cells → k < piece_cells
+pub fills_cell : (g : Setting) (p : Program) (a : Answer) (o f k : ℕ) (words : List ℕ) → k < g.size
     → program_brings g p a (fetching.Filling o f words k) ≡ Calls (Fills g.mover f k (listed words k)) (λ t. in_mode p (Filling o f words (suc k)))
-fills_cell g p a o f k words e l =
+fills_cell g p a o f k words l =
     ap (λ b. cond b (Calls (Fills g.mover f k (listed words k)) (λ (t : State). in_mode p (Filling o f words (suc k)))) (Calls (Arrives g.mover o f true) (λ t. finished g p 0)))
-    (ap (nat_lt k) e ∙ below_true k piece_cells l)
+    (below_true k g.size l)
 
-pub fills_all : (g : Setting) (p : Program) (a : Answer) (o f k : ℕ) (words : List ℕ) → g.size ≡ piece_cells → piece_cells ≤ k
+pub fills_all : (g : Setting) (p : Program) (a : Answer) (o f k : ℕ) (words : List ℕ) → g.size ≤ k
     → program_brings g p a (fetching.Filling o f words k) ≡ Calls (Arrives g.mover o f true) (λ t. finished g p 0)
-fills_all g p a o f k words e l =
+fills_all g p a o f k words l =
     ap (λ b. cond b (Calls (Fills g.mover f k (listed words k)) (λ (t : State). in_mode p (Filling o f words (suc k)))) (Calls (Arrives g.mover o f true) (λ t. finished g p 0)))
-    (ap (nat_lt k) e ∙ below_false k piece_cells l)
+    (below_false k g.size l)
 
 -- a turn that isn't what is next
 not_next : (c : Choice) (x : Turn Program) → (c ≡ choice.Next → ⊥) → as_next c x ≡ NotEnabled
@@ -61,6 +60,6 @@ idle g s p (m.Wanted w) words c a d n = refl
 pub turn_is : (x : Seat) (s : State) (p : Program) (y : RustMode) (c : Choice) (a : Answer) → IsProgram x p → y ≡ x.mode → program_turn x.setting s p c a ≡ by_mode x.setting s p (mode_of y x.words) c a
 turn_is x s p y c a is e = ap (λ k. by_mode x.setting s p k c a) (is.mode ∙ ap (λ k. mode_of k x.words) (sym e))
 
-pub not_enabled : (x : Seat) (s : State) (p : Program) (y : RustMode) (c : Choice) (a : Answer) → IsProgram x p → y ≡ x.mode → ((o : ℕ) → y ≡ m.Bringing o → ⊥) → (c ≡ choice.Next → ⊥)
-    → taken piece_cells s (program_turn x.setting s p c a) ≡ None
-not_enabled x s p y c a is e d n = ap (taken piece_cells s) (turn_is x s p y c a is e ∙ idle x.setting s p y x.words c a d n)
+pub not_enabled : (n : ℕ) (x : Seat) (s : State) (p : Program) (y : RustMode) (c : Choice) (a : Answer) → IsProgram x p → y ≡ x.mode → ((o : ℕ) → y ≡ m.Bringing o → ⊥) → (c ≡ choice.Next → ⊥)
+    → taken n s (program_turn x.setting s p c a) ≡ None
+not_enabled n x s p y c a is e d other = ap (taken n s) (turn_is x s p y c a is e ∙ idle x.setting s p y x.words c a d other)

@@ -10,14 +10,13 @@ use Rattle.code_form.specs.Code.{allocations_of, effect, is_blocked, sizes}
 use Rattle.code_form.specs.Placed.{next_object, pieces, object_at as object_at_cell}
 use Rattle.code_form.specs.Touches.{touch_of}
 use Rattle.pointer_word.specs.Words.{Word, framed}
-use Rattle.pointer_word.specs.Hands.{Note, added, known, listed, opened, upd}
+use Rattle.pointer_word.specs.Hands.{Note, added, known, opened, upd}
 use Rattle.pointer_word.specs.Machine.{State, after_clear, after_close, after_open}
 use Rattle.pointer_word.specs.Calls.{Clears, Closes, Opens, Stores}
 use Rattle.pointer_word.specs.Legal.{holds, legal}
 use Rattle.pointer_word.proofs.Legal.{may_legal}
 use Rattle.pointer_word.proofs.Upd.{upd-same}
-use Rattle.remote_store.specs.Kept.{piece_cells}
-use Rattle.remote_store.specs.declared.berth.Berth.{Berth}
+use Rattle.world_memory.specs.Berths.{Berths}
 use Rattle.world_semantics.specs.declared.event.Step.{Step}
 use Rattle.world_semantics.specs.declared.event.Step.TheVariants as step
 use Rattle.world_actors.specs.declared.program.Mode.TheVariants as m
@@ -26,7 +25,7 @@ use Rattle.world_semantics.specs.declared.hold.Hold.{Hold}
 use Rattle.world_semantics.specs.Programs.{Missing, Wanted, Program, Setting, finished as finished_as, first_hold, hold_at, holding, in_mode, may_grow, next_free, object_of, object_or_none, rest_of, next_touch as touch_next}
 use Rattle.world_actors.specs.Seats.{Seat, finished, next_touch}
 use Rattle.world_memory.specs.Shown.{AreTables, Shown}
-use Rattle.world_memory.specs.Tables.{Tables, cells_at, object_at, place_of}
+use Rattle.world_memory.specs.Tables.{Tables, cell_at, object_at, place_of}
 use Rattle.world_semantics.specs.Turns.{Answer, Turn, NotEnabled, Alone, Calls, aims_at, closed_so, closes, ends_by, found, gives_up, grows, leaves_by, loads_by, loads_from, ready, stores_by, stores_to, taken}
 use Rattle.world_semantics.specs.Worlds.{Sizes}
 use Rattle.world_actors.proofs.Acting.{told_inside}
@@ -34,10 +33,10 @@ use Rattle.world_actors.proofs.BroughtIn.{TurnsTo, alone_to, calls_to, held_insi
 use Rattle.world_memory.proofs.Showing.{history_set}
 
 -- the same turn, said otherwise
-pub goes_turn : {A : Type 0} (s : State) (turn turn' : Answer → Turn A) (honest : Answer → Type 0) (Q : State → A → Type 0) (same : Type 0) (r : Step) → ((a : Answer) → turn' a ≡ turn a)
-    → Goes s turn honest Q same r → Goes s turn' honest Q same r
-goes_turn s turn turn' honest Q same step.Took e g = (g.0, g.1, (g.2.0, ap (taken piece_cells s) (e g.0) ∙ g.2.1, g.2.2))
-goes_turn s turn turn' honest Q same step.NotEnabled e g = ((λ a. ap (taken piece_cells s) (e a) ∙ g.0 a), g.1)
+pub goes_turn : {A : Type 0} (n : ℕ) (s : State) (turn turn' : Answer → Turn A) (honest : Answer → Type 0) (Q : State → A → Type 0) (same : Type 0) (r : Step) → ((a : Answer) → turn' a ≡ turn a)
+    → Goes n s turn honest Q same r → Goes n s turn' honest Q same r
+goes_turn n s turn turn' honest Q same step.Took e g = (g.0, g.1, (g.2.0, ap (taken n s) (e g.0) ∙ g.2.1, g.2.2))
+goes_turn n s turn turn' honest Q same step.NotEnabled e g = ((λ a. ap (taken n s) (e a) ∙ g.0 a), g.1)
 
 same_object : (h : Hold) (o : ℕ) → h.object ≡ o → (h.object == o) ≡ true
 same_object h o e = eq-eqb h.object o e
@@ -87,15 +86,15 @@ below_four c l = grind (arith, nat_tests)
 above_zero : (c : ℕ) → 0 < c → nat_lt 0 c ≡ true
 above_zero c l = grind (arith, nat_tests)
 
-module _ {C : Type 0} (content : C → Option (List ℕ)) (h : Type 0) (z : Sizes) (t : Tables) (berths : List (Berth C)) (x : Seat) (s : State) (p : Program) (is : Seated content h z t berths x s p) where
-  pub close_legal : (o : ℕ) → 0 < (object_at t o).count → legal piece_cells s (Closes o) ≡ true
+module _ {C : Type 0} (content : C → Option (List ℕ)) (h : Type 0) (z : Sizes) (t : Tables) (berths : Berths C) (x : Seat) (s : State) (p : Program) (is : Seated content h z t berths x s p) where
+  pub close_legal : (o : ℕ) → 0 < (object_at t o).count → legal z.cells s (Closes o) ≡ true
   close_legal o l = above_zero (s.note o).count (subst (λ n. 0 < n) (sym (note_count content h z t berths x s p is o)) l)
 
   pub closed : (k : ℕ) (y : Hold) (t' : Tables) (x' : Seat) → 0 < (object_at t y.object).count → (Shown z t s → Shown z t' (after_close s y.object)) → x' ≡ record x { holds = slice_set x.holds k None }
       → TurnsTo content h z t berths x s p is (λ a. closes p k y) t' berths x'
   closed k y t' x' l shown same =
       calls_to content h z t berths x s p is (λ a. closes p k y) t' berths x' (Closes y.object) (λ u. holding p k None) refl (close_legal y.object l)
-      (record { tables = shown is.shows.tables; far = is.shows.far; many = is.shows.many; objects_few = is.shows.objects_few; frames_few = is.shows.frames_few })
+      (record { tables = shown is.shows.tables; far = is.shows.far; many = is.shows.many; objects_few = is.shows.objects_few; frames_few = is.shows.frames_few; size = is.shows.size })
       (program_holding x x' p k None is.program same) (ap (λ (j : Seat). j.setting) same)
 
   pub left : (k : ℕ) (y : Option Hold) (d : Hold) (t' : Tables) (x1 x' : Seat) → Some d ≡ y → 0 < (object_at t d.object).count → (Shown z t s → Shown z t' (after_close s d.object))
@@ -104,7 +103,7 @@ module _ {C : Type 0} (content : C → Option (List ℕ)) (h : Type 0) (z : Size
       let setting : x1.setting ≡ x.setting = ap (λ (j : Seat). j.setting) one in
       let now : IsProgram x' (finished_as x.setting (holding p k None) 0) = subst (λ (g : Setting). IsProgram x' (finished_as g (holding p k None) 0)) setting (program_finished x1 x' (holding p k None) 0 (program_holding x x1 p k None is.program one) same) in
       calls_to content h z t berths x s p is (λ a. leaves_by x.setting p k y) t' berths x' (Closes d.object) (λ u. finished_as x.setting (holding p k None) 0) (ap (leaves_by x.setting p k) (sym e)) (close_legal d.object l)
-      (record { tables = shown is.shows.tables; far = is.shows.far; many = is.shows.many; objects_few = is.shows.objects_few; frames_few = is.shows.frames_few })
+      (record { tables = shown is.shows.tables; far = is.shows.far; many = is.shows.many; objects_few = is.shows.objects_few; frames_few = is.shows.frames_few; size = is.shows.size })
       now (ap (λ (j : Seat). j.setting) same ∙ setting)
 
   pub cleared : (k o : ℕ) (t' : Tables) (x' : Seat) → 0 < (object_at t o).count → (Shown z t s → o < z.objects → Shown z t' (after_clear s o))
@@ -113,7 +112,7 @@ module _ {C : Type 0} (content : C → Option (List ℕ)) (h : Type 0) (z : Size
   cleared k o t' x' l shown same =
       let y : Option Hold = Some (record { object = o; writes = true }) in
       calls_to content h z t berths x s p is (λ a. Calls (Clears o) (λ u. holding p k y)) t' berths x' (Clears o) (λ u. holding p k y) refl (close_legal o l)
-      (record { tables = shown is.shows.tables (held_inside content h z t berths x s p is o l); far = is.shows.far; many = is.shows.many; objects_few = is.shows.objects_few; frames_few = is.shows.frames_few })
+      (record { tables = shown is.shows.tables (held_inside content h z t berths x s p is o l); far = is.shows.far; many = is.shows.many; objects_few = is.shows.objects_few; frames_few = is.shows.frames_few; size = is.shows.size })
       (program_holding x x' p k y is.program same) (ap (λ (j : Seat). j.setting) same)
 
   pub opens : (k o : ℕ) (f : Option ℕ) (t' : Tables) (x1 x' : Seat) → o < x.setting.limit → (object_at t o).count < 4 → (Shown z t s → o < z.objects → Shown z t' (after_open s o))
@@ -133,13 +132,13 @@ module _ {C : Type 0} (content : C → Option (List ℕ)) (h : Type 0) (z : Size
       let room = is.limit in
       calls_to content h z t berths x s p is (λ a. aims_at x.setting p k None (Some o)) t' berths x' (Opens o) (found x.setting q o) refl
       (below_four (s.note o).count (subst (λ c. c < 4) (sym (note_count content h z t berths x s p is o)) l))
-      (record { tables = shown is.shows.tables (omega arith); far = is.shows.far; many = is.shows.many; objects_few = is.shows.objects_few; frames_few = is.shows.frames_few })
+      (record { tables = shown is.shows.tables (omega arith); far = is.shows.far; many = is.shows.many; objects_few = is.shows.objects_few; frames_few = is.shows.frames_few; size = is.shows.size })
       (subst (IsProgram x') (sym goes) now) (same ∙ setting)
 
   pub completed : (x' : Seat) → x' ≡ finished x 0 → TurnsTo content h z t berths x s p is (λ a. Alone (finished_as x.setting p 0)) t berths x'
   completed x' same = alone_to content h z t berths x s p is (λ a. Alone (finished_as x.setting p 0)) x' (finished_as x.setting p 0) refl (program_finished x x' p 0 is.program same) (ap (λ (j : Seat). j.setting) same)
 
-  pub loaded : (o i f v : ℕ) (x' : Seat) → (object_at t o).told ≡ Some f → v ≡ listed (cells_at t f) i → x' ≡ finished x v
+  pub loaded : (o i f v : ℕ) (x' : Seat) → (object_at t o).told ≡ Some f → v ≡ cell_at t f i → x' ≡ finished x v
       → TurnsTo content h z t berths x s p is (λ a. loads_from x.setting s p (s.note o).frame i) t berths x'
   loaded o i f v x' e value same =
       let there : (s.note o).frame ≡ Some f = (is.shows.tables.objects o).told ∙ e in
@@ -157,7 +156,7 @@ module _ {C : Type 0} (content : C → Option (List ℕ)) (h : Type 0) (z : Size
       let there : (s.note o).frame ≡ Some f = (is.shows.tables.objects o).told ∙ e in
       let writing : (s.note o).writing ≡ true = (is.shows.tables.objects o).writing ∙ w in
       let inside = told_inside h z t s o f is.inv is.shows.tables there in
-      let can : legal piece_cells s (Stores o f i v) ≡ true = may_legal h piece_cells s (Stores o f i v) (there, writing) in
+      let can : legal z.cells s (Stores o f i v) ≡ true = may_legal h z.cells s (Stores o f i v) (there, writing) in
       calls_to content h z t berths x s p is (λ a. stores_to x.setting p (s.note o).frame o i v) t' berths x' (Stores o f i v) (λ u. finished_as x.setting p 0) (ap (λ j. stores_to x.setting p j o i v) there) can
       (record {
         tables = history_set z t' s.word s.note s.frame (upd s.cell f (upd (s.cell f) i v)) o (added (s.note o) i v) (shown is.shows.tables inside) refl refl refl;
@@ -165,6 +164,7 @@ module _ {C : Type 0} (content : C → Option (List ℕ)) (h : Type 0) (z : Size
         many = is.shows.many;
         objects_few = is.shows.objects_few;
         frames_few = is.shows.frames_few;
+        size = is.shows.size;
       })
       (program_finished x x' p 0 is.program same) (ap (λ (j : Seat). j.setting) same)
 
@@ -173,10 +173,10 @@ module _ {C : Type 0} (content : C → Option (List ℕ)) (h : Type 0) (z : Size
   core_is : p.core ≡ x.core
   core_is = is.program.core
 
-  cell_object : (c : Cell) → object_of x.setting p c ≡ object_at_cell piece_cells x.setting.base (sizes (allocations_of x.core)) c.reference c.index
-  cell_object c = ap (λ n. object_at_cell n x.setting.base (sizes (allocations_of p.core)) c.reference c.index) is.size ∙ ap (λ k. object_at_cell piece_cells x.setting.base (sizes (allocations_of k)) c.reference c.index) core_is
+  cell_object : (c : Cell) → object_of x.setting p c ≡ object_at_cell x.setting.size x.setting.base (sizes (allocations_of x.core)) c.reference c.index
+  cell_object c = ap (λ k. object_at_cell x.setting.size x.setting.base (sizes (allocations_of k)) c.reference c.index) core_is
 
-  wanted_object : (w : Option Cell) → object_or_none x.setting p w ≡ option_map (λ (c : Cell). object_at_cell piece_cells x.setting.base (sizes (allocations_of x.core)) c.reference c.index) w
+  wanted_object : (w : Option Cell) → object_or_none x.setting p w ≡ option_map (λ (c : Cell). object_at_cell x.setting.size x.setting.base (sizes (allocations_of x.core)) c.reference c.index) w
   wanted_object None = refl
   wanted_object (Some c) = ap Some (cell_object c)
 
@@ -186,24 +186,24 @@ module _ {C : Type 0} (content : C → Option (List ℕ)) (h : Type 0) (z : Size
   is_below : (a b : ℕ) → a < b → nat_lt a b ≡ true
   is_below a b l = grind (arith, nat_tests)
 
-  pub aim_turn : (k : ℕ) (w : Option Cell) (o : Option ℕ) (a : Answer) → k < length x.holds → o ≡ option_map (λ (c : Cell). object_at_cell piece_cells x.setting.base (sizes (allocations_of x.core)) c.reference c.index) w
+  pub aim_turn : (k : ℕ) (w : Option Cell) (o : Option ℕ) (a : Answer) → k < length x.holds → o ≡ option_map (λ (c : Cell). object_at_cell x.setting.size x.setting.base (sizes (allocations_of x.core)) c.reference c.index) w
       → ready x.setting s p a (touch.Aims k w) ≡ aims_at x.setting p k (hold_at x.holds k) o
   aim_turn k w o a l e =
       let there : nat_lt k (length p.holds) ≡ true = ap (λ (y : List (Option Hold)). nat_lt k (length y)) is.program.holds ∙ is_below k (length x.holds) l in
       ap (λ b. cond b (aims_at x.setting p k (hold_at p.holds k) (object_or_none x.setting p w)) NotEnabled) there ∙
       (ap (λ y. aims_at x.setting p k y (object_or_none x.setting p w)) (held_now k) ∙ ap (aims_at x.setting p k (hold_at x.holds k)) (wanted_object w ∙ sym e))
 
-  pub load_turn : (k : ℕ) (c : Cell) (o : ℕ) (a : Answer) → o ≡ object_at_cell piece_cells x.setting.base (sizes (allocations_of x.core)) c.reference c.index
-      → ready x.setting s p a (touch.Loads k c) ≡ loads_by x.setting s p (hold_at x.holds k) o (c.index % piece_cells)
-  load_turn k c o a e =
+  pub load_turn : (k : ℕ) (c : Cell) (o i : ℕ) (a : Answer) → o ≡ object_at_cell x.setting.size x.setting.base (sizes (allocations_of x.core)) c.reference c.index → i ≡ c.index % x.setting.size
+      → ready x.setting s p a (touch.Loads k c) ≡ loads_by x.setting s p (hold_at x.holds k) o i
+  load_turn k c o i a e q =
       ap (λ y. loads_by x.setting s p y (object_of x.setting p c) (c.index % x.setting.size)) (held_now k) ∙
-      (ap (λ y. loads_by x.setting s p (hold_at x.holds k) y (c.index % x.setting.size)) (cell_object c ∙ sym e) ∙ ap (λ n. loads_by x.setting s p (hold_at x.holds k) o (c.index % n)) is.size)
+      ap (λ y. loads_by x.setting s p (hold_at x.holds k) y (c.index % x.setting.size)) (cell_object c ∙ sym e) ∙ ap (loads_by x.setting s p (hold_at x.holds k) o) (sym q)
 
-  pub store_turn : (k : ℕ) (c : Cell) (v o : ℕ) (a : Answer) → o ≡ object_at_cell piece_cells x.setting.base (sizes (allocations_of x.core)) c.reference c.index
-      → ready x.setting s p a (touch.Stores k c v) ≡ stores_by x.setting s p k (hold_at x.holds k) o (c.index % piece_cells) v
-  store_turn k c v o a e =
+  pub store_turn : (k : ℕ) (c : Cell) (v o i : ℕ) (a : Answer) → o ≡ object_at_cell x.setting.size x.setting.base (sizes (allocations_of x.core)) c.reference c.index → i ≡ c.index % x.setting.size
+      → ready x.setting s p a (touch.Stores k c v) ≡ stores_by x.setting s p k (hold_at x.holds k) o i v
+  store_turn k c v o i a e q =
       ap (λ y. stores_by x.setting s p k y (object_of x.setting p c) (c.index % x.setting.size) v) (held_now k) ∙
-      (ap (λ y. stores_by x.setting s p k (hold_at x.holds k) y (c.index % x.setting.size) v) (cell_object c ∙ sym e) ∙ ap (λ n. stores_by x.setting s p k (hold_at x.holds k) o (c.index % n) v) is.size)
+      ap (λ y. stores_by x.setting s p k (hold_at x.holds k) y (c.index % x.setting.size) v) (cell_object c ∙ sym e) ∙ ap (λ n. stores_by x.setting s p k (hold_at x.holds k) o n v) (sym q)
 
   pub leave_turn : (k : ℕ) (a : Answer) → ready x.setting s p a (touch.Leaves k) ≡ leaves_by x.setting p k (hold_at x.holds k)
   leave_turn k a = ap (leaves_by x.setting p k) (held_now k)
@@ -231,22 +231,21 @@ module _ {C : Type 0} (content : C → Option (List ℕ)) (h : Type 0) (z : Size
       let grew : grows x.setting p a ≡ q =
       ap (λ y. cond (may_grow y (rest_of p.core)) q f) touches ∙ (ap (λ c. cond (may_grow touch.Plain (rest_of c)) q f) core_is ∙ ap (λ b. cond b q f) grow) in (
         a,
-        (λ _. reads_none piece_cells s p.mode),
+        (λ _. reads_none z.cells s p.mode),
         (
           (s, q),
-          ap (taken piece_cells s) (ap Alone grew),
+          ap (taken z.cells s) (ap Alone grew),
           (is.shows, program_mode x x' p (m.Wanted OutOfMemory) (Wanted OutOfMemory) is.program same refl, ap (λ (j : Seat). j.setting) same),
         ),
       )
 
   -- ---- an allocation
 
-  fits_is : (n cells : ℕ) (b : Bool) → n ≡ next_object piece_cells x.setting.base (sizes (allocations_of x.core)) → nat_le (n + pieces piece_cells cells) x.setting.limit ≡ b
+  fits_is : (n cells : ℕ) (b : Bool) → n ≡ next_object x.setting.size x.setting.base (sizes (allocations_of x.core)) → nat_le (n + pieces x.setting.size cells) x.setting.limit ≡ b
       → nat_le (next_free x.setting p + pieces x.setting.size cells) x.setting.limit ≡ b
   fits_is n cells b e q =
-      ap (λ k. nat_le (next_object k x.setting.base (sizes (allocations_of p.core)) + pieces k cells) x.setting.limit) is.size ∙
-      (ap (λ k. nat_le (next_object piece_cells x.setting.base (sizes (allocations_of k)) + pieces piece_cells cells) x.setting.limit) core_is ∙
-      (ap (λ k. nat_le (k + pieces piece_cells cells) x.setting.limit) (sym e) ∙ q))
+      ap (λ k. nat_le (next_object x.setting.size x.setting.base (sizes (allocations_of k)) + pieces x.setting.size cells) x.setting.limit) core_is ∙
+      (ap (λ k. nat_le (k + pieces x.setting.size cells) x.setting.limit) (sym e) ∙ q)
 
   le_true : (a b : ℕ) → a ≤ b → nat_le a b ≡ true
   le_true a b l = grind (arith, nat_tests)
@@ -254,22 +253,22 @@ module _ {C : Type 0} (content : C → Option (List ℕ)) (h : Type 0) (z : Size
   le_false : (a b : ℕ) → b < a → nat_le a b ≡ false
   le_false a b l = grind (arith, nat_tests)
 
-  pub allocates_so : (n k cells : ℕ) (x' : Seat) → n ≡ next_object piece_cells x.setting.base (sizes (allocations_of x.core)) → k ≡ pieces piece_cells cells → n + k ≤ x.setting.limit → x' ≡ finished x 0
+  pub allocates_so : (n k cells : ℕ) (x' : Seat) → n ≡ next_object x.setting.size x.setting.base (sizes (allocations_of x.core)) → k ≡ pieces x.setting.size cells → n + k ≤ x.setting.limit → x' ≡ finished x 0
       → TurnsTo content h z t berths x s p is (λ a. ready x.setting s p a (touch.Allocs cells)) t berths x'
   allocates_so n k cells x' e many room same =
       alone_to content h z t berths x s p is (λ a. ready x.setting s p a (touch.Allocs cells)) x' (finished_as x.setting p 0)
-      (ap (λ b. cond b (Alone (finished_as x.setting p 0)) (Alone (in_mode p (Wanted NoObjects)))) (fits_is n cells true e (le_true (n + pieces piece_cells cells) x.setting.limit (omega arith))))
+      (ap (λ b. cond b (Alone (finished_as x.setting p 0)) (Alone (in_mode p (Wanted NoObjects)))) (fits_is n cells true e (le_true (n + pieces x.setting.size cells) x.setting.limit (omega arith))))
       (program_finished x x' p 0 is.program same) (ap (λ (j : Seat). j.setting) same)
 
-  pub allocates_not : (n k cells : ℕ) (x' : Seat) → n ≡ next_object piece_cells x.setting.base (sizes (allocations_of x.core)) → k ≡ pieces piece_cells cells → x.setting.limit < n + k
+  pub allocates_not : (n k cells : ℕ) (x' : Seat) → n ≡ next_object x.setting.size x.setting.base (sizes (allocations_of x.core)) → k ≡ pieces x.setting.size cells → x.setting.limit < n + k
       → x' ≡ record x { mode = m.Wanted NoObjects } → TurnsTo content h z t berths x s p is (λ a. ready x.setting s p a (touch.Allocs cells)) t berths x'
   allocates_not n k cells x' e many room same =
       alone_to content h z t berths x s p is (λ a. ready x.setting s p a (touch.Allocs cells)) x' (in_mode p (Wanted NoObjects))
-      (ap (λ b. cond b (Alone (finished_as x.setting p 0)) (Alone (in_mode p (Wanted NoObjects)))) (fits_is n cells false e (le_false (n + pieces piece_cells cells) x.setting.limit (omega arith))))
+      (ap (λ b. cond b (Alone (finished_as x.setting p 0)) (Alone (in_mode p (Wanted NoObjects)))) (fits_is n cells false e (le_false (n + pieces x.setting.size cells) x.setting.limit (omega arith))))
       (program_mode x x' p (m.Wanted NoObjects) (Wanted NoObjects) is.program same refl) (ap (λ (j : Seat). j.setting) same)
 
   -- memory is refused to it
-  pub allocates_refused : (n k cells : ℕ) (x' : Seat) → next_touch x ≡ touch.Allocs cells → n ≡ next_object piece_cells x.setting.base (sizes (allocations_of x.core)) → k ≡ pieces piece_cells cells → n + k ≤ x.setting.limit
+  pub allocates_refused : (n k cells : ℕ) (x' : Seat) → next_touch x ≡ touch.Allocs cells → n ≡ next_object x.setting.size x.setting.base (sizes (allocations_of x.core)) → k ≡ pieces x.setting.size cells → n + k ≤ x.setting.limit
       → x' ≡ record x { mode = m.Wanted OutOfMemory } → TurnsTo content h z t berths x s p is (λ a. ready x.setting s p a (touch.Allocs cells)) t berths x'
   allocates_refused n k cells x' next e many room same =
       let a : Answer = record { stored = true; read = None; grew = false } in
@@ -277,11 +276,11 @@ module _ {C : Type 0} (content : C → Option (List ℕ)) (h : Type 0) (z : Size
       let q : Program = in_mode p (Wanted OutOfMemory) in
       let grew : grows x.setting p a ≡ q = ap (λ y. cond (may_grow y (rest_of p.core)) q (finished_as x.setting p 0)) touches in (
         a,
-        (λ _. reads_none piece_cells s p.mode),
+        (λ _. reads_none z.cells s p.mode),
         (
           (s, q),
-          ap (taken piece_cells s)
-              (ap (λ b. cond b (Alone (grows x.setting p a)) (Alone (in_mode p (Wanted NoObjects)))) (fits_is n cells true e (le_true (n + pieces piece_cells cells) x.setting.limit (omega arith))) ∙ ap Alone grew),
+          ap (taken z.cells s)
+              (ap (λ b. cond b (Alone (grows x.setting p a)) (Alone (in_mode p (Wanted NoObjects)))) (fits_is n cells true e (le_true (n + pieces x.setting.size cells) x.setting.limit (omega arith))) ∙ ap Alone grew),
           (is.shows, program_mode x x' p (m.Wanted OutOfMemory) (Wanted OutOfMemory) is.program same refl, ap (λ (j : Seat). j.setting) same),
         ),
       )
@@ -299,5 +298,5 @@ module _ {C : Type 0} (content : C → Option (List ℕ)) (h : Type 0) (z : Size
   gives_one k y t' x1 x' e l shown one told same =
       let q : Program = holding p k None in
       calls_to content h z t berths x s p is (λ a. gives_up p (first_hold p.holds)) t' berths x' (Closes y.object) (λ u. closed_so q (first_hold q.holds)) (ap (gives_up p) (ap first_hold is.program.holds ∙ sym e)) (close_legal y.object l)
-      (record { tables = shown is.shows.tables; far = is.shows.far; many = is.shows.many; objects_few = is.shows.objects_few; frames_few = is.shows.frames_few })
+      (record { tables = shown is.shows.tables; far = is.shows.far; many = is.shows.many; objects_few = is.shows.objects_few; frames_few = is.shows.frames_few; size = is.shows.size })
       (told q (program_holding x x1 p k None is.program one)) (same ∙ ap (λ (j : Seat). j.setting) one)

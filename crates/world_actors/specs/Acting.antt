@@ -2,8 +2,7 @@
 use Rattle.std.specs.Prelude.{◌≡◌, ℕ, ◌%◌, ◌≤◌, List, length, Option, Some, None, option_map}
 use Rattle.pointer_word.specs.Machine.{Far, State}
 use Rattle.pointer_word.specs.Sound.{Inv}
-use Rattle.remote_store.specs.Kept.{piece_cells}
-use Rattle.remote_store.specs.declared.berth.Berth.{Berth}
+use Rattle.world_memory.specs.Berths.{Berths}
 use Rattle.world_semantics.specs.declared.event.Step.{Step}
 use Rattle.world_semantics.specs.declared.event.Step.TheVariants as step
 use Rattle.world_memory.specs.Answered.{Asked}
@@ -19,14 +18,14 @@ use Rattle.world_memory.specs.Tables.{Tables}
 use Rattle.world_semantics.specs.Turns.{Answer, Turn, taken}
 use Rattle.world_semantics.specs.Worlds.{ReadsHonestly, Sizes}
 
--- for an answer of this kind a turn is enabled, and leads to what Q says
-abbrev pub Leads : {A : Type 0} → State → (Answer → Turn A) → (Answer → Type 0) → (State → A → Type 0) → Type 0
-Leads {A} s turn honest Q = (a : Answer) × honest a × ((r : State × A) × (taken piece_cells s (turn a) ≡ Some r) × Q r.0 r.1)
+-- for an answer of this kind a turn is enabled, of pieces of n cells, and leads to what Q says
+abbrev pub Leads : {A : Type 0} → ℕ → State → (Answer → Turn A) → (Answer → Type 0) → (State → A → Type 0) → Type 0
+Leads {A} n s turn honest Q = (a : Answer) × honest a × ((r : State × A) × (taken n s (turn a) ≡ Some r) × Q r.0 r.1)
 
 -- A turn is taken exactly where it is enabled, and leads to what Q says. One that isn't taken is not enabled, whatever is answered, and all is the same
-abbrev pub Goes : {A : Type 0} → State → (Answer → Turn A) → (Answer → Type 0) → (State → A → Type 0) → Type 0 → Step → Type 0
-Goes s turn honest Q same step.Took = Leads s turn honest Q
-Goes s turn honest Q same step.NotEnabled = ((a : Answer) → taken piece_cells s (turn a) ≡ None) × same
+abbrev pub Goes : {A : Type 0} → ℕ → State → (Answer → Turn A) → (Answer → Type 0) → (State → A → Type 0) → Type 0 → Step → Type 0
+Goes n s turn honest Q same step.Took = Leads n s turn honest Q
+Goes n s turn honest Q same step.NotEnabled = ((a : Answer) → taken n s (turn a) ≡ None) × same
 
 -- nothing was read
 abbrev pub Unread : Answer → Type 0
@@ -63,50 +62,52 @@ pub record IsProgram (x : Seat) (p : Program) : Type 0 where
 
 -- how far an evacuator is that code holds
 abbrev pub eviction_in : Evacuator → Option Eviction
-eviction_in x = option_map (λ e. eviction_of e x.words) x.eviction
+eviction_in x = option_map (λ e. eviction_of e x.words.items) x.eviction
 
 module _ {C : Type 0} (content : C → Option (List ℕ)) where
   -- the tables and berths of code show a state
-  pub record Shows (z : Sizes) (t : Tables) (berths : List (Berth C)) (s : State) : Type 0 where
+  pub record Shows (z : Sizes) (t : Tables) (berths : Berths C) (s : State) : Type 0 where
     pub tables : Shown z t s
-    pub far : AreFar content berths s.far
-    pub many : length berths ≡ z.objects
+    pub far : AreFar content z.cells berths.items s.far
+    pub size : berths.cells ≡ z.cells
+    pub many : length berths.items ≡ z.objects
     pub objects_few : z.objects ≤ 16777216
     pub frames_few : z.frames ≤ 1048576
 
   -- A mover with this in hand moves an object out of the machine that code holds; h says that the store is honest
-  pub record Moves (h : Type 0) (z : Sizes) (t : Tables) (berths : List (Berth C)) (m : ℕ) (x : Eviction) (s : State) : Type 0 where
+  pub record Moves (h : Type 0) (z : Sizes) (t : Tables) (berths : Berths C) (m : ℕ) (x : Eviction) (s : State) : Type 0 where
     pub shows : Shows z t berths s
-    pub inv : Inv h piece_cells s
-    pub fits : FitsEviction piece_cells s.far (s.hand m) x
+    pub inv : Inv h z.cells s
+    pub fits : FitsEviction z.cells s.far (s.hand m) x
 
   -- an evacuator that code holds has in hand what it says
-  pub record Evacuates (h : Type 0) (z : Sizes) (t : Tables) (berths : List (Berth C)) (x : Evacuator) (s : State) : Type 0 where
+  pub record Evacuates (h : Type 0) (z : Sizes) (t : Tables) (berths : Berths C) (x : Evacuator) (s : State) : Type 0 where
     pub shows : Shows z t berths s
-    pub inv : Inv h piece_cells s
-    pub fits : FitsEvacuator piece_cells s.far (s.hand x.mover) (eviction_in x)
+    pub inv : Inv h z.cells s
+    pub fits : FitsEvacuator z.cells s.far (s.hand x.mover) (eviction_in x)
+    pub wide : length x.words.items ≡ z.cells
 
   -- A program that code holds, with what it has in hand: its objects are there
-  pub record Seated (h : Type 0) (z : Sizes) (t : Tables) (berths : List (Berth C)) (x : Seat) (s : State) (p : Program) : Type 0 where
+  pub record Seated (h : Type 0) (z : Sizes) (t : Tables) (berths : Berths C) (x : Seat) (s : State) (p : Program) : Type 0 where
     pub shows : Shows z t berths s
     pub program : IsProgram x p
-    pub inv : Inv h piece_cells s
-    pub fits : FitsMode h piece_cells s.far (s.hand x.setting.mover) p.mode
+    pub inv : Inv h z.cells s
+    pub fits : FitsMode h z.cells s.far (s.hand x.setting.mover) p.mode
     pub limit : x.setting.limit ≤ z.objects
-    pub size : x.setting.size ≡ piece_cells
+    pub size : x.setting.size ≡ z.cells
 
   -- Where the sizes are as given, a program takes a turn exactly where it is enabled, and is then what the turn makes of it; what is read is what an honest
   -- store may give
-  abbrev pub TurnsIn : (Sizes → Type 0) → (h : Type 0) → (t t' : Tables) → (berths berths' : List (Berth C)) → (x x' : Seat) → (State → Program → Answer → Turn Program) → Type 0 → Step → Type 0
+  abbrev pub TurnsIn : (Sizes → Type 0) → (h : Type 0) → (t t' : Tables) → (berths berths' : Berths C) → (x x' : Seat) → (State → Program → Answer → Turn Program) → Type 0 → Step → Type 0
   TurnsIn given h t t' berths berths' x x' turn same r = (z : Sizes) (s : State) (p : Program) → given z → Seated h z t berths x s p
-      → Goes s (turn s p) (λ a. h → ReadsHonestly piece_cells s p.mode a.read) (λ u q. Shows z t' berths' u × IsProgram x' q × (x'.setting ≡ x.setting)) same r
+      → Goes z.cells s (turn s p) (λ a. h → ReadsHonestly z.cells s p.mode a.read) (λ u q. Shows z t' berths' u × IsProgram x' q × (x'.setting ≡ x.setting)) same r
 
   -- the same for any sizes
-  abbrev pub Turns : (h : Type 0) → (t t' : Tables) → (berths berths' : List (Berth C)) → (x x' : Seat) → (State → Program → Answer → Turn Program) → Type 0 → Step → Type 0
+  abbrev pub Turns : (h : Type 0) → (t t' : Tables) → (berths berths' : Berths C) → (x x' : Seat) → (State → Program → Answer → Turn Program) → Type 0 → Step → Type 0
   Turns h t t' berths berths' x x' turn same r = (z : Sizes) (s : State) (p : Program) → Seated h z t berths x s p
-      → Goes s (turn s p) (λ a. h → ReadsHonestly piece_cells s p.mode a.read) (λ u q. Shows z t' berths' u × IsProgram x' q × (x'.setting ≡ x.setting)) same r
+      → Goes z.cells s (turn s p) (λ a. h → ReadsHonestly z.cells s p.mode a.read) (λ u q. Shows z t' berths' u × IsProgram x' q × (x'.setting ≡ x.setting)) same r
 
   -- the same where the store is asked, and so answers
-  abbrev pub TurnsTold : (Sizes → Type 0) → (h : Type 0) → (t t' : Tables) → (berths berths' : List (Berth C)) → (x x' : Seat) → ((ℕ → Far) → Asked → Answer → Type 0) → (State → Program → Answer → Turn Program) → Type 0 → Step → Type 0
+  abbrev pub TurnsTold : (Sizes → Type 0) → (h : Type 0) → (t t' : Tables) → (berths berths' : Berths C) → (x x' : Seat) → (ℕ → (ℕ → Far) → Asked → Answer → Type 0) → (State → Program → Answer → Turn Program) → Type 0 → Step → Type 0
   TurnsTold given h t t' berths berths' x x' told turn same r = (z : Sizes) (s : State) (p : Program) → given z → Seated h z t berths x s p
-      → Goes s (turn s p) (λ a. (h → ReadsHonestly piece_cells s p.mode a.read) × told s.far (asked_in piece_cells p.mode) a) (λ u q. Shows z t' berths' u × IsProgram x' q × (x'.setting ≡ x.setting)) same r
+      → Goes z.cells s (turn s p) (λ a. (h → ReadsHonestly z.cells s p.mode a.read) × told z.cells s.far (asked_in z.cells p.mode) a) (λ u q. Shows z t' berths' u × IsProgram x' q × (x'.setting ≡ x.setting)) same r

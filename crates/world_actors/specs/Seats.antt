@@ -7,7 +7,6 @@ use Rattle.code_form.specs.Code.{Core, allocations_of, code, effect, sizes}
 use Rattle.code_form.specs.Placed.{pieces}
 use Rattle.code_execution.specs.Statuses.{Progress}
 use Rattle.code_form.specs.Touches.{resumed, touch_of}
-use Rattle.remote_store.specs.Kept.{piece_cells}
 use Rattle.world_actors.specs.declared.program.Eviction.{Eviction as RustEviction}
 use Rattle.world_actors.specs.declared.program.Eviction.TheVariants as e
 use Rattle.world_actors.specs.declared.program.Mode.{Mode as RustMode}
@@ -72,34 +71,37 @@ Waits (m.Retreating o) x = Unit {0}
 Waits m.Closing x = Unit {0}
 Waits (m.Wanted w) x = Unit {0}
 
--- allocations, the newest first, take their objects one behind the other, from base on; next is the object behind them
-abbrev pub IsPlaced : ℕ → List ℕ → List ℕ → ℕ → Type 0
-IsPlaced base [] [] next = next ≡ base
-IsPlaced base [] (f ∷ fs) next = ⊥
-IsPlaced base (n ∷ older) [] next = ⊥
-IsPlaced base (n ∷ older) (f ∷ fs) next = (next ≡ f + pieces piece_cells n) × IsPlaced base older fs f
+-- allocations, the newest first, take their objects one behind the other, from base on, of pieces of so many cells; next is the object behind them
+abbrev pub IsPlaced : ℕ → ℕ → List ℕ → List ℕ → ℕ → Type 0
+IsPlaced size base [] [] next = next ≡ base
+IsPlaced size base [] (f ∷ fs) next = ⊥
+IsPlaced size base (n ∷ older) [] next = ⊥
+IsPlaced size base (n ∷ older) (f ∷ fs) next = (next ≡ f + pieces size n) × IsPlaced size base older fs f
 
 -- the first object of allocation r
 abbrev pub first_of : List ℕ → ℕ → ℕ
 first_of [] r = 0
 first_of (f ∷ fs) r = cond (r == suc (length fs)) f (first_of fs r)
 
--- what is so of every program that code holds: its allocations have their objects in its share, and it waits as it should
-pub record IsSeat (base limit : ℕ) (at : Progress) (firsts : List ℕ) (next : ℕ) (mode : RustMode) : Type 0 where
+-- what is so of every program that code holds: a piece has sixteen cells or more, it copies so many words, its allocations have their objects in
+-- its share, and it waits as it should
+pub record IsSeat (size base limit : ℕ) (at : Progress) (firsts : List ℕ) (next : ℕ) (mode : RustMode) (words : List ℕ) : Type 0 where
+  pub some : 16 ≤ size
+  pub wide : length words ≡ size
   pub low : base ≤ next
   pub room : next ≤ limit
   pub small : limit ≤ 16777216
-  pub placed : IsPlaced base (sizes (allocations_of at.core)) firsts next
+  pub placed : IsPlaced size base (sizes (allocations_of at.core)) firsts next
   pub waits : Waits mode (touch_of (effect at.image at.core))
 
 -- a program at its beginning
 abbrev pub begin : Image → ℕ → ℕ → ℕ → Seat
 begin image base limit mover = record {
-  setting = record { size = piece_cells; base = base; limit = limit; mover = mover; image = image };
+  setting = record { size = image.piece; base = base; limit = limit; mover = mover; image = image };
   core = (code image).start;
   holds = replicate 4 None;
   mode = m.Ready;
-  words = replicate piece_cells 0;
+  words = replicate image.piece 0;
   completed = 0;
 }
 

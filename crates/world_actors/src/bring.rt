@@ -3,7 +3,6 @@ ghost use Rattle.std.specs.Prelude.{◌≡◌, ◌<◌, ◌≤◌, ℕ, suc, Lis
 ghost use Rattle.pointer_word.specs.Calls.{Arrives, Begins, Claims, Fills, Leaves, Marks, Retreats, Unclaims};
 ghost use Rattle.pointer_word.specs.Hands.{known, listed};
 ghost use Rattle.pointer_word.specs.Machine.{Far};
-ghost use Rattle.remote_store.specs.Kept.{piece_cells};
 ghost use Rattle.world_actors.specs.Acting.{IsProgram, Turns, TurnsIn, TurnsTold};
 ghost use Rattle.world_memory.specs.Answered.{AnswersSo};
 ghost use Rattle.world_semantics.specs.Fetchers.{as_mode};
@@ -36,7 +35,7 @@ impl<'a> Program<'a> {
     pub(crate) fn begin<S: RawStore>(&mut self, lock: &mut Lock<S>, object: usize) -> Step
         requires mode { self.old.mode ≡ Mode.Missing object }
         requires steady { IsSteady (next_touch self.old) }
-        ensures { Turns S.content S.honest lock.old.memory lock.new.memory lock.old.berths.items lock.new.berths.items self.old self.new
+        ensures { Turns S.content S.honest lock.old.memory lock.new.memory lock.old.berths lock.new.berths self.old self.new
             (λ s p a. Calls (Begins self.old.setting.mover object (s.note object).count true) (began self.old.setting p object)) ((lock.new ≡ lock.old) × (self.new ≡ self.old)) result }
     {
         let row = lock.memory.object(object);
@@ -75,12 +74,12 @@ impl<'a> Program<'a> {
     fn claim<S: RawStore>(&mut self, lock: &mut Lock<S>, object: usize, frame: usize) -> Step
         requires mode { self.old.mode ≡ Mode.Bringing object }
         requires steady { IsSteady (next_touch self.old) }
-        ensures { TurnsIn S.content (λ z. frame < z.frames) S.honest lock.old.memory lock.new.memory lock.old.berths.items lock.new.berths.items self.old self.new
+        ensures { TurnsIn S.content (λ z. frame < z.frames) S.honest lock.old.memory lock.new.memory lock.old.berths lock.new.berths self.old self.new
             (λ s p a. Calls (Claims self.old.setting.mover object frame) (program_claimed self.old.setting p object frame)) ((lock.new ≡ lock.old) × (self.new ≡ self.old)) result }
     {
         if lock.memory.is_free(frame) {
             lock.memory.hold_frame(frame, Some(object));
-            let is_new = lock.is_new(object);
+            let is_new = lock.berths.is_new(object);
             self.start(object, frame, is_new);
             Step::Took
         } else {
@@ -98,7 +97,7 @@ impl<'a> Program<'a> {
     ) -> Step
         requires mode { self.old.mode ≡ Mode.Bringing object }
         requires steady { IsSteady (next_touch self.old) }
-        ensures { TurnsIn S.content (λ z. other < z.objects) S.honest lock.old.memory lock.new.memory lock.old.berths.items lock.new.berths.items self.old self.new
+        ensures { TurnsIn S.content (λ z. other < z.objects) S.honest lock.old.memory lock.new.memory lock.old.berths lock.new.berths self.old self.new
             (λ s p a. Calls (Marks self.old.setting.mover other frame) (marked_so self.old.setting p object other frame)) ((lock.new ≡ lock.old) × (self.new ≡ self.old)) result }
     {
         let mover = self.mover();
@@ -127,7 +126,7 @@ impl<'a> Program<'a> {
     ) -> Step
         requires mode { self.old.mode ≡ Mode.Bringing object }
         requires steady { IsSteady (next_touch self.old) }
-        ensures { TurnsIn S.content (λ z. other < z.objects) S.honest lock.old.memory lock.new.memory lock.old.berths.items lock.new.berths.items self.old self.new
+        ensures { TurnsIn S.content (λ z. other < z.objects) S.honest lock.old.memory lock.new.memory lock.old.berths lock.new.berths self.old self.new
             (λ s p a. Calls (Leaves self.old.setting.mover other frame) (left_so self.old.setting p object frame)) ((lock.new ≡ lock.old) × (self.new ≡ self.old)) result }
     {
         let mover = self.mover();
@@ -151,7 +150,7 @@ impl<'a> Program<'a> {
     ) -> Step
         requires mode { self.old.mode ≡ Mode.Bringing object }
         requires steady { IsSteady (next_touch self.old) }
-        ensures { TurnsIn S.content (λ z. in_range z choice ≡ true) S.honest lock.old.memory lock.new.memory lock.old.berths.items lock.new.berths.items self.old self.new
+        ensures { TurnsIn S.content (λ z. in_range z choice ≡ true) S.honest lock.old.memory lock.new.memory lock.old.berths lock.new.berths self.old self.new
             (λ s p a. seeks self.old.setting p object choice) ((lock.new ≡ lock.old) × (self.new ≡ self.old)) result }
     {
         match choice {
@@ -177,8 +176,8 @@ impl<'a> Program<'a> {
     )
         requires mode { self.old.mode ≡ Mode.Reading object frame }
         requires steady { IsSteady (next_touch self.old) }
-        ensures { TurnsTold S.content (λ z. Unit {0}) S.honest lock.now.memory lock.now.memory lock.now.berths.items lock.now.berths.items self.old self.new
-            (AnswersSo S.reliable S.failures S.read_gives piece_cells lock.now.berths.items port.old port.new) (λ s p a. Alone (in_mode p (as_mode (read_so object frame a.read)))) (Unit {0}) Step.Took }
+        ensures { TurnsTold S.content (λ z. Unit {0}) S.honest lock.now.memory lock.now.memory lock.now.berths lock.now.berths self.old self.new
+            (λ n. AnswersSo S.reliable S.failures S.read_gives n lock.now.berths.items port.old port.new) (λ s p a. Alone (in_mode p (as_mode (read_so object frame a.read)))) (Unit {0}) Step.Took }
     {
         if self.get(lock, port, object) {
             self.set_mode(Mode::Filling {
@@ -199,8 +198,8 @@ impl<'a> Program<'a> {
         frame: usize,
     ) -> Step
         requires steady { IsSteady (next_touch self.old) }
-        ensures { (words : List ℕ) (k : ℕ) → mode_of self.old.mode self.old.words ≡ Filling object frame words k → piece_cells ≤ k
-            → Turns S.content S.honest lock.old.memory lock.new.memory lock.old.berths.items lock.new.berths.items self.old self.new
+        ensures { (words : List ℕ) (k : ℕ) → mode_of self.old.mode self.old.words ≡ Filling object frame words k → self.old.setting.size ≤ k
+            → Turns S.content S.honest lock.old.memory lock.new.memory lock.old.berths lock.new.berths self.old self.new
             (λ s p a. Calls (Arrives self.old.setting.mover object frame true) (λ t. finished_as self.old.setting p 0)) ((lock.new ≡ lock.old) × (self.new ≡ self.old)) result }
     {
         if lock.memory.object(object).count == 0 {
@@ -224,9 +223,9 @@ impl<'a> Program<'a> {
         next: Mode,
     )
         requires steady { Waits next (next_touch self.old) }
-        requires index { index < piece_cells }
+        requires index { index < self.old.setting.size }
         ensures { (words : List ℕ) → mode_of self.old.mode self.old.words ≡ Filling object frame words index → value ≡ listed words index → Filling object frame words (suc index) ≡ mode_of next self.old.words
-            → Turns S.content S.honest lock.old.memory lock.new.memory lock.old.berths.items lock.new.berths.items self.old self.new
+            → Turns S.content S.honest lock.old.memory lock.new.memory lock.old.berths lock.new.berths self.old self.new
             (λ s p a. Calls (Fills self.old.setting.mover frame index (listed words index)) (λ t. in_mode p (Filling object frame words (suc index)))) (Unit {0}) Step.Took }
     {
         lock.memory.put_cell(frame, index, value);
@@ -243,9 +242,9 @@ impl<'a> Program<'a> {
     )
         requires mode { self.old.mode ≡ Mode.Evicting object eviction }
         requires steady { IsSteady (next_touch self.old) }
-        ensures { TurnsTold S.content (λ z. Unit {0}) S.honest lock.old.memory lock.new.memory lock.old.berths.items lock.new.berths.items self.old self.new
-            (AnswersSo S.reliable S.failures S.read_gives piece_cells lock.old.berths.items port.old port.new)
-            (λ s p a. evicts piece_cells self.old.setting.mover a (eviction_of eviction self.old.words) (λ d. in_mode p (Evicting object d)) (in_mode p (Bringing object)) (in_mode p (Retreating object))) (Unit {0}) Step.Took }
+        ensures { TurnsTold S.content (λ z. Unit {0}) S.honest lock.old.memory lock.new.memory lock.old.berths lock.new.berths self.old self.new
+            (λ n. AnswersSo S.reliable S.failures S.read_gives n lock.old.berths.items port.old port.new)
+            (λ s p a. evicts self.old.setting.size self.old.setting.mover a (eviction_of eviction self.old.words) (λ d. in_mode p (Evicting object d)) (in_mode p (Bringing object)) (in_mode p (Retreating object))) (Unit {0}) Step.Took }
     {
         let mode = self.evict(lock, port, eviction).mode(object);
         self.set_mode(mode);
@@ -254,7 +253,7 @@ impl<'a> Program<'a> {
     /// Gives up the frame that it claimed.
     pub(crate) fn release<S: RawStore>(&mut self, lock: &mut Lock<S>, object: usize, frame: usize)
         requires { self.old.mode ≡ Mode.Releasing object frame }
-        ensures { Turns S.content S.honest lock.old.memory lock.new.memory lock.old.berths.items lock.new.berths.items self.old self.new
+        ensures { Turns S.content S.honest lock.old.memory lock.new.memory lock.old.berths lock.new.berths self.old self.new
             (λ s p a. Calls (Unclaims self.old.setting.mover frame) (λ t. in_mode p (Retreating object))) (Unit {0}) Step.Took }
     {
         lock.memory.hold_frame(frame, None);
@@ -264,7 +263,7 @@ impl<'a> Program<'a> {
     /// Gives up the object that it brings in.
     pub(crate) fn retreat<S: RawStore>(&mut self, lock: &mut Lock<S>, object: usize)
         requires { self.old.mode ≡ Mode.Retreating object }
-        ensures { Turns S.content S.honest lock.old.memory lock.new.memory lock.old.berths.items lock.new.berths.items self.old self.new
+        ensures { Turns S.content S.honest lock.old.memory lock.new.memory lock.old.berths lock.new.berths self.old self.new
             (λ s p a. Calls (Retreats self.old.setting.mover object) (λ t. in_mode p Closing)) (Unit {0}) Step.Took }
     {
         lock.memory.put_place(object, Place::Away);

@@ -1,7 +1,7 @@
 //! An evacuator: a mover that moves objects out of their frames.
-ghost use Rattle.std.specs.Prelude.{◌≡◌, None, Some, true};
+ghost use Rattle.cells.specs.Pieces.{cells_in};
+ghost use Rattle.std.specs.Prelude.{◌≡◌, IfOk, None, Some, length, true};
 ghost use Rattle.pointer_word.specs.Machine.{State};
-ghost use Rattle.remote_store.specs.Kept.{piece_cells};
 ghost use Rattle.world_actors.specs.Acting.{Evacuates, Goes, Leads, Shows, Unread, UnreadSo, eviction_in};
 ghost use Rattle.world_memory.specs.Answered.{AnswersSo};
 ghost use Rattle.world_actors.specs.Asking.{asked_idly, asked_out};
@@ -11,7 +11,9 @@ ghost use Rattle.world_semantics.specs.Worlds.{Sizes, in_range};
 
 use crate::evict::{evict, leave, mark};
 use crate::program::Eviction;
-use remote_store::{PIECE_CELLS, Port, RawStore};
+use cells::Piece;
+use remote_store::{Port, RawStore};
+use std::alloc::{AllocError, Global};
 use world_memory::Lock;
 use world_semantics::event::{Choice, Step};
 
@@ -20,20 +22,19 @@ use world_semantics::event::{Choice, Step};
 pub struct Evacuator {
     pub(crate) mover: u16,
     pub(crate) eviction: Option<Eviction>,
-    pub(crate) words: [u64; PIECE_CELLS],
+    pub(crate) words: Vec<u64>,
 }
 
 impl Evacuator {
-    /// An evacuator that is idle.
-    pub fn new(mover: u16) -> Evacuator
-        ensures mover { result.mover ≡ mover }
-        ensures idle { result.eviction ≡ None }
+    /// An evacuator that is idle, of pieces of this size.
+    pub fn new(alloc: Global, mover: u16, piece: Piece) -> Result<Evacuator, AllocError>
+        ensures { IfOk result (λ e. (e.mover ≡ mover) × (e.eviction ≡ None) × (length e.words.items ≡ cells_in piece)) }
     {
-        Evacuator {
+        Ok(Evacuator {
             mover,
             eviction: None,
-            words: [0; PIECE_CELLS],
-        }
+            words: Vec::from_elem(alloc, 0, piece.cells())?,
+        })
     }
 
     /// How far it is with moving an object out.
@@ -47,8 +48,9 @@ impl Evacuator {
     fn seek<S: RawStore>(&mut self, lock: &mut Lock<S>, choice: Choice) -> Step
         requires { self.old.eviction ≡ None }
         ensures mover { self.new.mover ≡ self.old.mover }
-        ensures goes { (z : Sizes) (s : State) → in_range z choice ≡ true → Evacuates S.content S.honest z lock.old.memory lock.old.berths.items self.old s
-            → Goes s (λ a. evacuator_idle self.old.mover choice) Unread (λ u d. Shows S.content z lock.new.memory lock.new.berths.items u × (d ≡ eviction_in self.new))
+        ensures wide { length self.new.words.items ≡ length self.old.words.items }
+        ensures goes { (z : Sizes) (s : State) → in_range z choice ≡ true → Evacuates S.content S.honest z lock.old.memory lock.old.berths self.old s
+            → Goes z.cells s (λ a. evacuator_idle self.old.mover choice) Unread (λ u d. Shows S.content z lock.new.memory lock.new.berths u × (d ≡ eviction_in self.new))
             ((lock.new ≡ lock.old) × (self.new ≡ self.old)) result }
     {
         match choice {
@@ -79,9 +81,10 @@ impl Evacuator {
     fn go_on<S: RawStore>(&mut self, lock: &mut Lock<S>, port: &mut Port<S>, eviction: Eviction)
         requires { self.old.eviction ≡ Some eviction }
         ensures mover { self.new.mover ≡ self.old.mover }
-        ensures leads { (z : Sizes) (s : State) → Evacuates S.content S.honest z lock.old.memory lock.old.berths.items self.old s
-            → Leads s (λ a. evicts piece_cells self.old.mover a (eviction_of eviction self.old.words) Some None None)
-            (UnreadSo (AnswersSo S.reliable S.failures S.read_gives piece_cells lock.old.berths.items port.old port.new s.far (asked_out piece_cells (eviction_of eviction self.old.words)))) (λ u d. Shows S.content z lock.new.memory lock.new.berths.items u × (d ≡ eviction_in self.new)) }
+        ensures wide { length self.new.words.items ≡ length self.old.words.items }
+        ensures leads { (z : Sizes) (s : State) → Evacuates S.content S.honest z lock.old.memory lock.old.berths self.old s
+            → Leads z.cells s (λ a. evicts z.cells self.old.mover a (eviction_of eviction self.old.words.items) Some None None)
+            (UnreadSo (AnswersSo S.reliable S.failures S.read_gives z.cells lock.old.berths.items port.old port.new s.far (asked_out z.cells (eviction_of eviction self.old.words.items)))) (λ u d. Shows S.content z lock.new.memory lock.new.berths u × (d ≡ eviction_in self.new)) }
     {
         self.eviction = evict(lock, port, self.mover, eviction, &mut self.words).eviction();
     }
@@ -94,9 +97,10 @@ impl Evacuator {
         choice: Choice,
     ) -> Step
         ensures mover { self.new.mover ≡ self.old.mover }
-        ensures goes { (z : Sizes) (s : State) → in_range z choice ≡ true → Evacuates S.content S.honest z lock.old.memory lock.old.berths.items self.old s
-            → Goes s (λ a. evacuator_turn piece_cells self.old.mover (eviction_in self.old) choice a)
-            (UnreadSo (AnswersSo S.reliable S.failures S.read_gives piece_cells lock.old.berths.items port.old port.new s.far (asked_idly piece_cells (eviction_in self.old)))) (λ u d. Shows S.content z lock.new.memory lock.new.berths.items u × (d ≡ eviction_in self.new))
+        ensures wide { length self.new.words.items ≡ length self.old.words.items }
+        ensures goes { (z : Sizes) (s : State) → in_range z choice ≡ true → Evacuates S.content S.honest z lock.old.memory lock.old.berths self.old s
+            → Goes z.cells s (λ a. evacuator_turn z.cells self.old.mover (eviction_in self.old) choice a)
+            (UnreadSo (AnswersSo S.reliable S.failures S.read_gives z.cells lock.old.berths.items port.old port.new s.far (asked_idly z.cells (eviction_in self.old)))) (λ u d. Shows S.content z lock.new.memory lock.new.berths u × (d ≡ eviction_in self.new))
             ((lock.new ≡ lock.old) × (port.new ≡ port.old) × (self.new ≡ self.old)) result }
     {
         match self.eviction() {

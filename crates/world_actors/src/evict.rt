@@ -4,7 +4,6 @@ ghost use Rattle.pointer_word.specs.Calls.{Aborts, Leaves, Marks, Releases, act}
 ghost use Rattle.pointer_word.specs.Legal.{holds};
 ghost use Rattle.pointer_word.specs.Machine.{State};
 ghost use Rattle.pointer_word.specs.Sound.{Inv};
-ghost use Rattle.remote_store.specs.Kept.{piece_cells};
 ghost use Rattle.world_actors.specs.Acting.{Done, Failed, Leads, Moves, On, Shows, Unread, UnreadSo, outcome_of, resumes};
 ghost use Rattle.world_memory.specs.Answered.{AnswersSo, Puts};
 ghost use Rattle.world_actors.specs.Asking.{asked_out};
@@ -16,7 +15,7 @@ ghost use Rattle.world_semantics.specs.Turns.{evicts};
 ghost use Rattle.world_semantics.specs.Worlds.{Sizes};
 
 use crate::program::{Eviction, Mode};
-use remote_store::{PIECE_CELLS, Port, RawStore};
+use remote_store::{Port, RawStore};
 use world_memory::{Lock, Place};
 
 /// What an event of moving out leads to.
@@ -58,8 +57,8 @@ impl Evicted {
 
 /// Tries to mark the object in the frame, to move it out. False where it isn't there, or is held, or is clean, or moves already.
 pub(crate) fn mark<S: RawStore>(lock: &mut Lock<S>, mover: u16, object: usize, frame: usize) -> bool
-    ensures marks { (z : Sizes) (s : State) → object < z.objects → (s.hand mover).leaving ≡ None → Shows S.content z lock.old.memory lock.old.berths.items s
-        → let t = act s (Marks mover object frame) in Shows S.content z lock.new.memory lock.new.berths.items t × (holds (t.hand mover).leaving object ≡ result) }
+    ensures marks { (z : Sizes) (s : State) → object < z.objects → (s.hand mover).leaving ≡ None → Shows S.content z lock.old.memory lock.old.berths s
+        → let t = act s (Marks mover object frame) in Shows S.content z lock.new.memory lock.new.berths t × (holds (t.hand mover).leaving object ≡ result) }
     ensures refused { result ≡ false → lock.new ≡ lock.old }
 {
     if lock.memory.object(object).is_at_rest(frame) {
@@ -78,8 +77,8 @@ pub(crate) fn leave<S: RawStore>(
     object: usize,
     frame: usize,
 ) -> bool
-    ensures leaves { (z : Sizes) (s : State) → object < z.objects → (s.hand mover).freed ≡ None → Shows S.content z lock.old.memory lock.old.berths.items s
-        → let t = act s (Leaves mover object frame) in Shows S.content z lock.new.memory lock.new.berths.items t × (holds (t.hand mover).freed frame ≡ result) }
+    ensures leaves { (z : Sizes) (s : State) → object < z.objects → (s.hand mover).freed ≡ None → Shows S.content z lock.old.memory lock.old.berths s
+        → let t = act s (Leaves mover object frame) in Shows S.content z lock.new.memory lock.new.berths t × (holds (t.hand mover).freed frame ≡ result) }
     ensures refused { result ≡ false → lock.new ≡ lock.old }
 {
     // Only the clauses speak of the mover, which has no berth in hand for it.
@@ -100,11 +99,10 @@ fn copy<S: RawStore>(
     copied: usize,
     words: &mut [u64],
 ) -> Evicted
-    requires { (length words.old ≡ piece_cells) × (copied < piece_cells) }
-    ensures length { length words.new ≡ piece_cells }
-    ensures leads { (m : ℕ) (z : Sizes) (s : State) → let e = eviction_of (Eviction.Copying object frame copied) words.old in
-        Moves S.content S.honest z lock.now.memory lock.now.berths.items m e s → Leads s (λ a. evicts piece_cells m a e On Done Failed) Unread
-        (λ u r. Shows S.content z lock.now.memory lock.now.berths.items u × (r ≡ outcome_of result words.new)) }
+    requires { copied < length words.old }
+    ensures { (m : ℕ) (z : Sizes) (s : State) → length words.old ≡ z.cells → let e = eviction_of (Eviction.Copying object frame copied) words.old in
+        Moves S.content S.honest z lock.now.memory lock.now.berths m e s → Leads z.cells s (λ a. evicts z.cells m a e On Done Failed) Unread
+        (λ u r. Shows S.content z lock.now.memory lock.now.berths u × (r ≡ outcome_of result words.new)) }
 {
     words[copied] = lock.memory.cell(frame, copied);
     Evicted::On(Eviction::Copying {
@@ -123,13 +121,13 @@ fn put<S: RawStore>(
     copied: usize,
     words: &[u64],
 ) -> Evicted
-    requires { (length words.now ≡ piece_cells) × (piece_cells ≤ copied) }
-    ensures { (m : ℕ) (z : Sizes) (s : State) → let e = eviction_of (Eviction.Copying object frame copied) words.now in
-        Moves S.content S.honest z lock.old.memory lock.old.berths.items m e s → Leads s (λ a. evicts piece_cells m a e On Done Failed)
-        (UnreadSo (AnswersSo S.reliable S.failures S.read_gives piece_cells lock.old.berths.items port.old port.new s.far (Puts object)))
-        (λ u r. Shows S.content z lock.new.memory lock.new.berths.items u × (r ≡ outcome_of result words.now)) }
+    requires { length words.now ≤ copied }
+    ensures { (m : ℕ) (z : Sizes) (s : State) → length words.now ≡ z.cells → let e = eviction_of (Eviction.Copying object frame copied) words.now in
+        Moves S.content S.honest z lock.old.memory lock.old.berths m e s → Leads z.cells s (λ a. evicts z.cells m a e On Done Failed)
+        (UnreadSo (AnswersSo S.reliable S.failures S.read_gives z.cells lock.old.berths.items port.old port.new s.far (Puts object)))
+        (λ u r. Shows S.content z lock.new.memory lock.new.berths u × (r ≡ outcome_of result words.now)) }
 {
-    if lock.put(port, object, words) {
+    if lock.berths.put(port, object, words) {
         Evicted::On(Eviction::Stored { object, frame })
     } else {
         Evicted::On(Eviction::NotStored { object, frame })
@@ -139,8 +137,8 @@ fn put<S: RawStore>(
 /// Tries to commit: the object is away where its mark still stands and it has no hold.
 fn commit<S: RawStore>(lock: &mut Lock<S>, mover: u16, object: usize, frame: usize) -> Evicted
     ensures { (words : List ℕ) (z : Sizes) (s : State) → let e = eviction_of (Eviction.Stored object frame) words in
-        Moves S.content S.honest z lock.old.memory lock.old.berths.items mover e s → Leads s (λ a. evicts piece_cells mover a e On Done Failed) Unread
-        (λ u r. Shows S.content z lock.new.memory lock.new.berths.items u × (r ≡ outcome_of result words)) }
+        Moves S.content S.honest z lock.old.memory lock.old.berths mover e s → Leads z.cells s (λ a. evicts z.cells mover a e On Done Failed) Unread
+        (λ u r. Shows S.content z lock.new.memory lock.new.berths u × (r ≡ outcome_of result words)) }
 {
     if lock.memory.object(object).is_marked(frame, mover) {
         lock.memory.put_place(object, Place::Away);
@@ -152,16 +150,16 @@ fn commit<S: RawStore>(lock: &mut Lock<S>, mover: u16, object: usize, frame: usi
 
 /// Gives the object's berth back: it stays in its frame.
 fn abort<S: RawStore>(lock: &mut Lock<S>, object: usize, frame: usize)
-    ensures { (m : ℕ) (z : Sizes) (s : State) → Inv S.honest piece_cells s → MovesOut object frame (s.hand m) → Shows S.content z lock.old.memory lock.old.berths.items s
-        → Shows S.content z lock.new.memory lock.new.berths.items (act s (Aborts m object frame)) }
+    ensures { (m : ℕ) (z : Sizes) (s : State) → Inv S.honest z.cells s → MovesOut object frame (s.hand m) → Shows S.content z lock.old.memory lock.old.berths s
+        → Shows S.content z lock.new.memory lock.new.berths (act s (Aborts m object frame)) }
 {
     lock.memory.put_place(object, Place::Here(frame, false));
 }
 
 /// Gives the freed frame back.
 fn release<S: RawStore>(lock: &mut Lock<S>, frame: usize)
-    ensures { (m : ℕ) (z : Sizes) (s : State) → Inv S.honest piece_cells s → (s.hand m).freed ≡ Some frame → Shows S.content z lock.old.memory lock.old.berths.items s
-        → Shows S.content z lock.new.memory lock.new.berths.items (act s (Releases m frame)) }
+    ensures { (m : ℕ) (z : Sizes) (s : State) → Inv S.honest z.cells s → (s.hand m).freed ≡ Some frame → Shows S.content z lock.old.memory lock.old.berths s
+        → Shows S.content z lock.new.memory lock.new.berths (act s (Releases m frame)) }
 {
     lock.memory.hold_frame(frame, None);
 }
@@ -174,16 +172,14 @@ pub(crate) fn evict<S: RawStore>(
     eviction: Eviction,
     words: &mut [u64],
 ) -> Evicted
-    requires { length words.old ≡ piece_cells }
-    ensures length { length words.new ≡ piece_cells }
-    ensures leads { (z : Sizes) (s : State) → let e = eviction_of eviction words.old in
-        Moves S.content S.honest z lock.old.memory lock.old.berths.items mover e s → Leads s (λ a. evicts piece_cells mover a e On Done Failed)
-        (UnreadSo (AnswersSo S.reliable S.failures S.read_gives piece_cells lock.old.berths.items port.old port.new s.far (asked_out piece_cells e)))
-        (λ u r. Shows S.content z lock.new.memory lock.new.berths.items u × (r ≡ outcome_of result words.new)) }
+    ensures { (z : Sizes) (s : State) → length words.old ≡ z.cells → let e = eviction_of eviction words.old in
+        Moves S.content S.honest z lock.old.memory lock.old.berths mover e s → Leads z.cells s (λ a. evicts z.cells mover a e On Done Failed)
+        (UnreadSo (AnswersSo S.reliable S.failures S.read_gives z.cells lock.old.berths.items port.old port.new s.far (asked_out z.cells e)))
+        (λ u r. Shows S.content z lock.new.memory lock.new.berths u × (r ≡ outcome_of result words.new)) }
 {
     match eviction {
         Eviction::Copying { object, frame, at } => {
-            if at < PIECE_CELLS {
+            if at < words.len() {
                 copy(lock, object, frame, at, words)
             } else {
                 put(lock, port, object, frame, at, words)

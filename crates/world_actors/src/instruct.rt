@@ -4,7 +4,6 @@ ghost use Rattle.code_form.specs.Placed.{object_at as object_in};
 ghost use Rattle.code_form.specs.Touches.{IsCell, IsCellOrNone};
 ghost use Rattle.code_form.specs.declared.touch.Touch.TheVariants as touch;
 ghost use Rattle.pointer_word.specs.Calls.{Clears};
-ghost use Rattle.remote_store.specs.Kept.{piece_cells};
 ghost use Rattle.std.specs.Prelude.{◌≡◌, ◌<◌, IfSome, None, Some, cond, option_map, true};
 ghost use Rattle.world_actors.specs.Acting.{IsProgram, Turns};
 ghost use Rattle.world_semantics.specs.Programs.{Program as Defined, first_hold, finished as finished_as, hold_at, holding, next_touch as touch_next};
@@ -14,7 +13,7 @@ ghost use Rattle.world_semantics.specs.Turns.{Alone, Calls, NotEnabled, aims_at,
 use crate::program::{Mode, Program, pieces};
 use cells::Want;
 use code_form::{Cell, Touch};
-use remote_store::{PIECE_CELLS, RawStore};
+use remote_store::RawStore;
 use world_memory::Lock;
 use world_semantics::event::Step;
 use world_semantics::hold::Hold;
@@ -22,7 +21,7 @@ use world_semantics::hold::Hold;
 impl<'a> Program<'a> {
     /// Closes what the scope holds.
     fn close_hold<S: RawStore>(&mut self, lock: &mut Lock<S>, scope: usize, hold: Hold) -> Step
-        ensures { Turns S.content S.honest lock.old.memory lock.new.memory lock.old.berths.items lock.new.berths.items self.old self.new
+        ensures { Turns S.content S.honest lock.old.memory lock.new.memory lock.old.berths lock.new.berths self.old self.new
             (λ s p a. closes p scope hold) ((lock.new ≡ lock.old) × (self.new ≡ self.old)) result }
     {
         if lock.memory.object(hold.object).count == 0 {
@@ -38,7 +37,7 @@ impl<'a> Program<'a> {
     fn open_hold<S: RawStore>(&mut self, lock: &mut Lock<S>, scope: usize, object: usize) -> Step
         requires steady { IsSteady (next_touch self.old) }
         requires own { object < self.old.setting.limit }
-        ensures { Turns S.content S.honest lock.old.memory lock.new.memory lock.old.berths.items lock.new.berths.items self.old self.new
+        ensures { Turns S.content S.honest lock.old.memory lock.new.memory lock.old.berths lock.new.berths self.old self.new
             (λ s p a. aims_at self.old.setting p scope None (Some object)) ((lock.new ≡ lock.old) × (self.new ≡ self.old)) result }
     {
         let row = lock.memory.object(object);
@@ -61,7 +60,7 @@ impl<'a> Program<'a> {
     /// The instruction completes.
     fn complete<S: RawStore>(&mut self, lock: &mut Lock<S>) -> Step
         requires { IsSteady (next_touch self.old) }
-        ensures { Turns S.content S.honest lock.old.memory lock.new.memory lock.old.berths.items lock.new.berths.items self.old self.new
+        ensures { Turns S.content S.honest lock.old.memory lock.new.memory lock.old.berths lock.new.berths self.old self.new
             (λ s p a. Alone (finished_as self.old.setting p 0)) ((lock.new ≡ lock.old) × (self.new ≡ self.old)) result }
     {
         self.finish(0);
@@ -77,7 +76,7 @@ impl<'a> Program<'a> {
     ) -> Step
         requires steady { IsSteady (next_touch self.old) }
         requires own { IfSome object (λ o. o < self.old.setting.limit) }
-        ensures { Turns S.content S.honest lock.old.memory lock.new.memory lock.old.berths.items lock.new.berths.items self.old self.new
+        ensures { Turns S.content S.honest lock.old.memory lock.new.memory lock.old.berths lock.new.berths self.old self.new
             (λ s p a. aims_at self.old.setting p scope (hold_at self.old.holds scope) object) ((lock.new ≡ lock.old) × (self.new ≡ self.old)) result }
     {
         match self.hold(scope) {
@@ -106,9 +105,8 @@ impl<'a> Program<'a> {
         object: usize,
         index: usize,
     ) -> Step
-        requires steady { IsSteady (next_touch self.old) }
-        requires index { index < piece_cells }
-        ensures { Turns S.content S.honest lock.old.memory lock.new.memory lock.old.berths.items lock.new.berths.items self.old self.new
+        requires { IsSteady (next_touch self.old) }
+        ensures { Turns S.content S.honest lock.old.memory lock.new.memory lock.old.berths lock.new.berths self.old self.new
             (λ s p a. loads_by self.old.setting s p (hold_at self.old.holds scope) object index) ((lock.new ≡ lock.old) × (self.new ≡ self.old)) result }
     {
         match self.hold(scope) {
@@ -125,9 +123,8 @@ impl<'a> Program<'a> {
 
     /// A load in the frame where the program was told the object to be.
     fn load_told<S: RawStore>(&mut self, lock: &mut Lock<S>, object: usize, index: usize) -> Step
-        requires steady { IsSteady (next_touch self.old) }
-        requires index { index < piece_cells }
-        ensures { Turns S.content S.honest lock.old.memory lock.new.memory lock.old.berths.items lock.new.berths.items self.old self.new
+        requires { IsSteady (next_touch self.old) }
+        ensures { Turns S.content S.honest lock.old.memory lock.new.memory lock.old.berths lock.new.berths self.old self.new
             (λ s p a. loads_from self.old.setting s p (s.note object).frame index) ((lock.new ≡ lock.old) × (self.new ≡ self.old)) result }
     {
         match lock.memory.object(object).told {
@@ -150,8 +147,8 @@ impl<'a> Program<'a> {
         value: u64,
     ) -> Step
         requires steady { IsSteady (next_touch self.old) }
-        requires index { index < piece_cells }
-        ensures { Turns S.content S.honest lock.old.memory lock.new.memory lock.old.berths.items lock.new.berths.items self.old self.new
+        requires index { index < self.old.setting.size }
+        ensures { Turns S.content S.honest lock.old.memory lock.new.memory lock.old.berths lock.new.berths self.old self.new
             (λ s p a. stores_by self.old.setting s p scope (hold_at self.old.holds scope) object index value) ((lock.new ≡ lock.old) × (self.new ≡ self.old)) result }
     {
         match self.hold(scope) {
@@ -179,8 +176,8 @@ impl<'a> Program<'a> {
         value: u64,
     ) -> Step
         requires steady { IsSteady (next_touch self.old) }
-        requires index { index < piece_cells }
-        ensures { Turns S.content S.honest lock.old.memory lock.new.memory lock.old.berths.items lock.new.berths.items self.old self.new
+        requires index { index < self.old.setting.size }
+        ensures { Turns S.content S.honest lock.old.memory lock.new.memory lock.old.berths lock.new.berths self.old self.new
             (λ s p a. stores_to self.old.setting p (s.note object).frame object index value) ((lock.new ≡ lock.old) × (self.new ≡ self.old)) result }
     {
         let row = lock.memory.object(object);
@@ -200,7 +197,7 @@ impl<'a> Program<'a> {
 
     /// The scope begins to write.
     fn begin_write<S: RawStore>(&mut self, lock: &mut Lock<S>, scope: usize, object: usize) -> Step
-        ensures { Turns S.content S.honest lock.old.memory lock.new.memory lock.old.berths.items lock.new.berths.items self.old self.new
+        ensures { Turns S.content S.honest lock.old.memory lock.new.memory lock.old.berths lock.new.berths self.old self.new
             (λ s p a. Calls (Clears object) (λ t. holding p scope (Some (record { object = object; writes = true })))) ((lock.new ≡ lock.old) × (self.new ≡ self.old)) result }
     {
         if lock.memory.object(object).count == 0 {
@@ -221,7 +218,7 @@ impl<'a> Program<'a> {
     /// Shuts the scope.
     fn leave<S: RawStore>(&mut self, lock: &mut Lock<S>, scope: usize) -> Step
         requires { IsSteady (next_touch self.old) }
-        ensures { Turns S.content S.honest lock.old.memory lock.new.memory lock.old.berths.items lock.new.berths.items self.old self.new
+        ensures { Turns S.content S.honest lock.old.memory lock.new.memory lock.old.berths lock.new.berths self.old self.new
             (λ s p a. leaves_by self.old.setting p scope (hold_at self.old.holds scope)) ((lock.new ≡ lock.old) × (self.new ≡ self.old)) result }
     {
         match self.hold(scope) {
@@ -242,7 +239,7 @@ impl<'a> Program<'a> {
     /// The object of a cell, where there is one.
     fn object_wanted(&self, wanted: Option<Cell>) -> Option<usize>
         requires { IsCellOrNone self.now.core wanted }
-        ensures value { result ≡ option_map (λ c. object_in piece_cells self.now.setting.base (sizes (allocations_of self.now.core)) c.reference c.index) wanted }
+        ensures value { result ≡ option_map (λ c. object_in self.now.setting.size self.now.setting.base (sizes (allocations_of self.now.core)) c.reference c.index) wanted }
         ensures own { IfSome result (λ o. o < self.now.setting.limit) }
     {
         match wanted {
@@ -255,7 +252,7 @@ impl<'a> Program<'a> {
     fn aim<S: RawStore>(&mut self, lock: &mut Lock<S>, scope: usize, wanted: Option<Cell>) -> Step
         requires steady { IsSteady (next_touch self.old) }
         requires cell { IsCellOrNone self.old.core wanted }
-        ensures { Turns S.content S.honest lock.old.memory lock.new.memory lock.old.berths.items lock.new.berths.items self.old self.new
+        ensures { Turns S.content S.honest lock.old.memory lock.new.memory lock.old.berths lock.new.berths self.old self.new
             (λ s p a. ready self.old.setting s p a (touch.Aims scope wanted)) ((lock.new ≡ lock.old) × (self.new ≡ self.old)) result }
     {
         if scope < self.scopes() {
@@ -270,11 +267,11 @@ impl<'a> Program<'a> {
     fn load_cell<S: RawStore>(&mut self, lock: &mut Lock<S>, scope: usize, cell: Cell) -> Step
         requires steady { IsSteady (next_touch self.old) }
         requires cell { IsCell self.old.core cell }
-        ensures { Turns S.content S.honest lock.old.memory lock.new.memory lock.old.berths.items lock.new.berths.items self.old self.new
+        ensures { Turns S.content S.honest lock.old.memory lock.new.memory lock.old.berths lock.new.berths self.old self.new
             (λ s p a. ready self.old.setting s p a (touch.Loads scope cell)) ((lock.new ≡ lock.old) × (self.new ≡ self.old)) result }
     {
         let object = self.object_of(cell);
-        let index = cell.index % PIECE_CELLS as u64;
+        let index = cell.index % self.size() as u64;
         self.load(lock, scope, object, index as usize)
     }
 
@@ -288,18 +285,18 @@ impl<'a> Program<'a> {
     ) -> Step
         requires steady { IsSteady (next_touch self.old) }
         requires cell { IsCell self.old.core cell }
-        ensures { Turns S.content S.honest lock.old.memory lock.new.memory lock.old.berths.items lock.new.berths.items self.old self.new
+        ensures { Turns S.content S.honest lock.old.memory lock.new.memory lock.old.berths lock.new.berths self.old self.new
             (λ s p a. ready self.old.setting s p a (touch.Stores scope cell value)) ((lock.new ≡ lock.old) × (self.new ≡ self.old)) result }
     {
         let object = self.object_of(cell);
-        let index = cell.index % PIECE_CELLS as u64;
+        let index = cell.index % self.size() as u64;
         self.store(lock, scope, object, index as usize, value)
     }
 
     /// The next instruction is completed, which touches nothing, or memory is refused to it.
     fn go_plain<S: RawStore>(&mut self, lock: &mut Lock<S>) -> Step
         requires { next_touch self.old ≡ touch.Plain }
-        ensures { Turns S.content S.honest lock.old.memory lock.new.memory lock.old.berths.items lock.new.berths.items self.old self.new
+        ensures { Turns S.content S.honest lock.old.memory lock.new.memory lock.old.berths lock.new.berths self.old self.new
             (λ s p a. Alone (grows self.old.setting p a)) ((lock.new ≡ lock.old) × (self.new ≡ self.old)) result }
     {
         match self.proceed() {
@@ -314,7 +311,7 @@ impl<'a> Program<'a> {
     /// The next instruction is completed, which stops the program.
     fn go_on<S: RawStore>(&mut self, lock: &mut Lock<S>) -> Step
         requires { IsSteady (next_touch self.old) }
-        ensures { Turns S.content S.honest lock.old.memory lock.new.memory lock.old.berths.items lock.new.berths.items self.old self.new
+        ensures { Turns S.content S.honest lock.old.memory lock.new.memory lock.old.berths lock.new.berths self.old self.new
             (λ s p a. Alone (grows self.old.setting p a)) ((lock.new ≡ lock.old) × (self.new ≡ self.old)) result }
     {
         self.finish(0);
@@ -324,10 +321,10 @@ impl<'a> Program<'a> {
     /// An allocation of this many cells.
     fn allocate<S: RawStore>(&mut self, lock: &mut Lock<S>, cells: u64) -> Step
         requires { next_touch self.old ≡ touch.Allocs cells }
-        ensures { Turns S.content S.honest lock.old.memory lock.new.memory lock.old.berths.items lock.new.berths.items self.old self.new
+        ensures { Turns S.content S.honest lock.old.memory lock.new.memory lock.old.berths lock.new.berths self.old self.new
             (λ s p a. ready self.old.setting s p a (touch.Allocs cells)) ((lock.new ≡ lock.old) × (self.new ≡ self.old)) result }
     {
-        if self.next() + pieces(cells) <= self.limit() {
+        if self.next() + pieces(cells, self.size()) <= self.limit() {
             match self.extend(cells) {
                 Ok(()) => Step::Took,
                 Err(_refused) => {
@@ -344,7 +341,7 @@ impl<'a> Program<'a> {
     /// Stops, behind a close for each hold.
     fn end<S: RawStore>(&mut self, lock: &mut Lock<S>) -> Step
         requires { IsSteady (next_touch self.old) }
-        ensures { Turns S.content S.honest lock.old.memory lock.new.memory lock.old.berths.items lock.new.berths.items self.old self.new
+        ensures { Turns S.content S.honest lock.old.memory lock.new.memory lock.old.berths lock.new.berths self.old self.new
             (λ s p a. ready self.old.setting s p a touch.Ends) ((lock.new ≡ lock.old) × (self.new ≡ self.old)) result }
     {
         match self.first_hold() {
@@ -355,7 +352,7 @@ impl<'a> Program<'a> {
 
     /// The next instruction.
     pub(crate) fn instruct<S: RawStore>(&mut self, lock: &mut Lock<S>) -> Step
-        ensures { Turns S.content S.honest lock.old.memory lock.new.memory lock.old.berths.items lock.new.berths.items self.old self.new
+        ensures { Turns S.content S.honest lock.old.memory lock.new.memory lock.old.berths lock.new.berths self.old self.new
             (λ s p a. cond (is_blocked_in p.core) NotEnabled (ready self.old.setting s p a (touch_next self.old.setting p))) ((lock.new ≡ lock.old) × (self.new ≡ self.old)) result }
     {
         if self.is_blocked() {
@@ -376,7 +373,7 @@ impl<'a> Program<'a> {
 
     /// Its store failed: it closes the lowest of its holds, and with the last wants that.
     pub(crate) fn give_up<S: RawStore>(&mut self, lock: &mut Lock<S>) -> Step
-        ensures { Turns S.content S.honest lock.old.memory lock.new.memory lock.old.berths.items lock.new.berths.items self.old self.new
+        ensures { Turns S.content S.honest lock.old.memory lock.new.memory lock.old.berths lock.new.berths self.old self.new
             (λ s p a. gives_up p (first_hold p.holds)) ((lock.new ≡ lock.old) × (self.new ≡ self.old)) result }
     {
         match self.first_hold() {

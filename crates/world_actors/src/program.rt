@@ -8,7 +8,6 @@ ghost use Rattle.code_form.specs.Placed.{next_object, object_at, pieces as piece
 ghost use Rattle.code_form.specs.Touches.{IsCell, IsWithin};
 ghost use Rattle.code_form.specs.declared.touch.Touch.TheVariants.{Allocs, Plain};
 ghost use Rattle.pointer_word.specs.Machine.{Far, State};
-ghost use Rattle.remote_store.specs.Kept.{piece_cells};
 ghost use Rattle.std.specs.Prelude.{◌≡◌, ◌≢◌, ◌+◌, ◌-◌, ◌/◌, ◌<◌, ◌≤◌, ◌^◌, ℕ, IfOk, List, MatchOption, MatchResult, None, Some, length, option_map, slice_index, slice_set, true};
 ghost use Rattle.world_actors.specs.Acting.{Done, Failed, Leads, Moves, On, Shows, UnreadSo, outcome_of};
 ghost use Rattle.world_memory.specs.Answered.{AnswersSo, Gets, reading};
@@ -24,7 +23,7 @@ use crate::evict::{Evicted, evict};
 use cells::{Stop, Want};
 use code_execution::Execution;
 use code_form::{Cell, Image, Touch, effect_laws, heap_laws};
-use remote_store::{PIECE_CELLS, Port, RawStore};
+use remote_store::{Port, RawStore};
 use std::alloc::{AllocError, Global};
 use std::marker::Model;
 use world_memory::Lock;
@@ -118,7 +117,7 @@ impl Mode {
 }
 
 /// A program with its share of the objects, from `base` on and below `limit`, and its number as a mover. `firsts` are the first objects of
-/// its allocations, and `words` what it copies or fills a frame with.
+/// its allocations, and `words` what it copies or fills a frame with, `size` of them, as many as a piece has cells.
 #[derive(Drop)]
 pub struct Program<'a> {
     execution: Execution<'a>,
@@ -129,20 +128,20 @@ pub struct Program<'a> {
     next: u64,
     holds: Vec<Option<Hold>>,
     mode: Mode,
-    words: [u64; PIECE_CELLS],
+    size: usize,
+    words: Vec<u64>,
     completed: u64,
 }
 
 impl<'a> Model for Program<'a> {
-    ghost use Rattle.remote_store.specs.Kept.{piece_cells};
     ghost use Rattle.std.specs.Prelude.{reverse};
     ghost use Rattle.world_actors.specs.Seats.{IsSeat, Seat};
 
     ghost Value = { Seat };
 
-    ghost view = { λ p. record { setting = record { size = piece_cells; base = p.base; limit = p.limit; mover = p.mover; image = p.execution.image }; core = p.execution.core; holds = p.holds.items; mode = p.mode; words = p.words; completed = p.completed } };
+    ghost view = { λ p. record { setting = record { size = p.size; base = p.base; limit = p.limit; mover = p.mover; image = p.execution.image }; core = p.execution.core; holds = p.holds.items; mode = p.mode; words = p.words.items; completed = p.completed } };
 
-    ghost invariant = { λ p. IsSeat p.base p.limit p.execution (reverse p.firsts.items) p.next p.mode };
+    ghost invariant = { λ p. IsSeat p.size p.base p.limit p.execution (reverse p.firsts.items) p.next p.mode p.words.items };
 }
 
 impl<'a> Program<'a> {
@@ -157,6 +156,7 @@ impl<'a> Program<'a> {
         requires { (base ≤ limit) × (limit ≤ 16777216) }
         ensures { IfOk result (λ p. p ≡ begin (image_of image.now) base limit mover) }
     {
+        let size = image.piece.cells();
         Ok(Program {
             execution: Execution::new(alloc, image)?,
             base,
@@ -166,7 +166,8 @@ impl<'a> Program<'a> {
             next: base,
             holds: Vec::from_elem(alloc, None, 4)?,
             mode: Mode::Ready,
-            words: [0; PIECE_CELLS],
+            size,
+            words: Vec::from_elem(alloc, 0, size)?,
             completed: 0,
         })
     }
@@ -200,9 +201,17 @@ impl<'a> Program<'a> {
         self.set_mode(Mode::Wanted(Want::OutOfMemory));
     }
 
+    /// How many cells a piece has.
+    pub(crate) fn size(&self) -> usize
+        ensures value { result ≡ self.now.setting.size }
+        ensures some { 16 ≤ result }
+    {
+        self.size
+    }
+
     /// The word with which it fills the cell of this index.
     pub(crate) fn word(&self, index: usize) -> u64
-        requires { index < piece_cells }
+        requires { index < self.now.setting.size }
         ensures { result ≡ slice_index self.now.words index }
     {
         self.words[index]
@@ -216,11 +225,11 @@ impl<'a> Program<'a> {
         object: usize,
     ) -> bool
         ensures after { self.new ≡ record self.old { words = self.new.words } }
-        ensures got { result ≡ true → (far : ℕ → Far) → AreFar S.content lock.now.berths.items far → S.honest → IsHonestRead piece_cells (far object) (Some self.new.words) }
-        ensures answered { (far : ℕ → Far) → AreFar S.content lock.now.berths.items far → WasPut (far object)
-            → AnswersSo S.reliable S.failures S.read_gives piece_cells lock.now.berths.items port.old port.new far (Gets object) (reading result self.new.words) }
+        ensures got { result ≡ true → (n : ℕ) (far : ℕ → Far) → self.old.setting.size ≡ n → AreFar S.content n lock.now.berths.items far → S.honest → IsHonestRead n (far object) (Some self.new.words) }
+        ensures answered { (n : ℕ) (far : ℕ → Far) → lock.now.berths.cells ≡ n → self.old.setting.size ≡ n → AreFar S.content n lock.now.berths.items far → WasPut (far object)
+            → AnswersSo S.reliable S.failures S.read_gives n lock.now.berths.items port.old port.new far (Gets object) (reading result self.new.words) }
     {
-        lock.get(port, object, &mut self.words)
+        lock.berths.get(port, object, &mut self.words)
     }
 
     /// An event of moving an object out.
@@ -231,10 +240,10 @@ impl<'a> Program<'a> {
         eviction: Eviction,
     ) -> Evicted
         ensures after { self.new ≡ record self.old { words = self.new.words } }
-        ensures leads { (z : Sizes) (s : State) → let e = eviction_of eviction self.old.words in
-            Moves S.content S.honest z lock.old.memory lock.old.berths.items self.old.setting.mover e s → Leads s (λ a. evicts piece_cells self.old.setting.mover a e On Done Failed)
-            (UnreadSo (AnswersSo S.reliable S.failures S.read_gives piece_cells lock.old.berths.items port.old port.new s.far (asked_out piece_cells e)))
-            (λ u r. Shows S.content z lock.new.memory lock.new.berths.items u × (r ≡ outcome_of result self.new.words)) }
+        ensures leads { (z : Sizes) (s : State) → self.old.setting.size ≡ z.cells → let e = eviction_of eviction self.old.words in
+            Moves S.content S.honest z lock.old.memory lock.old.berths self.old.setting.mover e s → Leads z.cells s (λ a. evicts z.cells self.old.setting.mover a e On Done Failed)
+            (UnreadSo (AnswersSo S.reliable S.failures S.read_gives z.cells lock.old.berths.items port.old port.new s.far (asked_out z.cells e)))
+            (λ u r. Shows S.content z lock.new.memory lock.new.berths u × (r ≡ outcome_of result self.new.words)) }
     {
         evict(lock, port, self.mover, eviction, &mut self.words)
     }
@@ -310,7 +319,7 @@ impl<'a> Program<'a> {
 
     /// The object behind those of its allocations.
     pub(crate) fn next(&self) -> u64
-        ensures value { result ≡ next_object piece_cells self.now.setting.base (sizes (allocations_of self.now.core)) }
+        ensures value { result ≡ next_object self.now.setting.size self.now.setting.base (sizes (allocations_of self.now.core)) }
         ensures room { result ≤ self.now.setting.limit }
         ensures small { result ≤ 16777216 }
     {
@@ -328,12 +337,12 @@ impl<'a> Program<'a> {
     /// The object of a cell.
     pub(crate) fn object_of(&self, cell: Cell) -> usize
         requires { IsCell self.now.core cell }
-        ensures value { result ≡ object_at piece_cells self.now.setting.base (sizes (allocations_of self.now.core)) cell.reference cell.index }
+        ensures value { result ≡ object_at self.now.setting.size self.now.setting.base (sizes (allocations_of self.now.core)) cell.reference cell.index }
         ensures own { result < self.now.setting.limit }
     {
         heap_laws();
         let first = self.firsts[(cell.reference - 1) as usize];
-        (first + cell.index / PIECE_CELLS as u64) as usize
+        (first + cell.index / self.size as u64) as usize
     }
 
     /// Completes the next instruction, which uses a scope, tells a cell or ends the program; `loaded` is what it loads, if it loads something.
@@ -365,7 +374,7 @@ impl<'a> Program<'a> {
     /// changed.
     pub(crate) fn extend(&mut self, cells: u64) -> Result<(), AllocError>
         requires next { next_touch self.old ≡ Allocs cells }
-        requires room { next_object piece_cells self.old.setting.base (sizes (allocations_of self.old.core)) + pieces_of piece_cells cells ≤ self.old.setting.limit }
+        requires room { next_object self.old.setting.size self.old.setting.base (sizes (allocations_of self.old.core)) + pieces_of self.old.setting.size cells ≤ self.old.setting.limit }
         ensures { MatchResult result (λ _. self.new ≡ finished self.old 0) (λ _. self.new ≡ self.old) }
     {
         effect_laws();
@@ -374,18 +383,20 @@ impl<'a> Program<'a> {
             self.firsts.pop();
             return Err(error);
         }
-        self.next += pieces(cells);
+        self.next += pieces(cells, self.size);
         self.mode = Mode::Ready;
         self.completed = self.completed.wrapping_add(1);
         Ok(())
     }
 }
 
-/// How many pieces this many cells are.
-pub(crate) fn pieces(cells: u64) -> u64
-    ensures { result ≡ pieces_of piece_cells cells }
+/// How many pieces of so many cells this many cells are.
+pub(crate) fn pieces(cells: u64, size: usize) -> u64
+    requires { 16 ≤ size }
+    ensures value { result ≡ pieces_of size cells }
+    ensures few { result ≤ cells / 16 + 1 }
 {
-    let size = PIECE_CELLS as u64;
+    let size = size as u64;
     cells / size + if cells % size == 0 { 0 } else { 1 }
 }
 

@@ -1,5 +1,4 @@
 //! A program's turn, by its mode.
-ghost use Rattle.remote_store.specs.Kept.{piece_cells};
 ghost use Rattle.std.specs.Prelude.{◌≡◌, [], true};
 ghost use Rattle.world_actors.specs.Acting.{Turns, TurnsTold};
 ghost use Rattle.world_memory.specs.Answered.{AnswersSo};
@@ -9,7 +8,7 @@ ghost use Rattle.world_semantics.specs.Turns.{by_mode, program_brings, program_t
 ghost use Rattle.world_semantics.specs.Worlds.{in_range};
 
 use crate::program::{Mode, Program};
-use remote_store::{PIECE_CELLS, Port, RawStore};
+use remote_store::{Port, RawStore};
 use world_memory::Lock;
 use world_semantics::event::{Choice, Step};
 
@@ -24,10 +23,10 @@ impl<'a> Program<'a> {
     ) -> Step
         requires mode { self.old.mode ≡ Mode.Filling object frame index }
         requires steady { IsSteady (next_touch self.old) }
-        ensures { Turns S.content S.honest lock.old.memory lock.new.memory lock.old.berths.items lock.new.berths.items self.old self.new
+        ensures { Turns S.content S.honest lock.old.memory lock.new.memory lock.old.berths lock.new.berths self.old self.new
             (λ s p a. program_brings self.old.setting p a (Filling object frame self.old.words index)) ((lock.new ≡ lock.old) × (self.new ≡ self.old)) result }
     {
-        if index < PIECE_CELLS {
+        if index < self.size() {
             let value = self.word(index);
             let next = Mode::Filling {
                 object,
@@ -51,10 +50,10 @@ impl<'a> Program<'a> {
     ) -> Step
         requires mode { self.old.mode ≡ Mode.Clearing object frame index }
         requires steady { IsSteady (next_touch self.old) }
-        ensures { Turns S.content S.honest lock.old.memory lock.new.memory lock.old.berths.items lock.new.berths.items self.old self.new
+        ensures { Turns S.content S.honest lock.old.memory lock.new.memory lock.old.berths lock.new.berths self.old self.new
             (λ s p a. program_brings self.old.setting p a (Filling object frame [] index)) ((lock.new ≡ lock.old) × (self.new ≡ self.old)) result }
     {
-        if index < PIECE_CELLS {
+        if index < self.size() {
             let next = Mode::Clearing {
                 object,
                 frame,
@@ -71,8 +70,8 @@ impl<'a> Program<'a> {
     fn advance<S: RawStore>(&mut self, lock: &mut Lock<S>, port: &mut Port<S>, mode: Mode) -> Step
         requires mode { self.old.mode ≡ mode }
         requires waits { Waits mode (next_touch self.old) }
-        ensures { TurnsTold S.content (λ z. Unit {0}) S.honest lock.old.memory lock.new.memory lock.old.berths.items lock.new.berths.items self.old self.new
-            (AnswersSo S.reliable S.failures S.read_gives piece_cells lock.old.berths.items port.old port.new)
+        ensures { TurnsTold S.content (λ z. Unit {0}) S.honest lock.old.memory lock.new.memory lock.old.berths lock.new.berths self.old self.new
+            (λ n. AnswersSo S.reliable S.failures S.read_gives n lock.old.berths.items port.old port.new)
             (λ s p a. by_mode self.old.setting s p (mode_of mode self.old.words) Choice.Next a) ((lock.new ≡ lock.old) × (port.new ≡ port.old) × (self.new ≡ self.old)) result }
     {
         match mode {
@@ -108,8 +107,8 @@ impl<'a> Program<'a> {
         port: &mut Port<S>,
         choice: Choice,
     ) -> Step
-        ensures { TurnsTold S.content (λ z. in_range z choice ≡ true) S.honest lock.old.memory lock.new.memory lock.old.berths.items lock.new.berths.items self.old self.new
-            (AnswersSo S.reliable S.failures S.read_gives piece_cells lock.old.berths.items port.old port.new)
+        ensures { TurnsTold S.content (λ z. in_range z choice ≡ true) S.honest lock.old.memory lock.new.memory lock.old.berths lock.new.berths self.old self.new
+            (λ n. AnswersSo S.reliable S.failures S.read_gives n lock.old.berths.items port.old port.new)
             (λ s p a. program_turn self.old.setting s p choice a) ((lock.new ≡ lock.old) × (port.new ≡ port.old) × (self.new ≡ self.old)) result }
     {
         match self.mode() {

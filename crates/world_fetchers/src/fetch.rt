@@ -4,7 +4,6 @@ ghost use Rattle.pointer_word.specs.Calls.{Arrives, Begins, Claims, Fills, Retre
 ghost use Rattle.pointer_word.specs.Legal.{holds};
 ghost use Rattle.pointer_word.specs.Machine.{Far, State};
 ghost use Rattle.pointer_word.specs.Sound.{Inv};
-ghost use Rattle.remote_store.specs.Kept.{piece_cells};
 ghost use Rattle.world_actors.specs.Acting.{Leads, Shows, Unread};
 ghost use Rattle.world_actors.specs.Asking.{asked_in};
 ghost use Rattle.world_fetchers.specs.Fetching.{Brings, fetching_of};
@@ -14,7 +13,7 @@ ghost use Rattle.world_semantics.specs.Fetchers.{Filling, Reading, as_mode};
 ghost use Rattle.world_semantics.specs.Turns.{brings, to_fill};
 ghost use Rattle.world_semantics.specs.Worlds.{ReadsHonestly, Sizes};
 
-use remote_store::{PIECE_CELLS, Port, RawStore};
+use remote_store::{Port, RawStore};
 use world_memory::{Lock, Place};
 
 /// How far a fetcher is with an object that it brings in.
@@ -67,8 +66,8 @@ impl Fetching {
 
 /// Tries to begin to bring the object in. False where it is not away, or has a hold.
 pub(crate) fn begin<S: RawStore>(lock: &mut Lock<S>, mover: u16, object: usize) -> bool
-    ensures { (z : Sizes) (s : State) → object < z.objects → (s.hand mover).bringing ≡ None → Shows S.content z lock.old.memory lock.old.berths.items s
-        → let t = act s (Begins mover object 0 false) in Shows S.content z lock.new.memory lock.new.berths.items t × (holds (t.hand mover).bringing object ≡ result) }
+    ensures { (z : Sizes) (s : State) → object < z.objects → (s.hand mover).bringing ≡ None → Shows S.content z lock.old.memory lock.old.berths s
+        → let t = act s (Begins mover object 0 false) in Shows S.content z lock.new.memory lock.new.berths t × (holds (t.hand mover).bringing object ≡ result) }
 {
     let row = lock.memory.object(object);
     if row.count == 0 {
@@ -85,8 +84,8 @@ pub(crate) fn begin<S: RawStore>(lock: &mut Lock<S>, mover: u16, object: usize) 
 
 /// Tries to claim the frame for the object. False where somebody holds it.
 pub(crate) fn claim<S: RawStore>(lock: &mut Lock<S>, object: usize, frame: usize) -> bool
-    ensures { (m : ℕ) (z : Sizes) (s : State) → frame < z.frames → (s.hand m).claimed ≡ None → Shows S.content z lock.old.memory lock.old.berths.items s
-        → let t = act s (Claims m object frame) in Shows S.content z lock.new.memory lock.new.berths.items t × (holds (t.hand m).claimed frame ≡ result) }
+    ensures { (m : ℕ) (z : Sizes) (s : State) → frame < z.frames → (s.hand m).claimed ≡ None → Shows S.content z lock.old.memory lock.old.berths s
+        → let t = act s (Claims m object frame) in Shows S.content z lock.new.memory lock.new.berths t × (holds (t.hand m).claimed frame ≡ result) }
 {
     if lock.memory.is_free(frame) {
         lock.memory.hold_frame(frame, Some(object));
@@ -104,14 +103,12 @@ fn read<S: RawStore>(
     frame: usize,
     words: &mut [u64],
 ) -> Fetching
-    requires { length words.old ≡ piece_cells }
-    ensures length { length words.new ≡ piece_cells }
-    ensures leads { (m : ℕ) (z : Sizes) (s : State) → let d = Reading object frame in
-        Brings S.content S.honest z lock.now.memory lock.now.berths.items m d s → Leads s (λ a. brings piece_cells m false a d Some None None)
-        (λ a. (S.honest → ReadsHonestly piece_cells s (as_mode d) a.read) × AnswersSo S.reliable S.failures S.read_gives piece_cells lock.now.berths.items port.old port.new s.far (Gets object) a)
-        (λ u r. Shows S.content z lock.now.memory lock.now.berths.items u × (r ≡ Some (fetching_of result words.new))) }
+    ensures { (m : ℕ) (z : Sizes) (s : State) → length words.old ≡ z.cells → let d = Reading object frame in
+        Brings S.content S.honest z lock.now.memory lock.now.berths m d s → Leads z.cells s (λ a. brings z.cells m false a d Some None None)
+        (λ a. (S.honest → ReadsHonestly z.cells s (as_mode d) a.read) × AnswersSo S.reliable S.failures S.read_gives z.cells lock.now.berths.items port.old port.new s.far (Gets object) a)
+        (λ u r. Shows S.content z lock.now.memory lock.now.berths u × (r ≡ Some (fetching_of result words.new))) }
 {
-    if lock.get(port, object, words) {
+    if lock.berths.get(port, object, words) {
         Fetching::Filling {
             object,
             frame,
@@ -132,17 +129,16 @@ fn word(words: &[u64], index: usize) -> u64
 
 /// Fills a cell of the frame that was claimed.
 fn fill<S: RawStore>(lock: &mut Lock<S>, frame: usize, index: usize, value: u64)
-    requires { index < piece_cells }
-    ensures { (m : ℕ) (z : Sizes) (s : State) → Inv S.honest piece_cells s → (s.hand m).claimed ≡ Some frame → Shows S.content z lock.old.memory lock.old.berths.items s
-        → Shows S.content z lock.new.memory lock.new.berths.items (act s (Fills m frame index value)) }
+    ensures { (m : ℕ) (z : Sizes) (s : State) → index < z.cells → Inv S.honest z.cells s → (s.hand m).claimed ≡ Some frame → Shows S.content z lock.old.memory lock.old.berths s
+        → Shows S.content z lock.new.memory lock.new.berths (act s (Fills m frame index value)) }
 {
     lock.memory.put_cell(frame, index, value);
 }
 
 /// The frame is filled, and the object is in it.
 fn arrive<S: RawStore>(lock: &mut Lock<S>, object: usize, frame: usize)
-    ensures { (m : ℕ) (z : Sizes) (s : State) → Inv S.honest piece_cells s → (s.hand m).bringing ≡ Some object → Shows S.content z lock.old.memory lock.old.berths.items s
-        → Shows S.content z lock.new.memory lock.new.berths.items (act s (Arrives m object frame false)) }
+    ensures { (m : ℕ) (z : Sizes) (s : State) → Inv S.honest z.cells s → (s.hand m).bringing ≡ Some object → Shows S.content z lock.old.memory lock.old.berths s
+        → Shows S.content z lock.new.memory lock.new.berths (act s (Arrives m object frame false)) }
 {
     lock.memory.put_place(object, Place::Here(frame, true));
 }
@@ -155,12 +151,11 @@ fn fill_next<S: RawStore>(
     at: usize,
     words: &[u64],
 ) -> Option<Fetching>
-    requires { length words.now ≡ piece_cells }
-    ensures { (m : ℕ) (z : Sizes) (s : State) → let d = Filling object frame words.now at in
-        Brings S.content S.honest z lock.old.memory lock.old.berths.items m d s → Leads s (λ a. brings piece_cells m false a d Some None None) Unread
-        (λ u r. Shows S.content z lock.new.memory lock.new.berths.items u × (r ≡ option_map (λ e. fetching_of e words.now) result)) }
+    ensures { (m : ℕ) (z : Sizes) (s : State) → length words.now ≡ z.cells → let d = Filling object frame words.now at in
+        Brings S.content S.honest z lock.old.memory lock.old.berths m d s → Leads z.cells s (λ a. brings z.cells m false a d Some None None) Unread
+        (λ u r. Shows S.content z lock.new.memory lock.new.berths u × (r ≡ option_map (λ e. fetching_of e words.now) result)) }
 {
-    if at < PIECE_CELLS {
+    if at < words.len() {
         let value = word(words, at);
         fill(lock, frame, at, value);
         Some(Fetching::Filling {
@@ -182,10 +177,10 @@ fn clear_next<S: RawStore>(
     at: usize,
 ) -> Option<Fetching>
     ensures { (words : List ℕ) (m : ℕ) (z : Sizes) (s : State) → let d = Filling object frame [] at in
-        Brings S.content S.honest z lock.old.memory lock.old.berths.items m d s → Leads s (λ a. brings piece_cells m false a d Some None None) Unread
-        (λ u r. Shows S.content z lock.new.memory lock.new.berths.items u × (r ≡ option_map (λ e. fetching_of e words) result)) }
+        Brings S.content S.honest z lock.old.memory lock.old.berths m d s → Leads z.cells s (λ a. brings z.cells m false a d Some None None) Unread
+        (λ u r. Shows S.content z lock.new.memory lock.new.berths u × (r ≡ option_map (λ e. fetching_of e words) result)) }
 {
-    if at < PIECE_CELLS {
+    if at < lock.memory.size() {
         fill(lock, frame, at, 0);
         Some(Fetching::Clearing {
             object,
@@ -200,16 +195,16 @@ fn clear_next<S: RawStore>(
 
 /// Gives up the frame that was claimed.
 fn release<S: RawStore>(lock: &mut Lock<S>, frame: usize)
-    ensures { (m : ℕ) (z : Sizes) (s : State) → Inv S.honest piece_cells s → (s.hand m).claimed ≡ Some frame → Shows S.content z lock.old.memory lock.old.berths.items s
-        → Shows S.content z lock.new.memory lock.new.berths.items (act s (Unclaims m frame)) }
+    ensures { (m : ℕ) (z : Sizes) (s : State) → Inv S.honest z.cells s → (s.hand m).claimed ≡ Some frame → Shows S.content z lock.old.memory lock.old.berths s
+        → Shows S.content z lock.new.memory lock.new.berths (act s (Unclaims m frame)) }
 {
     lock.memory.hold_frame(frame, None);
 }
 
 /// Gives up the object: it is away again.
 fn retreat<S: RawStore>(lock: &mut Lock<S>, object: usize)
-    ensures { (m : ℕ) (z : Sizes) (s : State) → Inv S.honest piece_cells s → (s.hand m).bringing ≡ Some object → Shows S.content z lock.old.memory lock.old.berths.items s
-        → Shows S.content z lock.new.memory lock.new.berths.items (act s (Retreats m object)) }
+    ensures { (m : ℕ) (z : Sizes) (s : State) → Inv S.honest z.cells s → (s.hand m).bringing ≡ Some object → Shows S.content z lock.old.memory lock.old.berths s
+        → Shows S.content z lock.new.memory lock.new.berths (act s (Retreats m object)) }
 {
     lock.memory.put_place(object, Place::Away);
 }
@@ -221,12 +216,10 @@ pub(crate) fn bring<S: RawStore>(
     fetching: Fetching,
     words: &mut [u64],
 ) -> Option<Fetching>
-    requires { length words.old ≡ piece_cells }
-    ensures length { length words.new ≡ piece_cells }
-    ensures leads { (m : ℕ) (z : Sizes) (s : State) → let d = fetching_of fetching words.old in
-        Brings S.content S.honest z lock.old.memory lock.old.berths.items m d s → Leads s (λ a. brings piece_cells m false a d Some None None)
-        (λ a. (S.honest → ReadsHonestly piece_cells s (as_mode d) a.read) × AnswersSo S.reliable S.failures S.read_gives piece_cells lock.old.berths.items port.old port.new s.far (asked_in piece_cells (as_mode d)) a)
-        (λ u r. Shows S.content z lock.new.memory lock.new.berths.items u × (r ≡ option_map (λ e. fetching_of e words.new) result)) }
+    ensures { (m : ℕ) (z : Sizes) (s : State) → length words.old ≡ z.cells → let d = fetching_of fetching words.old in
+        Brings S.content S.honest z lock.old.memory lock.old.berths m d s → Leads z.cells s (λ a. brings z.cells m false a d Some None None)
+        (λ a. (S.honest → ReadsHonestly z.cells s (as_mode d) a.read) × AnswersSo S.reliable S.failures S.read_gives z.cells lock.old.berths.items port.old port.new s.far (asked_in z.cells (as_mode d)) a)
+        (λ u r. Shows S.content z lock.new.memory lock.new.berths u × (r ≡ option_map (λ e. fetching_of e words.new) result)) }
 {
     match fetching {
         Fetching::Reading { object, frame } => Some(read(lock, port, object, frame, words)),

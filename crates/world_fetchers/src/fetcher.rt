@@ -1,7 +1,7 @@
 //! A fetcher: a mover that brings objects in.
-ghost use Rattle.std.specs.Prelude.{◌≡◌, ◌<◌, None, Some, false, true};
+ghost use Rattle.cells.specs.Pieces.{cells_in};
+ghost use Rattle.std.specs.Prelude.{◌≡◌, ◌<◌, IfOk, None, Some, false, length, true};
 ghost use Rattle.pointer_word.specs.Machine.{State};
-ghost use Rattle.remote_store.specs.Kept.{piece_cells};
 ghost use Rattle.world_actors.specs.Acting.{Goes, Leads, Shows, Unread, UnreadSo};
 ghost use Rattle.world_actors.specs.Asking.{asked_in};
 ghost use Rattle.world_fetchers.specs.Fetching.{Fetches, asked_ahead, fetching_in, fetching_of};
@@ -11,7 +11,9 @@ ghost use Rattle.world_semantics.specs.Turns.{brings, fetcher_claims, fetcher_id
 ghost use Rattle.world_semantics.specs.Worlds.{FetchesHonestly, ReadsHonestly, Sizes, in_range};
 
 use crate::fetch::{Fetching, begin, bring, claim};
-use remote_store::{PIECE_CELLS, Port, RawStore};
+use cells::Piece;
+use remote_store::{Port, RawStore};
+use std::alloc::{AllocError, Global};
 use world_memory::Lock;
 use world_semantics::event::{Choice, Step};
 
@@ -20,20 +22,19 @@ use world_semantics::event::{Choice, Step};
 pub struct Fetcher {
     pub(crate) mover: u16,
     pub(crate) fetching: Option<Fetching>,
-    pub(crate) words: [u64; PIECE_CELLS],
+    pub(crate) words: Vec<u64>,
 }
 
 impl Fetcher {
-    /// A fetcher that is idle.
-    pub fn new(mover: u16) -> Fetcher
-        ensures mover { result.mover ≡ mover }
-        ensures idle { result.fetching ≡ None }
+    /// A fetcher that is idle, of pieces of this size.
+    pub fn new(alloc: Global, mover: u16, piece: Piece) -> Result<Fetcher, AllocError>
+        ensures { IfOk result (λ f. (f.mover ≡ mover) × (f.fetching ≡ None) × (length f.words.items ≡ cells_in piece)) }
     {
-        Fetcher {
+        Ok(Fetcher {
             mover,
             fetching: None,
-            words: [0; PIECE_CELLS],
-        }
+            words: Vec::from_elem(alloc, 0, piece.cells())?,
+        })
     }
 
     /// How far it is with an object that it brings in.
@@ -47,8 +48,9 @@ impl Fetcher {
     fn seek<S: RawStore>(&mut self, lock: &mut Lock<S>, choice: Choice) -> Step
         requires { self.old.fetching ≡ None }
         ensures mover { self.new.mover ≡ self.old.mover }
-        ensures goes { (z : Sizes) (s : State) → in_range z choice ≡ true → Fetches S.content S.honest z lock.old.memory lock.old.berths.items self.old s
-            → Goes s (λ a. fetcher_idle self.old.mover choice) Unread (λ u d. Shows S.content z lock.new.memory lock.new.berths.items u × (d ≡ fetching_in self.new))
+        ensures wide { length self.new.words.items ≡ length self.old.words.items }
+        ensures goes { (z : Sizes) (s : State) → in_range z choice ≡ true → Fetches S.content S.honest z lock.old.memory lock.old.berths self.old s
+            → Goes z.cells s (λ a. fetcher_idle self.old.mover choice) Unread (λ u d. Shows S.content z lock.new.memory lock.new.berths u × (d ≡ fetching_in self.new))
             ((lock.new ≡ lock.old) × (self.new ≡ self.old)) result }
     {
         match choice {
@@ -71,11 +73,12 @@ impl Fetcher {
     fn claim<S: RawStore>(&mut self, lock: &mut Lock<S>, object: usize, frame: usize)
         requires { self.old.fetching ≡ Some (Fetching.Bringing object) }
         ensures mover { self.new.mover ≡ self.old.mover }
-        ensures leads { (z : Sizes) (s : State) → frame < z.frames → Fetches S.content S.honest z lock.old.memory lock.old.berths.items self.old s
-            → Leads s (λ a. fetcher_claims self.old.mover frame (fetching_of (Fetching.Bringing object) self.old.words)) Unread
-            (λ u d. Shows S.content z lock.new.memory lock.new.berths.items u × (d ≡ fetching_in self.new)) }
+        ensures wide { length self.new.words.items ≡ length self.old.words.items }
+        ensures leads { (z : Sizes) (s : State) → frame < z.frames → Fetches S.content S.honest z lock.old.memory lock.old.berths self.old s
+            → Leads z.cells s (λ a. fetcher_claims self.old.mover frame (fetching_of (Fetching.Bringing object) self.old.words.items)) Unread
+            (λ u d. Shows S.content z lock.new.memory lock.new.berths u × (d ≡ fetching_in self.new)) }
     {
-        let is_new = lock.is_new(object);
+        let is_new = lock.berths.is_new(object);
         if claim(lock, object, frame) {
             self.fetching = Some(Fetching::begun(object, frame, is_new));
         }
@@ -90,9 +93,10 @@ impl Fetcher {
     ) -> Step
         requires { self.old.fetching ≡ Some fetching }
         ensures mover { self.new.mover ≡ self.old.mover }
-        ensures goes { (z : Sizes) (s : State) → frame < z.frames → Fetches S.content S.honest z lock.old.memory lock.old.berths.items self.old s
-            → Goes s (λ a. fetcher_claims self.old.mover frame (fetching_of fetching self.old.words)) (UnreadSo (λ a. asked_in piece_cells (as_mode (fetching_of fetching self.old.words)) ≡ Nothing))
-            (λ u d. Shows S.content z lock.new.memory lock.new.berths.items u × (d ≡ fetching_in self.new)) ((lock.new ≡ lock.old) × (self.new ≡ self.old)) result }
+        ensures wide { length self.new.words.items ≡ length self.old.words.items }
+        ensures goes { (z : Sizes) (s : State) → frame < z.frames → Fetches S.content S.honest z lock.old.memory lock.old.berths self.old s
+            → Goes z.cells s (λ a. fetcher_claims self.old.mover frame (fetching_of fetching self.old.words.items)) (UnreadSo (λ a. asked_in z.cells (as_mode (fetching_of fetching self.old.words.items)) ≡ Nothing))
+            (λ u d. Shows S.content z lock.new.memory lock.new.berths u × (d ≡ fetching_in self.new)) ((lock.new ≡ lock.old) × (self.new ≡ self.old)) result }
     {
         match fetching {
             Fetching::Bringing(object) => {
@@ -107,11 +111,12 @@ impl Fetcher {
     fn go_on<S: RawStore>(&mut self, lock: &mut Lock<S>, port: &mut Port<S>, fetching: Fetching)
         requires { self.old.fetching ≡ Some fetching }
         ensures mover { self.new.mover ≡ self.old.mover }
-        ensures leads { (z : Sizes) (s : State) → Fetches S.content S.honest z lock.old.memory lock.old.berths.items self.old s
-            → Leads s (λ a. brings piece_cells self.old.mover false a (fetching_of fetching self.old.words) Some None None)
-            (λ a. (S.honest → ReadsHonestly piece_cells s (as_mode (fetching_of fetching self.old.words)) a.read)
-            × AnswersSo S.reliable S.failures S.read_gives piece_cells lock.old.berths.items port.old port.new s.far (asked_in piece_cells (as_mode (fetching_of fetching self.old.words))) a)
-            (λ u d. Shows S.content z lock.new.memory lock.new.berths.items u × (d ≡ fetching_in self.new)) }
+        ensures wide { length self.new.words.items ≡ length self.old.words.items }
+        ensures leads { (z : Sizes) (s : State) → Fetches S.content S.honest z lock.old.memory lock.old.berths self.old s
+            → Leads z.cells s (λ a. brings z.cells self.old.mover false a (fetching_of fetching self.old.words.items) Some None None)
+            (λ a. (S.honest → ReadsHonestly z.cells s (as_mode (fetching_of fetching self.old.words.items)) a.read)
+            × AnswersSo S.reliable S.failures S.read_gives z.cells lock.old.berths.items port.old port.new s.far (asked_in z.cells (as_mode (fetching_of fetching self.old.words.items))) a)
+            (λ u d. Shows S.content z lock.new.memory lock.new.berths u × (d ≡ fetching_in self.new)) }
     {
         self.fetching = bring(lock, port, fetching, &mut self.words);
     }
@@ -124,11 +129,12 @@ impl Fetcher {
         choice: Choice,
     ) -> Step
         ensures mover { self.new.mover ≡ self.old.mover }
-        ensures goes { (z : Sizes) (s : State) → in_range z choice ≡ true → Fetches S.content S.honest z lock.old.memory lock.old.berths.items self.old s
-            → Goes s (λ a. fetcher_turn piece_cells self.old.mover (fetching_in self.old) choice a)
-            (λ a. (S.honest → FetchesHonestly piece_cells s (fetching_in self.old) a.read)
-            × AnswersSo S.reliable S.failures S.read_gives piece_cells lock.old.berths.items port.old port.new s.far (asked_ahead piece_cells (fetching_in self.old)) a)
-            (λ u d. Shows S.content z lock.new.memory lock.new.berths.items u × (d ≡ fetching_in self.new))
+        ensures wide { length self.new.words.items ≡ length self.old.words.items }
+        ensures goes { (z : Sizes) (s : State) → in_range z choice ≡ true → Fetches S.content S.honest z lock.old.memory lock.old.berths self.old s
+            → Goes z.cells s (λ a. fetcher_turn z.cells self.old.mover (fetching_in self.old) choice a)
+            (λ a. (S.honest → FetchesHonestly z.cells s (fetching_in self.old) a.read)
+            × AnswersSo S.reliable S.failures S.read_gives z.cells lock.old.berths.items port.old port.new s.far (asked_ahead z.cells (fetching_in self.old)) a)
+            (λ u d. Shows S.content z lock.new.memory lock.new.berths u × (d ≡ fetching_in self.new))
             ((lock.new ≡ lock.old) × (port.new ≡ port.old) × (self.new ≡ self.old)) result }
     {
         match self.fetching() {

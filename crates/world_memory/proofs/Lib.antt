@@ -1,1 +1,2 @@
+pub mod Berthed
 pub mod Showing

@@ -1,16 +1,15 @@
 -- the tables show a state after a change of one row
-use Rattle.std.proofs.Common.{◌≡◌, ◌≢◌, inl, inr, ℕ, zero, suc, ◌-◌, ◌<◌, ◌≤◌, List, length, get_or, Option, refl, sym, ap, ◌∙◌, subst, arith}
-use Rattle.std.specs.Prelude.{replicate}
+use Rattle.std.proofs.Common.{◌≡◌, ◌≢◌, inl, inr, ℕ, suc, ◌+◌, ◌-◌, ◌*◌, ◌/◌, ◌%◌, ◌<◌, Bool, true, false, cond, ◌&&◌, List, length, get_or, Option, None, refl, sym, ap, ◌∙◌, subst, arith}
+use Rattle.std.specs.Prelude.{nat_lt}
 use Rattle.std.proofs.Math.ListN.{set}
 use Rattle.std.proofs.lemmas.List.{get_or-set_same, get_or-set_other, get_or_past, length-set}
-use Rattle.std.proofs.lemmas.Bool.Decides.{eqb_tells}
+use Rattle.std.proofs.lemmas.Bool.Decides.{eqb_tells, nat_tests}
+use Rattle.std.proofs.lemmas.Nat.{div-mul-add, mod-mul-add, mul-add-lt}
 use Rattle.pointer_word.specs.Words.{Word}
-use Rattle.pointer_word.specs.Hands.{Note, upd, listed}
+use Rattle.pointer_word.specs.Hands.{Note, upd}
 use Rattle.pointer_word.proofs.Upd.{upd-same, upd-other, same_or}
-use Rattle.remote_store.specs.Kept.{piece_cells}
 use Rattle.world_memory.specs.declared.memory.Object.{Object}
-use Rattle.world_memory.specs.declared.memory.Frame.{Frame}
-use Rattle.world_memory.specs.Tables.{Tables, cells_at, frame_at, frame_word, free, object_at, resting, with_cell, with_frame, with_object}
+use Rattle.world_memory.specs.Tables.{Tables, cell_at, frame_at, frame_word, object_at, resting, with_cell, with_frame, with_object}
 use Rattle.world_semantics.specs.Worlds.{Sizes}
 use Rattle.world_memory.specs.Shown.{IsObject, AreTables}
 
@@ -39,6 +38,7 @@ object_set z t word note frame cell o x w n shown inside is = record {
   objects = set_objects z t word note frame cell o x w n shown inside is;
   frames = shown.frames;
   cells = shown.cells;
+  size = shown.size;
   wide = shown.wide;
   objects_many = length-set t.objects o x ∙ shown.objects_many;
   frames_many = shown.frames_many;
@@ -51,6 +51,7 @@ word_set z t word note frame cell o x w shown inside is = record {
   objects = λ i. subst (λ (m : Note). IsObject (object_at (with_object t o x) i) (upd word o w i) m) (same_note i) (set_objects z t word note frame cell o x w (note o) shown inside is i);
   frames = shown.frames;
   cells = shown.cells;
+  size = shown.size;
   wide = shown.wide;
   objects_many = length-set t.objects o x ∙ shown.objects_many;
   frames_many = shown.frames_many;
@@ -66,6 +67,7 @@ note_set z t word note frame cell o x n shown inside is = record {
   objects = λ i. subst (λ (m : Word). IsObject (object_at (with_object t o x) i) m (upd note o n i)) (same_word i) (set_objects z t word note frame cell o x (word o) n shown inside is i);
   frames = shown.frames;
   cells = shown.cells;
+  size = shown.size;
   wide = shown.wide;
   objects_many = length-set t.objects o x ∙ shown.objects_many;
   frames_many = shown.frames_many;
@@ -84,6 +86,7 @@ history_set z t word note frame cell o n shown a b c = record {
   ];
   frames = shown.frames;
   cells = shown.cells;
+  size = shown.size;
   wide = shown.wide;
   objects_many = shown.objects_many;
   frames_many = shown.frames_many;
@@ -108,57 +111,71 @@ pub frame_set : (z : Sizes) (t : Tables) (word : ℕ → Word) (note : ℕ → N
 frame_set z t word note frame cell f held shown below =
     let many = shown.frames_many in
     let inside : f < length t.frames = omega arith in
-    let x : Frame = record (frame_at t f) { held_for = held } in
+    let as_many : length (set t.frames f held) ≡ length t.frames = length-set t.frames f held in
     record {
       objects = shown.objects;
       frames = λ i. elim (same_or i f) [
-        | inl e ↦ upd-same frame f (frame_word held) i e ∙ sym (ap (λ (y : Frame). frame_word y.held_for) (set_same t.frames f x free i e inside))
-        | inr d ↦ upd-other frame f (frame_word held) i d ∙ (shown.frames i ∙ sym (ap (λ (y : Frame). frame_word y.held_for) (get_or-set_other t.frames f i x free d)))
+        | inl e ↦ upd-same frame f (frame_word held) i e ∙ sym (ap frame_word (set_same t.frames f held None i e inside))
+        | inr d ↦ upd-other frame f (frame_word held) i d ∙ (shown.frames i ∙ sym (ap frame_word (get_or-set_other t.frames f i held None d)))
       ];
-      cells = λ i j. elim (same_or i f) [
-        | inl e ↦ ap (λ k. cell k j) e ∙ (shown.cells f j ∙ sym (ap (λ (y : Frame). listed y.cells j) (set_same t.frames f x free i e inside)))
-        | inr d ↦ shown.cells i j ∙ sym (ap (λ (y : Frame). listed y.cells j) (get_or-set_other t.frames f i x free d))
-      ];
-      wide = λ i. elim (same_or i f) [
-        | inl e ↦ ap (λ (y : Frame). length y.cells) (set_same t.frames f x free i e inside) ∙ shown.wide f
-        | inr d ↦ ap (λ (y : Frame). length y.cells) (get_or-set_other t.frames f i x free d) ∙ shown.wide i
-      ];
+      cells = λ i j. shown.cells i j ∙ sym (ap (λ (n : ℕ). cond (nat_lt i n && nat_lt j t.size) (get_or t.cells (i * t.size + j) 0) 0) as_many);
+      size = shown.size;
+      wide = shown.wide;
       objects_many = shown.objects_many;
-      frames_many = length-set t.frames f x ∙ shown.frames_many;
+      frames_many = as_many ∙ shown.frames_many;
     }
 
--- the cells of a row behind a write
-row_set : (ws : List ℕ) (row : ℕ → ℕ) (k v j : ℕ) → ((i : ℕ) → row i ≡ listed ws i) → k < length ws → upd row k v j ≡ listed (set ws k v) j
-row_set ws row k v j same l = elim (same_or j k) [
-  | inl e ↦ upd-same row k v j e ∙ sym (set_same ws k v 0 j e l)
-  | inr d ↦ upd-other row k v j d ∙ (same j ∙ sym (get_or-set_other ws k j v 0 d))
-]
+-- in rows of n places different cells stand at different places
+apart : (n f k i j : ℕ) → k < n → j < n → (i ≡ f → j ≡ k → ⊥) → i * n + j ≢ f * n + k
+apart n f k i j a b d e =
+    d (sym (div-mul-add i n j b) ∙ (ap (λ (x : ℕ). x / n) e ∙ div-mul-add f n k a)) (sym (mod-mul-add i n j b) ∙ (ap (λ (x : ℕ). x % n) e ∙ mod-mul-add f n k a))
+
+-- each cell of a frame has its place in rows of n
+pub place_inside : (n f k frames many : ℕ) → many ≡ frames * n → f < frames → k < n → f * n + k < many
+place_inside n f k frames many e a b = omega (arith, mul-add-lt f n k frames a b)
+
+second : (a b : Bool) → (a && b) ≡ true → b ≡ true
+second true b e = e
+second false b e = cc
+
+lt_of : (a : Bool) (j n : ℕ) → (a && nat_lt j n) ≡ true → j < n
+lt_of a j n e = let q = second a (nat_lt j n) e in grind (arith, nat_tests)
+
+both_lt : (i m j n : ℕ) → i < m → j < n → (nat_lt i m && nat_lt j n) ≡ true
+both_lt i m j n a b = grind (arith, nat_tests)
+
+-- a cell that isn't written stays
+stays : (t : Tables) (f k v i j : ℕ) → k < t.size → (i ≡ f → j ≡ k → ⊥) → (b : Bool) → (nat_lt i (length t.frames) && nat_lt j t.size) ≡ b
+    → cond b (get_or (set t.cells (f * t.size + k) v) (i * t.size + j) 0) 0 ≡ cond b (get_or t.cells (i * t.size + j) 0) 0
+stays t f k v i j l d true e = get_or-set_other t.cells (f * t.size + k) (i * t.size + j) v 0 (apart t.size f k i j l (lt_of (nat_lt i (length t.frames)) j t.size e) d)
+stays t f k v i j l d false e = refl
 
 -- one cell
 pub cell_set : (z : Sizes) (t : Tables) (word : ℕ → Word) (note : ℕ → Note) (frame : ℕ → ℕ) (cell : ℕ → ℕ → ℕ) (f k v : ℕ)
-    → AreTables z t word note frame cell → f < z.frames → k < piece_cells → AreTables z (with_cell t f k v) word note frame (upd cell f (upd (cell f) k v))
+    → AreTables z t word note frame cell → f < z.frames → k < z.cells → AreTables z (with_cell t f k v) word note frame (upd cell f (upd (cell f) k v))
 cell_set z t word note frame cell f k v shown there below =
     let many = shown.frames_many in
+    let size = shown.size in
     let inside : f < length t.frames = omega arith in
-    let ws : List ℕ = cells_at t f in
-    let x : Frame = record (frame_at t f) { cells = set ws k v } in
-    let l : k < length ws = subst (λ n. k < n) (sym (shown.wide f)) below in
+    let low : k < t.size = omega arith in
+    let at : f * t.size + k < length t.cells = place_inside t.size f k z.frames (length t.cells) (shown.wide ∙ ap (λ (n : ℕ). z.frames * n) (sym size)) there low in
+    let other : (i j : ℕ) → (i ≡ f → j ≡ k → ⊥) → cell i j ≡ cell_at (with_cell t f k v) i j =
+    λ i j d. shown.cells i j ∙ sym (stays t f k v i j low d (nat_lt i (length t.frames) && nat_lt j t.size) refl) in
     record {
       objects = shown.objects;
-      frames = λ i. elim (same_or i f) [
-        | inl e ↦ ap frame e ∙ (shown.frames f ∙ sym (ap (λ (y : Frame). frame_word y.held_for) (set_same t.frames f x free i e inside)))
-        | inr d ↦ shown.frames i ∙ sym (ap (λ (y : Frame). frame_word y.held_for) (get_or-set_other t.frames f i x free d))
-      ];
+      frames = shown.frames;
       cells = λ i j. elim (same_or i f) [
-        | inl e ↦ ap (λ (g : ℕ → ℕ). g j) (upd-same cell f (upd (cell f) k v) i e) ∙ (row_set ws (cell f) k v j (shown.cells f) l ∙ sym (ap (λ (y : Frame). listed y.cells j) (set_same t.frames f x free i e inside)))
-        | inr d ↦ ap (λ (g : ℕ → ℕ). g j) (upd-other cell f (upd (cell f) k v) i d) ∙ (shown.cells i j ∙ sym (ap (λ (y : Frame). listed y.cells j) (get_or-set_other t.frames f i x free d)))
+        | inl e ↦ ap (λ (g : ℕ → ℕ). g j) (upd-same cell f (upd (cell f) k v) i e) ∙ elim (same_or j k) [
+          | inl q ↦ upd-same (cell f) k v j q ∙ sym (ap (λ b. cond b (get_or (set t.cells (f * t.size + k) v) (i * t.size + j) 0) 0) (both_lt i (length t.frames) j t.size (omega arith) (omega arith))
+              ∙ set_same t.cells (f * t.size + k) v 0 (i * t.size + j) (ap (λ (x : ℕ). x * t.size + j) e ∙ ap (λ (x : ℕ). f * t.size + x) q) at)
+          | inr d ↦ upd-other (cell f) k v j d ∙ (ap (λ (x : ℕ). cell x j) (sym e) ∙ other i j (λ _ q. d q))
+        ]
+        | inr d ↦ ap (λ (g : ℕ → ℕ). g j) (upd-other cell f (upd (cell f) k v) i d) ∙ other i j (λ q _. d q)
       ];
-      wide = λ i. elim (same_or i f) [
-        | inl e ↦ ap (λ (y : Frame). length y.cells) (set_same t.frames f x free i e inside) ∙ (length-set ws k v ∙ shown.wide f)
-        | inr d ↦ ap (λ (y : Frame). length y.cells) (get_or-set_other t.frames f i x free d) ∙ shown.wide i
-      ];
+      size = size;
+      wide = length-set t.cells (f * t.size + k) v ∙ shown.wide;
       objects_many = shown.objects_many;
-      frames_many = length-set t.frames f x ∙ shown.frames_many;
+      frames_many = many;
     }
 
 -- ---- what lies in the tables
@@ -171,17 +188,8 @@ in_objects t o d = elim (eqb_tells 0 (suc o - length t.objects)) [
 ]
 
 -- a frame whose word isn't 0 is in the table
-pub in_frames : (t : Tables) (f : ℕ) → 0 < frame_word (frame_at t f).held_for → f < length t.frames
+pub in_frames : (t : Tables) (f : ℕ) → 0 < frame_word (frame_at t f) → f < length t.frames
 in_frames t f l = elim (eqb_tells 0 (suc f - length t.frames)) [
   | inl e ↦ let z = e.1 in omega arith
-  | inr e ↦ let z = e.1 in let r : frame_word (frame_at t f).held_for ≡ 0 = ap (λ (y : Frame). frame_word y.held_for) (get_or_past t.frames f free (omega arith)) in absurd (omega arith)
+  | inr e ↦ let z = e.1 in let r : frame_word (frame_at t f) ≡ 0 = ap frame_word (get_or_past t.frames f None (omega arith)) in absurd (omega arith)
 ]
-
-zeros : (n i : ℕ) → 0 ≡ listed (replicate n 0) i
-zeros zero i = refl
-zeros (suc n) zero = refl
-zeros (suc n) (suc i) = zeros n i
-
--- the cells of a frame that isn't there are 0
-pub free_cells : (t : Tables) (f i : ℕ) → length t.frames ≤ f → 0 ≡ listed (cells_at t f) i
-free_cells t f i l = zeros piece_cells i ∙ sym (ap (λ (y : Frame). listed y.cells i) (get_or_past t.frames f free l))

@@ -1,3 +1,4 @@
 pub mod Tables
+pub mod Berths
 pub mod Shown
 pub mod Answered

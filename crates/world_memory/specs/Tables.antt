@@ -1,16 +1,17 @@
--- What code keeps of the machine: a row for each object, and one for each frame.
-use Rattle.std.specs.Prelude.{◌≡◌, ℕ, suc, ◌<◌, Bool, true, false, ◌&&◌, ◌==◌, Option, Some, None, List, slice_index_or, slice_set, replicate}
+-- What code keeps of the machine: a row for each object, and for each frame its object and its cells.
+use Rattle.std.specs.Prelude.{◌≡◌, ℕ, suc, ◌+◌, ◌*◌, ◌<◌, cond, nat_lt, Bool, true, false, ◌&&◌, ◌==◌, Option, Some, None, List, length, slice_index_or, slice_set, replicate}
 use Rattle.pointer_word.specs.Words as words
-use Rattle.remote_store.specs.Kept.{piece_cells}
 use Rattle.world_memory.specs.declared.memory.Place.{Place}
 use Rattle.world_memory.specs.declared.memory.Place.TheVariants as p
 use Rattle.world_memory.specs.declared.memory.Object.{Object}
-use Rattle.world_memory.specs.declared.memory.Frame.{Frame}
 
--- an object's word with what its owner knows, and a frame's word with its cells, by their numbers
+-- objects' words with what their owners know, by their numbers; the object, if any, for which each frame is held; and the cells of all frames, one
+-- frame's behind the other's, `size` of each
 pub record Tables : Type 0 where
   pub objects : List Object
-  pub frames : List Frame
+  pub frames : List (Option ℕ)
+  pub cells : List ℕ
+  pub size : ℕ
 
 -- the place that code holds
 abbrev pub place_of : Place → words.Place
@@ -27,26 +28,26 @@ word_of x = words.counted x.count (place_of x.place)
 abbrev pub resting : Object
 resting = record { count = 0; place = p.Away; told = None; writing = false }
 
--- a frame that nobody holds
-abbrev pub free : Frame
-free = record { held_for = None; cells = replicate piece_cells 0 }
+-- so many objects at rest, and so many frames that nobody holds, each of n cells that are 0
+abbrev pub opened : ℕ → ℕ → ℕ → Tables
+opened objects frames n = record { objects = replicate objects resting; frames = replicate frames None; cells = replicate (frames * n) 0; size = n }
 
 -- outside the table objects rest
 abbrev pub object_at : Tables → ℕ → Object
 object_at t o = slice_index_or t.objects o resting
 
 -- outside the table frames are free
-abbrev pub frame_at : Tables → ℕ → Frame
-frame_at t f = slice_index_or t.frames f free
+abbrev pub frame_at : Tables → ℕ → Option ℕ
+frame_at t f = slice_index_or t.frames f None
 
 -- the word of a frame that is held for this object, or is free
 abbrev pub frame_word : Option ℕ → ℕ
 frame_word None = 0
 frame_word (Some o) = suc o
 
--- the cells of a frame
-abbrev pub cells_at : Tables → ℕ → List ℕ
-cells_at t f = (frame_at t f).cells
+-- the cell i of a frame; 0 where there is none
+abbrev pub cell_at : Tables → ℕ → ℕ → ℕ
+cell_at t f i = cond (nat_lt f (length t.frames) && nat_lt i t.size) (slice_index_or t.cells (f * t.size + i) 0) 0
 
 -- one object changed
 abbrev pub with_object : Tables → ℕ → Object → Tables
@@ -54,11 +55,11 @@ with_object t o x = record t { objects = slice_set t.objects o x }
 
 -- one frame held for another object, or free
 abbrev pub with_frame : Tables → ℕ → Option ℕ → Tables
-with_frame t f y = record t { frames = slice_set t.frames f (record (frame_at t f) { held_for = y }) }
+with_frame t f y = record t { frames = slice_set t.frames f y }
 
 -- one cell of a frame changed
 abbrev pub with_cell : Tables → ℕ → ℕ → ℕ → Tables
-with_cell t f i v = record t { frames = slice_set t.frames f (record (frame_at t f) { cells = slice_set (cells_at t f) i v }) }
+with_cell t f i v = record t { cells = slice_set t.cells (f * t.size + i) v }
 
 -- in this frame with no hold, and marked by this mover
 abbrev pub is_marked_at : Place → ℕ → ℕ → ℕ → Bool

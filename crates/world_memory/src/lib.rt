@@ -4,5 +4,5 @@
 mod lock;
 mod memory;
 
-pub use lock::Lock;
+pub use lock::{Berths, Lock};
 pub use memory::{Memory, Object, Place};

@@ -1,15 +1,15 @@
 //! The words, frames and cells of the world, and what the owner of each object knows.
-ghost use Rattle.std.specs.Prelude.{◌≡◌, ◌<◌, ◌≤◌, ◌^◌, IfOk, Some, None, is_none, length, replicate, slice_index};
+ghost use Rattle.cells.specs.Pieces.{cells_in};
+ghost use Rattle.std.specs.Prelude.{◌≡◌, ◌<◌, ◌≤◌, ◌^◌, IfOk, Some, None, is_none, length};
 ghost use Rattle.pointer_word.specs.Hands.{upd};
 ghost use Rattle.pointer_word.specs.Machine.{State, after_clear, after_close, after_open, after_told};
 ghost use Rattle.pointer_word.specs.Words.{clean_bit, cleared, counted, framed, mark_bit, pack, place_bits};
-ghost use Rattle.remote_store.specs.Kept.{piece_cells};
-ghost use Rattle.world_memory.specs.Tables.{cells_at, frame_at, frame_word, free, is_at_rest_in, is_away_at, is_clean_in, is_marked_by, object_at, place_of, resting, with_cell, with_frame, with_object, word_of, FrameFits};
+ghost use Rattle.world_memory.specs.Tables.{cell_at, frame_at, frame_word, is_at_rest_in, is_away_at, is_clean_in, is_marked_by, object_at, opened, place_of, resting, with_cell, with_frame, with_object, word_of, FrameFits};
 ghost use Rattle.world_memory.specs.Shown.{Shown};
 ghost use Rattle.world_semantics.specs.Worlds.{Sizes};
 
+use cells::Piece;
 use pointer_word::Word;
-use remote_store::PIECE_CELLS;
 use std::alloc::{AllocError, Global};
 use std::marker::Model;
 
@@ -35,26 +35,26 @@ pub struct Object {
     pub writing: bool,
 }
 
-/// The object for which a frame is held, whose number and one more is the frame's word, and its cells. The word of one that is free is 0.
-#[derive(Clone, Copy, PartialEq, Eq, Debug)]
-pub(crate) struct Frame {
-    pub(crate) held_for: Option<usize>,
-    pub(crate) cells: [u64; PIECE_CELLS],
-}
-
-/// The words of all objects with what their owners know, and all frames.
+/// The words of all objects with what their owners know, the object for which each frame is held, and the cells of all frames: those of
+/// a frame stand behind those of the frame before it, `size` of each. The word of a frame is the number of its object and one more, and 0
+/// where it is free.
 #[derive(Drop)]
 pub struct Memory {
     objects: Vec<Object>,
-    frames: Vec<Frame>,
+    frames: Vec<Option<usize>>,
+    cells: Vec<u64>,
+    size: usize,
 }
 
 impl Model for Memory {
+    ghost use Rattle.std.specs.Prelude.{◌≡◌, ◌*◌, length};
     ghost use Rattle.world_memory.specs.Tables.{Tables};
 
     ghost Value = { Tables };
 
-    ghost view = { λ m. record { objects = m.objects.items; frames = m.frames.items } };
+    ghost view = { λ m. record { objects = m.objects.items; frames = m.frames.items; cells = m.cells.items; size = m.size } };
+
+    ghost invariant = { λ m. length m.cells.items ≡ length m.frames.items * m.size };
 }
 
 impl Place {
@@ -161,20 +161,22 @@ impl Object {
 }
 
 impl Memory {
-    /// Every object away with no hold, and every frame free and zero.
-    pub fn new(alloc: Global, objects: usize, frames: usize) -> Result<Memory, AllocError>
-        ensures { IfOk result (λ m. m ≡ record { objects = replicate objects resting; frames = replicate frames free }) }
+    /// Every object away with no hold, and every frame free and zero. A frame has the cells of a piece.
+    pub fn new(
+        alloc: Global,
+        objects: usize,
+        frames: usize,
+        piece: Piece,
+    ) -> Result<Memory, AllocError>
+        requires { frames ≤ 1048576 }
+        ensures { IfOk result (λ m. m ≡ opened objects frames (cells_in piece)) }
     {
+        let size = piece.cells();
         Ok(Memory {
             objects: Vec::from_elem(alloc, Object::resting(), objects)?,
-            frames: Vec::from_elem(
-                alloc,
-                Frame {
-                    held_for: None,
-                    cells: [0; PIECE_CELLS],
-                },
-                frames,
-            )?,
+            frames: Vec::from_elem(alloc, None, frames)?,
+            cells: Vec::from_elem(alloc, 0, frames * size)?,
+            size,
         })
     }
 
@@ -190,6 +192,13 @@ impl Memory {
         ensures { result ≡ length self.now.frames }
     {
         self.frames.len()
+    }
+
+    /// How many cells a frame has.
+    pub fn size(&self) -> usize
+        ensures { result ≡ self.now.size }
+    {
+        self.size
     }
 
     /// An object; one that isn't there is away with no hold.
@@ -213,22 +222,21 @@ impl Memory {
 
     /// Whether nobody holds the frame.
     pub fn is_free(&self, frame: usize) -> bool
-        ensures { result ≡ is_none (frame_at self.now frame).held_for }
+        ensures { result ≡ is_none (frame_at self.now frame) }
     {
         if frame < self.frames.len() {
-            self.frames[frame].held_for.is_none()
+            self.frames[frame].is_none()
         } else {
             true
         }
     }
 
-    /// A frame's cell; 0 where there is no such frame.
+    /// A frame's cell; 0 where there is none.
     pub fn cell(&self, frame: usize, index: usize) -> u64
-        requires { index < piece_cells }
-        ensures { result ≡ slice_index (cells_at self.now frame) index }
+        ensures { result ≡ cell_at self.now frame index }
     {
-        if frame < self.frames.len() {
-            self.frames[frame].cells[index]
+        if frame < self.frames.len() && index < self.size {
+            self.cells[frame * self.size + index]
         } else {
             0
         }
@@ -238,18 +246,15 @@ impl Memory {
         ensures { self.new ≡ with_frame self.old frame held_for }
     {
         if frame < self.frames.len() {
-            let row = &mut self.frames[frame];
-            row.held_for = held_for;
+            self.frames[frame] = held_for;
         }
     }
 
     fn set_cell(&mut self, frame: usize, index: usize, value: u64)
-        requires { index < piece_cells }
-        ensures { self.new ≡ with_cell self.old frame index value }
+        ensures { frame < length self.old.frames → index < self.old.size → self.new ≡ with_cell self.old frame index value }
     {
-        if frame < self.frames.len() {
-            let row = &mut self.frames[frame];
-            row.cells[index] = value;
+        if frame < self.frames.len() && index < self.size {
+            self.cells[frame * self.size + index] = value;
         }
     }
 
@@ -336,8 +341,7 @@ impl Memory {
 
     /// A cell of the frame has another value.
     pub fn put_cell(&mut self, frame: usize, index: usize, value: u64)
-        requires { index < piece_cells }
-        ensures { (z : Sizes) (s : State) → Shown z self.old s → frame < z.frames
+        ensures { (z : Sizes) (s : State) → Shown z self.old s → frame < z.frames → index < z.cells
             → Shown z self.new (record s { cell = upd s.cell frame (upd (s.cell frame) index value) }) }
     {
         self.set_cell(frame, index, value);

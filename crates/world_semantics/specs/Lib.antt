@@ -5,6 +5,7 @@ pub mod Fetchers
 pub mod Following
 pub mod Holding
 pub mod InHand
+pub mod Pieces
 pub mod Programs
 pub mod Rows
 pub mod Scopes

@@ -92,3 +92,72 @@ pub(crate) fn after_statements<'a>(
     }
     Ok(behind)
 }
+
+/// Behind a statement in the body of a loop, whatever it reads. The body begins at `start`; the paths of this statement that end a turn
+/// by `continue` meet those that met before. A loop in the statement has its own.
+#[cycle(ends)]
+#[tactic(auto, using(crate::proofs::Flows::joined_before, crate::proofs::Rows::block_is))]
+fn ends_of<'a>(
+    alloc: Global,
+    start: &Flow<'a>,
+    statement: &'a Statement,
+    flow: &Flow<'a>,
+    met: &mut Flow<'a>,
+) -> Result<Behind<'a>, AllocError>
+    ensures behind { IfOk result (λ behind. behind_of (flow_of flow.now) behind ≡ a.after_statement (statement_of statement.now) (flow_of flow.now)) }
+    ensures continued { IfOk result (λ _. flow_of met.new ≡ a.continued (flow_of start.now) (statement_of statement.now) (flow_of flow.now) (flow_of met.old)) }
+{
+    match &statement.kind {
+        StatementKind::Block(statements) => {
+            let inner = ends_of_all(alloc, start, statements, flow, met)?;
+            flow.leave(alloc, &inner)
+        }
+        StatementKind::If(_, body) => {
+            ends_of(alloc, start, body, flow, met)?;
+            Ok(Behind::Same)
+        }
+        StatementKind::IfElse(_, first, second) => {
+            let behind_first = ends_of(alloc, start, first, flow, met)?;
+            let behind_second = ends_of(alloc, start, second, flow, met)?;
+            flow.join(alloc, &behind_first, &behind_second)
+        }
+        StatementKind::Continue => {
+            *met = start.merge(alloc, met, flow)?;
+            Ok(Behind::Changed(Flow::Ended))
+        }
+        _ => after_statement(alloc, statement, flow),
+    }
+}
+
+/// The same of statements in order.
+#[cycle(ends)]
+fn ends_of_all<'a>(
+    alloc: Global,
+    start: &Flow<'a>,
+    body: &'a [Statement],
+    flow: &Flow<'a>,
+    met: &mut Flow<'a>,
+) -> Result<Behind<'a>, AllocError>
+    ensures behind { IfOk result (λ behind. behind_of (flow_of flow.now) behind ≡ a.after_statements (statements_of body.now) (flow_of flow.now)) }
+    ensures continued { IfOk result (λ _. flow_of met.new ≡ a.some_continued (flow_of start.now) (statements_of body.now) (flow_of flow.now) (flow_of met.old)) }
+{
+    let mut behind = Behind::Same;
+    for statement in body {
+        let next = ends_of(alloc, start, statement, behind.over(&*flow), met)?;
+        behind = behind.then(next);
+    }
+    Ok(behind)
+}
+
+/// Where the third part of a `for` stands, whose body begins here: behind the body, and behind each `continue` that ends a turn of it.
+pub(crate) fn after_body<'a>(
+    alloc: Global,
+    body: &'a Statement,
+    flow: &Flow<'a>,
+) -> Result<Behind<'a>, AllocError>
+    ensures { IfOk result (λ behind. behind_of (flow_of flow.now) behind ≡ a.after_body (statement_of body.now) (flow_of flow.now)) }
+{
+    let mut met = Flow::Ended;
+    let behind = ends_of(alloc, flow, body, flow, &mut met)?;
+    flow.join(alloc, &behind, &Behind::Changed(met))
+}

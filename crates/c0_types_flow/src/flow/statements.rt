@@ -10,7 +10,7 @@ ghost use Rattle.c0_rules.specs.Mentions.{as_variable as variable_by, specs_in};
 ghost use Rattle.c0_rules.specs.Types.{provided};
 ghost use Rattle.c0_rules.specs.Answers.{Answers};
 
-use super::after::after_statement;
+use super::after::after_body;
 use super::assigned::as_variable;
 use super::{Behind, Flow};
 use crate::mentioned::Refused;
@@ -135,7 +135,7 @@ pub(crate) fn behind_part<'a>(
     }
 }
 
-// The third part of a `for`, whose body begins here: it sees what the body assigns, whatever the body reads.
+// The third part of a `for`, whose body begins here: it sees what the body assigns at its end and at each `continue`, whatever the body reads.
 fn check_third<'a>(
     alloc: Global,
     third: &'a Option<SimpleStatement>,
@@ -145,8 +145,7 @@ fn check_third<'a>(
     ensures answers { MatchResult result (λ _. third_reads (option_map simple_of third.now) (statement_of body.now) (flow_of flow.now) ≡ true) (λ f. (f.kind ≡ OutOfMemory) ⊎ (third_reads (option_map simple_of third.now) (statement_of body.now) (flow_of flow.now) ≡ false)) }
     ensures cause { IfErr result (λ f. (f.kind ≡ OutOfMemory) ⊎ ReadInPart f (a.after_body (statement_of body.now) (flow_of flow.now)) third.now) }
 {
-    let behind = after_statement(alloc, body, flow)?;
-    let left = flow.leave(alloc, &behind)?;
+    let left = after_body(alloc, body, flow)?;
     behind_part(alloc, third, left.over(flow))?;
     Ok(())
 }

@@ -2,16 +2,17 @@
 // A tree held where a step may fail is boxed before, or dropped there by a call: a drop that `?` makes is proved
 // variant by variant.
 
-ghost use Rattle.std.specs.Prelude.{◌≡◌, ◌⊎◌, List, Err, IfErr, IfOk, IsOkAnd, box_value, is_err, map, option_map};
-ghost use Rattle.c0_source.specs.declared.fault.FaultKind.TheVariants.{OutOfMemory};
+ghost use Rattle.std.specs.Prelude.{◌≡◌, ◌⊎◌, List, Err, IfErr, IfOk, IsOkAnd, MatchResult, false, true, box_value, is_err, map, option_map};
+ghost use Rattle.c0_source.specs.declared.fault.FaultKind.TheVariants.{NotInLoop, OutOfMemory};
 ghost use Rattle.c0_syntax.specs.Trees as t;
 ghost use Rattle.c0_syntax.specs.Views.{annotation_of, expression_of, simple_of, statement_of, statement_of_kind, statements_of};
 ghost use Rattle.c0_typed.specs.Trees as y;
 ghost use Rattle.c0_typed.specs.Views.{block_of, exp_of, exps_of, stmt_of};
-ghost use Rattle.c0_types_statements.specs.Bodies.{Gives, GivesBy, InFor, InIfElse, InLoop, PartHasTexts, SpecsHaveTexts, StatementHasTexts, StatementsHaveTexts, block_in_scope, in_scope, loop_behind, scope_of};
+ghost use Rattle.c0_types_statements.specs.Bodies.{Gives, GivesBy, InFor, InIfElse, InLoop, PartHasTexts, SpecsHaveTexts, StatementHasTexts, StatementsHaveTexts, block_in_scope, in_scope, loop_behind, scope_of, turn_in_scope};
 ghost use Rattle.c0_rules.specs.FaultStatements.{InAnnotations, InBody, InPart, InStatement, InWanted, ReturnCause, ThirdCause};
+ghost use Rattle.c0_rules.specs.FaultExpressions.{Told};
 ghost use Rattle.c0_rules.specs.Mentions.{specs_in};
-ghost use Rattle.c0_rules.specs.Statements.{Invariant, declares, typed_part, typed_statement, typed_statements, within};
+ghost use Rattle.c0_rules.specs.Statements.{Invariant, declares, in_body, typed_part, typed_statement, typed_statements, within};
 ghost use Rattle.c0_types_expressions.specs.Terms.{HasTexts};
 ghost use Rattle.c0_rules.specs.Types.{BoolType, Environment, Name};
 ghost use Rattle.c0_types_tables.specs.Views.{environment_of};
@@ -128,6 +129,37 @@ impl<'a> Body<'a> {
         Ok(TypedStatement::Return)
     }
 
+    // A `break` or a `continue`, here, stands in a loop.
+    fn check_in_loop(&self, span: Span) -> Result<(), Fault>
+        ensures { MatchResult result (λ _. self.now.scope.in_loop ≡ true) (λ f. (self.now.scope.in_loop ≡ false) × Told NotInLoop span f) }
+    {
+        if !self.scope.in_loop {
+            return Err(Fault {
+                kind: FaultKind::NotInLoop,
+                span,
+            });
+        }
+        Ok(())
+    }
+
+    // A `break`.
+    fn broken(&self, span: Span) -> Result<TypedStatement, Fault>
+        ensures answers { Gives self.now.texts.now self.now.scope result (typed_statement (environment_of self.now.environment.now) t.Break (scope_of self.now.scope)) }
+        ensures cause { IfErr result (λ f. InStatement (environment_of self.now.environment.now) f (scope_of self.now.scope) StatementKind.Break span) }
+    {
+        self.check_in_loop(span)?;
+        Ok(TypedStatement::Break)
+    }
+
+    // A `continue`.
+    fn continued(&self, span: Span) -> Result<TypedStatement, Fault>
+        ensures answers { Gives self.now.texts.now self.now.scope result (typed_statement (environment_of self.now.environment.now) t.Continue (scope_of self.now.scope)) }
+        ensures cause { IfErr result (λ f. InStatement (environment_of self.now.environment.now) f (scope_of self.now.scope) StatementKind.Continue span) }
+    {
+        self.check_in_loop(span)?;
+        Ok(TypedStatement::Continue)
+    }
+
     // A `return` with a value; of a void function it is refused, whatever the value is.
     fn returned_value(&self, value: &Expression) -> Result<TypedStatement, Fault>
         requires { HasTexts self.now.texts.now (expression_of value.now) }
@@ -182,10 +214,8 @@ impl<'a> Body<'a> {
             StatementKind::Error(text) => {
                 Ok(TypedStatement::Error(self.wanted(&ResolvedType::Text, text)?))
             }
-            StatementKind::Break | StatementKind::Continue => Err(Fault {
-                kind: FaultKind::Syntax,
-                span,
-            }),
+            StatementKind::Break => self.broken(span),
+            StatementKind::Continue => self.continued(span),
         }
     }
 
@@ -233,6 +263,24 @@ impl<'a> Body<'a> {
         let count = self.scope.locals.len();
         let found = self.statement(&body.kind, body.span)?;
         self.scope.leave(count);
+        Ok(found)
+    }
+
+    // The body of a loop, which is a scope.
+    #[cycle(statement)]
+    fn turn(&mut self, body: &Statement) -> Result<TypedStatement, Fault>
+        requires { StatementHasTexts self.old.texts.now (statement_of body.now) }
+        ensures environment { self.new.environment ≡ self.old.environment }
+        ensures texts { self.new.texts ≡ self.old.texts }
+        ensures answers { Gives self.old.texts.now self.new.scope result (turn_in_scope (environment_of self.old.environment.now) (statement_of body.now) (scope_of self.old.scope)) }
+        ensures cause { IfErr result (λ f. (f.kind ≡ OutOfMemory) ⊎ InStatement (environment_of self.old.environment.now) f (in_body (scope_of self.old.scope)) body.now.kind body.now.span) }
+    {
+        let count = self.scope.locals.len();
+        let outer = self.scope.in_loop;
+        self.scope.in_loop = true;
+        let found = self.statement(&body.kind, body.span)?;
+        self.scope.leave(count);
+        self.scope.in_loop = outer;
         Ok(found)
     }
 
@@ -298,10 +346,10 @@ impl<'a> Body<'a> {
         ensures environment { self.new.environment ≡ self.old.environment }
         ensures texts { self.new.texts ≡ self.old.texts }
         ensures answers { Gives self.old.texts.now self.new.scope result (typed_statement (environment_of self.old.environment.now) (t.While (expression_of condition.now) (map annotation_of annotations.now) (statement_of body.now)) (scope_of self.old.scope)) }
-        ensures cause { IfErr result (λ f. (f.kind ≡ OutOfMemory) ⊎ InWanted (environment_of self.old.environment.now) f (scope_of self.old.scope) BoolType condition.now ⊎ InAnnotations (environment_of self.old.environment.now) f Invariant (within (scope_of self.old.scope)) annotations.now ⊎ InStatement (environment_of self.old.environment.now) f (scope_of self.old.scope) body.now.kind body.now.span) }
+        ensures cause { IfErr result (λ f. (f.kind ≡ OutOfMemory) ⊎ InWanted (environment_of self.old.environment.now) f (scope_of self.old.scope) BoolType condition.now ⊎ InAnnotations (environment_of self.old.environment.now) f Invariant (within (scope_of self.old.scope)) annotations.now ⊎ InStatement (environment_of self.old.environment.now) f (in_body (scope_of self.old.scope)) body.now.kind body.now.span) }
     {
         let head = self.while_head(condition, annotations)?;
-        let inside = self.inner(body);
+        let inside = self.turn(body);
         repeated(self.alloc, head, inside)
     }
 
@@ -321,7 +369,7 @@ impl<'a> Body<'a> {
         ensures cause { IfErr result (λ f. (f.kind ≡ OutOfMemory) ⊎ ThirdCause (environment_of self.old.environment.now) f third.now ⊎ InLoop (environment_of self.old.environment.now) f (scope_of self.old.scope) condition.now third.now annotations.now body.now) }
     {
         let head = self.head(condition, third, annotations)?;
-        let inside = self.inner(body);
+        let inside = self.turn(body);
         repeated(self.alloc, head, inside)
     }
 

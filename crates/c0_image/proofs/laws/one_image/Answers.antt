@@ -8,6 +8,6 @@ use Rattle.codegen.specs.Generated.{generated}
 use Rattle.c0_image.proofs.laws.one_image.Goals as goal
 
 pub returns : goal.returns
-returns c = λ text checks C D a b.
+returns c = λ loops text checks cells C D a b.
     let same : program_of a.tree ≡ program_of b.tree = a.read_as ∙ b.only a.program a.typed ∙ sym b.read_as in
-    a.made ∙ ap (λ (code : Program). generated (prefetched_program (hoisted_program (placed_program code)))) (c.same_program_same_code.ensures checks a.tree b.tree same) ∙ sym b.made
+    a.made ∙ ap (λ (code : Program). generated cells (prefetched_program cells (hoisted_program (placed_program code)))) (c.same_program_same_code.ensures checks a.tree b.tree same) ∙ sym b.made

@@ -1,8 +1,11 @@
 use Rattle.std.proofs.Common.{◌≡◌, ℕ, true, Some, None, refl, ap, sym, ◌∙◌, subst}
 use Rattle.std.proofs.lemmas.Result.{err_from_is_err_and}
+use Rattle.cells.specs.Pieces.{cells_in}
+use Rattle.c0_syntax.specs.Levels.{has_loops}
 use Rattle.c0_typed.specs.Meaning.{mean}
 use Rattle.c0_typed.specs.Typing.{FitsProgram}
 use Rattle.c0_typed.specs.Views.{program_of}
+use Rattle.cells.proofs.Pieces.{is_a_piece}
 use Rattle.code_form.specs.Counts.{has_few_items}
 use Rattle.code_form.specs.Form.{Image, image_of}
 use Rattle.code_form.specs.declared.form.Image.{Image as RustImage}
@@ -37,11 +40,11 @@ pub verified-requires : goal.verified-requires
 verified-requires c =
     let t = c.in_ok-typed.ensures.typed in
     let fits : FitsProgram (program_of c.in_ok-typed.typed) = c.elaborated.ensures t.program (program_of c.in_ok-typed.typed) t.rules in
-    let made : image_of c.in_ok-image.image ≡ image_of_tree c.args.checks c.in_ok-typed.typed =
+    let made : image_of c.in_ok-image.image ≡ image_of_tree c.args.checks (cells_in c.args.piece) c.in_ok-typed.typed =
     c.in_ok-image.ensures.image
-    ∙ ap generated (c.in_ok-scoped.ensures ∙ ap prefetched_program (c.in_ok-hoisted.ensures ∙ ap hoisted_program (c.in_ok-placed.ensures ∙ ap placed_program c.in_ok-middle.ensures.exact))) in
+    ∙ ap (generated (cells_in c.args.piece)) (c.in_ok-scoped.ensures ∙ ap (prefetched_program (cells_in c.args.piece)) (c.in_ok-hoisted.ensures ∙ ap hoisted_program (c.in_ok-placed.ensures ∙ ap placed_program c.in_ok-middle.ensures.exact))) in
     subst (λ (C : Image). fault_of C ≡ None) (sym made)
-    (c.images_are_accepted.ensures c.args.checks c.in_ok-typed.typed fits (subst (λ (C : Image). has_few_items C ≡ true) made c.in_ok-image.ensures.few))
+    (c.images_are_accepted.ensures c.args.checks (cells_in c.args.piece) c.in_ok-typed.typed fits (subst (λ (C : Image). has_few_items C ≡ true) made c.in_ok-image.ensures.few))
 
 pub returns-clause-compiled : goal.returns-clause-compiled
 returns-clause-compiled c =
@@ -51,26 +54,26 @@ returns-clause-compiled c =
     let code : m.Program = code_of c.in_ok-middle.middle in
     let placed : s.Program = placed_program code in
     let hoisted : s.Program = hoisted_program placed in
-    let with_scopes : s.Program = prefetched_program hoisted in
+    let with_scopes : s.Program = prefetched_program (cells_in c.args.piece) hoisted in
     let image : Image = image_of c.in_ok-image.image in
-    let generates : image ≡ generated with_scopes = c.in_ok-image.ensures.image ∙ ap generated (c.in_ok-scoped.ensures ∙ ap prefetched_program (c.in_ok-hoisted.ensures ∙ ap hoisted_program c.in_ok-placed.ensures)) in
-    let made : image ≡ image_of_tree c.args.checks c.in_ok-typed.typed = generates ∙ ap (λ (p : m.Program). generated (prefetched_program (hoisted_program (placed_program p)))) c.in_ok-middle.ensures.exact in
+    let generates : image ≡ generated (cells_in c.args.piece) with_scopes = c.in_ok-image.ensures.image ∙ ap (generated (cells_in c.args.piece)) (c.in_ok-scoped.ensures ∙ ap (prefetched_program (cells_in c.args.piece)) (c.in_ok-hoisted.ensures ∙ ap hoisted_program c.in_ok-placed.ensures)) in
+    let made : image ≡ image_of_tree c.args.checks (cells_in c.args.piece) c.in_ok-typed.typed = generates ∙ ap (λ (p : m.Program). generated (cells_in c.args.piece) (prefetched_program (cells_in c.args.piece) (hoisted_program (placed_program p)))) c.in_ok-middle.ensures.exact in
     let same : (n : ℕ) → scoped_means with_scopes n ≡ Some (mean program c.args.checks n) =
-    λ n. c.prefetched_means_the_same.ensures hoisted (c.hoisted_is_scoped.ensures placed (c.placed_is_scoped.ensures code)) n
+    λ n. c.prefetched_means_the_same.ensures (cells_in c.args.piece) hoisted (c.hoisted_is_scoped.ensures placed (c.placed_is_scoped.ensures code)) n
     ∙ (c.hoisted_means_the_same.ensures placed (c.placed_is_scoped.ensures code) n ∙ (c.placed_means_the_same.ensures code n ∙ c.in_ok-middle.ensures.same n)) in
     let is_safe : IsSafe with_scopes = safe program c.args.checks with_scopes same in
-    let few : has_few_items (image_of_tree c.args.checks c.in_ok-typed.typed) ≡ true = subst (λ (C : Image). has_few_items C ≡ true) made c.in_ok-image.ensures.few in
-    subst (λ (i : RustImage). IsCompiled c.args.text.now c.args.checks (image_of i)) (sym c.in_ok-verified.ensures.same) (record {
+    let few : has_few_items (image_of_tree c.args.checks (cells_in c.args.piece) c.in_ok-typed.typed) ≡ true = subst (λ (C : Image). has_few_items C ≡ true) made c.in_ok-image.ensures.few in
+    subst (λ (i : RustImage). IsCompiled (has_loops c.args.level) c.args.text.now c.args.checks (cells_in c.args.piece) (image_of i)) (sym c.in_ok-verified.ensures.same) (record {
       program = program;
       typed = c.in_ok-typed.ensures.typed;
       only = λ other w. sym (c.in_ok-typed.ensures.every other w);
       tree = c.in_ok-typed.typed;
       read_as = refl;
       made = made;
-      behaves = behaves program c.args.checks with_scopes image same (subst (Keeps with_scopes) (sym generates) (c.generated_keeps_the_meaning.ensures with_scopes is_safe));
+      behaves = behaves program c.args.checks with_scopes image same (subst (Keeps with_scopes) (sym generates) (c.generated_keeps_the_meaning.ensures (cells_in c.args.piece) with_scopes is_safe));
       covered = c.in_ok-verified.ensures.covered;
       verified = c.in_ok-verified.ensures.verified;
-      consistent = subst IsConsistent (sym made) (c.images_are_consistent.ensures c.args.checks c.in_ok-typed.typed fits few);
+      consistent = subst IsConsistent (sym made) (c.images_are_consistent.ensures c.args.checks (cells_in c.args.piece) c.in_ok-typed.typed (is_a_piece c.args.piece) fits few);
     })
 
 pub returns-clause-every : goal.returns-clause-every
@@ -79,14 +82,14 @@ returns-clause-every c = λ p w.
     let code : m.Program = code_of c.in_ok-middle.middle in
     let placed : s.Program = placed_program code in
     let hoisted : s.Program = hoisted_program placed in
-    let with_scopes : s.Program = prefetched_program hoisted in
+    let with_scopes : s.Program = prefetched_program (cells_in c.args.piece) hoisted in
     let image : Image = image_of c.in_ok-image.image in
-    let generates : image ≡ generated with_scopes = c.in_ok-image.ensures.image ∙ ap generated (c.in_ok-scoped.ensures ∙ ap prefetched_program (c.in_ok-hoisted.ensures ∙ ap hoisted_program c.in_ok-placed.ensures)) in
+    let generates : image ≡ generated (cells_in c.args.piece) with_scopes = c.in_ok-image.ensures.image ∙ ap (generated (cells_in c.args.piece)) (c.in_ok-scoped.ensures ∙ ap (prefetched_program (cells_in c.args.piece)) (c.in_ok-hoisted.ensures ∙ ap hoisted_program c.in_ok-placed.ensures)) in
     let same : (n : ℕ) → scoped_means with_scopes n ≡ Some (mean program c.args.checks n) =
-    λ n. c.prefetched_means_the_same.ensures hoisted (c.hoisted_is_scoped.ensures placed (c.placed_is_scoped.ensures code)) n
+    λ n. c.prefetched_means_the_same.ensures (cells_in c.args.piece) hoisted (c.hoisted_is_scoped.ensures placed (c.placed_is_scoped.ensures code)) n
     ∙ (c.hoisted_means_the_same.ensures placed (c.placed_is_scoped.ensures code) n ∙ (c.placed_means_the_same.ensures code n ∙ c.in_ok-middle.ensures.same n)) in
     let is_safe : IsSafe with_scopes = safe program c.args.checks with_scopes same in
     let kept : Behaves program c.args.checks image =
-    behaves program c.args.checks with_scopes image same (subst (Keeps with_scopes) (sym generates) (c.generated_keeps_the_meaning.ensures with_scopes is_safe)) in
+    behaves program c.args.checks with_scopes image same (subst (Keeps with_scopes) (sym generates) (c.generated_keeps_the_meaning.ensures (cells_in c.args.piece) with_scopes is_safe)) in
     subst (λ (i : RustImage). Behaves p c.args.checks (image_of i)) (sym c.in_ok-verified.ensures.same)
     (subst (λ q. Behaves q c.args.checks image) (c.in_ok-typed.ensures.every p w) kept)

@@ -17,4 +17,4 @@ pub returns-clause-inconsistent : goal.returns-clause-inconsistent
 returns-clause-inconsistent c h = let far : 4294967296 < 4294967296 = (h.functions 0 some (omega arith)).numbers 0 one (omega arith) 0 ReturnVoid (omega arith) in omega arith
 
 pub returns-clause-not_encodable : goal.returns-clause-not_encodable
-returns-clause-not_encodable c h = let far : 4294967296 < 4294967296 = h.1.1.1.0.1.1.1.1.1.0.1.1.0.1.1.1.0 in omega arith
+returns-clause-not_encodable c h = let far : 4294967296 < 4294967296 = h.1.1.1.1.0.1.1.1.1.1.0.1.1.0.1.1.1.0 in omega arith

@@ -18,6 +18,9 @@ first_true : (a b : Bool) → (a && b) ≡ true → a ≡ true
 first_true true b h = refl
 first_true false b h = h
 
+pub returns-clause-pieces : goal.returns-clause-pieces
+returns-clause-pieces c h = absurd (cc h.pieces)
+
 pub returns-clause-items : goal.returns-clause-items
 returns-clause-items c n l h =
     let texts : List (List ℕ) = replicate n [] in

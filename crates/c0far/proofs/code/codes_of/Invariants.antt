@@ -1,4 +1,5 @@
 use Rattle.std.proofs.Common.{◌≡◌, ℕ, List, map, take}
+use Rattle.command_line.specs.Shell.{compiling_of}
 use Rattle.c0far.specs.FileCode.{AreCodes}
 use Rattle.c0far.specs.Streams.{IsQuiet, writes}
 use Rattle.c0far.proofs.code.codes_of.Given as goal
@@ -8,5 +9,5 @@ abbrev pub invariant-loop-name : goal.invariant-loop-name
 invariant-loop-name g l = record {
   files : (name : List ℕ) → g.F.Files.holds l.files name ≡ g.F.Files.holds l.initial.files name;
   quiet : IsQuiet (writes g.E.Stream.contents g.E.Stream.failures l.initial.err l.err);
-  codes : AreCodes l.checks (g.F.Files.holds l.initial.files) (map (λ n. n.now) (take l.name-index l.names)) l.programs.items;
+  codes : AreCodes (compiling_of l.compiling) (g.F.Files.holds l.initial.files) (map (λ n. n.now) (take l.name-index l.names)) l.programs.items;
 }

@@ -1,14 +1,22 @@
-use Rattle.std.proofs.Common.{inl, inr, refl}
+use Rattle.std.proofs.Common.{Bool, ap, inl, inr, refl, subst}
 use Rattle.code_form.specs.Form.{image_of}
+use Rattle.command_line.specs.Shell.{Compiling}
+use Rattle.c0far.specs.FileCode.{HoldsCode}
+use Rattle.c0far.specs.NoCode.{HasNoCode}
+use Rattle.c0far.specs.Streams.{writes}
 use Rattle.c0far.proofs.drive.check_image.Goals as goal
 
 pub returns-in-Err-clause-done : goal.returns-in-Err-clause-done
-returns-in-Err-clause-done g c = inr (c.in-Err.ensures.refused _ refl)
+returns-in-Err-clause-done g c = inr (
+    subst (λ (loops : Bool). HasNoCode loops c.args.file.now (g.F.Files.holds c.args.files.now c.args.file.now)
+      (writes g.O.Stream.contents g.O.Stream.failures c.args.out.now c.args.out.now) (writes g.E.Stream.contents g.E.Stream.failures c.args.err.now c.code_of.new.err) c.in-Err.status)
+    (ap (λ (k : Compiling). k.texts.loops) c.unchecked.ensures) (c.in-Err.ensures.refused _ refl)
+  )
 
 pub returns-in-Ok-clause-done : goal.returns-in-Ok-clause-done
 returns-in-Ok-clause-done g c = inl (record {
   image = image_of c.in-Ok._verified.image;
-  code = c.in-Ok.ensures.code;
+  code = subst (λ (k : Compiling). HoldsCode c.args.file.now k (g.F.Files.holds c.args.files.now c.args.file.now) (image_of c.in-Ok._verified.image)) c.unchecked.ensures c.in-Ok.ensures.code;
   shown = c.say_ok.ensures;
   quiet = c.in-Ok.ensures.quiet;
 })

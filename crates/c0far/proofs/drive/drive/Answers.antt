@@ -1,5 +1,5 @@
 use Rattle.std.proofs.Common.{◌≡◌, ◌∙◌, Bor, List, inl, inr, map, refl, rules, subst, sym, ℕ}
-use Rattle.command_line.specs.Shell.{Names, command_of, replayed_of}
+use Rattle.command_line.specs.Shell.{Names, command_of, compiling_of, replayed_of}
 use Rattle.command_line.specs.Shell as shell
 use Rattle.command_line.specs.declared.words.Line.{Line}
 use Rattle.command_line.specs.declared.words.Replay.{Replay as Asked}
@@ -28,10 +28,10 @@ returns-in-Ok-Build g c =
     let now = g.F.Files.holds c.build.new.files in
     let asked = c.in-Ok-Build in
     inl (
-      shell.Build asked.checks asked.target.now asked.file.now,
+      shell.Build (compiling_of asked.compiling) asked.target.now asked.file.now,
       subst (λ (l : Line). Names (map (λ w. w.now) c.args.words.now) (command_of l)) asked.field-0-is asked.ensures.named,
       (
-        built_at held now _ asked.file.now _ asked.checks _ asked.target.now _ _ _ (search rules) (search rules) (search rules) c.build.ensures.done,
+        built_at held now _ asked.file.now _ (compiling_of asked.compiling) _ asked.target.now _ _ _ (search rules) (search rules) (search rules) c.build.ensures.done,
         keeps_at held now _ asked.target.now (search rules) c.build.ensures.files,
       ),
     )

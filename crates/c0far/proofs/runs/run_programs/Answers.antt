@@ -2,6 +2,7 @@ use Rattle.std.proofs.Common.{ap}
 use Rattle.std.specs.Prelude.{option_map}
 use Rattle.command_line.specs.Shell.{memory_of}
 use Rattle.c0far.proofs.Ran.{ran_in_folder, ran_in_memory}
+use Rattle.c0far.proofs.Rooms.{has_room}
 use Rattle.c0far.proofs.runs.run_programs.Goals as goal
 
 pub returns-in-None-clause-ended : goal.returns-in-None-clause-ended
@@ -10,3 +11,6 @@ returns-in-None-clause-ended g c = ran_in_memory g.F.Place.Folder.honest (memory
 pub returns-in-Ok-clause-ended : goal.returns-in-Ok-clause-ended
 returns-in-Ok-clause-ended g c =
     ran_in_folder g.F.Place.Folder.honest (memory_of c.args.asked.memory) c.in-Some.name.now c.args.programs.items c.run_over-in-Ok.result (ap (option_map (λ s. s.now)) c.in-Some.is) c.run_over-in-Ok.ensures.ended
+
+pub run_over-requires-in-Ok-after_bounds : goal.run_over-requires-in-Ok-after_bounds
+run_over-requires-in-Ok-after_bounds g c κs within = has_room c.args.programs.items

@@ -41,6 +41,17 @@ new-requires-clause-program g c κs within =
     let low = at.1 in
     (omega arith, omega arith)
 
+pub new-requires-clause-cells : goal.new-requires-clause-cells
+new-requires-clause-cells g c κs within =
+    let n = length c.args.region.now.programs in
+    let took : into_iter_items c.loop-seat.seat-iterator ≡ c.in-Some.seat ∷ into_iter_items c.next.new.self = search rules in
+    let whole = ap (λ l. c.loop-seat.yielded ++ l) (sym took) ∙ c.loop-seat.invariant.2 in
+    let at = numbered_at n 1 c.loop-seat.yielded (into_iter_items c.next.new.self) c.in-Some.seat (subst (AreNumbered 1 n) (sym whole) c.requires.numbers) in
+    let number = at.0 in
+    let low = at.1 in
+    let place : c.in-Some.seat.view.number - 1 < n = omega arith in
+    sym (c.requires.cells (c.in-Some.seat.view.number - 1) place)
+
 pub take_pass-pass-requires-clause-some : goal.take_pass-pass-requires-clause-some
 take_pass-pass-requires-clause-some g c =
     let n = length c.args.region.now.programs in

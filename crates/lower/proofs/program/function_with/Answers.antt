@@ -5,6 +5,7 @@ use Rattle.middle_form.specs.Form as m
 use Rattle.middle_form.specs.Views.{code_of}
 use Rattle.middle_form.specs.declared.form.Code.TheViews.{Sequence}
 use Rattle.lower.specs.Building.{block_code, body_kinds}
+use Rattle.lower.specs.Exits.{whole}
 use Rattle.lower_expressions.specs.Building.{codes, conditions_code, conditions_kinds, kind_at}
 use Rattle.lower_tables.specs.Kinds.{kind_of}
 use Rattle.lower_expressions.specs.Expressions.{sequence}
@@ -44,11 +45,12 @@ returns c =
     let n5 : length k5 ≡ d + length a + length b = omega (arith, ap length e5, length-append k4 b, n4) in
     let before_code = conditions_code x f.preconditions.items d in
     let behind_code = conditions_code x f.postconditions.items (d + length a + length b) in
-    let inner = m.Block (sequence (block_code x f.body.items (d + length a) 0)) in
+    let out = c.whole.result in
+    let inner = m.Block (sequence (block_code x f.body.items (d + length a) whole)) in
     let c1 : codes c.conditions.new.code.items ≡ codes c.new-code.result.items ++ before_code =
     c.in_ok-conditions.ensures.added ∙ ap (λ es. codes c.new-code.result.items ++ conditions_code x es (length k3)) c.deref-3.ensures.value ∙ ap (λ n. codes c.new-code.result.items ++ conditions_code x f.preconditions.items n) n3 in
-    let body : codes c.statements.new.code.items ≡ block_code x f.body.items (d + length a) 0 =
-    c.in_ok-statements.ensures.added ∙ ap (λ l. codes l ++ block_code x c.deref-4.result.now (length k4) 0) c.new-body.ensures.items ∙ ap (λ ss. block_code x ss (length k4) 0) c.deref-4.ensures.value ∙ ap (λ n. block_code x f.body.items n 0) n4 in
+    let body : codes c.statements.new.code.items ≡ block_code x f.body.items (d + length a) whole =
+    c.in_ok-statements.ensures.added ∙ ap (λ l. codes l ++ block_code x c.deref-4.result.now (length k4) out) c.new-body.ensures.items ∙ ap (λ ss. block_code x ss (length k4) out) c.deref-4.ensures.value ∙ ap (λ n. block_code x f.body.items n out) n4 ∙ ap (λ e. block_code x f.body.items (d + length a) e) c.whole.ensures in
     let c2 : codes c.push.new.self.items ≡ codes c.conditions.new.code.items ++ inner ∷ [] =
     ap codes c.in_ok-push.ensures.items ∙ map-append code_of c.conditions.new.code.items _ ∙ ap (λ i. codes c.conditions.new.code.items ++ m.Block i ∷ []) (c.in_ok-sequence.ensures ∙ ap sequence body) in
     let c3 : codes c.conditions-2.new.code.items ≡ codes c.push.new.self.items ++ behind_code =

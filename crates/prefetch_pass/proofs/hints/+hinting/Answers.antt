@@ -11,10 +11,11 @@ use Rattle.prefetch_pass.proofs.hints.+hinting.Goals as goal
 
 pub hint_code-returns-in-None : goal.hint_code-returns-in-None
 hint_code-returns-in-None t c =
+    let n = c.args.ahead in
     let ds = c.args.offsets.now in
     let all = c.in-Sequence.all in
     let gives = c.into_iter-part-iterator.ensures.into_iter_gives in
     let end = YieldsList-end (YieldsList-from_vec all.items gives.0 (gives.1 ∙ all.ok.0)) c.loop-part.yielded c.loop-part.part-iterator c.loop-part.yielded_by c.next.result c.next.new.self c.in-None.is c.next.ensures.steps in
     let whole : c.loop-part.yielded ≡ all.items = sym (map_same c.loop-part.yielded) ∙ end.0 in
-    scoped_sequence_is c.loop-part.parts ∙ (ap in_order c.loop-part.invariant ∙ (hinted_in_order ds (codes c.loop-part.yielded)
-    ∙ (ap (λ l. hinted ds (in_order (codes l))) whole ∙ (sym (ap (hinted ds) (scoped_sequence_is all)) ∙ sym (ap (λ x. hinted ds (scoped_code_of x)) c.in-Sequence.is)))))
+    scoped_sequence_is c.loop-part.parts ∙ (ap in_order c.loop-part.invariant ∙ (hinted_in_order n ds (codes c.loop-part.yielded)
+    ∙ (ap (λ l. hinted n ds (in_order (codes l))) whole ∙ (sym (ap (hinted n ds) (scoped_sequence_is all)) ∙ sym (ap (λ x. hinted n ds (scoped_code_of x)) c.in-Sequence.is)))))

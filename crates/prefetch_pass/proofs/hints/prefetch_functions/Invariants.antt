@@ -4,4 +4,4 @@ use Rattle.prefetch_pass.specs.Prefetched.{prefetched_function}
 use Rattle.prefetch_pass.proofs.hints.prefetch_functions.Given as goal
 
 abbrev pub invariant-loop-function : goal.invariant-loop-function
-invariant-loop-function l = map scoped_function_of l.made.items ≡ map prefetched_function (map scoped_function_of l.yielded)
+invariant-loop-function l = map scoped_function_of l.made.items ≡ map (prefetched_function l.ahead) (map scoped_function_of l.yielded)

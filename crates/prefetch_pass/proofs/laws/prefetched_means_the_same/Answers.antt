@@ -5,4 +5,4 @@ use Rattle.prefetch_pass.proofs.Scopes.{stays_scoped}
 use Rattle.prefetch_pass.proofs.laws.prefetched_means_the_same.Goals as goal
 
 pub returns : goal.returns
-returns c = λ P p n. c.scoped_means_the_same.ensures (prefetched_program P) (stays_scoped P p) n ∙ (keeps_meaning P n ∙ sym (c.scoped_means_the_same.ensures P p n))
+returns c = λ cells P p n. c.scoped_means_the_same.ensures (prefetched_program cells P) (stays_scoped cells P p) n ∙ (keeps_meaning cells P n ∙ sym (c.scoped_means_the_same.ensures P p n))

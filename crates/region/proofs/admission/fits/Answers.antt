@@ -14,4 +14,4 @@ returns-then-have-need g c =
     let exact : c.need-need.result ≡ needed programs config.evacuators config.fetchers = omega (arith, c.need-need.ensures, few, within.1, within.6, within.7) in
     let have : c.from-have.result ≡ config.frames = c.from-have.ensures in
     let less : config.frames < needed programs config.evacuators config.fetchers = omega (arith, exact, have, c.if-have-need.true) in
-    (within, c.if-not-is_within_work.ensures.within refl, exact, have, less)
+    (within, c.if-not-is_within_work.ensures.within refl, c.in_default.ensures, exact, have, less)

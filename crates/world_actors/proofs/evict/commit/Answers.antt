@@ -7,11 +7,11 @@ use Rattle.world_actors.proofs.evict.commit.Goals as goal
 pub returns-then-is_marked : goal.returns-then-is_marked
 returns-then-is_marked g c words z s is =
     let lock = c.args.lock.now in
-    committed g.S.RawStore.content g.S.RawStore.honest z lock.memory lock.berths.items c.args.mover s c.args.object c.args.frame c.put_place.new.self is
+    committed g.S.RawStore.content g.S.RawStore.honest z lock.memory lock.berths c.args.mover s c.args.object c.args.frame c.put_place.new.self is
     (ap (λ (x : Object). is_marked_by x c.args.frame c.args.mover) (sym c.object.ensures) ∙ (sym c.is_marked.ensures ∙ c.if-is_marked.true)) (c.put_place.ensures z s)
 
 pub returns-else-is_marked : goal.returns-else-is_marked
 returns-else-is_marked g c words z s is =
     let lock = c.args.lock.now in
-    not_committed g.S.RawStore.content g.S.RawStore.honest z lock.memory lock.berths.items c.args.mover s c.args.object c.args.frame is
+    not_committed g.S.RawStore.content g.S.RawStore.honest z lock.memory lock.berths c.args.mover s c.args.object c.args.frame is
     (ap (λ (x : Object). is_marked_by x c.args.frame c.args.mover) (sym c.object.ensures) ∙ (sym c.is_marked.ensures ∙ c.if-is_marked.false))

@@ -8,4 +8,5 @@ returns g c m z s inv brings shows = record {
   many = shows.many;
   objects_few = shows.objects_few;
   frames_few = shows.frames_few;
+  size = shows.size;
 }

@@ -12,13 +12,13 @@ use Rattle.c0_typed.specs.Views.{block_of, exp_of, exps_of, stmt_of}
 use Rattle.c0_types_expressions.specs.Terms.{HasTexts, local_of}
 use Rattle.c0_rules.specs.FaultStatements.{InAnnotations, InBody, InStatement, InWanted, ThirdCause}
 use Rattle.c0_rules.specs.Mentions.{specs_in}
-use Rattle.c0_rules.specs.Statements.{Checked, Invariant, typed_statement, typed_statements, within}
+use Rattle.c0_rules.specs.Statements.{in_body, Checked, Invariant, typed_statement, typed_statements, within}
 use Rattle.c0_rules.specs.Types.{BoolType}
 use Rattle.c0_types_tables.specs.Views.{environment_of}
-use Rattle.c0_types_statements.specs.Bodies.{Gives, InFor, InLoop, PartHasTexts, SpecsHaveTexts, StatementHasTexts, StatementsHaveTexts, head_of, in_scope, loop_behind, scope_of}
+use Rattle.c0_types_statements.specs.Bodies.{Gives, InFor, InLoop, PartHasTexts, SpecsHaveTexts, StatementHasTexts, StatementsHaveTexts, head_of, in_scope, turn_in_scope, loop_behind, scope_of}
 use Rattle.c0_types_statements.proofs.BodyRows.{block_is, block_told, typed_block_is}
-use Rattle.c0_types_statements.proofs.Branches.{after_all, after_none, block_gives, body_cause, body_has, body_step, else_none, if_else_gives, if_else_none, if_gives, if_none, nested_gives, scope_cause, statement_more, statement_none, statements_done, third_of, while_none}
-use Rattle.c0_types_statements.proofs.Kept.{at_start, block_none, body_told, first_alone, first_two, head_told, in_texts, loop_told, scope_none, second_of, third_alone}
+use Rattle.c0_types_statements.proofs.Branches.{after_all, after_none, block_gives, body_cause, body_has, body_step, else_none, if_else_gives, if_else_none, if_gives, if_none, nested_gives, turn_gives, scope_cause, statement_more, statement_none, statements_done, third_of, while_none}
+use Rattle.c0_types_statements.proofs.Kept.{at_start, block_none, body_told, first_alone, first_two, head_told, in_texts, loop_told, scope_none, turn_none, second_of, third_alone}
 use Rattle.c0_types_statements.proofs.Loops.{first_none, for_gives, for_none, head_none, loop_gives, loop_none, while_behind, while_headless}
 use Rattle.c0_types_statements.proofs.Made.{made_gives, made_told}
 use Rattle.c0_types_statements.proofs.Sizes.{size_in, size_statement}
@@ -135,6 +135,22 @@ inner-returns-clause-answers t c =
     let size : c.len-count.result ≡ length (map local_of locals.items) = omega (arith, c.len-count.ensures, locals.ok.0, length-map locals.items local_of) in
     nested_gives (environment_of c.args.self.now.environment.now) (statement_of c.args.body.now) (scope_of c.args.self.now.scope) (record { statement = stmt_of c.args.self.now.texts.now c.in_ok-found.found; scope = scope_of c.statement.new.self.scope }) c.len-count.result (scope_of c.leave.new.self) size c.in_ok-found.ensures.answers c.leave.ensures
 
+-- ---- the body of a loop
+
+pub turn-statement-requires : goal.turn-statement-requires
+turn-statement-requires t c = (omega (arith, c.decreases), c.requires)
+
+pub turn-returns-in_err-found-clause-answers : goal.turn-returns-in_err-found-clause-answers
+turn-returns-in_err-found-clause-answers t c =
+    let p = err_from_is_err_and c.from_residual.result c.from_residual.ensures.1 in
+    rw (p.1, p.2) (turn_none (environment_of c.args.self.now.environment.now) (statement_of c.args.body.now) (scope_of c.args.self.now.scope) c.in_err-found.ensures.answers)
+
+pub turn-returns-clause-answers : goal.turn-returns-clause-answers
+turn-returns-clause-answers t c =
+    let locals = c.args.self.now.scope.locals in
+    let size : c.len-count.result ≡ length (map local_of locals.items) = omega (arith, c.len-count.ensures, locals.ok.0, length-map locals.items local_of) in
+    turn_gives (environment_of c.args.self.now.environment.now) (statement_of c.args.body.now) (scope_of c.args.self.now.scope) (record { statement = stmt_of c.args.self.now.texts.now c.in_ok-found.found; scope = scope_of c.statement.new.self.scope }) c.len-count.result (scope_of c.leave.new.self) size c.in_ok-found.ensures.answers c.leave.ensures
+
 -- ---- an `if`
 
 pub choice_of-returns-in-Err-clause-answers : goal.choice_of-returns-in-Err-clause-answers
@@ -186,26 +202,26 @@ while_loop-returns-in_err-head-clause-cause t c =
     let p = err_from_is_err_and c.from_residual.result c.from_residual.ensures.1 in
     rw (p.1, p.2) (first_two c.in_err-head.ensures.cause)
 
-pub while_loop-inner-inside-requires : goal.while_loop-inner-inside-requires
-while_loop-inner-inside-requires t c = (omega (arith, c.decreases), c.requires.2)
+pub while_loop-turn-inside-requires : goal.while_loop-turn-inside-requires
+while_loop-turn-inside-requires t c = (omega (arith, c.decreases), c.requires.2)
 
 pub while_loop-returns-clause-answers : goal.while_loop-returns-clause-answers
 while_loop-returns-clause-answers t c =
     let env = environment_of c.args.self.now.environment.now in
     let texts = c.args.self.now.texts.now in
     let at = scope_of c.args.self.now.scope in
-    let behind = c.inner-inside.new.self.scope in
-    let last = c.inner-inside.result in
+    let behind = c.turn-inside.new.self.scope in
+    let last = c.turn-inside.result in
     let condition = expression_of c.args.condition.now in
     let notes = map annotation_of c.args.annotations.now in
     let a = statement_of c.args.body.now in
     let head = c.in_ok-head.head in
-    made_gives (λ w b. y.Loop (exps_of w head.invariants.items) (exp_of w head.condition) b (stmt_of w head.third)) texts behind behind last c.repeated.result (in_scope env a at) (typed_statement env (tree.While condition notes a) at) c.repeated.ensures.answers c.repeated.ensures.cause c.inner-inside.ensures.answers
+    made_gives (λ w b. y.Loop (exps_of w head.invariants.items) (exp_of w head.condition) b (stmt_of w head.third)) texts behind behind last c.repeated.result (turn_in_scope env a at) (typed_statement env (tree.While condition notes a) at) c.repeated.ensures.answers c.repeated.ensures.cause c.turn-inside.ensures.answers
     (λ b h. sym (while_behind env condition notes a at) ∙ loop_gives env condition None notes a at (head_of texts head) (record { statement = b; scope = scope_of behind }) c.in_ok-head.ensures.answers h)
     (λ K h. while_none env condition notes a at h)
 
 pub while_loop-returns-clause-cause : goal.while_loop-returns-clause-cause
-while_loop-returns-clause-cause t c = made_told c.inner-inside.result c.repeated.result c.repeated.ensures.cause c.inner-inside.ensures.cause (λ f h. third_alone h)
+while_loop-returns-clause-cause t c = made_told c.turn-inside.result c.repeated.result c.repeated.ensures.cause c.turn-inside.ensures.cause (λ f h. third_alone h)
 
 pub statement-while_loop-requires : goal.statement-while_loop-requires
 statement-while_loop-requires t c =
@@ -227,8 +243,8 @@ statement-returns-in-While-clause-cause t c =
     let notes = c.deref-in-While.result.now in
     IfErr-weaker c.while_loop.result _ _ (λ f h.
     subst (λ k. (f.kind ≡ OutOfMemory) ⊎ InStatement env f at k c.args.span) (sym c.in-While.is)
-    (subst (λ l. (f.kind ≡ OutOfMemory) ⊎ InWanted env f at BoolType c.in-While.condition ⊎ InAnnotations env f Invariant (within at) l ⊎ InStatement env f at c.in-While.body.value.kind c.in-While.body.value.span) c.deref-in-While.ensures.value
-    (subst (λ b. (f.kind ≡ OutOfMemory) ⊎ InWanted env f at BoolType c.in-While.condition ⊎ InAnnotations env f Invariant (within at) notes ⊎ InStatement env f at b.kind b.span) c.deref-in-While-2.ensures h))) c.while_loop.ensures.cause
+    (subst (λ l. (f.kind ≡ OutOfMemory) ⊎ InWanted env f at BoolType c.in-While.condition ⊎ InAnnotations env f Invariant (within at) l ⊎ InStatement env f (in_body at) c.in-While.body.value.kind c.in-While.body.value.span) c.deref-in-While.ensures.value
+    (subst (λ b. (f.kind ≡ OutOfMemory) ⊎ InWanted env f at BoolType c.in-While.condition ⊎ InAnnotations env f Invariant (within at) notes ⊎ InStatement env f (in_body at) b.kind b.span) c.deref-in-While-2.ensures h))) c.while_loop.ensures.cause
 
 -- ---- an `if` with `else`
 
@@ -287,34 +303,34 @@ loop_behind-returns-in_err-head-clause-cause t c =
     let p = err_from_is_err_and c.from_residual.result c.from_residual.ensures.1 in
     rw (p.1, p.2) (head_told c.in_err-head.ensures.cause)
 
-pub loop_behind-inner-inside-requires : goal.loop_behind-inner-inside-requires
-loop_behind-inner-inside-requires t c = (omega (arith, c.decreases), in_texts (λ w. StatementHasTexts w (statement_of c.args.body.now)) c.head.ensures.texts c.requires.3)
+pub loop_behind-turn-inside-requires : goal.loop_behind-turn-inside-requires
+loop_behind-turn-inside-requires t c = (omega (arith, c.decreases), in_texts (λ w. StatementHasTexts w (statement_of c.args.body.now)) c.head.ensures.texts c.requires.3)
 
 pub loop_behind-returns-clause-answers : goal.loop_behind-returns-clause-answers
 loop_behind-returns-clause-answers t c =
     let env = environment_of c.args.self.now.environment.now in
     let texts = c.args.self.now.texts.now in
     let at = scope_of c.args.self.now.scope in
-    let behind = c.inner-inside.new.self.scope in
-    let last = c.inner-inside.result in
+    let behind = c.turn-inside.new.self.scope in
+    let last = c.turn-inside.result in
     let condition = expression_of c.args.condition.now in
     let third = option_map simple_of c.args.third.now in
     let notes = map annotation_of c.args.annotations.now in
     let a = statement_of c.args.body.now in
     let head = c.in_ok-head.head in
-    let there = at_start (λ e w. Gives w behind last (in_scope e a (scope_of c.head.new.self.scope))) c.head.ensures.environment c.head.ensures.texts c.inner-inside.ensures.answers in
-    let given = subst (λ s. Gives texts behind last (in_scope env a s)) c.in_ok-head.ensures.scope there in
-    made_gives (λ w b. y.Loop (exps_of w head.invariants.items) (exp_of w head.condition) b (stmt_of w head.third)) texts behind behind last c.repeated.result (in_scope env a at) (loop_behind env condition third notes a at) c.repeated.ensures.answers c.repeated.ensures.cause given
+    let there = at_start (λ e w. Gives w behind last (turn_in_scope e a (scope_of c.head.new.self.scope))) c.head.ensures.environment c.head.ensures.texts c.turn-inside.ensures.answers in
+    let given = subst (λ s. Gives texts behind last (turn_in_scope env a s)) c.in_ok-head.ensures.scope there in
+    made_gives (λ w b. y.Loop (exps_of w head.invariants.items) (exp_of w head.condition) b (stmt_of w head.third)) texts behind behind last c.repeated.result (turn_in_scope env a at) (loop_behind env condition third notes a at) c.repeated.ensures.answers c.repeated.ensures.cause given
     (λ b h. loop_gives env condition third notes a at (head_of texts head) (record { statement = b; scope = scope_of behind }) c.in_ok-head.ensures.answers h)
     (λ K h. loop_none env condition third notes a at h)
 
 pub loop_behind-returns-clause-cause : goal.loop_behind-returns-clause-cause
 loop_behind-returns-clause-cause t c =
     let env = environment_of c.args.self.now.environment.now in
-    let last = c.inner-inside.result in
+    let last = c.turn-inside.result in
     let body = c.args.body.now in
-    let there = at_start (λ e w. IfErr last (λ f. (f.kind ≡ OutOfMemory) ⊎ InStatement e f (scope_of c.head.new.self.scope) body.kind body.span)) c.head.ensures.environment c.head.ensures.texts c.inner-inside.ensures.cause in
-    let told = subst (λ s. IfErr last (λ f. (f.kind ≡ OutOfMemory) ⊎ InStatement env f s body.kind body.span)) c.in_ok-head.ensures.scope there in
+    let there = at_start (λ e w. IfErr last (λ f. (f.kind ≡ OutOfMemory) ⊎ InStatement e f (in_body (scope_of c.head.new.self.scope)) body.kind body.span)) c.head.ensures.environment c.head.ensures.texts c.turn-inside.ensures.cause in
+    let told = subst (λ s. IfErr last (λ f. (f.kind ≡ OutOfMemory) ⊎ InStatement env f (in_body s) body.kind body.span)) c.in_ok-head.ensures.scope there in
     made_told last c.repeated.result c.repeated.ensures.cause told (λ f h. body_told h)
 
 -- ---- a `for`

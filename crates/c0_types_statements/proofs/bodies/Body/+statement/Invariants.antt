@@ -18,6 +18,9 @@ decreases-statements l = 4 * size_statements (statements_of l.statements.now)
 abbrev pub decreases-block : goal.decreases-block
 decreases-block l = 4 * size_statements (statements_of l.statements.now) + 1
 
+abbrev pub decreases-turn : goal.decreases-turn
+decreases-turn l = 4 * size_statement (statement_of l.body.now) + 1
+
 abbrev pub decreases-inner : goal.decreases-inner
 decreases-inner l = 4 * size_statement (statement_of l.body.now) + 1
 

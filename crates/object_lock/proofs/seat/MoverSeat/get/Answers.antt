@@ -1,6 +1,6 @@
-use Rattle.std.proofs.Common.{◌≡◌, ◌+◌, ◌%◌, ap, subst, rules}
+use Rattle.std.proofs.Common.{◌≡◌, ◌+◌, ◌%◌, length, ap, subst, rules}
 use Rattle.std.specs.Prelude.{MatchResult}
-use Rattle.remote_store.specs.Kept.{Took, RefusedFor, piece_cells}
+use Rattle.remote_store.specs.Kept.{Took, RefusedFor}
 use Rattle.object_lock.specs.SeatViews.{SeatView}
 use Rattle.object_lock.proofs.seat.MoverSeat.get.Goals as goal
 
@@ -10,6 +10,6 @@ returns-clause-read g c =
     let same : c.self.inside.port.store ≡ c.args.self.now.store = ap (λ (h : SeatView g.row.S.Denot g.row.S-Cell.Denot). h.store) c.self.view_is in (
       b,
       search rules,
-      subst (λ (s : g.row.S.Denot). MatchResult c.get.result (λ _. Took piece_cells (λ row. gives s b.cell row t) b.version c.args.obj c.get.new.words)
-          (λ why. RefusedFor piece_cells (failures t ≡ (failures s + 1) % 18446744073709551616) (λ row. gives s b.cell row t × (failures t ≡ failures s)) b.version c.args.obj why)) same c.get.ensures.read,
+      subst (λ (s : g.row.S.Denot). MatchResult c.get.result (λ _. Took (length c.args.words.now) (λ row. gives s b.cell row t) b.version c.args.obj c.get.new.words)
+          (λ why. RefusedFor (length c.args.words.now) (failures t ≡ (failures s + 1) % 18446744073709551616) (λ row. gives s b.cell row t × (failures t ≡ failures s)) b.version c.args.obj why)) same c.get.ensures.read,
     )

@@ -18,13 +18,13 @@ arrive_word-requires-clause-hands g c κs within =
     let x = c.exchange.ensures.3 in
     let d : c.exchange.new.seat.me.0 ≡ c.mover.inside.seat.me.0 = ap (λ (m : Me (Option (Berth g.row.S-Cell.Denot)) View). m.0) x in
     let bring : c.mover.inside.seat.me.0.hand.bringing ≡ Some c.args.obj = ap (λ (v : View). v.hand.bringing) e ∙ c.requires.hands.0 in
-    let kept = keeps_promised g.S.RawStore.content c.args.obj _ _ _ _ c.mover.inside.seat.me.0 c.mover.inside.seat.me.1 c.mover.inside.brought c.mover.inside.taken bring c.mover.invariant in
+    let kept = keeps_promised g.S.RawStore.fits g.S.RawStore.content c.args.obj _ _ _ _ c.mover.inside.seat.me.0 c.mover.inside.seat.me.1 c.mover.inside.brought c.mover.inside.taken bring c.mover.invariant in
     let got : Path (Option (Berth g.row.S-Cell.Denot)) c.take-berth.result c.mover.inside.brought = c.take-berth.ensures.value in
     let os = ap (λ (t : TableView). t.sizes.objects) c.self.view_is in let near = c.requires.low.0 in (
       omega arith,
       ap (λ (v : View). v.hand.bringing) d ∙ bring,
       ap (λ (v : View). v.hand.claimed) (d ∙ e) ∙ c.requires.hands.1,
-      put_back g.S.RawStore.content c.args.obj c.exchange.new.seat.me c.mover.inside.seat.me.0 _ c.take-berth.result x (subst (λ (b : Option (Berth g.row.S-Cell.Denot)). slot_keeps g.S.RawStore.content b c.args.obj c.mover.inside.seat.me.0.hand.promised) (sym got) kept),
+      put_back g.S.RawStore.fits g.S.RawStore.content c.args.obj c.exchange.new.seat.me c.mover.inside.seat.me.0 _ c.take-berth.result x (subst (λ (b : Option (Berth g.row.S-Cell.Denot)). slot_keeps g.S.RawStore.fits g.S.RawStore.content c.mover.inside.seat.me.0.sizes.cells b c.args.obj c.mover.inside.seat.me.0.hand.promised) (sym got) kept),
     )
 
 pub arrive_word-requires-clause-filled : goal.arrive_word-requires-clause-filled

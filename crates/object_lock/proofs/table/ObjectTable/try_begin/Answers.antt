@@ -5,6 +5,7 @@ use Rattle.atomic_table.specs.Table.{Me}
 use Rattle.pointer_word.specs.Words.{counted}
 use Rattle.pointer_word.specs.Hands.{bringing}
 use Rattle.remote_store.specs.declared.berth.Berth.{Berth}
+use Rattle.object_lock.specs.Kept.{slot_keeps}
 use Rattle.object_lock.specs.Seats.{View, with_hand}
 use Rattle.object_lock.specs.SeatViews.{SeatView}
 use Rattle.object_lock.specs.declared.answers.Begin.TheVariants as B
@@ -19,8 +20,8 @@ returns-else-found-count-clause-told g c held =
     let t = c.begin_word-found.ensures.missed c.if-found-count.false in let v = c.mover.view_is in let o : ℕ = c.args.obj in let w = c.begin_word-found in let own = t.3 held in
     let old : SeatView g.row.S.Denot g.row.S-Cell.Denot = record { table = c.mover.inside.seat.table_id; id = c.mover.inside.seat.id; view = c.mover.inside.seat.me.0; brought = c.mover.inside.brought; taken = c.mover.inside.taken; store = c.mover.inside.port.store; refusals = c.mover.inside.port.refusals } in
     let new : SeatView g.row.S.Denot g.row.S-Cell.Denot = record { table = w.new.seat.table_id; id = w.new.seat.id; view = w.new.seat.me.0; brought = c.mover.inside.brought; taken = c.mover.inside.taken; store = c.mover.inside.port.store; refusals = c.mover.inside.port.refusals } in
-    subst (λ (h : SeatView g.row.S.Denot g.row.S-Cell.Denot). Begun g.S.RawStore.content o h new c.begin_of.result) v
-    (not_begun g.S.RawStore.content o old new t.1 c.begin_of.result (c.begin_of.ensures (counted t.0 t.1) t.2.1.0 t.2.0) t.2.1.1 own.0
+    subst (λ (h : SeatView g.row.S.Denot g.row.S-Cell.Denot). Begun g.S.RawStore.fits g.S.RawStore.content o h new c.begin_of.result) v
+    (not_begun g.S.RawStore.fits g.S.RawStore.content o old new t.1 c.begin_of.result (c.begin_of.ensures (counted t.0 t.1) t.2.1.0 t.2.0) t.2.1.1 own.0
     (λ i. record { table = w.ensures.seat.0 i; id = w.ensures.seat.1 i; view = ap (λ (m : Me (Option (Berth g.row.S-Cell.Denot)) View). m.0) own.1 i; brought = c.mover.inside.brought; taken = c.mover.inside.taken; store = c.mover.inside.port.store; refusals = c.mover.inside.port.refusals }))
 
 pub returns-else-found-count-clause-fetched : goal.returns-else-found-count-clause-fetched
@@ -28,8 +29,8 @@ returns-else-found-count-clause-fetched g c none =
     let t = c.begin_word-found.ensures.missed c.if-found-count.false in let v = c.mover.view_is in let o : ℕ = c.args.obj in let w = c.begin_word-found in let same = t.4 none in
     let old : SeatView g.row.S.Denot g.row.S-Cell.Denot = record { table = c.mover.inside.seat.table_id; id = c.mover.inside.seat.id; view = c.mover.inside.seat.me.0; brought = c.mover.inside.brought; taken = c.mover.inside.taken; store = c.mover.inside.port.store; refusals = c.mover.inside.port.refusals } in
     let new : SeatView g.row.S.Denot g.row.S-Cell.Denot = record { table = w.new.seat.table_id; id = w.new.seat.id; view = w.new.seat.me.0; brought = c.mover.inside.brought; taken = c.mover.inside.taken; store = c.mover.inside.port.store; refusals = c.mover.inside.port.refusals } in
-    subst (λ (h : SeatView g.row.S.Denot g.row.S-Cell.Denot). Fetched g.S.RawStore.content o h new c.begin_of.result) v
-    (not_fetched g.S.RawStore.content o old new t.1 c.begin_of.result (c.begin_of.ensures (counted t.0 t.1) t.2.1.0 t.2.0) t.2.1.1
+    subst (λ (h : SeatView g.row.S.Denot g.row.S-Cell.Denot). Fetched g.S.RawStore.fits g.S.RawStore.content o h new c.begin_of.result) v
+    (not_fetched g.S.RawStore.fits g.S.RawStore.content o old new t.1 c.begin_of.result (c.begin_of.ensures (counted t.0 t.1) t.2.1.0 t.2.0) t.2.1.1
     (λ i. record { table = w.ensures.seat.0 i; id = w.ensures.seat.1 i; view = ap (λ (m : Me (Option (Berth g.row.S-Cell.Denot)) View). m.0) same i; brought = c.mover.inside.brought; taken = c.mover.inside.taken; store = c.mover.inside.port.store; refusals = c.mover.inside.port.refusals }))
 
 pub returns-then-found-count-clause-told : goal.returns-then-found-count-clause-told
@@ -37,7 +38,9 @@ returns-then-found-count-clause-told g c held =
     let w = c.begin_word-found in let t = w.ensures.taken c.if-found-count.true in let x = c.exchange.ensures in let v = c.mover.view_is in
     let slots = ap (λ (m : Me (Option (Berth g.row.S-Cell.Denot)) View). m.1) t.3 in
     let got : Path (Option (Berth g.row.S-Cell.Denot)) c.exchange.result t.0 = first_slot (c.args.obj, c.exchange.result) (c.args.obj, t.0) _ _ (sym x.2 ∙ slots) in
-    let b = berth_in g.S.RawStore.content c.args.obj t.1 t.0 c.exchange.result t.2 got in (
+    let e : c.mover.inside.seat.me.0 ≡ c.args.mover.now.view = ap (λ (h : SeatView g.row.S.Denot g.row.S-Cell.Denot). h.view) v in
+    let kept = subst (λ (q : View). slot_keeps g.S.RawStore.fits g.S.RawStore.content q.sizes.cells t.0 c.args.obj t.1) e t.2 in
+    let b = berth_in g.S.RawStore.fits g.S.RawStore.content c.args.mover.now.view.sizes.cells c.args.obj t.1 t.0 c.exchange.result kept got in (
       b.0,
       t.1,
       b.1,
@@ -57,7 +60,9 @@ returns-then-found-count-clause-fetched g c none =
     let w = c.begin_word-found in let t = w.ensures.taken c.if-found-count.true in let x = c.exchange.ensures in let v = c.mover.view_is in
     let slots = ap (λ (m : Me (Option (Berth g.row.S-Cell.Denot)) View). m.1) t.3 in
     let got : Path (Option (Berth g.row.S-Cell.Denot)) c.exchange.result t.0 = first_slot (c.args.obj, c.exchange.result) (c.args.obj, t.0) _ _ (sym x.2 ∙ slots) in
-    let b = berth_in g.S.RawStore.content c.args.obj t.1 t.0 c.exchange.result t.2 got in (
+    let e : c.mover.inside.seat.me.0 ≡ c.args.mover.now.view = ap (λ (h : SeatView g.row.S.Denot g.row.S-Cell.Denot). h.view) v in
+    let kept = subst (λ (q : View). slot_keeps g.S.RawStore.fits g.S.RawStore.content q.sizes.cells t.0 c.args.obj t.1) e t.2 in
+    let b = berth_in g.S.RawStore.fits g.S.RawStore.content c.args.mover.now.view.sizes.cells c.args.obj t.1 t.0 c.exchange.result kept got in (
       b.0,
       t.1,
       b.1,

@@ -14,7 +14,7 @@ returns-then-found-plain-clause-told g c =
     let w = c.mark_word-found in let t = w.ensures.taken (search rules) in let x = c.exchange.ensures in let v = c.mover.view_is in
     let slots = ap (λ (m : Me (Option (Berth g.row.S-Cell.Denot)) View). m.1) t.2 in
     let got : Path (Option (Berth g.row.S-Cell.Denot)) c.exchange.result t.0 = first_slot (c.args.obj, c.exchange.result) (c.args.obj, t.0) _ _ (sym x.2 ∙ slots) in
-    let b = berth_there t.0 c.exchange.result t.1 got in (
+    let b = berth_there g.S.RawStore.fits c.mover.inside.seat.me.0.sizes.cells t.0 c.exchange.result t.1 got in (
       b.0,
       λ i. record {
         table = (x.0 ∙ (w.ensures.seat.0 ∙ ap (λ (h : SeatView g.row.S.Denot g.row.S-Cell.Denot). h.table) v)) i;

@@ -1,4 +1,4 @@
-use Rattle.std.proofs.Common.{arith}
+use Rattle.std.proofs.Common.{◌/◌, ap, ◌∙◌, arith}
 use Rattle.session.specs.State.{cells_in}
 use Rattle.session.proofs.Writing.{object_owned, placed_at, reference_known, some_cells}
 use Rattle.session.proofs.program.Program.object_at.Goals as goal
@@ -10,7 +10,7 @@ pub overflow_add-result : goal.overflow_add-result
 overflow_add-result g c =
     let s = c.args.self.now in
     let h = object_owned s c.args.cell c.requires.holding c.requires.cell (c.heap_laws.ensures.addresses s.view.sizes.cells s.view.low (cells_in s) (some_cells s c.requires.holding)) in
-    let there = placed_at s c.args.cell c.first.result c.requires.holding c.first.ensures h.2 in
+    let there = placed_at s c.args.cell c.first.result c.before-whole.result c.first.ensures (c.before-whole.ensures ∙ ap (λ n. c.args.cell.index / n) c.scale.ensures) h.2 in
     let small = h.4 in
     omega arith
 
@@ -18,13 +18,13 @@ pub returns-clause-value : goal.returns-clause-value
 returns-clause-value g c =
     let s = c.args.self.now in
     let h = object_owned s c.args.cell c.requires.holding c.requires.cell (c.heap_laws.ensures.addresses s.view.sizes.cells s.view.low (cells_in s) (some_cells s c.requires.holding)) in
-    placed_at s c.args.cell c.first.result c.requires.holding c.first.ensures h.2
+    placed_at s c.args.cell c.first.result c.before-whole.result c.first.ensures (c.before-whole.ensures ∙ ap (λ n. c.args.cell.index / n) c.scale.ensures) h.2
 
 pub returns-clause-own : goal.returns-clause-own
 returns-clause-own g c =
     let s = c.args.self.now in
     let h = object_owned s c.args.cell c.requires.holding c.requires.cell (c.heap_laws.ensures.addresses s.view.sizes.cells s.view.low (cells_in s) (some_cells s c.requires.holding)) in
-    let there = placed_at s c.args.cell c.first.result c.requires.holding c.first.ensures h.2 in
+    let there = placed_at s c.args.cell c.first.result c.before-whole.result c.first.ensures (c.before-whole.ensures ∙ ap (λ n. c.args.cell.index / n) c.scale.ensures) h.2 in
     let low = h.3.0 in
     let high = h.3.1 in
     (omega arith, omega arith)

@@ -12,7 +12,7 @@ returns-then-number-len g c z images w inside is =
     let y = c.index_mut.result.now in
     let now = c.turn.new.lock in
     let here = at_index x.fetchers k y (omega (arith, old.fetchers.ok.0)) c.index_mut.ensures.value in
-    fetcher_stepped g.S.RawStore.content h z images x w is k y here c.args.choice now.memory now.berths.items c.turn.new.self c.turn.new.port _ _ _ _ c.turn.result inside c.turn.ensures.mover
-    (fetcher_told g.S.RawStore.reliable g.S.RawStore.failures g.S.RawStore.read_gives z w x k now.memory now.berths.items y c.turn.new.self c.turn.new.port is.cells here (is.fetchers k y here).0)
-    (λ e. fetcher_back x now.memory now.berths.items (same_memory now old.lock e.0) (same_berths now old.lock e.0) _ (set_back x.fetchers k y c.turn.new.self c.turn.new.port c.index_mut.ensures.value e.2 e.1))
+    fetcher_stepped g.S.RawStore.content h z images x w is k y here c.args.choice now.memory now.berths c.turn.new.self c.turn.new.port _ _ _ _ c.turn.result inside c.turn.ensures.mover c.turn.ensures.wide
+    (fetcher_told g.S.RawStore.reliable g.S.RawStore.failures g.S.RawStore.read_gives z w x k now.memory now.berths y c.turn.new.self c.turn.new.port here (is.fetchers k y here).0)
+    (λ e. fetcher_back x now.memory now.berths (same_memory now old.lock e.0) (same_berths now old.lock e.0) _ (set_back x.fetchers k y c.turn.new.self c.turn.new.port c.index_mut.ensures.value e.2 e.1))
     (c.turn.ensures.goes z w.lock inside (fetches g.S.RawStore.content h z images x w is k y here))

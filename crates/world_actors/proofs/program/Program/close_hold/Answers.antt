@@ -8,4 +8,4 @@ pub returns-else-object-eq0 : goal.returns-else-object-eq0
 returns-else-object-eq0 g c z s p is =
     let old = c.args.lock.now in
     let some : 0 < (object_at old.memory c.args.hold.object).count = subst (λ (y : Object). 0 < y.count) c.object.ensures (omega (arith, c.if-object-eq0.false)) in
-    closed g.S.RawStore.content g.S.RawStore.honest z old.memory old.berths.items c.args.self.now s p is c.args.scope c.args.hold c.close.new.self c.set_hold.new.self some (c.close.ensures z s) c.set_hold.ensures
+    closed g.S.RawStore.content g.S.RawStore.honest z old.memory old.berths c.args.self.now s p is c.args.scope c.args.hold c.close.new.self c.set_hold.new.self some (c.close.ensures z s) c.set_hold.ensures

@@ -1,4 +1,4 @@
-use Rattle.std.proofs.Common.{◌≡◌, ℕ, suc, ◌+◌, ap, arith}
+use Rattle.std.proofs.Common.{◌≡◌, ℕ, suc, ◌+◌, ◌<◌, ◌≤◌, subst, ap, arith}
 use Rattle.world_semantics.specs.declared.event.Step.TheVariants as step
 use Rattle.world_semantics.specs.Programs.{Filling}
 use Rattle.world_actors.specs.Seats.{mode_of}
@@ -9,14 +9,16 @@ use Rattle.world_actors.proofs.program.Program.fill_next.Goals as goal
 next : (k : ℕ) → suc k ≡ k + 1
 next k = omega arith
 
-pub returns-then-index-lt-PIECE_CELLS : goal.returns-then-index-lt-PIECE_CELLS
-returns-then-index-lt-PIECE_CELLS g c z s p is =
+pub returns-then-index-size : goal.returns-then-index-size
+returns-then-index-size g c z s p is =
     let x = c.args.self.now in
+    let low : c.args.index < x.setting.size = subst (λ n. c.args.index < n) c.size.ensures.value c.if-index-size.true in
     let mode = ap (λ y. mode_of y x.words) c.requires.mode in
-    goes_turn s _ _ _ _ (Unit {0}) step.Took (λ a. fills_cell x.setting p a c.args.object c.args.frame c.args.index x.words is.size c.if-index-lt-PIECE_CELLS.true) (c.fill.ensures x.words mode c.word-value.ensures (ap (Filling c.args.object c.args.frame x.words) (next c.args.index)) z s p is)
+    goes_turn z.cells s _ _ _ _ (Unit {0}) step.Took (λ a. fills_cell x.setting p a c.args.object c.args.frame c.args.index x.words low) (c.fill.ensures x.words mode c.word-value.ensures (ap (Filling c.args.object c.args.frame x.words) (next c.args.index)) z s p is)
 
-pub returns-else-index-lt-PIECE_CELLS : goal.returns-else-index-lt-PIECE_CELLS
-returns-else-index-lt-PIECE_CELLS g c z s p is =
+pub returns-else-index-size : goal.returns-else-index-size
+returns-else-index-size g c z s p is =
     let x = c.args.self.now in
+    let full : x.setting.size ≤ c.args.index = subst (λ n. n ≤ c.args.index) c.size.ensures.value c.if-index-size.false in
     let mode = ap (λ y. mode_of y x.words) c.requires.mode in
-    goes_turn s _ _ _ _ _ c.arrive.result (λ a. fills_all x.setting p a c.args.object c.args.frame c.args.index x.words is.size c.if-index-lt-PIECE_CELLS.false) (c.arrive.ensures x.words c.args.index mode c.if-index-lt-PIECE_CELLS.false z s p is)
+    goes_turn z.cells s _ _ _ _ _ c.arrive.result (λ a. fills_all x.setting p a c.args.object c.args.frame c.args.index x.words full) (c.arrive.ensures x.words c.args.index mode full z s p is)

@@ -8,10 +8,10 @@ use Rattle.world_actors.proofs.program.Program.go_plain.Goals as goal
 pub returns-in-Ok : goal.returns-in-Ok
 returns-in-Ok g c z s p is =
     let old = c.args.lock.now in
-    goes_on g.S.RawStore.content g.S.RawStore.honest z old.memory old.berths.items c.args.self.now s p is c.proceed.new.self c.in-Ok.ensures
+    goes_on g.S.RawStore.content g.S.RawStore.honest z old.memory old.berths c.args.self.now s p is c.proceed.new.self c.in-Ok.ensures
 
 pub returns-in-Err : goal.returns-in-Err
 returns-in-Err g c z s p is =
     let old = c.args.lock.now in
-    plain_refused g.S.RawStore.content g.S.RawStore.honest z old.memory old.berths.items c.args.self.now s p is c.want_memory.new.self c.requires c.in-Err.ensures.1
+    plain_refused g.S.RawStore.content g.S.RawStore.honest z old.memory old.berths c.args.self.now s p is c.want_memory.new.self c.requires c.in-Err.ensures.1
     (c.want_memory.ensures ∙ ap (λ (y : Seat). record y { mode = m.Wanted OutOfMemory }) c.in-Err.ensures.0)

@@ -10,8 +10,8 @@ returns-then-leave g c z s p inside is =
     let old = c.args.lock.now in
     let x = c.args.self.now in
     let now = c.leave.new.lock in
-    let none = (only g.S.RawStore.content h z old.memory old.berths.items x s p is c.args.object c.requires.mode).2.1 in
-    leaves_other g.S.RawStore.content h z old.memory old.berths.items x s p is c.args.object c.args.other c.args.frame now.memory now.berths.items c.set_mode.new.self true c.requires.mode
+    let none = (only g.S.RawStore.content h z old.memory old.berths x s p is c.args.object c.requires.mode).2.1 in
+    leaves_other g.S.RawStore.content h z old.memory old.berths x s p is c.args.object c.args.other c.args.frame now.memory now.berths c.set_mode.new.self true c.requires.mode
     (rw (← c.mover-mover.ensures) (c.if-leave.ensures.leaves z s inside (rw c.mover-mover.ensures none) is.shows))
     (program_mode x c.set_mode.new.self p _ (Evicting c.args.object (Freed c.args.frame)) is.program c.set_mode.ensures refl) (ap (λ (k : Seat). k.setting) c.set_mode.ensures)
 
@@ -21,6 +21,6 @@ returns-else-leave g c z s p inside is =
     let old = c.args.lock.now in
     let x = c.args.self.now in
     let now = c.leave.new.lock in
-    let none = (only g.S.RawStore.content h z old.memory old.berths.items x s p is c.args.object c.requires.mode).2.1 in
-    leaves_other g.S.RawStore.content h z old.memory old.berths.items x s p is c.args.object c.args.other c.args.frame now.memory now.berths.items x false c.requires.mode
+    let none = (only g.S.RawStore.content h z old.memory old.berths x s p is c.args.object c.requires.mode).2.1 in
+    leaves_other g.S.RawStore.content h z old.memory old.berths x s p is c.args.object c.args.other c.args.frame now.memory now.berths x false c.requires.mode
     (rw (← c.mover-mover.ensures) (c.if-leave.ensures.leaves z s inside (rw c.mover-mover.ensures none) is.shows)) is.program refl

@@ -6,5 +6,5 @@ use Rattle.world_actors.proofs.program.Program.load_told.Goals as goal
 pub returns-in-Some : goal.returns-in-Some
 returns-in-Some g c z s p is =
     let old = c.args.lock.now in
-    loaded g.S.RawStore.content g.S.RawStore.honest z old.memory old.berths.items c.args.self.now s p is c.args.object c.args.index c.in-Some.frame c.cell-value.result c.finish.new.self
+    loaded g.S.RawStore.content g.S.RawStore.honest z old.memory old.berths c.args.self.now s p is c.args.object c.args.index c.in-Some.frame c.cell-value.result c.finish.new.self
     (ap (λ (y : Object). y.told) (sym c.object.ensures) ∙ c.in-Some.is) c.cell-value.ensures c.finish.ensures

@@ -1,5 +1,4 @@
 use Rattle.std.proofs.Common.{◌≡◌, ap, ◌∙◌}
-use Rattle.remote_store.specs.Kept.{piece_cells}
 use Rattle.world_actors.specs.Acting.{outcome_of}
 use Rattle.world_memory.specs.Answered.{AnswersSo}
 use Rattle.world_actors.specs.Asking.{asked_in, asked_out}
@@ -21,11 +20,11 @@ returns g c z s p _ is =
     let now = c.evict.new.lock in
     let words = c.evict.new.self.words in
     let same : c.set_mode.new.self ≡ record x { words = words; mode = c.mode-mode.result } = c.set_mode.ensures ∙ ap (λ (y : Seat). record y { mode = c.mode-mode.result }) c.evict.ensures.after in
-    let told : Answer → Type 0 = AnswersSo g.S.RawStore.reliable g.S.RawStore.failures g.S.RawStore.read_gives piece_cells old.berths.items c.args.port.now c.evict.new.port s.far (asked_in piece_cells p.mode) in
-    moves_on g.S.RawStore.content h z old.memory old.berths.items x s p is o e (outcome_of c.evict.result words) now.memory now.berths.items words c.mode-mode.result c.set_mode.new.self told
-    (leads_with s _ _ _ _ (λ a k. (
+    let told : Answer → Type 0 = AnswersSo g.S.RawStore.reliable g.S.RawStore.failures g.S.RawStore.read_gives z.cells old.berths.items c.args.port.now c.evict.new.port s.far (asked_in z.cells p.mode) in
+    moves_on g.S.RawStore.content h z old.memory old.berths x s p is o e (outcome_of c.evict.result words) now.memory now.berths words c.mode-mode.result c.set_mode.new.self told
+    (leads_with z.cells s _ _ _ _ (λ a k. (
       k.0,
-      asked_as g.S.RawStore.reliable g.S.RawStore.failures g.S.RawStore.read_gives piece_cells old.berths.items c.args.port.now c.evict.new.port s.far a (asked_out piece_cells (eviction_of e x.words)) (asked_in piece_cells p.mode)
-          (asked_as_mode g.S.RawStore.content h z old.memory old.berths.items x s p is (m.Evicting o e) c.requires.mode) k.1,
+      asked_as g.S.RawStore.reliable g.S.RawStore.failures g.S.RawStore.read_gives z.cells old.berths.items c.args.port.now c.evict.new.port s.far a (asked_out z.cells (eviction_of e x.words)) (asked_in z.cells p.mode)
+          (asked_as_mode g.S.RawStore.content h z old.memory old.berths x s p is (m.Evicting o e) c.requires.mode) k.1,
     ))
-    (c.evict.ensures.leads z s (moving g.S.RawStore.content h z old.memory old.berths.items x s p is o e c.requires.mode))) (c.mode-mode.ensures.mode words) same
+    (c.evict.ensures.leads z s is.size (moving g.S.RawStore.content h z old.memory old.berths x s p is o e c.requires.mode))) (c.mode-mode.ensures.mode words) same

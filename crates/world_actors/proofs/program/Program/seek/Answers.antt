@@ -6,7 +6,7 @@ use Rattle.world_actors.proofs.program.Program.seek.Goals as goal
 
 pub returns-in-Look : goal.returns-in-Look
 returns-in-Look g c = rw c.in-Look.is (λ z s p inside is. let old = c.args.lock.now in
-    alone_to g.S.RawStore.content g.S.RawStore.honest z old.memory old.berths.items c.args.self.now s p is (λ _. Alone p) c.args.self.now p refl is.program refl)
+    alone_to g.S.RawStore.content g.S.RawStore.honest z old.memory old.berths c.args.self.now s p is (λ _. Alone p) c.args.self.now p refl is.program refl)
 
 pub returns-in-Claim : goal.returns-in-Claim
 returns-in-Claim g c = rw c.in-Claim.is (λ z s p inside is. c.claim.ensures z s p (frame_inside z c.in-Claim.frame inside) is)

@@ -12,8 +12,8 @@ returns-then-claim-clause-leads g c z s inside is =
     let x = c.args.self.now in
     let o = c.args.object in
     let f = c.args.frame in
-    seeker_claims g.S.RawStore.content h z old.memory old.berths.items x s is o f c.claim.new.lock.memory c.claim.new.lock.berths.items true _ c.requires
-    (c.if-claim.ensures x.mover z s inside (fits_as g.S.RawStore.content h z old.memory old.berths.items x s is (Some (d.Bringing o)) c.requires).2.0 is.shows) (sym (ap Some (c.begun.ensures (s.far o) x.words (c.is_new-is_new.ensures s.far is.shows.far))))
+    seeker_claims g.S.RawStore.content h z old.memory old.berths x s is o f c.claim.new.lock.memory c.claim.new.lock.berths true _ c.requires
+    (c.if-claim.ensures x.mover z s inside (fits_as g.S.RawStore.content h z old.memory old.berths x s is (Some (d.Bringing o)) c.requires).2.0 is.shows) (sym (ap Some (c.begun.ensures (s.far o) x.words.items (c.is_new-is_new.ensures z.cells s.far is.shows.far))))
 
 pub returns-else-claim-clause-leads : goal.returns-else-claim-clause-leads
 returns-else-claim-clause-leads g c z s inside is =
@@ -22,5 +22,5 @@ returns-else-claim-clause-leads g c z s inside is =
     let x = c.args.self.now in
     let o = c.args.object in
     let f = c.args.frame in
-    seeker_claims g.S.RawStore.content h z old.memory old.berths.items x s is o f c.claim.new.lock.memory c.claim.new.lock.berths.items false (fetching_in x) c.requires
-    (c.if-claim.ensures x.mover z s inside (fits_as g.S.RawStore.content h z old.memory old.berths.items x s is (Some (d.Bringing o)) c.requires).2.0 is.shows) (sym (ap (option_map (λ e. fetching_of e x.words)) c.requires))
+    seeker_claims g.S.RawStore.content h z old.memory old.berths x s is o f c.claim.new.lock.memory c.claim.new.lock.berths false (fetching_in x) c.requires
+    (c.if-claim.ensures x.mover z s inside (fits_as g.S.RawStore.content h z old.memory old.berths x s is (Some (d.Bringing o)) c.requires).2.0 is.shows) (sym (ap (option_map (λ e. fetching_of e x.words.items)) c.requires))

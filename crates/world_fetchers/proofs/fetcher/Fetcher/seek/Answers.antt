@@ -10,8 +10,8 @@ returns-then-begin-clause-goes g c = rw c.in-Begin.is (λ z s inside is.
     let old = c.args.lock.now in
     let x = c.args.self.now in
     let o = c.in-Begin.object in
-    idle_begins g.S.RawStore.content h z old.memory old.berths.items x s is o c.begin.new.lock.memory c.begin.new.lock.berths.items true _ c.requires
-    (c.if-begin.ensures z s (begin_inside z o inside) (idle_fits g.S.RawStore.content h z old.memory old.berths.items x s is c.requires).0 is.shows) refl)
+    idle_begins g.S.RawStore.content h z old.memory old.berths x s is o c.begin.new.lock.memory c.begin.new.lock.berths true _ c.requires
+    (c.if-begin.ensures z s (begin_inside z o inside) (idle_fits g.S.RawStore.content h z old.memory old.berths x s is c.requires).0 is.shows) refl)
 
 pub returns-else-begin-clause-goes : goal.returns-else-begin-clause-goes
 returns-else-begin-clause-goes g c = rw c.in-Begin.is (λ z s inside is.
@@ -19,5 +19,5 @@ returns-else-begin-clause-goes g c = rw c.in-Begin.is (λ z s inside is.
     let old = c.args.lock.now in
     let x = c.args.self.now in
     let o = c.in-Begin.object in
-    idle_begins g.S.RawStore.content h z old.memory old.berths.items x s is o c.begin.new.lock.memory c.begin.new.lock.berths.items false (fetching_in x) c.requires
-    (c.if-begin.ensures z s (begin_inside z o inside) (idle_fits g.S.RawStore.content h z old.memory old.berths.items x s is c.requires).0 is.shows) (sym (ap (option_map (λ e. fetching_of e x.words)) c.requires)))
+    idle_begins g.S.RawStore.content h z old.memory old.berths x s is o c.begin.new.lock.memory c.begin.new.lock.berths false (fetching_in x) c.requires
+    (c.if-begin.ensures z s (begin_inside z o inside) (idle_fits g.S.RawStore.content h z old.memory old.berths x s is c.requires).0 is.shows) (sym (ap (option_map (λ e. fetching_of e x.words.items)) c.requires)))
