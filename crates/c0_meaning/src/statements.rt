@@ -1,8 +1,7 @@
 //! The plain run of statements.
-ghost use Rattle.std.specs.Prelude.{[], ◌∷◌};
+ghost use Rattle.std.specs.Prelude.{◌≡◌, [], ◌∷◌};
 ghost use Rattle.c0_meaning.specs.Pendings.{Extends, Performs, Steps, left_by, means, pending_of};
 ghost use Rattle.c0_typed.specs.Meaning.{Broken, Continued};
-ghost use Rattle.std.specs.Prelude.{◌≡◌};
 ghost use Rattle.c0_meaning.specs.declared.context.Context.{Context as ContextOf};
 ghost use Rattle.c0_meaning.specs.declared.task.Progress.TheVariants as progress;
 ghost use Rattle.c0_meaning.specs.declared.task.Task.TheVariants as task;

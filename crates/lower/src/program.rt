@@ -72,7 +72,13 @@ fn function_with(
     let mut code = Vec::new(context.alloc);
     conditions(context, &mut kinds, &mut code, &function.preconditions)?;
     let mut body = Vec::new(context.alloc);
-    statements(context, &mut kinds, &mut body, &function.body, Exits::whole())?;
+    statements(
+        context,
+        &mut kinds,
+        &mut body,
+        &function.body,
+        Exits::whole(),
+    )?;
     code.push(Code::Block(sequence(context.alloc, body)?))?;
     conditions(context, &mut kinds, &mut code, &function.postconditions)?;
     Ok(middle_form::Function {

@@ -1,12 +1,7 @@
 -- What an honest store reads, and what a berth keeps for an object.
 use Rattle.std.specs.Prelude.{◌≡◌, ◌≢◌, ℕ, ◌+◌, ◌<◌, ◌==◌, cond, ◌⊎◌, List, [], ◌∷◌, length, take, Option, Some, slice_index_or}
-use Rattle.remote_store.specs.declared.raw.TheConstants.{PIECE_CELLS}
 use Rattle.remote_store.specs.declared.port.Refusal.{Refusal}
 use Rattle.remote_store.specs.declared.port.Refusal.TheVariants as R
-
--- the cells of a piece
-abbrev pub piece_cells : ℕ
-piece_cells = PIECE_CELLS
 
 -- what an honest store reads of a cell whose last write put these words: just them, or a header of three words that differs
 abbrev pub Reads : List ℕ → List ℕ → Type 0

@@ -8,9 +8,6 @@ use std::alloc::Global;
 /// The words of a store cell before the cells of a piece: an object, a version and the number of cells.
 pub const HEADER_WORDS: usize = 3;
 
-/// The cells of a piece.
-pub const PIECE_CELLS: usize = 64;
-
 /// The most cells of a piece.
 pub const MOST_CELLS: usize = 256;
 

@@ -9,9 +9,9 @@ use Rattle.c0far.proofs.drive.check_image.Goals as goal
 pub returns-in-Err-clause-done : goal.returns-in-Err-clause-done
 returns-in-Err-clause-done g c = inr (
     subst (λ (loops : Bool). HasNoCode loops c.args.file.now (g.F.Files.holds c.args.files.now c.args.file.now)
-      (writes g.O.Stream.contents g.O.Stream.failures c.args.out.now c.args.out.now) (writes g.E.Stream.contents g.E.Stream.failures c.args.err.now c.code_of.new.err) c.in-Err.status)
+    (writes g.O.Stream.contents g.O.Stream.failures c.args.out.now c.args.out.now) (writes g.E.Stream.contents g.E.Stream.failures c.args.err.now c.code_of.new.err) c.in-Err.status)
     (ap (λ (k : Compiling). k.texts.loops) c.unchecked.ensures) (c.in-Err.ensures.refused _ refl)
-  )
+    )
 
 pub returns-in-Ok-clause-done : goal.returns-in-Ok-clause-done
 returns-in-Ok-clause-done g c = inl (record {
