@@ -93,17 +93,18 @@ pub record HasMeant (texts : Texts) (turns : ℕ) (held : Known) (out err : Writ
 abbrev pub Means : Text → Texts → ℕ → Known → Writes → Writes → ℕ → Type 0
 Means file texts turns held out err result = HasMeant texts turns held out err result ⊎ (HasFailed texts.loops file held out err result ⊎ (IsUnread file held out err result ⊎ LacksMemory out err result))
 
--- all files but this one hold what they held
-pub record KeepsOthers (target : Text) (held now : Text → Known) : Type 0 where
+-- all files but the one that is written hold what they held, and that of the text does
+pub record WritesOnly (file target : Text) (held now : Text → Known) : Type 0 where
   pub others : (name : Text) → (name ≡ target → ⊥) → now name ≡ held name
+  pub text : now file ≡ held file
 
 -- all files do
 abbrev pub KeepsFiles : (held now : Text → Known) → Type 0
 KeepsFiles held now = (name : Text) → now name ≡ held name
 
--- the command, where files held this and hold that now, and folders are honest or not: `build` alone may write a file, the one that it names
+-- the command, where files held this and hold that now, and folders are honest or not: `build` alone may write a file, the one that it names, and never the text that it is given
 abbrev pub Does : Type 0 → (held now : Text → Known) → Command → Writes → Writes → ℕ → Type 0
-Does honest held now (shell.Build compiling target file) out err result = Builds file compiling target (held file) (held target) (now target) out err result × KeepsOthers target held now
+Does honest held now (shell.Build compiling target file) out err result = Builds file compiling target (held file) (held target) (now target) out err result × WritesOnly file target held now
 Does honest held now (Check loops file) out err result = Checks loops file (held file) out err result × KeepsFiles held now
 Does honest held now (shell.Lists loops piece file) out err result = Lists loops piece file (held file) out err result × KeepsFiles held now
 Does honest held now (Mean texts turns file) out err result = Means file texts turns (held file) out err result × KeepsFiles held now

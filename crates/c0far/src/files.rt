@@ -1,12 +1,14 @@
 //! The files that a command works on.
-ghost use Rattle.std.specs.Prelude.{◌≡◌, ℕ, IfErr, IfOk, List, MatchResult, [], ◌∷◌, ◌++◌, None, OnOk, Option, string_bytes};
+ghost use Rattle.std.specs.Prelude.{◌≡◌, ◌≢◌, false, ℕ, IfErr, IfOk, List, MatchResult, [], ◌∷◌, ◌++◌, None, OnOk, Option, string_bytes};
 ghost use Rattle.std.specs.List.{list_any};
 ghost use Rattle.std.specs.Str.{bytes_eq};
 ghost use Rattle.c0far.specs.FileTexts.{HasText, IsMissing};
 
+use crate::replacing::write_whole;
 use file_store::{DiskFolder, Folder, MemFolder};
 use std::alloc::{AllocError, Global};
 use std::collections::BTreeMap;
+use std::os::unix::fs::MetadataExt;
 use std::rt::Files as SystemFiles;
 use std::{fs, io};
 use thiserror::Error;
@@ -34,6 +36,10 @@ pub trait Files {
         ensures text { IfOk result (λ v. HasText (holds self.old name.now) v.items) }
         ensures missing { IfErr result (λ e. e ≡ FileError.Cannot → IsMissing (holds self.old name.now)) }
         ensures same { (n : List ℕ) → holds self.new n ≡ holds self.old n };
+
+    /// Whether two names are of one file: where they are the same, and where the system tells that one file is there under both.
+    fn is_same(&self, first: &str, second: &str) -> bool
+        ensures { result ≡ false → first.now ≢ second.now };
 
     /// Makes these bytes the whole of a file, which need not be there. Where it fails the file is as it was, and so are all others.
     fn write(&mut self, alloc: Global, name: &str, bytes: &[u8]) -> Result<(), FileError>
@@ -67,22 +73,12 @@ fn refusal(error: io::Error) -> FileError {
     }
 }
 
-/// The name of a file while it is written.
-fn unfinished_name(alloc: Global, name: &str) -> Result<String, AllocError> {
-    let mut fresh = String::from_str(alloc, name)?;
-    fresh.push_str(".unfinished")?;
-    Ok(fresh)
-}
-
-/// Writes a file whole, and gives it its name.
-fn write_whole<R: SystemFiles + AllocGlobal>(
-    rt: &R,
-    fresh: &str,
-    name: &str,
-    bytes: &[u8],
-) -> io::Result<()> {
-    fs::write(rt, fresh, bytes)?;
-    fs::rename(rt, fresh, name)
+// Whether the system tells that one file is there under both names.
+fn is_one_file<R: SystemFiles>(rt: &R, first: &str, second: &str) -> bool {
+    match (fs::metadata(rt, first), fs::metadata(rt, second)) {
+        (Ok(one), Ok(other)) => one.dev() == other.dev() && one.ino() == other.ino(),
+        _ => false,
+    }
 }
 
 impl<'a, R: SystemFiles + AllocGlobal + Sync> Files for FolderFiles<'a, R> {
@@ -92,19 +88,13 @@ impl<'a, R: SystemFiles + AllocGlobal + Sync> Files for FolderFiles<'a, R> {
         fs::read(self.rt, name).map_err(refusal)
     }
 
-    // A file of another name is written and takes this one's place, so that no half of it is ever seen.
+    fn is_same(&self, first: &str, second: &str) -> bool {
+        first == second || is_one_file(self.rt, first, second)
+    }
+
+    // Of what is written into a device or a pipe, a part stays there where it fails.
     fn write(&mut self, alloc: Global, name: &str, bytes: &[u8]) -> Result<(), FileError> {
-        let Ok(fresh) = unfinished_name(alloc, name) else {
-            return Err(FileError::OutOfMemory);
-        };
-        match write_whole(self.rt, &fresh, name, bytes) {
-            Ok(()) => Ok(()),
-            Err(error) => {
-                // where it is not there, nothing is left to take away
-                let _removed = fs::remove_file(self.rt, &fresh);
-                Err(refusal(error))
-            }
-        }
+        write_whole(self.rt, alloc, name, bytes).map_err(refusal)
     }
 
     fn folder(&self, alloc: Global, name: &str) -> Result<DiskFolder<'a, R>, AllocError> {
@@ -160,6 +150,12 @@ impl Files for MemFiles {
             Some(bytes) => bytes.to_vec(alloc).map_err(|_| FileError::OutOfMemory),
             None => Err(FileError::Cannot),
         }
+    }
+
+    fn is_same(&self, first: &str, second: &str) -> bool
+        ensures { result ≡ bytes_eq first.now second.now }
+    {
+        first == second
     }
 
     fn write(&mut self, alloc: Global, name: &str, bytes: &[u8]) -> Result<(), FileError> {

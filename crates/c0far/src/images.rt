@@ -3,7 +3,7 @@ ghost use Rattle.std.specs.Prelude.{◌≡◌, ◌++◌, ℕ, List, codes, strin
 ghost use Rattle.c0_syntax.specs.Levels.{has_loops};
 ghost use Rattle.cells.specs.Pieces.{cells_in};
 ghost use Rattle.command_line.specs.Shell.{compiling_of};
-ghost use Rattle.c0far.specs.Driven.{Builds, KeepsOthers, Lists};
+ghost use Rattle.c0far.specs.Driven.{Builds, Lists, WritesOnly};
 ghost use Rattle.c0far.specs.Shown.{newline};
 ghost use Rattle.c0far.specs.Streams.{Says, writes};
 
@@ -55,7 +55,7 @@ pub fn list<F: Files, O: Stream, E: Stream>(
     }
 }
 
-/// Writes the code of a file, where a text is compiled so, into another.
+/// Writes the code of a file, where a text is compiled so, into another. One that is the same by the system's word is not written.
 pub fn build<F: Files, O: Stream, E: Stream>(
     alloc: Global,
     compiling: Compiling,
@@ -65,7 +65,7 @@ pub fn build<F: Files, O: Stream, E: Stream>(
     out: &mut O,
     err: &mut E,
 ) -> u8
-    ensures files { KeepsOthers target.now (F.holds files.old) (F.holds files.new) }
+    ensures files { WritesOnly file.now target.now (F.holds files.old) (F.holds files.new) }
     ensures done { Builds file.now (compiling_of compiling) target.now (F.holds files.old file.now) (F.holds files.old target.now) (F.holds files.new target.now) (writes O.contents O.failures out.old out.new) (writes E.contents E.failures err.old err.new) result }
 {
     let verified = match code_of(alloc, compiling, file, files, err) {
@@ -75,6 +75,9 @@ pub fn build<F: Files, O: Stream, E: Stream>(
     let Ok(bytes) = encode(alloc, verified.image()) else {
         return say_memory(err);
     };
+    if files.is_same(file, target) {
+        return say_unwritten(err, target);
+    }
     match files.write(alloc, target, &bytes) {
         Ok(()) => 0,
         Err(FileError::Cannot) => say_unwritten(err, target),

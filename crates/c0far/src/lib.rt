@@ -6,6 +6,7 @@ pub mod drive;
 pub mod files;
 mod images;
 mod plain;
+mod replacing;
 mod replays;
 mod runs;
 pub mod say;

@@ -15,6 +15,9 @@ use std::sync::Arc;
 use std::sync::atomic::{AtomicU64, Ordering};
 use std::{fs, io};
 
+/// How often a read is tried again that a signal interrupts.
+const MOST_TRIES: u32 = 1_000_000;
+
 /// A folder's path, and the number of the next new file.
 #[derive(Drop)]
 struct Place {
@@ -57,7 +60,7 @@ pub struct DiskFolder<'a, R: Files + AllocGlobal> {
 }
 
 impl<'a, R: Files + AllocGlobal> DiskFolder<'a, R> {
-    /// The folder of this path, which need not be there, through which nothing failed yet. Its new files are named from 0 on,
+    /// The folder of this path, which need not be there, through which nothing failed yet. No folder has an empty path. Its new files are named from 0 on,
     /// in place of any that are there.
     pub fn new(alloc: Global, rt: &'a R, path: &str) -> Result<DiskFolder<'a, R>, AllocError>
         ensures path { IfOk result (λ made. string_bytes (arc_value made.place).path ≡ path.now) }
@@ -107,6 +110,21 @@ fn snapshot_of(bytes: &[u8]) -> Snapshot<[u8; MOST_BYTES]>
     Snapshot::of(&room)
 }
 
+// A regular file of this path, to write into it, or a new one. Anything else that has the path is neither opened nor followed.
+fn open_regular<R: Files>(rt: &R, path: &str) -> io::Result<R::File> {
+    let mut options = OpenOptions::new();
+    options.write(true);
+    match fs::symlink_metadata(rt, path) {
+        Ok(there) if there.is_file() => {}
+        Ok(_other) => return Err(io::Error::from(io::ErrorKind::AlreadyExists)),
+        Err(error) if error.kind() == io::ErrorKind::NotFound => {
+            options.create_new(true);
+        }
+        Err(error) => return Err(error),
+    }
+    options.open(rt, path)
+}
+
 // Makes these bytes the whole of the file, which is opened anew. A longer file is cut off behind them and not before: a file that is emptied first has
 // some file systems wait for the disk.
 fn write_file<R: Files + AllocGlobal>(
@@ -115,25 +133,30 @@ fn write_file<R: Files + AllocGlobal>(
     number: u64,
     bytes: &[u8],
 ) -> io::Result<()> {
+    if place.path.is_empty() {
+        return Err(io::Error::from(io::ErrorKind::NotFound));
+    }
     let path = place.file_path(rt.alloc(), number)?;
-    let mut options = OpenOptions::new();
-    options.write(true).create(true);
-    let mut file = options.open(rt, path.as_str())?;
+    let mut file = open_regular(rt, path.as_str())?;
     file.write_all(bytes)?;
     file.set_len(bytes.len() as u64)
 }
 
-// Reads until there is no more room, or the file has ended, and gives the number of bytes that were read.
+// Reads until there is no more room, or the file has ended, and gives the number of bytes that were read. What a signal interrupts is tried again.
 fn fill<F: Read>(file: &mut F, bytes: &mut [u8]) -> io::Result<usize>
     ensures { IfOk result (λ count. count ≤ length bytes.old) }
 {
     let mut count = 0;
+    let mut interrupted = 0;
     'fill: while count < bytes.len() {
-        let more = file.read(&mut bytes[count..])?;
-        if more == 0 {
-            break;
+        match file.read(&mut bytes[count..]) {
+            Ok(0) => break,
+            Ok(more) => count += more,
+            Err(error) if error.kind() == io::ErrorKind::Interrupted && interrupted < MOST_TRIES => {
+                interrupted += 1;
+            }
+            Err(error) => return Err(error),
         }
-        count += more;
     }
     Ok(count)
 }

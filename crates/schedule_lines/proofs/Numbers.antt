@@ -1,7 +1,7 @@
 -- numbers at the beginning of a text
-use Rattle.std.proofs.Common.{◌≡◌, ◌≢◌, ℕ, zero, suc, ◌+◌, ◌-◌, ◌*◌, ◌<◌, ◌≤◌, ◌^◌, Bool, true, false, cond, List, [], ◌∷◌, ◌++◌, length, map, length-append, get_or, take, drop, Option, Some, None, Bor, MatchOption, append_assoc, refl, sym, ap, ◌∙◌, subst, arith}
+use Rattle.std.proofs.Common.{◌≡◌, ◌≢◌, inl, inr, ℕ, zero, suc, ◌+◌, ◌-◌, ◌*◌, ◌<◌, ◌≤◌, ◌^◌, Bool, true, false, cond, List, [], ◌∷◌, ◌++◌, length, map, length-append, get_or, take, drop, Option, Some, None, Bor, MatchOption, append_assoc, refl, sym, ap, ◌∙◌, subst, arith}
 use Rattle.std.proofs.Math.Seq.{take-length}
-use Rattle.std.specs.Char.{IsAsciiDigit}
+use Rattle.std.specs.Char.{IsAsciiDigit, IsNotAsciiDigit}
 use Rattle.std.specs.Prelude.{◌==◌, nat_lt, codes, decimal}
 use Rattle.std.specs.Int.Digits.{digits_of}
 use Rattle.std.proofs.lemmas.Int.Digits.{first_digits_of}
@@ -63,6 +63,29 @@ behind n next (b ∷ bs) None some digit is told =
     too_great_behind n b bs digit.0 digit.1 (subst (λ v. IsTooGreat v bs) is (subst (IsTooGreat next) (tail_of b bs) told))
 behind n next (b ∷ bs) (Some p) some digit is told =
     one_digit n b p.0 bs p.1.now digit.0 digit.1 (subst (λ v. HasDigits v bs p.0 p.1.now) is (subst (λ xs. HasDigits next xs p.0 p.1.now) (tail_of b bs) told))
+
+-- what is told of the digits that begin a text, behind those of n
+abbrev pub Told : ℕ → List ℕ → Option (ℕ × Bor (List ℕ)) → Type 0
+Told n text r = MatchOption r (IsTooGreat n text) (λ p. HasDigits n text p.0 p.1.now)
+
+-- what is told of this rest behind the digits of n is told of the whole text
+abbrev pub TellsOf : ℕ → List ℕ → List ℕ → Type 0
+TellsOf n rest text = (r : Option (ℕ × Bor (List ℕ))) → Told n rest r → Told 0 text r
+
+-- where the text begins with a byte that is no digit, or is empty, the digits end
+pub not_digit : (text : List ℕ) → 1 ≤ length text → IsNotAsciiDigit (get_or text 0 0) → IsNoDigit text
+not_digit [] some other = tt
+not_digit (b ∷ bs) some (inl less) = λ low high. omega (arith, less, low)
+not_digit (b ∷ bs) some (inr more) = λ low high. omega (arith, more, high)
+
+pub no_more : (text : List ℕ) → length text < 1 → IsNoDigit text
+no_more [] few = tt
+no_more (b ∷ bs) few = absurd (omega (arith, few))
+
+-- one digit more and there are too many
+pub too_great_with : (n : ℕ) (text : List ℕ) → 1 ≤ length text → IsAsciiDigit (get_or text 0 0) → 2 ^ 32 ≤ n * 10 + (get_or text 0 0 - 48) → IsTooGreat n text
+too_great_with n [] some digit great = absurd (omega arith)
+too_great_with n (b ∷ bs) some digit great = too_great_already n b bs digit.0 digit.1 great
 
 -- ---- what is printed of a number
 

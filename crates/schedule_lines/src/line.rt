@@ -28,22 +28,23 @@ fn with_digit(number: u32, digit: u8) -> Option<u32>
     }
 }
 
-/// The number that the digits at the beginning of the text write behind those of `number`, and what stands behind them. None where
-/// it has more than 32 bits.
-#[tactic(auto, using(crate::proofs::Numbers::no_digits, crate::proofs::Numbers::one_digit, crate::proofs::Numbers::too_great_behind, crate::proofs::Numbers::too_great_already))]
-fn digits_behind(number: u32, text: &[u8]) -> Option<(u32, &[u8])>
-    ensures { MatchOption result (IsTooGreat number text.now) (λ p. HasDigits number text.now p.0 p.1.now) }
+/// The number that the digits at the beginning of the text write, and what stands behind them. None where it has more than 32 bits.
+fn digits_of(text: &[u8]) -> Option<(u32, &[u8])>
+    ensures { MatchOption result (IsTooGreat 0 text.now) (λ p. HasDigits 0 text.now p.0 p.1.now) }
 {
-    let [byte, rest @ ..] = text else {
-        return Some((number, text));
-    };
-    if !byte.is_ascii_digit() {
-        return Some((number, text));
+    let mut number = 0;
+    let mut rest = text;
+    while let [byte, others @ ..] = rest {
+        if !byte.is_ascii_digit() {
+            return Some((number, rest));
+        }
+        let Some(next) = with_digit(number, *byte - b'0') else {
+            return None;
+        };
+        number = next;
+        rest = others;
     }
-    match with_digit(number, *byte - b'0') {
-        Some(next) => digits_behind(next, rest),
-        None => None,
-    }
+    Some((number, rest))
 }
 
 /// Whether so many digits at the beginning of the text are a number as it is printed.
@@ -61,7 +62,7 @@ fn is_plain(text: &[u8], count: usize) -> bool
 fn number(text: &[u8]) -> Option<(u32, &[u8])>
     ensures { MatchOption result (IsNoNumber text.now) (λ p. IsNumber p.0 p.1.now text.now) }
 {
-    match digits_behind(0, text) {
+    match digits_of(text) {
         Some((number, rest)) => {
             if is_plain(text, text.len() - rest.len()) {
                 Some((number, rest))

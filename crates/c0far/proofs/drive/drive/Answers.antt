@@ -5,7 +5,7 @@ use Rattle.command_line.specs.declared.words.Line.{Line}
 use Rattle.command_line.specs.declared.words.Replay.{Replay as Asked}
 use Rattle.command_line.specs.declared.words.Usage.{Usage}
 use Rattle.command_line.specs.declared.words.Usage.TheVariants.{Refused, OutOfMemory}
-use Rattle.c0far.proofs.Moved.{built_at, keeps_at}
+use Rattle.c0far.proofs.Moved.{built_at, only_at}
 use Rattle.c0far.specs.Replays.{Replays}
 use Rattle.c0far.specs.Streams.{writes}
 use Rattle.c0far.proofs.drive.drive.Goals as goal
@@ -32,7 +32,7 @@ returns-in-Ok-Build g c =
       subst (λ (l : Line). Names (map (λ w. w.now) c.args.words.now) (command_of l)) asked.field-0-is asked.ensures.named,
       (
         built_at held now _ asked.file.now _ (compiling_of asked.compiling) _ asked.target.now _ _ _ (search rules) (search rules) (search rules) c.build.ensures.done,
-        keeps_at held now _ asked.target.now (search rules) c.build.ensures.files,
+        only_at held now _ asked.file.now _ asked.target.now (search rules) (search rules) c.build.ensures.files,
       ),
     )
 
