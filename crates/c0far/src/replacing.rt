@@ -17,11 +17,7 @@ fn unfinished_name(alloc: Global, name: &str, taken: u32) -> Result<String, Allo
 }
 
 // A new file beside the one of this name, and its own name. One that is there already is left alone.
-fn open_unfinished<R: Files>(
-    rt: &R,
-    alloc: Global,
-    name: &str,
-) -> io::Result<(R::File, String)> {
+fn open_unfinished<R: Files>(rt: &R, alloc: Global, name: &str) -> io::Result<(R::File, String)> {
     let mut options = OpenOptions::new();
     options.write(true).create_new(true);
     for taken in 0..MOST_NAMES {

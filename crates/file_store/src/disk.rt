@@ -152,9 +152,10 @@ fn fill<F: Read>(file: &mut F, bytes: &mut [u8]) -> io::Result<usize>
         match file.read(&mut bytes[count..]) {
             Ok(0) => break,
             Ok(more) => count += more,
-            Err(error) if error.kind() == io::ErrorKind::Interrupted && interrupted < MOST_TRIES => {
-                interrupted += 1;
-            }
+            Err(error) if error.kind() == io::ErrorKind::Interrupted && interrupted < MOST_TRIES =>
+                {
+                    interrupted += 1;
+                }
             Err(error) => return Err(error),
         }
     }

@@ -1,0 +1,35 @@
+#!/usr/bin/env python3
+"""Runs the built program as a process: run.py PROGRAM. Prints each test that fails, and last 'N passed, M failed'.
+
+For what no contract sees: files, folders, the machine's stack, and how long a run takes. Each test has an empty folder. Nothing else is needed.
+"""
+
+import os
+import sys
+import tempfile
+
+import depths
+import files
+import stores
+from process import Failure, Process
+
+
+def main():
+    if len(sys.argv) != 2:
+        sys.exit(__doc__)
+    program = os.path.abspath(sys.argv[1])
+    passed = failed = 0
+    for script in (files, stores, depths):
+        for test in script.TESTS:
+            with tempfile.TemporaryDirectory() as folder:
+                try:
+                    test(Process(program, folder))
+                    passed += 1
+                except (Failure, OSError) as why:
+                    failed += 1
+                    print(f"{script.__name__}, {test.__name__}: {why}")
+    print(f"{passed} passed, {failed} failed")
+    sys.exit(1 if failed else 0)
+
+
+main()
