@@ -6,7 +6,7 @@ ghost use Rattle.object_moves.specs.Taken.{FilledBelow, FillsOnly, Refused};
 ghost use Rattle.pointer_word.specs.Hands.{listed};
 
 use object_lock::{MoverSeat, ObjectTable};
-use remote_store::{MOST_CELLS, RawStore};
+use remote_store::{MOST_CELLS, RawStore, USUAL_CELLS};
 
 /// Reads the words that the berth of the object keeps that is being brought in over zeros, which stay where nothing was put there. False
 /// where the store refuses.
@@ -90,7 +90,12 @@ pub fn bring_into<S: RawStore>(
     ensures table { IsSeat table.now mover.new }
     ensures told { ArrivedOr S.reliable obj frame mover.old mover.new result }
 {
-    let mut buffer = [0; MOST_CELLS];
     let cells = table.cells();
-    bring_by_way_of(table, mover, obj, frame, &mut buffer[..cells])
+    if cells <= USUAL_CELLS {
+        let mut buffer = [0; USUAL_CELLS];
+        bring_by_way_of(table, mover, obj, frame, &mut buffer[..cells])
+    } else {
+        let mut buffer = [0; MOST_CELLS];
+        bring_by_way_of(table, mover, obj, frame, &mut buffer[..cells])
+    }
 }

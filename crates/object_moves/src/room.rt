@@ -12,7 +12,7 @@ ghost use Rattle.pointer_word.specs.Words.{Here, counted};
 
 use crate::moved::Moved;
 use object_lock::{MoverSeat, ObjectTable, OwnerSeat};
-use remote_store::{Failed, MOST_CELLS, RawStore};
+use remote_store::{Failed, MOST_CELLS, RawStore, USUAL_CELLS};
 
 /// Copies the cells of the frame, in which the mover has marked the object.
 fn copy<S: RawStore>(
@@ -102,9 +102,14 @@ pub fn move_out<S: RawStore>(
     ensures table { IsSeat table.now mover.new }
     ensures told { MovesAway S.reliable mover.old mover.new result }
 {
-    let mut buffer = [0; MOST_CELLS];
     let cells = table.cells();
-    move_by_way_of(table, mover, obj, frame, &mut buffer[..cells])
+    if cells <= USUAL_CELLS {
+        let mut buffer = [0; USUAL_CELLS];
+        move_by_way_of(table, mover, obj, frame, &mut buffer[..cells])
+    } else {
+        let mut buffer = [0; MOST_CELLS];
+        move_by_way_of(table, mover, obj, frame, &mut buffer[..cells])
+    }
 }
 
 /// Has the object leave the frame, where it is clean there and has no hold: nothing is copied or put, and the frame is free then. Whether it left;

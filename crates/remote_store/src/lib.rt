@@ -13,4 +13,4 @@ pub use config::{Config, Stores};
 pub use fault::{FaultPlan, FaultStore, FaultStores};
 pub use heap::{FarCell, FarHeap};
 pub use port::{Failed, Port, Refusal};
-pub use raw::{HEADER_WORDS, MOST_CELLS, MOST_WORDS, RawStore};
+pub use raw::{HEADER_WORDS, MOST_CELLS, MOST_WORDS, RawStore, USUAL_CELLS};

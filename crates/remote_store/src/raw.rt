@@ -14,6 +14,12 @@ pub const MOST_CELLS: usize = 256;
 /// The most words of a store cell.
 pub const MOST_WORDS: usize = MOST_CELLS + HEADER_WORDS;
 
+/// The most cells of pieces that go by way of a smaller buffer, which is cleared sooner.
+pub const USUAL_CELLS: usize = 64;
+
+/// The words of a store cell for the largest of these.
+pub const USUAL_WORDS: usize = USUAL_CELLS + HEADER_WORDS;
+
 /// One mover's way to the store. `content` is what a cell holds: the words of the last write of it, where that
 /// succeeded. An `honest` store reads back those words, or words of another header. `failures` counts the calls
 /// that failed through this value, modulo 2^64. `read_gives` tells which words a read of a cell gave, by the store before

@@ -1,7 +1,7 @@
 use Rattle.std.proofs.Common.{◌≡◌, suc, rules, arith, take, drop, ℕ, List, ◌∷◌, ◌∙◌, sym, ap, length, get_or}
 use Rattle.remote_store.proofs.Reading.{gets, header_told, split}
-use Rattle.remote_store.proofs.berth.Berth.get.Goals as goal
-use Rattle.remote_store.proofs.berth.Berth.get.Goals.{then-row-obj-via-then-row-obj, then-row-obj-via-else-row-obj+then-row-self, then-row-obj-via-else-row-obj+else-row-self+then-row-words}
+use Rattle.remote_store.proofs.berth.Berth.get_by_way_of.Goals as goal
+use Rattle.remote_store.proofs.berth.Berth.get_by_way_of.Goals.{then-row-obj-via-then-row-obj, then-row-obj-via-else-row-obj+then-row-self, then-row-obj-via-else-row-obj+else-row-self+then-row-words}
 
 pub returns-clause-got : goal.returns-clause-got
 returns-clause-got g c = λ h ws k.
