@@ -56,17 +56,20 @@ def an_empty_name(it):
             os.remove(f"/{name}")
 
 
+def link_to(name):
+    return lambda path: os.symlink(name, path)
+
+
 def what_is_no_regular_file(it):
-    """A pipe would be waited for without end, and a link would be followed."""
+    """A pipe would be waited for without end, and a link would be followed. One such file keeps its object in its frame, and all of them leave no room."""
     it.write("target", "untouched")
-    for number in range(4):
-        os.mkdir(it.path(f"store{number}"))
-    os.mkfifo(it.path("store0/3"))
-    os.mkdir(it.path("store1/3"))
-    os.symlink(it.path("target"), it.path("store2/3"))
-    os.symlink("/dev/null", it.path("store3/3"))
-    for number in range(4):
-        run(it, f"store{number}", out=FAILED, status=3)
+    for kind, make in (("pipe", os.mkfifo), ("folder", os.mkdir), ("link", link_to(it.path("target"))), ("device", link_to("/dev/null"))):
+        for name, numbers in ((f"one_{kind}", [3]), (f"each_{kind}", range(100))):
+            os.mkdir(it.path(name))
+            for number in numbers:
+                make(it.path(f"{name}/{number}"))
+        run(it, f"one_{kind}", out=SUM)
+        run(it, f"each_{kind}", out=FAILED, status=3)
     want(it.read("target") == b"untouched", "a link was followed")
 
 

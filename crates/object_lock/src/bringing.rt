@@ -4,7 +4,7 @@ ghost use Rattle.pointer_word.specs.Words.{Away, Here};
 ghost use Rattle.pointer_word.specs.Hands.{told, filling, arriving, retreating};
 ghost use Rattle.pointer_word.specs.Calls.{Filled, Begins, Claims, Fills, Arrives, Retreats};
 ghost use Rattle.pointer_word.specs.Asked.{HasNoFrame, HasNothing};
-ghost use Rattle.object_lock.specs.Seats.{Owns, note, with_note, with_hand};
+ghost use Rattle.object_lock.specs.Seats.{Owns, cell_word, note, with_note, with_hand};
 ghost use Rattle.object_lock.specs.Plays.{Steps, Holds, IsUnheld, LeavesWord, LeavesAt, LeavesCell};
 ghost use Rattle.object_lock.specs.SeatViews.{IsSeat};
 ghost use Rattle.object_lock.specs.Telling.{tried, Begun, Fetched, Claimed};
@@ -64,7 +64,28 @@ impl<S: RawStore> ObjectTable<S> {
         ensures filled { mover.new ≡ record mover.old { view = with_hand mover.old.view (filling mover.old.view.hand i v) } }
         ensures step { Steps S.honest (Fills mover.old.view.number frame i v) mover.old.view mover.new.view (LeavesCell (Fills mover.old.view.number frame i v) frame i v) }
     {
-        self.words.fill_cell(&mut mover.seat, frame, i, v);
+        let first = self.first_cell(frame);
+        self.fill_behind(mover, first, frame, i, v);
+    }
+
+    /// Fills the cell `i` of the frame that the mover has claimed, whose cells begin at this word (`first_cell`).
+    pub fn fill_behind(
+        &self,
+        mover: &mut MoverSeat<S>,
+        first: usize,
+        frame: usize,
+        i: usize,
+        v: u64,
+    )
+        requires table { IsSeat self.now mover.old }
+        requires low { (frame < self.now.sizes.frames) × (i < self.now.sizes.cells) }
+        requires first { first ≡ cell_word self.now.sizes frame 0 }
+        requires claimed { mover.old.view.hand.claimed ≡ Some frame }
+        ensures table { IsSeat self.now mover.new }
+        ensures filled { mover.new ≡ record mover.old { view = with_hand mover.old.view (filling mover.old.view.hand i v) } }
+        ensures step { Steps S.honest (Fills mover.old.view.number frame i v) mover.old.view mover.new.view (LeavesCell (Fills mover.old.view.number frame i v) frame i v) }
+    {
+        self.words.fill_cell(&mut mover.seat, first, frame, i, v);
     }
 
     /// The object is in the claimed frame, all of whose cells were filled, and its berth is back in its slot: it is clean. An owner

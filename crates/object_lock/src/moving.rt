@@ -4,7 +4,7 @@ ghost use Rattle.pointer_word.specs.Words.{Here, Leaving, counted};
 ghost use Rattle.pointer_word.specs.Hands.{copying, aborting, unclaiming, releasing};
 ghost use Rattle.pointer_word.specs.Calls.{Marks, Copies, Commits, Aborts, Leaves, Unclaims, Releases};
 ghost use Rattle.pointer_word.specs.Asked.{HasNoFrame};
-ghost use Rattle.object_lock.specs.Seats.{Owns, with_hand};
+ghost use Rattle.object_lock.specs.Seats.{Owns, cell_word, with_hand};
 ghost use Rattle.object_lock.specs.Seating.{HasFrame, IsMovingOut};
 ghost use Rattle.object_lock.specs.Plays.{Steps, IsLook, LeavesAt, LeavesFree};
 ghost use Rattle.object_lock.specs.SeatViews.{IsSeat};
@@ -79,7 +79,27 @@ impl<S: RawStore> ObjectTable<S> {
         ensures copied { mover.new ≡ record mover.old { view = with_hand mover.old.view (copying mover.old.view.hand i result) } }
         ensures step { Steps S.honest (Copies mover.old.view.number frame i) mover.old.view mover.new.view (λ x. result ≡ x.cell frame i) }
     {
-        self.words.copy_cell(&mut mover.seat, frame, i)
+        let first = self.first_cell(frame);
+        self.copy_behind(mover, first, frame, i)
+    }
+
+    /// The cell `i` of the frame out of which the mover is moving an object, whose cells begin at this word (`first_cell`).
+    pub fn copy_behind(
+        &self,
+        mover: &mut MoverSeat<S>,
+        first: usize,
+        frame: usize,
+        i: usize,
+    ) -> u64
+        requires table { IsSeat self.now mover.old }
+        requires low { (frame < self.now.sizes.frames) × (i < self.now.sizes.cells) }
+        requires first { first ≡ cell_word self.now.sizes frame 0 }
+        requires leaves { IsMovingOut mover.old.view.hand frame }
+        ensures table { IsSeat self.now mover.new }
+        ensures copied { mover.new ≡ record mover.old { view = with_hand mover.old.view (copying mover.old.view.hand i result) } }
+        ensures step { Steps S.honest (Copies mover.old.view.number frame i) mover.old.view mover.new.view (λ x. result ≡ x.cell frame i) }
+    {
+        self.words.copy_cell(&mut mover.seat, first, frame, i)
     }
 
     /// The object, all of whose cells were copied and put into its berth, is in its store cell, where it still has no hold

@@ -43,8 +43,9 @@ pub fn fill<S: RawStore>(
     ensures same { FillsOnly mover.old mover.new }
     ensures filled { FilledBelow mover.new.view.hand.filled words.now table.now.sizes.cells }
 {
+    let first = table.first_cell(frame);
     for i in 0..words.len() {
-        table.fill(mover, frame, i, words[i]);
+        table.fill_behind(mover, first, frame, i, words[i]);
     }
 }
 

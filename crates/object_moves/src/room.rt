@@ -33,8 +33,9 @@ fn copy<S: RawStore>(
 {
     // For the proof alone: the clauses speak of the object that is moved out.
     let _ = obj;
+    let first = table.first_cell(frame);
     for i in 0..words.len() {
-        words[i] = table.copy_word(mover, frame, i);
+        words[i] = table.copy_behind(mover, first, frame, i);
     }
 }
 

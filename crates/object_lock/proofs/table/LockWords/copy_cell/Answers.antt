@@ -8,14 +8,14 @@ use Rattle.object_lock.proofs.Asks.{asks_copy}
 use Rattle.object_lock.proofs.table.LockWords.copy_cell.Goals as goal
 
 pub load-requires : goal.load-requires
-load-requires g c = let same = c.requires.table.1 in let at = c.cell_at-cell.ensures.at ∙ ap (λ (q : Sizes). cell_word q c.args.frame c.args.i) (sym same) in let l = c.requires.low.1 in let low = subst (λ (q : Sizes). c.args.i < q.cells) (sym same) l in let h = c.requires.hands in
-    (c.requires.table.0, c.cell_at-cell.ensures.inside, copies _ _ _ _ _ _ _ _ h.0 c.args.i (at ∙ ap (λ (f : ℕ). cell_word c.args.seat.now.me.0.sizes f c.args.i) (sym h.2)) low h.1)
+load-requires g c = let same = c.requires.table.1 in let at = c.cell_behind-cell.ensures.at ∙ ap (λ (q : Sizes). cell_word q c.args.frame c.args.i) (sym same) in let l = c.requires.low.1 in let low = subst (λ (q : Sizes). c.args.i < q.cells) (sym same) l in let h = c.requires.hands in
+    (c.requires.table.0, c.cell_behind-cell.ensures.inside, copies _ _ _ _ _ _ _ _ h.0 c.args.i (at ∙ ap (λ (f : ℕ). cell_word c.args.seat.now.me.0.sizes f c.args.i) (sym h.2)) low h.1)
 
 pub returns-clause-exactly : goal.returns-clause-exactly
-returns-clause-exactly g c = let same = c.requires.table.1 in let at = c.cell_at-cell.ensures.at ∙ ap (λ (q : Sizes). cell_word q c.args.frame c.args.i) (sym same) in
-    let t = copies_exactly g.S.RawStore.honest (step 0 c.cell_at-cell.result 0 0 none) c.args.seat.now.me c.load.result c.load.new.seat.me c.args.frame c.args.i c.requires.hands.2 at c.load.ensures.2 in λ i. (t.0 i, t.1 i)
+returns-clause-exactly g c = let same = c.requires.table.1 in let at = c.cell_behind-cell.ensures.at ∙ ap (λ (q : Sizes). cell_word q c.args.frame c.args.i) (sym same) in
+    let t = copies_exactly g.S.RawStore.honest (step 0 c.cell_behind-cell.result 0 0 none) c.args.seat.now.me c.load.result c.load.new.seat.me c.args.frame c.args.i c.requires.hands.2 at c.load.ensures.2 in λ i. (t.0 i, t.1 i)
 
 pub returns-clause-step : goal.returns-clause-step
-returns-clause-step g c = let same = c.requires.table.1 in let at = c.cell_at-cell.ensures.at ∙ ap (λ (q : Sizes). cell_word q c.args.frame c.args.i) (sym same) in let l = c.requires.low.1 in
-    let t = copies_step g.S.RawStore.honest (step 0 c.cell_at-cell.result 0 0 none) c.args.seat.now.me c.load.result c.load.new.seat.me c.args.frame c.args.i c.requires.hands.2 at c.load.ensures.2 in
+returns-clause-step g c = let same = c.requires.table.1 in let at = c.cell_behind-cell.ensures.at ∙ ap (λ (q : Sizes). cell_word q c.args.frame c.args.i) (sym same) in let l = c.requires.low.1 in
+    let t = copies_step g.S.RawStore.honest (step 0 c.cell_behind-cell.result 0 0 none) c.args.seat.now.me c.load.result c.load.new.seat.me c.args.frame c.args.i c.requires.hands.2 at c.load.ensures.2 in
     (t.0, t.1, asks_copy g.S.RawStore.honest c.args.seat.now.me.0 t.0 t.1.knew c.args.frame c.args.i (subst (λ (q : Sizes). c.args.i < q.cells) (sym same) l) c.requires.hands, t.2)

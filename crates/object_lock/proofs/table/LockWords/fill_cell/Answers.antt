@@ -14,15 +14,15 @@ store-requires g c =
     let v = c.args.seat.now.me.0 in let same = c.requires.table.1 in let mine : or_zero v.hand.claimed ≡ c.args.frame = ap or_zero c.requires.claimed in
     let cs = ap (λ (q : Sizes). q.cells) same in let l = c.requires.low.1 in (
       c.requires.table.0,
-      c.cell_at-cell.ensures.inside,
+      c.cell_behind-cell.ensures.inside,
       fills _ _ _ _ _ _ _ _ c.args.i _
-          (c.cell_at-cell.ensures.at ∙ ap (λ (q : Sizes). cell_word q c.args.frame c.args.i) (sym same) ∙ ap (λ (f : ℕ). cell_word v.sizes f c.args.i) (sym mine))
+          (c.cell_behind-cell.ensures.at ∙ ap (λ (q : Sizes). cell_word q c.args.frame c.args.i) (sym same) ∙ ap (λ (f : ℕ). cell_word v.sizes f c.args.i) (sym mine))
           (subst (λ (q : Sizes). c.args.i < q.cells) (sym same) l) (some_of v.hand.claimed _ c.requires.claimed),
     )
 
 pub returns-clause-step : goal.returns-clause-step
 returns-clause-step g c =
     let v = c.args.seat.now.me.0 in let same = c.requires.table.1 in let l = c.requires.low.1 in
-    let s = fills_step g.S.RawStore.honest (step 0 c.cell_at-cell.result c.args.v 0 none) c.args.seat.now.me c.args.v c.store.new.seat.me c.args.frame c.args.i c.requires.claimed
-    (c.cell_at-cell.ensures.at ∙ ap (λ (q : Sizes). cell_word q c.args.frame c.args.i) (sym same)) c.store.ensures.2 in
+    let s = fills_step g.S.RawStore.honest (step 0 c.cell_behind-cell.result c.args.v 0 none) c.args.seat.now.me c.args.v c.store.new.seat.me c.args.frame c.args.i c.requires.claimed
+    (c.cell_behind-cell.ensures.at ∙ ap (λ (q : Sizes). cell_word q c.args.frame c.args.i) (sym same)) c.store.ensures.2 in
     (s.0, s.1, asks_fill g.S.RawStore.honest v s.0 s.1.knew c.args.frame c.args.i c.args.v (subst (λ (q : Sizes). c.args.i < q.cells) (sym same) l) c.requires.claimed, cell_fills s.0 v.number c.args.frame c.args.i c.args.v)
