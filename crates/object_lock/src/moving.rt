@@ -84,13 +84,7 @@ impl<S: RawStore> ObjectTable<S> {
     }
 
     /// The cell `i` of the frame out of which the mover is moving an object, whose cells begin at this word (`first_cell`).
-    pub fn copy_behind(
-        &self,
-        mover: &mut MoverSeat<S>,
-        first: usize,
-        frame: usize,
-        i: usize,
-    ) -> u64
+    pub fn copy_behind(&self, mover: &mut MoverSeat<S>, first: usize, frame: usize, i: usize) -> u64
         requires table { IsSeat self.now mover.old }
         requires low { (frame < self.now.sizes.frames) × (i < self.now.sizes.cells) }
         requires first { first ≡ cell_word self.now.sizes frame 0 }
