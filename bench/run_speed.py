@@ -142,4 +142,5 @@ def main():
             beside(name + where, (least_seconds([program, "run", *words], text, ".c0"), start), took)
 
 
-main()
+if __name__ == "__main__":
+    main()
