@@ -31,7 +31,7 @@ use_of_conio _ = None
 -- whether conio is in use where this declaration is a `#use` of it, or is a `#use` before others that have it in use
 abbrev pub in_use_by : Option Bool → Bool → Bool
 in_use_by None others = false
-in_use_by (Some is_conio) others = is_conio || others
+in_use_by (Some used) others = used || others
 
 -- a field
 abbrev pub typed_field_of : Field → FieldEntry

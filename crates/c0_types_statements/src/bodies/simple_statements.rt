@@ -1,7 +1,7 @@
 // Simple statements.
 // A tree held where a step fails is dropped there by a call: a drop that `?` makes is proved variant by variant.
 
-ghost use Rattle.std.specs.Prelude.{◌≡◌, ◌⊎◌, IfErr, List, Some, is_ok, not, option_map};
+ghost use Rattle.std.specs.Prelude.{◌≡◌, ◌⊎◌, IfErr, List, Some, false, is_ok, not, option_map};
 ghost use Rattle.cells.specs.declared.int32.Int32Op.{Int32Op};
 ghost use Rattle.c0_source.specs.declared.fault.FaultKind.TheVariants.{OutOfMemory};
 ghost use Rattle.c0_syntax.specs.Trees as t;
