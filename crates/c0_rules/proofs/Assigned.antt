@@ -1,22 +1,54 @@
 -- What stands behind a statement that reads assigned locals alone stands behind it whatever it reads.
-use Rattle.std.proofs.Common.{◌≡◌, refl, ap, ◌∙◌, Option, Some, None}
-use Rattle.std.specs.Prelude.{◌&&◌}
-use Rattle.c0_syntax.specs.Trees.{Expression, SimpleStatement, Declare, Initialize, Assign, Update, Step, Evaluate, Statement, Simple, Block, Annotation, Return, ReturnValue, If, IfElse, While, For, Assert, Error, Break, Continue, Statements, nothing, also}
-use Rattle.c0_rules.specs.Types.{Name}
+use Rattle.std.proofs.Common.{◌≡◌, List, [], ◌∷◌, refl, sym, ap, ◌∙◌, Bool, true, false, cond, Option, Some, None}
+use Rattle.std.specs.Prelude.{◌&&◌, ◌||◌, not, filter, bytes_eq}
+use Rattle.c0_syntax.specs.Trees.{Expression, Variable, Parenthesized, SimpleStatement, Declare, Initialize, Assign, Update, Step, Evaluate, Statement, Simple, Block, Annotation, Return, ReturnValue, If, IfElse, While, For, Assert, Error, Break, Continue, Statements, nothing, also}
+use Rattle.c0_rules.specs.Types.{Name, is_among}
 use Rattle.c0_rules.specs.Mentions.{specs_in, as_variable}
-use Rattle.c0_rules.specs.Assignment.{Flow, Ended, assigned_to, continued, joined, left_scope, reads_assigned, specs_read_assigned, after_simple, after_part, after_statement, after_statements, flow_of_assignment, flow_of_simple, flow_of_part, flow_of_statement, flow_of_statements}
-use Rattle.c0_rules.proofs.Rules.{AllSome, all_so, all_go, all_if, all_map, some_has}
+use Rattle.c0_rules.specs.Assignment.{Flow, Ended, Reached, continued, joined, left_scope, reads_assigned, specs_read_assigned, after_assignment, after_simple, after_part, after_statement, after_statements, flow_of_assignment, flow_of_simple, flow_of_part, flow_of_statement, flow_of_statements}
+use Rattle.c0_rules.proofs.Rules.{AllSome, all_so, all_go, all_if, all_map, both_true, some_has}
 
-assigned_after : (o : Option Name) (d e : Expression) (f : Flow) → AllSome (λ g. g ≡ elim o [ None ↦ f | Some n ↦ assigned_to n f ]) (flow_of_assignment o d e f)
+-- a name that is not there is not missed
+pub none_lost : (n : Name) (names : List Name) → is_among n names ≡ false → filter (λ m. not (bytes_eq n m)) names ≡ names
+none_lost n [] e = refl
+none_lost n (m ∷ names) e = at (bytes_eq n m) e (none_lost n names)
+  where
+    at : (b : Bool) → (b || is_among n names) ≡ false → (is_among n names ≡ false → filter (λ m. not (bytes_eq n m)) names ≡ names)
+        → cond (not b) (m ∷ filter (λ m. not (bytes_eq n m)) names) (filter (λ m. not (bytes_eq n m)) names) ≡ m ∷ names
+    at true e k = absurd (cc e)
+    at false e k = ap (λ z. m ∷ z) (k e)
+
+-- ---- an assignment to a local that has been assigned changes nothing
+
+not_among : (b : Bool) → not (b || false) ≡ true → b ≡ false
+not_among true e = absurd (cc e)
+not_among false e = refl
+
+behind_ended : (o : Option Name) → Ended ≡ after_assignment o Ended
+behind_ended None = refl
+behind_ended (Some n) = refl
+
+assigned_among : (names : List Name) (d : Expression) → reads_assigned (Reached names) d ≡ true → Reached names ≡ after_assignment (as_variable d) (Reached names)
+assigned_among names (Variable n) r = ap Reached (sym (none_lost n names (not_among (is_among n names) r)))
+assigned_among names (Parenthesized d) r = assigned_among names d r
+assigned_among names _ r = refl
+
+assigned_before : (d : Expression) (f : Flow) → reads_assigned f d ≡ true → f ≡ after_assignment (as_variable d) f
+assigned_before d Ended r = behind_ended (as_variable d)
+assigned_before d (Reached names) r = assigned_among names d r
+
+-- ---- statements
+
+assigned_after : (o : Option Name) (d e : Expression) (f : Flow) → AllSome (λ g. g ≡ after_assignment o f) (flow_of_assignment o d e f)
 assigned_after None d e f = all_if (λ g. g ≡ f) (reads_assigned f d && reads_assigned f e) (Some f) (λ q. refl)
-assigned_after (Some n) d e f = all_if (λ g. g ≡ assigned_to n f) (reads_assigned f e) (Some (assigned_to n f)) (λ q. refl)
+assigned_after (Some n) d e f = all_if (λ g. g ≡ after_assignment (Some n) f) (reads_assigned f e) (Some (after_assignment (Some n) f)) (λ q. refl)
 
 simple_after : (a : SimpleStatement) (f : Flow) → AllSome (λ g. g ≡ after_simple a f) (flow_of_simple a f)
 simple_after (Declare u n) f = refl
 simple_after (Initialize u n e) f = all_if (λ g. g ≡ f) (reads_assigned f e) (Some f) (λ q. refl)
 simple_after (Assign d e) f = assigned_after (as_variable d) d e f
-simple_after (Update d o e) f = all_if (λ g. g ≡ f) (reads_assigned f d && reads_assigned f e) (Some f) (λ q. refl)
-simple_after (Step d way) f = all_if (λ g. g ≡ f) (reads_assigned f d) (Some f) (λ q. refl)
+simple_after (Update d o e) f =
+    all_if (λ g. g ≡ after_assignment (as_variable d) f) (reads_assigned f d && reads_assigned f e) (Some f) (λ q. assigned_before d f (both_true (reads_assigned f d) (reads_assigned f e) q).0)
+simple_after (Step d way) f = all_if (λ g. g ≡ after_assignment (as_variable d) f) (reads_assigned f d) (Some f) (λ q. assigned_before d f q)
 simple_after (Evaluate e) f = all_if (λ g. g ≡ f) (reads_assigned f e) (Some f) (λ q. refl)
 
 part_after : (a : Option SimpleStatement) (f : Flow) → AllSome (λ g. g ≡ after_part a f) (flow_of_part a f)

@@ -67,11 +67,19 @@ flow_of_part (Some a) f = flow_of_simple a f
 
 -- ---- whatever is read
 
--- behind a simple statement, whatever it reads
+-- behind an assignment to this destination: only a local is assigned by it
+abbrev pub after_assignment : Option Name → Flow → Flow
+after_assignment None f = f
+after_assignment (Some n) f = assigned_to n f
+
+-- behind a simple statement, whatever it reads; `op=`, `++` and `--` assign as `=` does
 abbrev pub after_simple : SimpleStatement → Flow → Flow
 after_simple (Declare a n) f = declared_only n f
-after_simple (Assign d e) f = elim (as_variable d) [ None ↦ f | Some n ↦ assigned_to n f ]
-after_simple _ f = f
+after_simple (Initialize a n e) f = f
+after_simple (Assign d e) f = after_assignment (as_variable d) f
+after_simple (Update d o e) f = after_assignment (as_variable d) f
+after_simple (Step d way) f = after_assignment (as_variable d) f
+after_simple (Evaluate e) f = f
 
 -- the same of a part of a `for`
 abbrev pub after_part : Option SimpleStatement → Flow → Flow

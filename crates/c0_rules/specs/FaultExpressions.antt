@@ -48,10 +48,10 @@ HeldTypeCause env fault ty =
 
 -- ---- expressions
 
--- where an expression stands: as a value, or as what `.` is applied to and what is assigned
+-- where an expression stands: as a value, or as what `.` is applied to and what is assigned, which with all its parentheses is `whole`
 pub data Position : Type 0 where
   AsValue : Position
-  AsPlace : Position
+  AsPlace : (whole : Span) → Position
 
 -- whether an expression has a value; a void call has none
 abbrev pub is_value : Typing → Bool
@@ -173,12 +173,12 @@ module _ (env : Environment) (at : Context) (fault : Fault) where
   -- a struct where a small value is needed
   abbrev pub StructValue : Position → ExpressionKind → Span → Type 0
   StructValue AsValue e span = (q : Place) × (typed_place env at (expression_of_kind e) ≡ Some q) × (is_small q.resolved ≡ false) × Told k.NotSmall span fault
-  StructValue AsPlace e span = ⊥
+  StructValue (AsPlace whole) e span = ⊥
 
   -- a value where a struct's place is needed
   abbrev pub NoPlace : Position → ExpressionKind → Span → Type 0
   NoPlace AsValue e span = ⊥
-  NoPlace AsPlace e span = (x : Typing) × (typed e ≡ Some x) × (is_value x ≡ true) × Told k.TypeMismatch span fault
+  NoPlace (AsPlace whole) e span = (x : Typing) × (typed e ≡ Some x) × (is_value x ≡ true) × Told k.TypeMismatch whole fault
 
   -- an operator before its operand
   abbrev pub PrefixCause : Position → PrefixOperator → ExpressionKind → Span → ExpressionKind → Span → Type 0
@@ -206,7 +206,7 @@ module _ (env : Environment) (at : Context) (fault : Fault) where
         ⊎ NoPlace position (Length' p e here) span ⊎ InExpression AsValue e here
     InExpression position (Index' p a here q i there) span =
         IndexCause a here i there span ⊎ StructValue position (Index' p a here q i there) span ⊎ InExpression AsValue a here ⊎ InExpression AsValue i there
-    InExpression position (Field' p e here x) span = DotCause e here x span ⊎ StructValue position (Field' p e here x) span ⊎ InExpression AsPlace e here
+    InExpression position (Field' p e here x) span = DotCause e here x span ⊎ StructValue position (Field' p e here x) span ⊎ InExpression (AsPlace here) e here
     InExpression position (PointerField' p e here x) span = ArrowCause e here x span ⊎ StructValue position (PointerField' p e here x) span ⊎ InExpression AsValue e here
     InExpression position (Unary' op p e here) span = PrefixCause position op e here (Unary' op p e here) span ⊎ InExpression AsValue e here
     InExpression position (Binary' op p a here q b there) span =

@@ -74,7 +74,7 @@ module _ (env : Environment) (fault : Fault) where
     InDestination x =
         elim (as_variable (expression_of x)) as (λ o. Type 0) [
           | Some v ↦ InValue x
-          | None ↦ elim (has_place (expression_of x)) as (λ b. Type 0) [ true ↦ InExpression env (within s) fault AsPlace x.kind x.span | false ↦ Told k.NotDestination x.span fault ]
+          | None ↦ elim (has_place (expression_of x)) as (λ b. Type 0) [ true ↦ InExpression env (within s) fault (AsPlace x.span) x.kind x.span | false ↦ Told k.NotDestination x.span fault ]
         ]
 
     -- a destination that holds a struct, or a value of another type than it holds
@@ -83,9 +83,12 @@ module _ (env : Environment) (fault : Fault) where
         (q : Destination) × (destination env s (expression_of x) ≡ Some q)
         × (((is_small (destination_type q) ≡ false) × Told k.NotSmall x.span fault) ⊎ Mistyped env (within s) fault (destination_type q) value.kind value.span)
 
-    -- a destination that holds no number, where one is changed
+    -- a destination that holds a struct, or another small value than a number, where a number is changed
     abbrev pub ChangedCause : e.Expression → Type 0
-    ChangedCause x = (q : Destination) × (destination env s (expression_of x) ≡ Some q) × (same_type (destination_type q) IntType ≡ false) × Told k.TypeMismatch x.span fault
+    ChangedCause x =
+        (q : Destination) × (destination env s (expression_of x) ≡ Some q)
+        × (((is_small (destination_type q) ≡ false) × Told k.NotSmall x.span fault)
+        ⊎ ((is_small (destination_type q) ≡ true) × (same_type (destination_type q) IntType ≡ false) × Told k.TypeMismatch x.span fault))
 
     -- an expression as a statement: itself it may be a void call
     abbrev pub InEvaluated : ExpressionKind → Span → Type 0

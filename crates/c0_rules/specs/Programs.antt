@@ -211,10 +211,10 @@ abbrev pub function_defined : Declaration → Option Name
 function_defined (DefineFunction h body) = Some h.name
 function_defined _ = None
 
--- whether a declaration is a `#use` of conio
-abbrev pub uses_conio : Declaration → Bool
-uses_conio (UseLibrary in_brackets n) = is_conio in_brackets n
-uses_conio _ = false
+-- whether conio is used before the first declaration that is no `#use`
+abbrev pub begins_with_conio : Program → Bool
+begins_with_conio (UseLibrary in_brackets n ∷ rest) = is_conio in_brackets n || begins_with_conio rest
+begins_with_conio _ = false
 
 -- the names of the structs that a program defines, in order
 abbrev pub struct_names_of : Program → List Name
@@ -227,7 +227,7 @@ function_names_of program = filter_map function_defined program
 -- what is known at the beginning of a program
 abbrev pub environment_of : Program → Environment
 environment_of program = record {
-  conio = list_any uses_conio program;
+  conio = begins_with_conio program;
   struct_names = struct_names_of program;
   function_names = function_names_of program;
   typedefs = no_names;

@@ -127,8 +127,8 @@ module _ (env : Environment) (at : Context) where
   pub wanted_cause : (want : ResolvedType) (e : ExpressionKind) (span : Span) → wanted env want (typed e) ≡ None → NoValue (typed e) ⊎ Caused (λ f. Mistyped env at f want e span)
   wanted_cause want e span h = elim (seen (typed e)) [ inl q ↦ inl q | inr q ↦ inr (mistyped want e span q.0 q.1 q.2 (subst (λ o. wanted env want o ≡ None) q.1 h)) ]
 
-  no_place : (e : ExpressionKind) (span : Span) (x : Typing) → typed e ≡ Some x → is_value x ≡ true → Caused (λ f. NoPlace env at f AsPlace e span)
-  no_place e span x q v = let f = told k.TypeMismatch span in (f.0, (x, q, v, f.1))
+  no_place : (e : ExpressionKind) (span whole : Span) (x : Typing) → typed e ≡ Some x → is_value x ≡ true → Caused (λ f. NoPlace env at f (AsPlace whole) e span)
+  no_place e span whole x q v = let f = told k.TypeMismatch whole in (f.0, (x, q, v, f.1))
 
   struct_value : (e : ExpressionKind) (span : Span) (q : Place) → typed_place env at (expression_of_kind e) ≡ Some q → NoValue (read_of env q) → Caused (λ f. StructValue env at f AsValue e span)
   struct_value e span q h v = by (is_small q.resolved) refl v
@@ -215,8 +215,8 @@ module _ (env : Environment) (at : Context) where
       by x true w q v z = let f = told k.NullDereference sign in (f.0, (x, q, inl (w, f.1)))
       by x false w q v z = let f = told k.TypeMismatch span in (f.0, (x, q, inr (w, v, z, f.1)))
 
-  dot_cause : (e : ExpressionKind) (here : Span) (x : n.Name) (span : Span) → (typed_place env at (expression_of_kind e) ≡ None → In AsPlace e here)
-      → and_so (typed_place env at (expression_of_kind e)) (fielded env (name_of x)) ≡ None → Caused (λ f. DotCause env at f e here x span) ⊎ In AsPlace e here
+  dot_cause : (e : ExpressionKind) (here : Span) (x : n.Name) (span : Span) → (typed_place env at (expression_of_kind e) ≡ None → In (AsPlace here) e here)
+      → and_so (typed_place env at (expression_of_kind e)) (fielded env (name_of x)) ≡ None → Caused (λ f. DotCause env at f e here x span) ⊎ In (AsPlace here) e here
   dot_cause e here x span go h = elim (split (typed_place env at (expression_of_kind e)) _ h) [
     | inl q ↦ inr (go q)
     | inr q ↦ (let c = no_field env at q.0.resolved here x span q.0.place q.2 in inl (c.0, (q.0, q.1, c.1)))
@@ -276,28 +276,28 @@ module _ (env : Environment) (at : Context) where
   NonPlace (Unary' o.Dereference p e here) = ⊥
   NonPlace _ = Unit {0}
 
-  with_place : (e : ExpressionKind) (span : Span) → NonPlace e → Caused (λ f. NoPlace env at f AsPlace e span) → In AsPlace e span
-  with_place (Number m) span form c = c
-  with_place (Character i) span form c = (c.0, inr c.1)
-  with_place (Truth b) span form c = c
-  with_place Null span form c = c
-  with_place (Text text) span form c = c
-  with_place (Variable x) span form c = (c.0, inr c.1)
-  with_place (Parenthesized' p e here) span form c = absurd form
-  with_place (Call' x shape es) span form c = (c.0, inr (inr (inl c.1)))
-  with_place (Alloc ty) span form c = (c.0, inr c.1)
-  with_place (AllocArray' ty p e here) span form c = (c.0, inr (inr (inl c.1)))
-  with_place Result span form c = (c.0, inr c.1)
-  with_place (Length' p e here) span form c = (c.0, inr (inl c.1))
-  with_place (Index' p a here q i there) span form c = absurd form
-  with_place (Field' p e here x) span form c = absurd form
-  with_place (PointerField' p e here x) span form c = absurd form
-  with_place (Unary' o.Not p e here) span form c = (c.0, inl (inr c.1))
-  with_place (Unary' o.Complement p e here) span form c = (c.0, inl (inr c.1))
-  with_place (Unary' o.Negate p e here) span form c = (c.0, inl (inr c.1))
-  with_place (Unary' o.Dereference p e here) span form c = absurd form
-  with_place (Binary' op p a here q b there) span form c = (c.0, inr (inr (inr (inl c.1))))
-  with_place (Conditional' p i here q a there r b beyond) span form c = (c.0, inr (inr (inl c.1)))
+  with_place : (e : ExpressionKind) (span whole : Span) → NonPlace e → Caused (λ f. NoPlace env at f (AsPlace whole) e span) → In (AsPlace whole) e span
+  with_place (Number m) span whole form c = c
+  with_place (Character i) span whole form c = (c.0, inr c.1)
+  with_place (Truth b) span whole form c = c
+  with_place Null span whole form c = c
+  with_place (Text text) span whole form c = c
+  with_place (Variable x) span whole form c = (c.0, inr c.1)
+  with_place (Parenthesized' p e here) span whole form c = absurd form
+  with_place (Call' x shape es) span whole form c = (c.0, inr (inr (inl c.1)))
+  with_place (Alloc ty) span whole form c = (c.0, inr c.1)
+  with_place (AllocArray' ty p e here) span whole form c = (c.0, inr (inr (inl c.1)))
+  with_place Result span whole form c = (c.0, inr c.1)
+  with_place (Length' p e here) span whole form c = (c.0, inr (inl c.1))
+  with_place (Index' p a here q i there) span whole form c = absurd form
+  with_place (Field' p e here x) span whole form c = absurd form
+  with_place (PointerField' p e here x) span whole form c = absurd form
+  with_place (Unary' o.Not p e here) span whole form c = (c.0, inl (inr c.1))
+  with_place (Unary' o.Complement p e here) span whole form c = (c.0, inl (inr c.1))
+  with_place (Unary' o.Negate p e here) span whole form c = (c.0, inl (inr c.1))
+  with_place (Unary' o.Dereference p e here) span whole form c = absurd form
+  with_place (Binary' op p a here q b there) span whole form c = (c.0, inr (inr (inr (inl c.1))))
+  with_place (Conditional' p i here q a there r b beyond) span whole form c = (c.0, inr (inr (inl c.1)))
 
   -- what is left where a first part has a value
   after : {A : Type 0} (o : Option A) (a : A) (go : A → Option Typing) → o ≡ Some a → NoValue (and_so o go) → NoValue (go a)
@@ -324,11 +324,11 @@ module _ (env : Environment) (at : Context) where
 
     -- an expression without a value has a cause in it, and so has one that is no place
     abbrev pub Both : ExpressionKind → Span → Type 0
-    Both e span = (NoValue (typed e) → In AsValue e span) × (typed_place env at (expression_of_kind e) ≡ None → In AsPlace e span)
+    Both e span = (NoValue (typed e) → In AsValue e span) × ((whole : Span) → typed_place env at (expression_of_kind e) ≡ None → In (AsPlace whole) e span)
 
     -- of a form that is no place
     no_place_form : (e : ExpressionKind) (span : Span) → NonPlace e → ((position : Position) → NoValue (typed e) → In position e span) → Both e span
-    no_place_form e span form go = (go AsValue, λ h. elim (seen (typed e)) [ inl z ↦ go AsPlace z | inr v ↦ with_place e span form (no_place e span v.0 v.1 v.2) ])
+    no_place_form e span form go = (go AsValue, λ whole h. elim (seen (typed e)) [ inl z ↦ go (AsPlace whole) z | inr v ↦ with_place e span whole form (no_place e span whole v.0 v.1 v.2) ])
 
     character_cause : (position : Position) (c : ℕ) (span : Span) → NoValue (typed (Character c)) → In position (Character c) span
     character_cause position c span h = by (nat_lt c 128) refl h
@@ -418,7 +418,7 @@ module _ (env : Environment) (at : Context) where
       | inr (inr c) ↦ (c.0, inr (inr (inr c.1)))
     ]
 
-    field_in : (position : Position) (p : _) (e : ExpressionKind) (here : Span) (x : n.Name) (span : Span) → (typed_place env at (expression_of_kind e) ≡ None → In AsPlace e here)
+    field_in : (position : Position) (p : _) (e : ExpressionKind) (here : Span) (x : n.Name) (span : Span) → (typed_place env at (expression_of_kind e) ≡ None → In (AsPlace here) e here)
         → typed_place env at (expression_of_kind (Field' p e here x)) ≡ None → In position (Field' p e here x) span
     field_in position p e here x span go h = elim (dot_cause e here x span go h) [ inl c ↦ (c.0, inl c.1) | inr c ↦ (c.0, inr (inr c.1)) ]
 
@@ -474,15 +474,15 @@ module _ (env : Environment) (at : Context) where
       both (Length' p e here) span = no_place_form (Length' p e here) span tt (λ position h. length_in position p e here span (both e here).0 h)
       both (Index' p a here q i there) span = (
         λ h. index_value p a here q i there span (λ z. index_in AsValue p a here q i there span (both a here).0 (both i there).0 z) h,
-        λ h. index_in AsPlace p a here q i there span (both a here).0 (both i there).0 h,
+        λ whole h. index_in (AsPlace whole) p a here q i there span (both a here).0 (both i there).0 h,
       )
       both (Field' p e here x) span = (
-        λ h. field_value p e here x span (λ z. field_in AsValue p e here x span (both e here).1 z) h,
-        λ h. field_in AsPlace p e here x span (both e here).1 h,
+        λ h. field_value p e here x span (λ z. field_in AsValue p e here x span ((both e here).1 here) z) h,
+        λ whole h. field_in (AsPlace whole) p e here x span ((both e here).1 here) h,
       )
       both (PointerField' p e here x) span = (
         λ h. pointer_field_value p e here x span (λ z. pointer_field_in AsValue p e here x span (both e here).0 z) h,
-        λ h. pointer_field_in AsPlace p e here x span (both e here).0 h,
+        λ whole h. pointer_field_in (AsPlace whole) p e here x span (both e here).0 h,
       )
       both (Unary' o.Not p e here) span =
           no_place_form (Unary' o.Not p e here) span tt (λ position h. unary_cause position o.Not e here (Unary' o.Not p e here) span (λ q. absurd (cc q)) (both e here).0 h)
@@ -492,7 +492,7 @@ module _ (env : Environment) (at : Context) where
           no_place_form (Unary' o.Negate p e here) span tt (λ position h. unary_cause position o.Negate e here (Unary' o.Negate p e here) span (λ q. absurd (cc q)) (both e here).0 h)
       both (Unary' o.Dereference p e here) span = (
         λ h. dereference_value p e here span (λ z. dereference_in AsValue p e here span (both e here).0 z) h,
-        λ h. dereference_in AsPlace p e here span (both e here).0 h,
+        λ whole h. dereference_in (AsPlace whole) p e here span (both e here).0 h,
       )
       both (Binary' op p a here q b there) span = no_place_form (Binary' op p a here q b there) span tt (λ position h. binary_in position op p a here q b there span (both a here).0 (both b there).0 h)
       both (Conditional' p i here q a there r b beyond) span =

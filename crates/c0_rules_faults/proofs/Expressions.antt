@@ -252,7 +252,7 @@ module _ (env : Environment) (at : Context) (fault : Fault) (small : TakeSmall e
     value (Index' p a here q i there) span (inr (inr (inr h))) = no_value _ (and_none _ _ (and_each (typed a) _ (λ x e. and_none _ _ (wanted_none env IntType (typed i) refl (value i there h)))))
     value (Field' p e here x) span (inl h) = no_value _ (and_none _ _ (no_dot e here x span h))
     value (Field' p e here x) span (inr (inl h)) = no_value _ (struct_value (Field' p e here x) span h)
-    value (Field' p e here x) span (inr (inr h)) = no_value _ (and_none _ _ (and_none _ _ (place e here h)))
+    value (Field' p e here x) span (inr (inr h)) = no_value _ (and_none _ _ (and_none _ _ (place e here here h)))
     value (PointerField' p e here x) span (inl h) = no_value _ (and_none _ _ (no_arrow e here x span h))
     value (PointerField' p e here x) span (inr (inl h)) = no_value _ (struct_value (PointerField' p e here x) span h)
     value (PointerField' p e here x) span (inr (inr h)) = no_value _ (and_none _ _ (and_none _ _ (and_void (typed e) (pointed env) (value e here h) (λ z. refl))))
@@ -276,25 +276,25 @@ module _ (env : Environment) (at : Context) (fault : Fault) (small : TakeSmall e
     value (Conditional' p c here q a there r b beyond) span (inr (inr (inr (inr (inr h))))) =
         no_value _ (and_each (wanted env BoolType (typed c)) _ (λ z e. and_each (typed a) _ (λ x k. and_void (typed b) _ (value b beyond h) (λ w. chosen_right env z x w))))
 
-    pub place : (e : ExpressionKind) (span : Span) → InExpression env at fault AsPlace e span → typed_place env at (expression_of_kind e) ≡ None
-    place (Parenthesized' p e here) span h = place e here h
-    place (Index' p a here q i there) span (inl h) = no_element a here i there span h
-    place (Index' p a here q i there) span (inr (inl h)) = absurd h
-    place (Index' p a here q i there) span (inr (inr (inl h))) = and_void (typed a) _ (value a here h) (λ z. and_each _ _ (λ k e. refl))
-    place (Index' p a here q i there) span (inr (inr (inr h))) = and_each (typed a) _ (λ x e. and_none _ _ (wanted_none env IntType (typed i) refl (value i there h)))
-    place (Field' p e here x) span (inl h) = no_dot e here x span h
-    place (Field' p e here x) span (inr (inl h)) = absurd h
-    place (Field' p e here x) span (inr (inr h)) = and_none _ _ (place e here h)
-    place (PointerField' p e here x) span (inl h) = no_arrow e here x span h
-    place (PointerField' p e here x) span (inr (inl h)) = absurd h
-    place (PointerField' p e here x) span (inr (inr h)) = and_none _ _ (and_void (typed e) (pointed env) (value e here h) (λ z. refl))
-    place (Unary' o.Dereference p e here) span (inl (inl h)) = no_pointer e here span h
-    place (Unary' o.Dereference p e here) span (inl (inr h)) = absurd h
-    place (Unary' o.Dereference p e here) span (inr h) = and_void (typed e) (dereferenced env o.Dereference) (value e here h) (λ z. refl)
-    place (Unary' o.Not p e here) span h = and_each (typed e) _ (λ x k. refl)
-    place (Unary' o.Complement p e here) span h = and_each (typed e) _ (λ x k. refl)
-    place (Unary' o.Negate p e here) span h = and_each (typed e) _ (λ x k. refl)
-    place _ span h = refl
+    pub place : (e : ExpressionKind) (span whole : Span) → InExpression env at fault (AsPlace whole) e span → typed_place env at (expression_of_kind e) ≡ None
+    place (Parenthesized' p e here) span whole h = place e here whole h
+    place (Index' p a here q i there) span whole (inl h) = no_element a here i there span h
+    place (Index' p a here q i there) span whole (inr (inl h)) = absurd h
+    place (Index' p a here q i there) span whole (inr (inr (inl h))) = and_void (typed a) _ (value a here h) (λ z. and_each _ _ (λ k e. refl))
+    place (Index' p a here q i there) span whole (inr (inr (inr h))) = and_each (typed a) _ (λ x e. and_none _ _ (wanted_none env IntType (typed i) refl (value i there h)))
+    place (Field' p e here x) span whole (inl h) = no_dot e here x span h
+    place (Field' p e here x) span whole (inr (inl h)) = absurd h
+    place (Field' p e here x) span whole (inr (inr h)) = and_none _ _ (place e here here h)
+    place (PointerField' p e here x) span whole (inl h) = no_arrow e here x span h
+    place (PointerField' p e here x) span whole (inr (inl h)) = absurd h
+    place (PointerField' p e here x) span whole (inr (inr h)) = and_none _ _ (and_void (typed e) (pointed env) (value e here h) (λ z. refl))
+    place (Unary' o.Dereference p e here) span whole (inl (inl h)) = no_pointer e here span h
+    place (Unary' o.Dereference p e here) span whole (inl (inr h)) = absurd h
+    place (Unary' o.Dereference p e here) span whole (inr h) = and_void (typed e) (dereferenced env o.Dereference) (value e here h) (λ z. refl)
+    place (Unary' o.Not p e here) span whole h = and_each (typed e) _ (λ x k. refl)
+    place (Unary' o.Complement p e here) span whole h = and_each (typed e) _ (λ x k. refl)
+    place (Unary' o.Negate p e here) span whole h = and_each (typed e) _ (λ x k. refl)
+    place _ span whole h = refl
 
     arguments : {m : _} (es : Row_of-Expression m) (us : List ResolvedType) → AllSmall us → InArguments env at fault es → typed_arguments env at (row_of es) us ≡ None
     arguments end_of-Expression us s h = absurd h

@@ -182,51 +182,56 @@ module _ (env : Environment) (at : Context) where
   abbrev large_place : Place → Option FaultKind
   large_place q = not_small q.resolved
 
-  abbrev struct_fault : Position → s.Expression → Option FaultKind
-  struct_fault AsValue e = and_so (place e) large_place
-  struct_fault AsPlace e = None
+  -- whether a place is needed where an expression stands
+  abbrev pub is_for_place : Position → Bool
+  is_for_place AsValue = false
+  is_for_place (AsPlace whole) = true
+
+  abbrev struct_fault : Bool → s.Expression → Option FaultKind
+  struct_fault false e = and_so (place e) large_place
+  struct_fault true e = None
 
   abbrev has_value : Typing → Option FaultKind
   has_value x = when (is_value x) k.TypeMismatch
 
-  abbrev place_fault : Position → s.Expression → Option FaultKind
-  place_fault AsValue e = None
-  place_fault AsPlace e = and_so (value e) has_value
+  abbrev place_fault : Bool → s.Expression → Option FaultKind
+  place_fault false e = None
+  place_fault true e = and_so (value e) has_value
 
-  abbrev prefix_fault : Position → PrefixOperator → s.Expression → s.Expression → Option FaultKind
-  prefix_fault position o.Not e whole = or_else (mistyped BoolType e) (place_fault position whole)
-  prefix_fault position o.Complement e whole = or_else (mistyped IntType e) (place_fault position whole)
-  prefix_fault position o.Negate e whole = or_else (mistyped IntType e) (place_fault position whole)
-  prefix_fault position o.Dereference e whole = or_else (pointer_fault e) (struct_fault position whole)
+  abbrev prefix_fault : Bool → PrefixOperator → s.Expression → s.Expression → Option FaultKind
+  prefix_fault needs_place o.Not e whole = or_else (mistyped BoolType e) (place_fault needs_place whole)
+  prefix_fault needs_place o.Complement e whole = or_else (mistyped IntType e) (place_fault needs_place whole)
+  prefix_fault needs_place o.Negate e whole = or_else (mistyped IntType e) (place_fault needs_place whole)
+  prefix_fault needs_place o.Dereference e whole = or_else (pointer_fault e) (struct_fault needs_place whole)
 
   abbrev no_length : Typing → Option FaultKind
   no_length x = when (is_value x && is_none (lengthed env x)) k.TypeMismatch
 
   abbrev mutual
-    pub expression_fault : Position → s.Expression → Option FaultKind
-    expression_fault position (s.Character c) = or_else (when (not (nat_lt c 128)) k.BadToken) (place_fault position (s.Character c))
-    expression_fault position (s.Variable x) = or_else (when (is_none (local_of at.locals x)) k.UnknownName) (place_fault position (s.Variable x))
-    expression_fault position (s.Parenthesized e) = expression_fault position e
-    expression_fault position (s.Call x es) = or_else (call_fault x es) (or_else (void_call x) (or_else (place_fault position (s.Call x es)) (arguments_fault es)))
-    expression_fault position (s.Alloc a) = or_else (held_fault env a) (place_fault position (s.Alloc a))
-    expression_fault position (s.AllocArray a e) = or_else (held_fault env a) (or_else (mistyped IntType e) (or_else (place_fault position (s.AllocArray a e)) (expression_fault AsValue e)))
-    expression_fault position s.Result = or_else (when (is_none at.result) k.BadContract) (place_fault position s.Result)
-    expression_fault position (s.Length e) = or_else (and_so (value e) no_length) (or_else (place_fault position (s.Length e)) (expression_fault AsValue e))
-    expression_fault position (s.Index a i) = or_else (index_fault a i) (or_else (struct_fault position (s.Index a i)) (or_else (expression_fault AsValue a) (expression_fault AsValue i)))
-    expression_fault position (s.Field e x) = or_else (dot_fault e x) (or_else (struct_fault position (s.Field e x)) (expression_fault AsPlace e))
-    expression_fault position (s.PointerField e x) = or_else (arrow_fault e x) (or_else (struct_fault position (s.PointerField e x)) (expression_fault AsValue e))
-    expression_fault position (s.Unary op e) = or_else (prefix_fault position op e (s.Unary op e)) (expression_fault AsValue e)
-    expression_fault position (s.Binary op a b) =
+    pub expression_fault : Bool → s.Expression → Option FaultKind
+    expression_fault needs_place (s.Character c) = or_else (when (not (nat_lt c 128)) k.BadToken) (place_fault needs_place (s.Character c))
+    expression_fault needs_place (s.Variable x) = or_else (when (is_none (local_of at.locals x)) k.UnknownName) (place_fault needs_place (s.Variable x))
+    expression_fault needs_place (s.Parenthesized e) = expression_fault needs_place e
+    expression_fault needs_place (s.Call x es) = or_else (call_fault x es) (or_else (void_call x) (or_else (place_fault needs_place (s.Call x es)) (arguments_fault es)))
+    expression_fault needs_place (s.Alloc a) = or_else (held_fault env a) (place_fault needs_place (s.Alloc a))
+    expression_fault needs_place (s.AllocArray a e) = or_else (held_fault env a) (or_else (mistyped IntType e) (or_else (place_fault needs_place (s.AllocArray a e)) (expression_fault false e)))
+    expression_fault needs_place s.Result = or_else (when (is_none at.result) k.BadContract) (place_fault needs_place s.Result)
+    expression_fault needs_place (s.Length e) = or_else (and_so (value e) no_length) (or_else (place_fault needs_place (s.Length e)) (expression_fault false e))
+    expression_fault needs_place (s.Index a i) = or_else (index_fault a i) (or_else (struct_fault needs_place (s.Index a i)) (or_else (expression_fault false a) (expression_fault false i)))
+    expression_fault needs_place (s.Field e x) = or_else (dot_fault e x) (or_else (struct_fault needs_place (s.Field e x)) (expression_fault true e))
+    expression_fault needs_place (s.PointerField e x) = or_else (arrow_fault e x) (or_else (struct_fault needs_place (s.PointerField e x)) (expression_fault false e))
+    expression_fault needs_place (s.Unary op e) = or_else (prefix_fault needs_place op e (s.Unary op e)) (expression_fault false e)
+    expression_fault needs_place (s.Binary op a b) =
         or_else (operand_fault (operator_rule op) a) (or_else (operand_fault (operator_rule op) b) (or_else (compared_fault (operator_rule op) a b)
-        (or_else (place_fault position (s.Binary op a b)) (or_else (expression_fault AsValue a) (expression_fault AsValue b)))))
-    expression_fault position (s.Conditional c a b) =
-        or_else (mistyped BoolType c) (or_else (arms_fault a b) (or_else (place_fault position (s.Conditional c a b))
-        (or_else (expression_fault AsValue c) (or_else (expression_fault AsValue a) (expression_fault AsValue b)))))
-    expression_fault position e = place_fault position e
+        (or_else (place_fault needs_place (s.Binary op a b)) (or_else (expression_fault false a) (expression_fault false b)))))
+    expression_fault needs_place (s.Conditional c a b) =
+        or_else (mistyped BoolType c) (or_else (arms_fault a b) (or_else (place_fault needs_place (s.Conditional c a b))
+        (or_else (expression_fault false c) (or_else (expression_fault false a) (expression_fault false b)))))
+    expression_fault needs_place e = place_fault needs_place e
 
     pub arguments_fault : s.Expressions → Option FaultKind
     arguments_fault s.none = None
-    arguments_fault (s.more e rest) = or_else (expression_fault AsValue e) (arguments_fault rest)
+    arguments_fault (s.more e rest) = or_else (expression_fault false e) (arguments_fault rest)
 
   -- ---- the causes
 
@@ -364,47 +369,47 @@ module _ (env : Environment) (at : Context) where
         (v.0, inr (w.0, y.0, w.1, y.1, v.1)))
   ]
 
-  struct_found : (position : Position) (e : ExpressionKind) (span : Span) (kind : FaultKind) → struct_fault position (tree e) ≡ Some kind → At kind (λ f. StructValue env at f position e span)
+  struct_found : (position : Position) (e : ExpressionKind) (span : Span) (kind : FaultKind) → struct_fault (is_for_place position) (tree e) ≡ Some kind → At kind (λ f. StructValue env at f position e span)
   struct_found AsValue e span kind h =
       let w = with_some (place (tree e)) large_place kind h in
       let v = when_is (not (is_small w.0.resolved)) k.NotSmall kind w.2 in
       (span, (w.0, w.1, not_is (is_small w.0.resolved) v.0, here k.NotSmall kind span v.1))
-  struct_found AsPlace e span kind h = absurd (cc h)
+  struct_found (AsPlace whole) e span kind h = absurd (cc h)
 
-  place_found : (position : Position) (e : ExpressionKind) (span : Span) (kind : FaultKind) → place_fault position (tree e) ≡ Some kind → At kind (λ f. NoPlace env at f position e span)
+  place_found : (position : Position) (e : ExpressionKind) (span : Span) (kind : FaultKind) → place_fault (is_for_place position) (tree e) ≡ Some kind → At kind (λ f. NoPlace env at f position e span)
   place_found AsValue e span kind h = absurd (cc h)
-  place_found AsPlace e span kind h =
+  place_found (AsPlace whole) e span kind h =
       let w = with_some (value (tree e)) has_value kind h in
       let v = when_is (is_value w.0) k.TypeMismatch kind w.2 in
-      (span, (w.0, w.1, v.0, here k.TypeMismatch kind span v.1))
+      (whole, (w.0, w.1, v.0, here k.TypeMismatch kind whole v.1))
 
-  plain_prefix : (position : Position) (want : ResolvedType) (e : ExpressionKind) (this : Span) (whole : ExpressionKind) (span : Span) (kind : FaultKind) → or_else (mistyped want (tree e)) (place_fault position (tree whole)) ≡ Some kind
+  plain_prefix : (position : Position) (want : ResolvedType) (e : ExpressionKind) (this : Span) (whole : ExpressionKind) (span : Span) (kind : FaultKind) → or_else (mistyped want (tree e)) (place_fault (is_for_place position) (tree whole)) ≡ Some kind
       → At kind (λ f. Mistyped env at f want e this ⊎ NoPlace env at f position whole span)
-  plain_prefix position want e this whole span kind h = elim (either (mistyped want (tree e)) (place_fault position (tree whole)) kind h) [
+  plain_prefix position want e this whole span kind h = elim (either (mistyped want (tree e)) (place_fault (is_for_place position) (tree whole)) kind h) [
     | inl q ↦ (let w = mistyped_found want e this kind q in (w.0, inl w.1))
     | inr q ↦ (let w = place_found position whole span kind q in (w.0, inr w.1))
   ]
 
-  prefix_found : (position : Position) (op : PrefixOperator) (e : ExpressionKind) (this : Span) (whole : ExpressionKind) (span : Span) (kind : FaultKind) → prefix_fault position op (tree e) (tree whole) ≡ Some kind → At kind (λ f. PrefixCause env at f position op e this whole span)
+  prefix_found : (position : Position) (op : PrefixOperator) (e : ExpressionKind) (this : Span) (whole : ExpressionKind) (span : Span) (kind : FaultKind) → prefix_fault (is_for_place position) op (tree e) (tree whole) ≡ Some kind → At kind (λ f. PrefixCause env at f position op e this whole span)
   prefix_found position o.Not e this whole span kind h = plain_prefix position BoolType e this whole span kind h
   prefix_found position o.Complement e this whole span kind h = plain_prefix position IntType e this whole span kind h
   prefix_found position o.Negate e this whole span kind h = plain_prefix position IntType e this whole span kind h
-  prefix_found position o.Dereference e this whole span kind h = elim (either (pointer_fault (tree e)) (struct_fault position (tree whole)) kind h) [
+  prefix_found position o.Dereference e this whole span kind h = elim (either (pointer_fault (tree e)) (struct_fault (is_for_place position) (tree whole)) kind h) [
     | inl q ↦ (let w = pointer_found e this span kind q in (w.0, inl w.1))
     | inr q ↦ (let w = struct_found position whole span kind q in (w.0, inr w.1))
   ]
 
   mutual
-    pub expression_found : (position : Position) (e : ExpressionKind) (span : Span) (kind : FaultKind) → expression_fault position (tree e) ≡ Some kind → At kind (λ f. InExpression env at f position e span)
+    pub expression_found : (position : Position) (e : ExpressionKind) (span : Span) (kind : FaultKind) → expression_fault (is_for_place position) (tree e) ≡ Some kind → At kind (λ f. InExpression env at f position e span)
     expression_found position (Number m) span kind h = place_found position (Number m) span kind h
-    expression_found position (Character c) span kind h = elim (either (when (not (nat_lt c 128)) k.BadToken) (place_fault position (s.Character c)) kind h) [
+    expression_found position (Character c) span kind h = elim (either (when (not (nat_lt c 128)) k.BadToken) (place_fault (is_for_place position) (s.Character c)) kind h) [
       | inl q ↦ (let v = when_is (not (nat_lt c 128)) k.BadToken kind q in (span, inl (not_is (nat_lt c 128) v.0, here k.BadToken kind span v.1)))
       | inr q ↦ (let w = place_found position (Character c) span kind q in (w.0, inr w.1))
     ]
     expression_found position (Truth b) span kind h = place_found position (Truth b) span kind h
     expression_found position Null span kind h = place_found position Null span kind h
     expression_found position (Text text) span kind h = place_found position (Text text) span kind h
-    expression_found position (Variable x) span kind h = elim (either (when (is_none (local_of at.locals (name_of x))) k.UnknownName) (place_fault position (s.Variable (name_of x))) kind h) [
+    expression_found position (Variable x) span kind h = elim (either (when (is_none (local_of at.locals (name_of x))) k.UnknownName) (place_fault (is_for_place position) (s.Variable (name_of x))) kind h) [
       | inl q ↦ (let v = when_is (is_none (local_of at.locals (name_of x))) k.UnknownName kind q in (x.span, inl (none_is (local_of at.locals (name_of x)) v.0, here k.UnknownName kind x.span v.1)))
       | inr q ↦ (let w = place_found position (Variable x) span kind q in (w.0, inr w.1))
     ]
@@ -413,13 +418,13 @@ module _ (env : Environment) (at : Context) where
       | inl q ↦ (let w = call_found x es span kind q in (w.0, inl w.1))
       | inr q ↦ elim (either (void_call (name_of x)) _ kind q) [
         | inl p ↦ (let w = void_found x span kind p in (w.0, inr (inl w.1)))
-        | inr p ↦ elim (either (place_fault position (tree (Call' x shape es))) (arguments_fault (row_of es)) kind p) [
+        | inr p ↦ elim (either (place_fault (is_for_place position) (tree (Call' x shape es))) (arguments_fault (row_of es)) kind p) [
           | inl y ↦ (let w = place_found position (Call' x shape es) span kind y in (w.0, inr (inr (inl w.1))))
           | inr y ↦ (let w = arguments_found es kind y in (w.0, inr (inr (inr w.1))))
         ]
       ]
     ]
-    expression_found position (Alloc ty) span kind h = elim (either (held_fault env (type_of ty)) (place_fault position (tree (Alloc ty))) kind h) [
+    expression_found position (Alloc ty) span kind h = elim (either (held_fault env (type_of ty)) (place_fault (is_for_place position) (tree (Alloc ty))) kind h) [
       | inl q ↦ (let w = held_found env ty kind q in (w.0, inl w.1))
       | inr q ↦ (let w = place_found position (Alloc ty) span kind q in (w.0, inr w.1))
     ]
@@ -427,13 +432,13 @@ module _ (env : Environment) (at : Context) where
       | inl q ↦ (let w = held_found env ty kind q in (w.0, inl w.1))
       | inr q ↦ elim (either (mistyped IntType (tree e)) _ kind q) [
         | inl y ↦ (let w = mistyped_found IntType e this kind y in (w.0, inr (inl w.1)))
-        | inr y ↦ elim (either (place_fault position (tree (AllocArray' ty p e this))) (expression_fault AsValue (tree e)) kind y) [
+        | inr y ↦ elim (either (place_fault (is_for_place position) (tree (AllocArray' ty p e this))) (expression_fault false (tree e)) kind y) [
           | inl z ↦ (let w = place_found position (AllocArray' ty p e this) span kind z in (w.0, inr (inr (inl w.1))))
           | inr z ↦ (let w = expression_found AsValue e this kind z in (w.0, inr (inr (inr w.1))))
         ]
       ]
     ]
-    expression_found position Result span kind h = elim (either (when (is_none at.result) k.BadContract) (place_fault position s.Result) kind h) [
+    expression_found position Result span kind h = elim (either (when (is_none at.result) k.BadContract) (place_fault (is_for_place position) s.Result) kind h) [
       | inl q ↦ (let v = when_is (is_none at.result) k.BadContract kind q in (span, inl (none_is at.result v.0, here k.BadContract kind span v.1)))
       | inr q ↦ (let w = place_found position Result span kind q in (w.0, inr w.1))
     ]
@@ -443,16 +448,16 @@ module _ (env : Environment) (at : Context) where
           let v = when_is (is_value w.0 && is_none (lengthed env w.0)) k.TypeMismatch kind w.2 in
           let c = both (is_value w.0) (is_none (lengthed env w.0)) v.0 in
           (this, inl (w.0, w.1, c.0, none_is (lengthed env w.0) c.1, here k.TypeMismatch kind this v.1)))
-      | inr q ↦ elim (either (place_fault position (tree (Length' p e this))) (expression_fault AsValue (tree e)) kind q) [
+      | inr q ↦ elim (either (place_fault (is_for_place position) (tree (Length' p e this))) (expression_fault false (tree e)) kind q) [
         | inl y ↦ (let w = place_found position (Length' p e this) span kind y in (w.0, inr (inl w.1)))
         | inr y ↦ (let w = expression_found AsValue e this kind y in (w.0, inr (inr w.1)))
       ]
     ]
     expression_found position (Index' p a this q i there) span kind h = elim (either (index_fault (tree a) (tree i)) _ kind h) [
       | inl y ↦ (let w = index_found a this i there span kind y in (w.0, inl w.1))
-      | inr y ↦ elim (either (struct_fault position (tree (Index' p a this q i there))) _ kind y) [
+      | inr y ↦ elim (either (struct_fault (is_for_place position) (tree (Index' p a this q i there))) _ kind y) [
         | inl z ↦ (let w = struct_found position (Index' p a this q i there) span kind z in (w.0, inr (inl w.1)))
-        | inr z ↦ elim (either (expression_fault AsValue (tree a)) (expression_fault AsValue (tree i)) kind z) [
+        | inr z ↦ elim (either (expression_fault false (tree a)) (expression_fault false (tree i)) kind z) [
           | inl x ↦ (let w = expression_found AsValue a this kind x in (w.0, inr (inr (inl w.1))))
           | inr x ↦ (let w = expression_found AsValue i there kind x in (w.0, inr (inr (inr w.1))))
         ]
@@ -460,19 +465,19 @@ module _ (env : Environment) (at : Context) where
     ]
     expression_found position (Field' p e this x) span kind h = elim (either (dot_fault (tree e) (name_of x)) _ kind h) [
       | inl y ↦ (let w = dot_found e this x span kind y in (w.0, inl w.1))
-      | inr y ↦ elim (either (struct_fault position (tree (Field' p e this x))) (expression_fault AsPlace (tree e)) kind y) [
+      | inr y ↦ elim (either (struct_fault (is_for_place position) (tree (Field' p e this x))) (expression_fault true (tree e)) kind y) [
         | inl z ↦ (let w = struct_found position (Field' p e this x) span kind z in (w.0, inr (inl w.1)))
-        | inr z ↦ (let w = expression_found AsPlace e this kind z in (w.0, inr (inr w.1)))
+        | inr z ↦ (let w = expression_found (AsPlace this) e this kind z in (w.0, inr (inr w.1)))
       ]
     ]
     expression_found position (PointerField' p e this x) span kind h = elim (either (arrow_fault (tree e) (name_of x)) _ kind h) [
       | inl y ↦ (let w = arrow_found e this x span kind y in (w.0, inl w.1))
-      | inr y ↦ elim (either (struct_fault position (tree (PointerField' p e this x))) (expression_fault AsValue (tree e)) kind y) [
+      | inr y ↦ elim (either (struct_fault (is_for_place position) (tree (PointerField' p e this x))) (expression_fault false (tree e)) kind y) [
         | inl z ↦ (let w = struct_found position (PointerField' p e this x) span kind z in (w.0, inr (inl w.1)))
         | inr z ↦ (let w = expression_found AsValue e this kind z in (w.0, inr (inr w.1)))
       ]
     ]
-    expression_found position (Unary' op p e this) span kind h = elim (either (prefix_fault position op (tree e) (tree (Unary' op p e this))) (expression_fault AsValue (tree e)) kind h) [
+    expression_found position (Unary' op p e this) span kind h = elim (either (prefix_fault (is_for_place position) op (tree e) (tree (Unary' op p e this))) (expression_fault false (tree e)) kind h) [
       | inl y ↦ (let w = prefix_found position op e this (Unary' op p e this) span kind y in (w.0, inl w.1))
       | inr y ↦ (let w = expression_found AsValue e this kind y in (w.0, inr w.1))
     ]
@@ -482,9 +487,9 @@ module _ (env : Environment) (at : Context) where
         | inl z ↦ (let w = operand_found (operator_rule op) b there kind z in (w.0, inr (inl w.1)))
         | inr z ↦ elim (either (compared_fault (operator_rule op) (tree a) (tree b)) _ kind z) [
           | inl x ↦ (let w = compared_found (operator_rule op) a this b there kind x in (w.0, inr (inr (inl w.1))))
-          | inr x ↦ elim (either (place_fault position (tree (Binary' op p a this q b there))) _ kind x) [
+          | inr x ↦ elim (either (place_fault (is_for_place position) (tree (Binary' op p a this q b there))) _ kind x) [
             | inl v ↦ (let w = place_found position (Binary' op p a this q b there) span kind v in (w.0, inr (inr (inr (inl w.1)))))
-            | inr v ↦ elim (either (expression_fault AsValue (tree a)) (expression_fault AsValue (tree b)) kind v) [
+            | inr v ↦ elim (either (expression_fault false (tree a)) (expression_fault false (tree b)) kind v) [
               | inl r ↦ (let w = expression_found AsValue a this kind r in (w.0, inr (inr (inr (inr (inl w.1))))))
               | inr r ↦ (let w = expression_found AsValue b there kind r in (w.0, inr (inr (inr (inr (inr w.1))))))
             ]
@@ -496,11 +501,11 @@ module _ (env : Environment) (at : Context) where
       | inl y ↦ (let w = mistyped_found BoolType c this kind y in (w.0, inl w.1))
       | inr y ↦ elim (either (arms_fault (tree a) (tree b)) _ kind y) [
         | inl z ↦ (let w = arms_found a b beyond kind z in (w.0, inr (inl w.1)))
-        | inr z ↦ elim (either (place_fault position (tree (Conditional' p c this q a there r b beyond))) _ kind z) [
+        | inr z ↦ elim (either (place_fault (is_for_place position) (tree (Conditional' p c this q a there r b beyond))) _ kind z) [
           | inl x ↦ (let w = place_found position (Conditional' p c this q a there r b beyond) span kind x in (w.0, inr (inr (inl w.1))))
-          | inr x ↦ elim (either (expression_fault AsValue (tree c)) _ kind x) [
+          | inr x ↦ elim (either (expression_fault false (tree c)) _ kind x) [
             | inl v ↦ (let w = expression_found AsValue c this kind v in (w.0, inr (inr (inr (inl w.1)))))
-            | inr v ↦ elim (either (expression_fault AsValue (tree a)) (expression_fault AsValue (tree b)) kind v) [
+            | inr v ↦ elim (either (expression_fault false (tree a)) (expression_fault false (tree b)) kind v) [
               | inl m ↦ (let w = expression_found AsValue a there kind m in (w.0, inr (inr (inr (inr (inl w.1))))))
               | inr m ↦ (let w = expression_found AsValue b beyond kind m in (w.0, inr (inr (inr (inr (inr w.1))))))
             ]
@@ -511,7 +516,7 @@ module _ (env : Environment) (at : Context) where
 
     pub arguments_found : {m : _} (es : Row_of-Expression m) (kind : FaultKind) → arguments_fault (row_of es) ≡ Some kind → At kind (λ f. InArguments env at f es)
     arguments_found end_of-Expression kind h = absurd (cc h)
-    arguments_found (more_of-Expression e span rest) kind h = elim (either (expression_fault AsValue (tree e)) (arguments_fault (row_of rest)) kind h) [
+    arguments_found (more_of-Expression e span rest) kind h = elim (either (expression_fault false (tree e)) (arguments_fault (row_of rest)) kind h) [
       | inl q ↦ (let w = expression_found AsValue e span kind q in (w.0, inl w.1))
       | inr q ↦ (let w = arguments_found rest kind q in (w.0, inr w.1))
     ]

@@ -1,6 +1,6 @@
 -- The kind of a fault in a statement, and its cause.
 use Rattle.std.proofs.Common.{◌≡◌, inl, inr, List, [], ◌∷◌, map, refl, subst, Bool, true, false, Option, Some, None}
-use Rattle.std.specs.Prelude.{not, option_map}
+use Rattle.std.specs.Prelude.{◌&&◌, not, option_map}
 use Rattle.c0_source.specs.declared.fault.FaultKind.{FaultKind}
 use Rattle.c0_source.specs.declared.fault.FaultKind.TheVariants as k
 use Rattle.c0_source.specs.declared.fault.Span.{Span}
@@ -24,7 +24,7 @@ use Rattle.c0_rules.specs.Expressions.{operator_rule, Context}
 use Rattle.c0_rules.specs.Statements.{Role, Invariant, Assertion, role_of, same_role, Scope, Checked, in_body, leave, within, Destination, change_of, declares, is_taken, destination, typed_part, typed_statement}
 use Rattle.c0_rules.specs.FaultExpressions.{Told, AsValue, AsPlace, Mistyped, InExpression}
 use Rattle.c0_rules.specs.FaultStatements.{destination_type, has_place, InCondition, InSpecs, InAnnotations, InValue, InWanted, TakenCause, InDestination, AssignedCause, ChangedCause, InEvaluated, InSimple, InPart, ReturnCause, ThirdCause, InStatement, InRow, InBody}
-use Rattle.c0_rules_faults.proofs.Find.{At, here, when, or_else, either, found_kind, when_is, with_some, where_so, not_is, is_none, none_is}
+use Rattle.c0_rules_faults.proofs.Find.{At, here, when, or_else, either, found_kind, when_is, with_some, where_so, both, not_is, is_none, none_is}
 use Rattle.c0_rules_faults.proofs.FindExpressions.{not_small, small_type_fault, small_type_found, mistyped, mistyped_found, call_fault, call_found, expression_fault, expression_found, arguments_fault, arguments_found}
 
 pub condition_is : (kind : SpecKind) (e : s.Expression) → condition_of (spec_by kind e) ≡ e
@@ -35,7 +35,7 @@ module _ (env : Environment) where
   -- ---- specs
 
   abbrev pub condition_fault : Context → s.Expression → Option FaultKind
-  condition_fault at c = or_else (expression_fault env at AsValue c) (mistyped env at BoolType c)
+  condition_fault at c = or_else (expression_fault env at false c) (mistyped env at BoolType c)
 
   abbrev specs_fault : Role → Context → List s.Spec → Option FaultKind
   specs_fault role at [] = None
@@ -46,7 +46,7 @@ module _ (env : Environment) where
   notes_fault role at (x ∷ rest) = or_else (specs_fault role at x) (notes_fault role at rest)
 
   pub condition_found : (at : Context) (c : e.Expression) (kind : FaultKind) → condition_fault at (expression_of c) ≡ Some kind → At kind (λ f. InCondition env f at c)
-  condition_found at c kind h = elim (either (expression_fault env at AsValue (expression_of c)) (mistyped env at BoolType (expression_of c)) kind h) [
+  condition_found at c kind h = elim (either (expression_fault env at false (expression_of c)) (mistyped env at BoolType (expression_of c)) kind h) [
     | inl q ↦ (let w = expression_found env at AsValue c.kind c.span kind q in (w.0, inl w.1))
     | inr q ↦ (let w = mistyped_found env at BoolType c.kind c.span kind q in (w.0, inr w.1))
   ]
@@ -72,7 +72,7 @@ module _ (env : Environment) where
     -- ---- simple statements
 
     abbrev value_fault : s.Expression → Option FaultKind
-    value_fault x = expression_fault env (within scope) AsValue x
+    value_fault x = expression_fault env (within scope) false x
 
     abbrev wrong : ResolvedType → s.Expression → Option FaultKind
     wrong want x = mistyped env (within scope) want x
@@ -84,7 +84,7 @@ module _ (env : Environment) where
     taken_fault x = when (is_taken env scope x) k.DuplicateName
 
     abbrev place_by : Bool → s.Expression → Option FaultKind
-    place_by true x = expression_fault env (within scope) AsPlace x
+    place_by true x = expression_fault env (within scope) true x
     place_by false x = Some k.NotDestination
 
     abbrev destination_by : Option Name → s.Expression → Option FaultKind
@@ -101,7 +101,7 @@ module _ (env : Environment) where
     assigned_fault x value = and_so (destination env scope x) (assigned_by value)
 
     abbrev changed_by : Destination → Option FaultKind
-    changed_by q = when (not (same_type (destination_type q) IntType)) k.TypeMismatch
+    changed_by q = or_else (not_small (destination_type q)) (when (is_small (destination_type q) && not (same_type (destination_type q) IntType)) k.TypeMismatch)
 
     abbrev changed_fault : s.Expression → Option FaultKind
     changed_fault x = and_so (destination env scope x) changed_by
@@ -147,14 +147,14 @@ module _ (env : Environment) where
 
     -- ... by whether it is a place, and by whether it is a variable
     place_found_by : (b : Bool) (x : e.Expression) (kind : FaultKind) → place_by b (expression_of x) ≡ Some kind
-        → At kind (λ f. elim b as (λ b. Type 0) [ true ↦ InExpression env (within scope) f AsPlace x.kind x.span | false ↦ Told k.NotDestination x.span f ])
-    place_found_by true x kind h = expression_found env (within scope) AsPlace x.kind x.span kind h
+        → At kind (λ f. elim b as (λ b. Type 0) [ true ↦ InExpression env (within scope) f (AsPlace x.span) x.kind x.span | false ↦ Told k.NotDestination x.span f ])
+    place_found_by true x kind h = expression_found env (within scope) (AsPlace x.span) x.kind x.span kind h
     place_found_by false x kind h = (x.span, here k.NotDestination kind x.span (found_kind k.NotDestination kind h))
 
     destination_found_by : (o : Option Name) (x : e.Expression) (kind : FaultKind) → destination_by o (expression_of x) ≡ Some kind
         → At kind (λ f. elim o as (λ o. Type 0) [
           | Some v ↦ InValue env f scope x
-          | None ↦ elim (has_place (expression_of x)) as (λ b. Type 0) [ true ↦ InExpression env (within scope) f AsPlace x.kind x.span | false ↦ Told k.NotDestination x.span f ]
+          | None ↦ elim (has_place (expression_of x)) as (λ b. Type 0) [ true ↦ InExpression env (within scope) f (AsPlace x.span) x.kind x.span | false ↦ Told k.NotDestination x.span f ]
         ])
     destination_found_by (Some v) x kind h = value_found x kind h
     destination_found_by None x kind h = place_found_by (has_place (expression_of x)) x kind h
@@ -173,8 +173,13 @@ module _ (env : Environment) where
     changed_found : (x : e.Expression) (kind : FaultKind) → changed_fault (expression_of x) ≡ Some kind → At kind (λ f. ChangedCause env f scope x)
     changed_found x kind h =
         let w = with_some (destination env scope (expression_of x)) changed_by kind h in
-        let v = when_is (not (same_type (destination_type w.0) IntType)) k.TypeMismatch kind w.2 in
-        (x.span, (w.0, w.1, not_is (same_type (destination_type w.0) IntType) v.0, here k.TypeMismatch kind x.span v.1))
+        elim (either (not_small (destination_type w.0)) _ kind w.2) [
+          | inl q ↦ (let v = when_is (not (is_small (destination_type w.0))) k.NotSmall kind q in (x.span, (w.0, w.1, inl (not_is (is_small (destination_type w.0)) v.0, here k.NotSmall kind x.span v.1))))
+          | inr q ↦
+              (let v = when_is (is_small (destination_type w.0) && not (same_type (destination_type w.0) IntType)) k.TypeMismatch kind q in
+              let z = both (is_small (destination_type w.0)) (not (same_type (destination_type w.0) IntType)) v.0 in
+              (x.span, (w.0, w.1, inr (z.0, not_is (same_type (destination_type w.0) IntType) z.1, here k.TypeMismatch kind x.span v.1))))
+        ]
 
     evaluated_found : (x : ExpressionKind) (span : Span) (kind : FaultKind) → evaluated_fault (expression_of_kind x) ≡ Some kind → At kind (λ f. InEvaluated env f scope x span)
     evaluated_found (Call' x shape es) span kind h = elim (either (call_fault env (within scope) (name_of x) (row_of es)) (arguments_fault env (within scope) (row_of es)) kind h) [

@@ -23,7 +23,7 @@ use Rattle.c0_rules.specs.Mentions.{as_variable, specs_in}
 use Rattle.c0_rules.specs.Expressions.{OperatorRule, OnNumbers, Compares, Conjunction, Disjunction, operator_rule, is_compared, is_equality, Typing, Has, IsNull, Place, local_of, gives, takes, null_as, as_wanted, wanted, pointed, read_of, prefixed, operated, chosen, lengthed, held_type, callee_or, callee, typed_expression, typed_place, typed_arguments}
 use Rattle.c0_rules.specs.Statements.{Invariant, Assertion, Scope, in_body, leave, within, Destination, ToLocal, ToPlace, change_of, step_of, is_call, declares, one, expression_as, conditions_of_all, is_taken, declared, destination_by, destination, assigned, updated, evaluated, typed_simple, typed_part, typed_statement, typed_statements}
 use Rattle.c0_rules.specs.FaultExpressions.{Told, AsPlace, SmallTypeCause, InExpression}
-use Rattle.c0_rules.specs.FaultStatements.{has_place, InValue, InWanted, TakenCause, InDestination, AssignedCause, ChangedCause, InEvaluated, InSimple, InPart, ReturnCause, ThirdCause, InStatement, InRow, InBody}
+use Rattle.c0_rules.specs.FaultStatements.{destination_type, has_place, InValue, InWanted, TakenCause, InDestination, AssignedCause, ChangedCause, InEvaluated, InSimple, InPart, ReturnCause, ThirdCause, InStatement, InRow, InBody}
 use Rattle.c0_rules.proofs.Rules.{AllSome, all_so, all_go, all_if, some_has}
 use Rattle.c0_rules_faults.proofs.Refused.{NoValue, no_value, and_none}
 use Rattle.c0_rules_faults.proofs.Causes.{Caused, told, split, split_if, not_false_is}
@@ -153,14 +153,14 @@ module _ (env : Environment) (results : GiveFine env) where
     variable_typed _ v q h = absurd (cc q)
 
     by_form : (x : e.Expression) (b : Bool) → typed_place env (within s) (expression_of x) ≡ None
-        → Caused (λ f. elim b as (λ b. Type 0) [ true ↦ InExpression env (within s) f AsPlace x.kind x.span | false ↦ Told k.NotDestination x.span f ])
-    by_form x true h = (both env (within s) small tt x.kind x.span).1 h
+        → Caused (λ f. elim b as (λ b. Type 0) [ true ↦ InExpression env (within s) f (AsPlace x.span) x.kind x.span | false ↦ Told k.NotDestination x.span f ])
+    by_form x true h = (both env (within s) small tt x.kind x.span).1 x.span h
     by_form x false h = told k.NotDestination x.span
 
     by_variable : (x : e.Expression) (v : Option Name) → as_variable (expression_of x) ≡ v → destination_by env v s (expression_of x) ≡ None
         → Caused (λ f. elim v as (λ o. Type 0) [
           | Some w ↦ InValue env f s x
-          | None ↦ elim (has_place (expression_of x)) as (λ b. Type 0) [ true ↦ InExpression env (within s) f AsPlace x.kind x.span | false ↦ Told k.NotDestination x.span f ]
+          | None ↦ elim (has_place (expression_of x)) as (λ b. Type 0) [ true ↦ InExpression env (within s) f (AsPlace x.span) x.kind x.span | false ↦ Told k.NotDestination x.span f ]
         ])
     by_variable x (Some w) q h = elim (split (local_of s.locals w) _ h) [ inl z ↦ value_cause x (no_value _ (variable_typed x.kind w q z)) | inr z ↦ absurd (cc z.2) ]
     by_variable x None q h = elim (split (typed_place env (within s) (expression_of x)) _ h) [ inl z ↦ by_form x (has_place (expression_of x)) z | inr z ↦ absurd (cc z.2) ]
@@ -181,9 +181,14 @@ module _ (env : Environment) (results : GiveFine env) where
       ]
     ]
 
+    no_number : (x : e.Expression) (q : Destination) → destination env s (expression_of x) ≡ Some q → same_type (destination_type q) IntType ≡ false → (b : Bool) → is_small (destination_type q) ≡ b
+        → Caused (λ f. ChangedCause env f s x)
+    no_number x q d h true e = let f = told k.TypeMismatch x.span in (f.0, (q, d, inr (e, h, f.1)))
+    no_number x q d h false e = let f = told k.NotSmall x.span in (f.0, (q, d, inl (e, f.1)))
+
     changed_cause : (x : e.Expression) (op : Int32Op) (v : t.Exp) (q : Destination) → destination env s (expression_of x) ≡ Some q → updated env s op v q ≡ None → Caused (λ f. ChangedCause env f s x)
-    changed_cause x op v (ToLocal l) q h = elim (split_if (same_type l.resolved IntType) _ h) [ inl z ↦ (let f = told k.TypeMismatch x.span in (f.0, (ToLocal l, q, z, f.1))) | inr z ↦ absurd (cc z.1) ]
-    changed_cause x op v (ToPlace p) q h = elim (split_if (same_type p.resolved IntType) _ h) [ inl z ↦ (let f = told k.TypeMismatch x.span in (f.0, (ToPlace p, q, z, f.1))) | inr z ↦ absurd (cc z.1) ]
+    changed_cause x op v (ToLocal l) q h = elim (split_if (same_type l.resolved IntType) _ h) [ inl z ↦ no_number x (ToLocal l) q z (is_small l.resolved) refl | inr z ↦ absurd (cc z.1) ]
+    changed_cause x op v (ToPlace p) q h = elim (split_if (same_type p.resolved IntType) _ h) [ inl z ↦ no_number x (ToPlace p) q z (is_small p.resolved) refl | inr z ↦ absurd (cc z.1) ]
 
     -- what is refused as a statement is no call, and void
     evaluated_void : (e : tree.Expression) (x : Typing) → Fine x → evaluated env e x ≡ None → (is_call e ≡ false) × NoValue (Some x)
@@ -272,10 +277,10 @@ module _ (env : Environment) (results : GiveFine env) where
       by_kind (d.Assign x v) span (inr (inr h)) = inr (inr (h.0, same (as_variable (expression_of x)) (expression_of x) ∙ h.1, h.2))
       by_kind (d.Update x op v) span (inl h) = inl h
       by_kind (d.Update x op v) span (inr (inl h)) = inr (inl h)
-      by_kind (d.Update x op v) span (inr (inr (inl h))) = inr (inr (inl (h.0, same (as_variable (expression_of x)) (expression_of x) ∙ h.1, h.2, h.3)))
+      by_kind (d.Update x op v) span (inr (inr (inl h))) = inr (inr (inl (h.0, same (as_variable (expression_of x)) (expression_of x) ∙ h.1, h.2)))
       by_kind (d.Update x op v) span (inr (inr (inr h))) = inr (inr (inr h))
       by_kind (d.Step x way) span (inl h) = inl h
-      by_kind (d.Step x way) span (inr h) = inr (h.0, same (as_variable (expression_of x)) (expression_of x) ∙ h.1, h.2, h.3)
+      by_kind (d.Step x way) span (inr h) = inr (h.0, same (as_variable (expression_of x)) (expression_of x) ∙ h.1, h.2)
       by_kind (d.Evaluate x) span h = evaluate x.kind x.span h
         where
           evaluate : (e : ExpressionKind) (span : Span) → InEvaluated env fault (leave s inner) e span → InEvaluated env fault s e span

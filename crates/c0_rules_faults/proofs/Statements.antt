@@ -23,7 +23,7 @@ use Rattle.c0_rules.specs.Mentions.{as_variable, specs_in}
 use Rattle.c0_rules.specs.Expressions.{operator_rule, Local, local_of, typed_expression, typed_place}
 use Rattle.c0_rules.specs.Statements.{Invariant, Assertion, Scope, Checked, in_body, leave, within, Destination, ToLocal, ToPlace, change_of, step_of, declares, one, expression_as, conditions_of_all, is_taken, declared, destination_by, destination, assigned, updated, evaluated, next, typed_simple, typed_part, typed_statement, typed_statements}
 use Rattle.c0_rules.specs.FaultExpressions.{Told, AsValue, AsPlace, SmallTypeCause, Mistyped, InExpression}
-use Rattle.c0_rules.specs.FaultStatements.{destination_type, has_place, InValue, InWanted, TakenCause, InDestination, InEvaluated, InSimple, InPart, ReturnCause, ThirdCause, InStatement, InRow, InBody}
+use Rattle.c0_rules.specs.FaultStatements.{destination_type, has_place, InValue, InWanted, TakenCause, InDestination, ChangedCause, InEvaluated, InSimple, InPart, ReturnCause, ThirdCause, InStatement, InRow, InBody}
 use Rattle.c0_rules.proofs.Rules.{AllSome, all_so, all_go, all_if, some_has}
 use Rattle.c0_rules.proofs.Statements.{small_of}
 use Rattle.c0_rules_faults.proofs.Refused.{and_none, and_each, and_at, provided_none, provided_false, provided_each, and_void, wanted_none, small_none}
@@ -153,14 +153,14 @@ module _ (env : Environment) (fault : Fault) (small : TakeSmall env) where
     variable_none _ span v q h = absurd (cc q)
 
     by_form : (x : e.Expression) (b : Bool) → has_place (expression_of x) ≡ b
-        → (elim b as (λ b. Type 0) [ true ↦ InExpression env (within s) fault AsPlace x.kind x.span | false ↦ Told k.NotDestination x.span fault ]) → typed_place env (within s) (expression_of x) ≡ None
-    by_form x true q h = place env (within s) fault small x.kind x.span h
+        → (elim b as (λ b. Type 0) [ true ↦ InExpression env (within s) fault (AsPlace x.span) x.kind x.span | false ↦ Told k.NotDestination x.span fault ]) → typed_place env (within s) (expression_of x) ≡ None
+    by_form x true q h = place env (within s) fault small x.kind x.span x.span h
     by_form x false q h = no_form env s (expression_of x) q
 
     by_variable : (x : e.Expression) (v : Option Name) → as_variable (expression_of x) ≡ v
         → (elim v as (λ o. Type 0) [
           | Some w ↦ InValue env fault s x
-          | None ↦ elim (has_place (expression_of x)) as (λ b. Type 0) [ true ↦ InExpression env (within s) fault AsPlace x.kind x.span | false ↦ Told k.NotDestination x.span fault ]
+          | None ↦ elim (has_place (expression_of x)) as (λ b. Type 0) [ true ↦ InExpression env (within s) fault (AsPlace x.span) x.kind x.span | false ↦ Told k.NotDestination x.span fault ]
         ])
         → destination_by env v s (expression_of x) ≡ None
     by_variable x (Some w) q h = and_none _ _ (variable_none x.kind x.span w q h)
@@ -197,6 +197,13 @@ module _ (env : Environment) (fault : Fault) (small : TakeSmall env) where
     updated_none op x (ToLocal l) h = provided_false _ _ h
     updated_none op x (ToPlace p) h = provided_false _ _ h
 
+    large_apart : (r : ResolvedType) → is_small r ≡ false → same_type r IntType ≡ false
+    large_apart IntType h = absurd (cc h)
+    large_apart _ h = refl
+
+    changed_none : (op : Int32Op) (v : t.Exp) (x : e.Expression) (h : ChangedCause env fault s x) → updated env s op v h.0 ≡ None
+    changed_none op v x h = elim h.2 [ inl k ↦ updated_none op v h.0 (large_apart (destination_type h.0) k.0) | inr k ↦ updated_none op v h.0 k.1 ]
+
     evaluated_none : (x : ExpressionKind) (span : Span) → InEvaluated env fault s x span → and_so (typed_expression env (within s) (expression_of_kind x)) (evaluated env (expression_of_kind x)) ≡ None
     evaluated_none (Call' x shape es) span (inl h) = and_none _ _ (call_none env (within s) fault small x es span h)
     evaluated_none (Call' x shape es) span (inr h) = and_none _ _ (called_none env (within s) fault small x es h)
@@ -221,10 +228,10 @@ module _ (env : Environment) (fault : Fault) (small : TakeSmall env) where
     simple_none few (d.Update x op v) span (inr (inl h)) =
         and_each (destination env s (expression_of x)) _ (λ q w. and_each (change_of (operator_rule op)) _ (λ c y. and_none _ _ (in_wanted IntType v refl h)))
     simple_none few (d.Update x op v) span (inr (inr (inl h))) =
-        and_at (destination env s (expression_of x)) h.0 _ h.1 (and_each (change_of (operator_rule op)) _ (λ c y. and_each (expression_as env IntType s (expression_of v)) _ (λ z w. updated_none c z h.0 h.2)))
+        and_at (destination env s (expression_of x)) h.0 _ h.1 (and_each (change_of (operator_rule op)) _ (λ c y. and_each (expression_as env IntType s (expression_of v)) _ (λ z w. changed_none c z x h)))
     simple_none few (d.Update x op v) span (inr (inr (inr h))) = and_each (destination env s (expression_of x)) _ (λ q w. and_none _ _ h.0)
     simple_none few (d.Step x way) span (inl h) = and_none _ _ (in_destination x h)
-    simple_none few (d.Step x way) span (inr h) = and_at (destination env s (expression_of x)) h.0 _ h.1 (updated_none (step_of way) one h.0 h.2)
+    simple_none few (d.Step x way) span (inr h) = and_at (destination env s (expression_of x)) h.0 _ h.1 (changed_none (step_of way) one x h)
     simple_none few (d.Evaluate x) span h = and_none _ _ (evaluated_none x.kind x.span h)
 
     part_none : SmallLocals s.locals → (x : Option SimpleStatement) → InPart env fault s x → typed_part env (option_map simple_of x) s ≡ None
@@ -253,10 +260,10 @@ module _ (env : Environment) (fault : Fault) (small : TakeSmall env) where
       by_kind (d.Assign x v) span (inr (inr h)) = inr (inr (h.0, same (as_variable (expression_of x)) (expression_of x) ∙ h.1, h.2))
       by_kind (d.Update x op v) span (inl h) = inl h
       by_kind (d.Update x op v) span (inr (inl h)) = inr (inl h)
-      by_kind (d.Update x op v) span (inr (inr (inl h))) = inr (inr (inl (h.0, same (as_variable (expression_of x)) (expression_of x) ∙ h.1, h.2, h.3)))
+      by_kind (d.Update x op v) span (inr (inr (inl h))) = inr (inr (inl (h.0, same (as_variable (expression_of x)) (expression_of x) ∙ h.1, h.2)))
       by_kind (d.Update x op v) span (inr (inr (inr h))) = inr (inr (inr h))
       by_kind (d.Step x way) span (inl h) = inl h
-      by_kind (d.Step x way) span (inr h) = inr (h.0, same (as_variable (expression_of x)) (expression_of x) ∙ h.1, h.2, h.3)
+      by_kind (d.Step x way) span (inr h) = inr (h.0, same (as_variable (expression_of x)) (expression_of x) ∙ h.1, h.2)
       by_kind (d.Evaluate x) span h = evaluate x.kind x.span h
         where
           evaluate : (e : ExpressionKind) (span : Span) → InEvaluated env fault s e span → InEvaluated env fault (leave s inner) e span

@@ -1,18 +1,19 @@
 -- Declarations one after the other.
 use Rattle.std.proofs.Common.{◌≡◌, inl, inr, ℕ, suc, arith, ◌+◌, ◌<◌, List, [], ◌∷◌, ◌++◌, drop, get_or, length, map, refl, sym, ap, ◌∙◌, subst, Bool, true, false, Option, Some, None}
 use Rattle.std.specs.Prelude.{◌||◌, ◌==◌, bytes_eq, cond}
-use Rattle.std.specs.List.{list_any}
 use Rattle.std.proofs.lemmas.Bool.{ne_eqb}
 use Rattle.c0_source.specs.declared.fault.Fault.{Fault}
 use Rattle.c0_syntax.specs.declared.program.Declaration.{Declaration}
+use Rattle.c0_syntax.specs.Trees as tree
 use Rattle.c0_syntax.specs.Trees.{DefineFunction, Header, Statements}
 use Rattle.c0_syntax.specs.Views.{declaration_of}
 use Rattle.c0_typed.specs.Trees as t
 use Rattle.c0_rules.specs.FaultPrograms.{InDeclaration, InDeclarations}
-use Rattle.c0_rules.specs.Programs.{Elaboration, is_defined, names_agree, parameter_types, signature, typed_declaration, typed_declarations, typed_function, uses_conio, with_function}
+use Rattle.c0_rules.specs.Programs.{Elaboration, begins_with_conio, is_defined, names_agree, parameter_types, signature, typed_declaration, typed_declarations, typed_function, with_function}
 use Rattle.c0_rules.specs.Types.{Environment, ResolvedType, Signature, and_so, provided, result_type, same_types}
 use Rattle.c0_types_tables.specs.Views.{resolved_of}
 use Rattle.c0_types_tables.specs.declared.resolved.ResolvedType as r
+use Rattle.c0_types.specs.DeclareViews.{in_use_by, use_of_conio}
 use Rattle.c0_types.proofs.HeaderLists.{first_left, same_self}
 
 -- ---- functions
@@ -82,10 +83,16 @@ module _ (first now : Elaboration) (i : ℕ) (declarations : List Declaration) (
 
 -- ---- what is defined
 
--- the first of what is left decides, or the rest
-pub uses_first : (i : ℕ) (declarations : List Declaration) (x : Declaration) → i < length declarations → x ≡ get_or declarations i x
-    → list_any uses_conio (map declaration_of (drop i declarations)) ≡ (uses_conio (declaration_of x) || list_any uses_conio (map declaration_of (drop (i + 1) declarations)))
-uses_first i declarations x h is = ap (λ z. list_any uses_conio (map declaration_of z)) (first_left declarations i x h is)
+-- the first declaration decides, or the others
+first_use : (d : tree.Declaration) (others : List tree.Declaration) → begins_with_conio (d ∷ others) ≡ in_use_by (use_of_conio d) (begins_with_conio others)
+first_use (tree.UseLibrary in_brackets n) others = refl
+first_use _ others = refl
+
+-- the same of what is left
+pub use_at : (i : ℕ) (declarations : List Declaration) (x : Declaration) → i < length declarations → x ≡ get_or declarations i x
+    → begins_with_conio (map declaration_of (drop i declarations)) ≡ in_use_by (use_of_conio (declaration_of x)) (begins_with_conio (map declaration_of (drop (i + 1) declarations)))
+use_at i declarations x h is =
+    ap (λ z. begins_with_conio (map declaration_of z)) (first_left declarations i x h is) ∙ first_use (declaration_of x) (map declaration_of (drop (i + 1) declarations))
 
 -- a function without parameters
 pub none_taken : (types : List r.ResolvedType) → (length types == 0) ≡ same_types (map resolved_of types) []

@@ -1,9 +1,9 @@
 -- What code holds of declarations, and what it answers, read as the definitions have it.
-use Rattle.std.specs.Prelude.{◌≡◌, ◌⊎◌, Bool, true, false, ◌&&◌, not, List, [], Option, Some, is_some, nat_le, map, Result, Ok, Err}
+use Rattle.std.specs.Prelude.{◌≡◌, ◌⊎◌, Bool, true, false, ◌&&◌, ◌||◌, not, List, [], Option, Some, is_some, nat_le, map, Result, Ok, Err}
 use Rattle.std.specs.String.{string_bytes}
 use Rattle.c0_source.specs.declared.fault.Fault.{Fault}
 use Rattle.c0_source.specs.declared.fault.FaultKind.TheVariants as k
-use Rattle.c0_syntax.specs.Trees.{ValueType, TypedName}
+use Rattle.c0_syntax.specs.Trees.{ValueType, TypedName, Declaration, UseLibrary}
 use Rattle.c0_syntax.specs.Views.{header_of, name_of}
 use Rattle.c0_syntax.specs.declared.name.Name as n
 use Rattle.c0_syntax.specs.declared.program.TypedName as y
@@ -12,7 +12,7 @@ use Rattle.c0_syntax.specs.declared.statement.Statement.{Statement}
 use Rattle.c0_typed.specs.Views.{struct_of, function_of}
 use Rattle.c0_rules.specs.FaultExpressions.{Told}
 use Rattle.c0_rules.specs.FaultPrograms.{InFields, InFunction, InHeader, LargeCause, SecondName}
-use Rattle.c0_rules.specs.Programs.{Elaboration, cell_limit, cells_in, fields_of, names_of, signature, with_function}
+use Rattle.c0_rules.specs.Programs.{Elaboration, cell_limit, cells_in, fields_of, is_conio, names_of, signature, with_function}
 use Rattle.c0_rules.specs.Types.{Name, Environment, FieldEntry, ResolvedType, Signature, and_so, are_distinct, cells_of, provided, resolved_type}
 use Rattle.c0_types_tables.specs.Views.{environment_of, resolved_of}
 use Rattle.c0_types.specs.declared.declare.Elaborated.{Elaborated}
@@ -22,6 +22,16 @@ use Rattle.c0_types.specs.declared.definitions.Field.{Field}
 abbrev pub Accepts : {T : Type 0} → Result T Fault → Bool → Type 0
 Accepts (Ok x) b = b ≡ true
 Accepts (Err f) b = (f.kind ≡ k.OutOfMemory) ⊎ (b ≡ false)
+
+-- whether a `#use` names conio; none of any other declaration
+abbrev pub use_of_conio : Declaration → Option Bool
+use_of_conio (UseLibrary in_brackets n) = Some (is_conio in_brackets n)
+use_of_conio _ = None
+
+-- whether conio is in use where this declaration is a `#use` of it, or is a `#use` before others that have it in use
+abbrev pub in_use_by : Option Bool → Bool → Bool
+in_use_by None others = false
+in_use_by (Some used) others = used || others
 
 -- a field
 abbrev pub typed_field_of : Field → FieldEntry

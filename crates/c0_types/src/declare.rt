@@ -1,18 +1,17 @@
 // The static rules of declarations, one after the other.
 
 ghost use Rattle.std.specs.Prelude.{◌≡◌, ◌⊎◌, List, [], false, true, IfErr, IfOk, OnOk, map, option_map};
-ghost use Rattle.std.specs.List.{list_any};
 ghost use Rattle.c0_source.specs.declared.fault.FaultKind.TheVariants.{OutOfMemory};
 ghost use Rattle.c0_syntax.specs.Trees.{DeclareFunction, DeclareStruct, DefineFunction, DefineStruct, Typedef as TypedefOf};
 ghost use Rattle.c0_syntax.specs.Views.{declaration_of, header_of, name_of, statements_of, type_of, typed_name_of};
 ghost use Rattle.c0_typed.specs.Views.{function_of};
 ghost use Rattle.c0_types_statements.specs.Bodies.{SpecsHaveTexts, StatementsHaveTexts};
-ghost use Rattle.c0_types.specs.DeclareViews.{InDefinition, InStruct, elaboration_of, typed_field_of};
+ghost use Rattle.c0_types.specs.DeclareViews.{InDefinition, InStruct, elaboration_of, typed_field_of, use_of_conio};
 ghost use Rattle.c0_types.specs.FunctionViews.{DeclarationHasTexts, DeclarationsHaveTexts};
 ghost use Rattle.c0_rules.specs.FaultExpressions.{TypeCause};
 ghost use Rattle.c0_rules.specs.FaultPrograms.{AnySpecs, InDeclaration, InDeclarations, InHeader};
 ghost use Rattle.c0_rules.specs.Mentions.{specs_in};
-ghost use Rattle.c0_rules.specs.Programs.{beginning, cells_in, function_defined as defined_function, function_names_of, is_main, main_name, struct_defined as defined_struct, struct_names_of, typed_declaration, typed_declarations, uses_conio as is_use_of_conio, with_struct};
+ghost use Rattle.c0_rules.specs.Programs.{beginning, begins_with_conio, cells_in, function_defined as defined_function, function_names_of, is_main, main_name, struct_defined as defined_struct, struct_names_of, typed_declaration, typed_declarations, with_struct};
 ghost use Rattle.c0_rules.specs.Types.{Name as Word, same_types};
 ghost use Rattle.c0_rules.specs.Answers.{Answers};
 ghost use Rattle.c0_types_tables.specs.Views.{environment_of, signature_of};
@@ -52,7 +51,7 @@ impl Elaborated {
     {
         let structs = struct_names(alloc, declarations)?;
         let functions = function_names(alloc, declarations)?;
-        let conio = any_uses_conio(declarations);
+        let conio = begins_with_conio(declarations);
         Ok(Elaborated {
             environment: Environment::new(alloc, conio, structs, functions),
             begun: false,
@@ -206,22 +205,26 @@ fn function_defined(declaration: &Declaration) -> Option<&Name>
     }
 }
 
-// Whether a declaration is a `#use` of conio.
-fn uses_conio(declaration: &Declaration) -> bool
-    ensures { result ≡ is_use_of_conio (declaration_of declaration.now) }
+// Whether a `#use` names conio; none of any other declaration.
+fn use_of_conio(declaration: &Declaration) -> Option<bool>
+    ensures { result ≡ use_of_conio (declaration_of declaration.now) }
 {
     match &declaration.kind {
-        DeclarationKind::UseName(library) => is_conio(true, library),
-        _ => false,
+        DeclarationKind::UseName(library) => Some(is_conio(true, library)),
+        DeclarationKind::UseText(_) => Some(false),
+        _ => None,
     }
 }
 
-/// Whether a program uses conio.
-pub(crate) fn any_uses_conio(declarations: &[Declaration]) -> bool
-    ensures { result ≡ list_any is_use_of_conio (map declaration_of declarations.now) }
+/// Whether conio is used before the first declaration that is no `#use`.
+pub(crate) fn begins_with_conio(declarations: &[Declaration]) -> bool
+    ensures { result ≡ begins_with_conio (map declaration_of declarations.now) }
 {
     for declaration in declarations {
-        if uses_conio(declaration) {
+        let Some(is_conio) = use_of_conio(declaration) else {
+            return false;
+        };
+        if is_conio {
             return true;
         }
     }

@@ -50,11 +50,11 @@ module _ (env : Environment) (at : Context) where
 
   -- ---- a value where a place is needed
 
-  pub not_there : {T : Type 0} (view : T → Typing) (r : Result T Fault) (g : Fault) (e : ExpressionKind) (span : Span) → has_form e ≡ false → Answers view r (valued (typed_expression env at (expression_of_kind e)))
-      → IfErr r (λ f. (f.kind ≡ k.OutOfMemory) ⊎ InExpression env at f AsValue e span) → IfErr r (λ f. g ≡ f) → IfOk r (λ x. Told k.TypeMismatch span g) → (g.kind ≡ k.OutOfMemory) ⊎ InExpression env at g AsPlace e span
-  not_there view (Ok x) g e span form is cause same told = let q = valued_is (typed_expression env at (expression_of_kind e)) (view x) is in inr (value_there env at g e span form (view x, q.0, q.1, told))
-  not_there view (Err f) g e span form is cause same told = subst (λ z. (z.kind ≡ k.OutOfMemory) ⊎ InExpression env at z AsPlace e span) (sym same) (of_value cause)
+  pub not_there : {T : Type 0} (view : T → Typing) (r : Result T Fault) (g : Fault) (e : ExpressionKind) (span whole : Span) → has_form e ≡ false → Answers view r (valued (typed_expression env at (expression_of_kind e)))
+      → IfErr r (λ f. (f.kind ≡ k.OutOfMemory) ⊎ InExpression env at f AsValue e span) → IfErr r (λ f. g ≡ f) → IfOk r (λ x. Told k.TypeMismatch whole g) → (g.kind ≡ k.OutOfMemory) ⊎ InExpression env at g (AsPlace whole) e span
+  not_there view (Ok x) g e span whole form is cause same told = let q = valued_is (typed_expression env at (expression_of_kind e)) (view x) is in inr (value_there env at g e span whole form (view x, q.0, q.1, told))
+  not_there view (Err f) g e span whole form is cause same told = subst (λ z. (z.kind ≡ k.OutOfMemory) ⊎ InExpression env at z (AsPlace whole) e span) (sym same) (of_value cause)
     where
-      of_value : (f.kind ≡ k.OutOfMemory) ⊎ InExpression env at f AsValue e span → (f.kind ≡ k.OutOfMemory) ⊎ InExpression env at f AsPlace e span
+      of_value : (f.kind ≡ k.OutOfMemory) ⊎ InExpression env at f AsValue e span → (f.kind ≡ k.OutOfMemory) ⊎ InExpression env at f (AsPlace whole) e span
       of_value (inl h) = inl h
-      of_value (inr h) = inr (fault_there env at f e span form h)
+      of_value (inr h) = inr (fault_there env at f e span whole form h)

@@ -215,7 +215,7 @@ impl<'a> Terms<'a> {
             ExpressionKind::Index(_, _)
             | ExpressionKind::Field(_, _)
             | ExpressionKind::PointerField(_, _) => {
-                let place = self.place_at(kind, span)?;
+                let place = self.place_at(kind, span, span)?;
                 self.read_of(place, span)
             }
             _ => unreachable!(),
@@ -283,30 +283,30 @@ impl<'a> Terms<'a> {
         Ok(typed)
     }
 
-    /// A place of the heap, small or a struct.
+    /// A place of the heap, small or a struct. With all its parentheses it stands at `whole`, where it is told that it is none.
     #[cycle(expression)]
-    pub fn place(&self, kind: &ExpressionKind, span: Span) -> Result<Place, Fault>
+    pub fn place(&self, kind: &ExpressionKind, span: Span, whole: Span) -> Result<Place, Fault>
         requires { HasTexts self.now.texts.now (expression_of_kind kind.now) }
         ensures answers { Answers (place_of self.now.texts.now) result (typed_place (env_of self.now) (context_of self.now) (expression_of_kind kind.now)) }
-        ensures cause { IfErr result (λ f. (f.kind ≡ OutOfMemory) ⊎ InExpression (env_of self.now) (context_of self.now) f AsPlace kind.now span) }
+        ensures cause { IfErr result (λ f. (f.kind ≡ OutOfMemory) ⊎ InExpression (env_of self.now) (context_of self.now) f (AsPlace whole) kind.now span) }
     {
         if has_form(kind) {
-            self.place_at(kind, span)
+            self.place_at(kind, span, whole)
         } else {
-            Err(no_place(self.value(kind, span), span))
+            Err(no_place(self.value(kind, span), whole))
         }
     }
 
     // A place by its form.
     #[cycle(expression)]
-    fn place_at(&self, kind: &ExpressionKind, span: Span) -> Result<Place, Fault>
+    fn place_at(&self, kind: &ExpressionKind, span: Span, whole: Span) -> Result<Place, Fault>
         requires texts { HasTexts self.now.texts.now (expression_of_kind kind.now) }
         requires form { has_form kind.now ≡ true }
         ensures answers { Answers (place_of self.now.texts.now) result (typed_place (env_of self.now) (context_of self.now) (expression_of_kind kind.now)) }
-        ensures cause { IfErr result (λ f. (f.kind ≡ OutOfMemory) ⊎ InExpression (env_of self.now) (context_of self.now) f AsPlace kind.now span) }
+        ensures cause { IfErr result (λ f. (f.kind ≡ OutOfMemory) ⊎ InExpression (env_of self.now) (context_of self.now) f (AsPlace whole) kind.now span) }
     {
         match kind {
-            ExpressionKind::Parenthesized(inner) => self.place(&inner.kind, inner.span),
+            ExpressionKind::Parenthesized(inner) => self.place(&inner.kind, inner.span, whole),
             ExpressionKind::Index(array, index) => {
                 let value = self.value(&array.kind, array.span)?;
                 let sized = self.array_operand(value, array.span, span)?;
@@ -319,7 +319,7 @@ impl<'a> Terms<'a> {
                 }
             }
             ExpressionKind::Field(of, name) => {
-                let outer = self.place(&of.kind, of.span)?;
+                let outer = self.place(&of.kind, of.span, of.span)?;
                 self.fielded(outer, of.span, name, span)
             }
             ExpressionKind::PointerField(of, name) => {

@@ -29,16 +29,6 @@ filter_of_map test view (x ∷ xs) = at (test (view x)) (filter_of_map test view
     at true e = ap (λ z. view x ∷ z) e
     at false e = e
 
--- a name that is not there is not missed
-pub none_lost : (n : Name) (names : List Name) → is_among n names ≡ false → filter (λ m. not (bytes_eq n m)) names ≡ names
-none_lost n [] e = refl
-none_lost n (m ∷ names) e = at (bytes_eq n m) e (none_lost n names)
-  where
-    at : (b : Bool) → (b || is_among n names) ≡ false → (is_among n names ≡ false → filter (λ m. not (bytes_eq n m)) names ≡ names)
-        → cond (not b) (m ∷ filter (λ m. not (bytes_eq n m)) names) (filter (λ m. not (bytes_eq n m)) names) ≡ m ∷ names
-    at true e k = absurd (cc e)
-    at false e k = ap (λ z. m ∷ z) (k e)
-
 or_false : (b : Bool) → b ≡ (b || false)
 or_false true = refl
 or_false false = refl

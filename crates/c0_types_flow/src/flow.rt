@@ -104,7 +104,7 @@ impl<'a> Flow<'a> {
     }
 
     // Behind an assignment to this local.
-    #[tactic(auto, using(crate::proofs::Flows::none_lost))]
+    #[tactic(auto, using(c0_rules::proofs::Assigned::none_lost))]
     fn assign(&self, alloc: Global, name: &Name) -> Result<Behind<'a>, AllocError>
         ensures { IfOk result (λ behind. behind_of (flow_of self.now) behind ≡ a.assigned_to (name_of name.now) (flow_of self.now)) }
     {

@@ -22,7 +22,7 @@ use Rattle.c0_rules.specs.Statements as s
 use Rattle.c0_rules.specs.FaultExpressions.{Told, AsValue, AsPlace, InExpression}
 use Rattle.c0_rules.specs.FaultStatements.{destination_type, has_place, InAnnotations, InPart, InStatement, InWanted, ThirdCause}
 use Rattle.c0_types_expressions.specs.Terms.{HasTexts, local_of, place_of}
-use Rattle.c0_rules.specs.Types.{and_so, provided, Name, Environment, same_type, is_small, IntType, BoolType}
+use Rattle.c0_rules.specs.Types.{and_so, provided, Name, ResolvedType, Environment, same_type, is_small, IntType, BoolType}
 use Rattle.c0_types_tables.specs.Views.{resolved_of}
 use Rattle.c0_types_statements.specs.declared.bodies.loops.LoopHead.{LoopHead}
 use Rattle.c0_types_statements.specs.declared.scope.Scope.{Scope}
@@ -124,16 +124,21 @@ abbrev pub InDestinationOf : Environment → Fault → s.Scope → Span → Expr
 InDestinationOf env fault at whole e span =
     elim (as_variable (expression_of_kind e)) as (λ o. Type 0) [
       | Some v ↦ InExpression env (s.within at) fault AsValue e span
-      | None ↦ elim (has_place (expression_of_kind e)) as (λ b. Type 0) [ true ↦ InExpression env (s.within at) fault AsPlace e span | false ↦ Told k.NotDestination whole fault ]
+      | None ↦ elim (has_place (expression_of_kind e)) as (λ b. Type 0) [ true ↦ InExpression env (s.within at) fault (AsPlace whole) e span | false ↦ Told k.NotDestination whole fault ]
     ]
 
 -- an assignment to this destination, at this place
 abbrev pub InAssigned : Environment → Fault → s.Scope → s.Destination → Span → e.Expression → Type 0
 InAssigned env fault at q span value = ((is_small (destination_type q) ≡ false) × Told k.NotSmall span fault) ⊎ InWanted env fault at (destination_type q) value
 
+-- a struct at this place, or another small value than a number, where a number is changed
+abbrev pub NoNumber : Fault → ResolvedType → Span → Type 0
+NoNumber fault r span =
+    ((is_small r ≡ false) × Told k.NotSmall span fault) ⊎ ((is_small r ≡ true) × (same_type r IntType ≡ false) × Told k.TypeMismatch span fault)
+
 -- an assignment by an operator to this destination, at this place
 abbrev pub InUpdated : Fault → s.Destination → Span → Type 0
-InUpdated fault q span = (same_type (destination_type q) IntType ≡ false) × Told k.TypeMismatch span fault
+InUpdated fault q span = NoNumber fault (destination_type q) span
 
 -- an `if` with `else`
 abbrev pub InIfElse : Environment → Fault → s.Scope → e.Expression → a.Statement → a.Statement → Type 0

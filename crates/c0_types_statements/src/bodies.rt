@@ -73,13 +73,13 @@ impl<'a> Body<'a> {
         self.terms().wanted(want, e)
     }
 
-    // A place of the heap.
-    fn place(&self, kind: &ExpressionKind, span: Span) -> Result<Place, Fault>
+    // A place of the heap; `whole` is its place with all parentheses.
+    fn place(&self, kind: &ExpressionKind, span: Span, whole: Span) -> Result<Place, Fault>
         requires { HasTexts self.now.texts.now (expression_of_kind kind.now) }
         ensures answers { Answers (place_of self.now.texts.now) result (typed_place (environment_of self.now.environment.now) (within (scope_of self.now.scope)) (expression_of_kind kind.now)) }
-        ensures cause { IfErr result (λ f. (f.kind ≡ OutOfMemory) ⊎ InExpression (environment_of self.now.environment.now) (within (scope_of self.now.scope)) f AsPlace kind.now span) }
+        ensures cause { IfErr result (λ f. (f.kind ≡ OutOfMemory) ⊎ InExpression (environment_of self.now.environment.now) (within (scope_of self.now.scope)) f (AsPlace whole) kind.now span) }
     {
-        self.terms().place(kind, span)
+        self.terms().place(kind, span, whole)
     }
 
     // An expression as a statement.

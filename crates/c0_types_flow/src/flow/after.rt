@@ -1,14 +1,30 @@
 // What is assigned behind each statement, whatever it reads.
 
 ghost use Rattle.std.specs.Prelude.{◌≡◌, IfOk, option_map};
-ghost use Rattle.c0_syntax.specs.Views.{simple_of, statement_of, statements_of};
+ghost use Rattle.c0_syntax.specs.Views.{expression_of, simple_of, statement_of, statements_of};
 ghost use Rattle.c0_rules.specs.Assignment as a;
+ghost use Rattle.c0_rules.specs.Mentions.{as_variable as variable_by};
 ghost use Rattle.c0_types_flow.specs.FlowViews.{behind_of, flow_of};
 
 use super::assigned::as_variable;
 use super::{Behind, Flow};
+use c0_syntax::expression::Expression;
 use c0_syntax::statement::{SimpleKind, SimpleStatement, Statement, StatementKind};
 use std::alloc::{AllocError, Global};
+
+// Behind an assignment to this destination, by `=`, by another operator or by a step.
+fn after_assignment<'a>(
+    alloc: Global,
+    destination: &Expression,
+    flow: &Flow<'a>,
+) -> Result<Behind<'a>, AllocError>
+    ensures { IfOk result (λ behind. behind_of (flow_of flow.now) behind ≡ a.after_assignment (variable_by (expression_of destination.now)) (flow_of flow.now)) }
+{
+    match as_variable(destination) {
+        Some(name) => flow.assign(alloc, name),
+        None => Ok(Behind::Same),
+    }
+}
 
 // Behind a simple statement.
 fn after_simple<'a>(
@@ -20,12 +36,10 @@ fn after_simple<'a>(
 {
     match &simple.kind {
         SimpleKind::Declare(_, name) => flow.declare(alloc, name),
-        SimpleKind::Assign(destination, _) => match as_variable(destination) {
-            Some(name) => flow.assign(alloc, name),
-            None => Ok(Behind::Same),
-        },
-        SimpleKind::Initialize(_, _, _) | SimpleKind::Update(_, _, _) => Ok(Behind::Same),
-        SimpleKind::Step(_, _) | SimpleKind::Evaluate(_) => Ok(Behind::Same),
+        SimpleKind::Assign(destination, _)
+        | SimpleKind::Update(destination, _, _)
+        | SimpleKind::Step(destination, _) => after_assignment(alloc, destination, flow),
+        SimpleKind::Initialize(_, _, _) | SimpleKind::Evaluate(_) => Ok(Behind::Same),
     }
 }
 

@@ -1,13 +1,13 @@
 // Simple statements.
 // A tree held where a step fails is dropped there by a call: a drop that `?` makes is proved variant by variant.
 
-ghost use Rattle.std.specs.Prelude.{◌≡◌, ◌⊎◌, IfErr, List, Some, is_ok, not, option_map};
+ghost use Rattle.std.specs.Prelude.{◌≡◌, ◌⊎◌, IfErr, List, Some, false, is_ok, not, option_map};
 ghost use Rattle.cells.specs.declared.int32.Int32Op.{Int32Op};
 ghost use Rattle.c0_source.specs.declared.fault.FaultKind.TheVariants.{OutOfMemory};
 ghost use Rattle.c0_syntax.specs.Trees as t;
 ghost use Rattle.c0_syntax.specs.Views.{expression_of, expression_of_kind, name_of, simple_of, type_of};
 ghost use Rattle.c0_typed.specs.Views.{exp_of};
-ghost use Rattle.c0_types_statements.specs.Bodies.{Declares, Gives, InAssigned, InDestinationOf, InUpdated, SimpleHasTexts, destination_of, scope_of};
+ghost use Rattle.c0_types_statements.specs.Bodies.{Declares, Gives, InAssigned, InDestinationOf, InUpdated, NoNumber, SimpleHasTexts, destination_of, scope_of};
 ghost use Rattle.c0_rules.specs.Expressions.{operator_rule};
 ghost use Rattle.c0_rules.specs.FaultStatements.{InDestination, InSimple, TakenCause, destination_type};
 ghost use Rattle.c0_rules.specs.Mentions.{as_variable};
@@ -62,6 +62,18 @@ fn operator_of_step(change: Change) -> Int32Op
     }
 }
 
+// Why a value of this type at this place is not changed by an operator on numbers.
+fn no_number(resolved: &ResolvedType, span: Span) -> Fault
+    ensures { same_type (resolved_of resolved.now) IntType ≡ false → NoNumber result (resolved_of resolved.now) span }
+{
+    let kind = if resolved.is_small() {
+        FaultKind::TypeMismatch
+    } else {
+        FaultKind::NotSmall
+    };
+    Fault { kind, span }
+}
+
 // A destination at this place holds a number.
 fn check_number(destination: &Destination<'_>, span: Span) -> Result<(), Fault>
     ensures number { (texts : List Word) → is_ok result ≡ same_type (destination_type (destination_of texts destination.now)) IntType }
@@ -74,10 +86,7 @@ fn check_number(destination: &Destination<'_>, span: Span) -> Result<(), Fault>
     if resolved.same_as(&ResolvedType::Int) {
         return Ok(());
     }
-    Err(Fault {
-        kind: FaultKind::TypeMismatch,
-        span,
-    })
+    Err(no_number(resolved, span))
 }
 
 impl<'a> Body<'a> {
@@ -196,7 +205,7 @@ impl<'a> Body<'a> {
             | ExpressionKind::Field(_, _)
             | ExpressionKind::PointerField(_, _)
             | ExpressionKind::Unary(PrefixOperator::Dereference, _) => {
-                Ok(Destination::Place(self.place(kind, span)?))
+                Ok(Destination::Place(self.place(kind, span, whole)?))
             }
             _ => Err(Fault {
                 kind: FaultKind::NotDestination,
@@ -264,27 +273,24 @@ impl<'a> Body<'a> {
         ensures answers { Gives self.now.texts.now self.now.scope result (updated (environment_of self.now.environment.now) (scope_of self.now.scope) operator (exp_of self.now.texts.now number) (destination_of self.now.texts.now destination.entry)) }
         ensures cause { IfErr result (λ f. InUpdated f (destination_of self.now.texts.now destination.entry) span) }
     {
-        let mismatch = Fault {
-            kind: FaultKind::TypeMismatch,
-            span,
-        };
         match destination {
             Destination::Local(local) => {
                 if !local.resolved.same_as(&ResolvedType::Int) {
                     drop(number);
-                    return Err(mismatch);
+                    return Err(no_number(&local.resolved, span));
                 }
                 Ok(TypedStatement::Update(local.number, operator, number))
             }
             Destination::Place(found) => {
                 let Place { resolved, place } = found;
-                let counts = resolved.same_as(&ResolvedType::Int);
-                drop(resolved);
-                if !counts {
+                if !resolved.same_as(&ResolvedType::Int) {
+                    let fault = no_number(&resolved, span);
+                    drop(resolved);
                     drop(place);
                     drop(number);
-                    return Err(mismatch);
+                    return Err(fault);
                 }
+                drop(resolved);
                 Ok(TypedStatement::StoreUpdate(place, operator, number))
             }
         }

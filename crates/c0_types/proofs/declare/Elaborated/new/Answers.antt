@@ -5,7 +5,7 @@ use Rattle.c0_types.proofs.declare.Elaborated.new.Goals as goal
 pub returns : goal.returns
 returns c = λ texts i. record {
   environment = record {
-    conio = (c.new.ensures.names.0 ∙ c.any_uses_conio-conio.ensures) i;
+    conio = (c.new.ensures.names.0 ∙ c.begins_with_conio-conio.ensures) i;
     struct_names = (c.new.ensures.names.1 ∙ c.in_ok-structs.ensures) i;
     function_names = (c.new.ensures.names.2 ∙ c.in_ok-functions.ensures) i;
     typedefs = c.new.ensures.typedefs i;

@@ -275,7 +275,7 @@ pub place-returns-else-has_form-clause-cause : goal.place-returns-else-has_form-
 place-returns-else-has_form-clause-cause t c =
     let s = c.args.self.now in
     let form = sym c.has_form.ensures ∙ c.if-has_form.false in
-    not_there (env_of s) (context_of s) (typing_of s.texts.now) c.value.result c.no_place.result c.args.kind.now c.args.span form c.value.ensures.answers c.value.ensures.cause c.no_place.ensures.fault c.no_place.ensures.value
+    not_there (env_of s) (context_of s) (typing_of s.texts.now) c.value.result c.no_place.result c.args.kind.now c.args.span c.args.whole form c.value.ensures.answers c.value.ensures.cause c.no_place.ensures.fault c.no_place.ensures.value
 
 pub place_at-returns-in_err-sized-in-Index-clause-answers : goal.place_at-returns-in_err-sized-in-Index-clause-answers
 place_at-returns-in_err-sized-in-Index-clause-answers t c =
@@ -356,7 +356,7 @@ place_at-returns-in_ok-outer-in-Field-clause-cause t c =
     let x = c.in-Field in
     let value = rw c.deref-in-Field.ensures at c.in_ok-outer-in-Field.ensures.answers in
     let outer = place_of s.texts.now c.in_ok-outer-in-Field.outer in
-    let told = rw c.deref-in-Field-3.ensures at c.fielded.ensures.cause in
+    let told = rw c.deref-in-Field-4.ensures at c.fielded.ensures.cause in
     rw x.is (causes c.fielded.result _ _ (λ f h. inl (outer, value, h)) told)
 
 pub place_at-returns-in_ok-pointer-in-PointerField-clause-cause : goal.place_at-returns-in_ok-pointer-in-PointerField-clause-cause
