@@ -5,17 +5,17 @@ use Rattle.std.specs.Prelude.{◌==◌, nat_eq, unwrap_or}
 use Rattle.std.specs.List.{filter, list_all, list_any}
 use Rattle.std.specs.HashMap.{get}
 use Rattle.std.specs.HashSet.{contains}
-use Rattle.std.proofs.lemmas.Bool.{eqb-true, eq-eqb, ne_eqb, cases_eq, and_parts, or_cases, or_left, or_right}
+use Rattle.std.proofs.lemmas.Bool.{eqb-true, eq-eqb, ne_eqb, cases_eq, and_parts, or_cases, or_left, or_parts, or_right}
 use Rattle.std.proofs.lemmas.List.Folds.{list_any-append}
 use Rattle.std.proofs.lemmas.List.Sums.{fold-append}
 use Rattle.cells.specs.declared.int32.Int32Op.TheVariants.{Add}
 use Rattle.code_form.specs.declared.form.Operation.{Operation}
-use Rattle.code_form.specs.declared.form.Operation.TheVariants.{Binary, Move}
+use Rattle.code_form.specs.declared.form.Operation.TheVariants.{Binary, CheckIndex, Move}
 use Rattle.code_form.specs.Code.{is_register}
 use Rattle.code_form.specs.Known.{written_by}
 use Rattle.middle_form.specs.Scoped.{Code, Do, Load, LoadBy, Call, Then, Choose, Loop, Block}
-use Rattle.prefetch_pass.specs.Gathered.{AreRaised, HasJust, Marks, each_of}
-use Rattle.prefetch_pass.specs.Raised.{changes_of, changes_with, is_among, is_each, is_raise, is_raised, is_raised_by, is_step, is_sum, noted_where, raised_in, summands_with, with_summand}
+use Rattle.prefetch_pass.specs.Gathered.{AreRaised, HasJust, Marks, each_of, has_checks, is_check}
+use Rattle.prefetch_pass.specs.Raised.{changes_of, changes_with, is_among, is_each, is_raise, is_raised, is_raised_by, is_step, is_sum, noted_where, offsets_with, raised_in, summands_with, with_offset, with_summand}
 
 -- ---- registers among others
 
@@ -152,7 +152,7 @@ implied false true h = sym (h refl)
 implied false false h = refl
 
 -- the table of a loop is put behind those of the loops round it
-pub entered : (ms : List Marks) (m : Marks) (test body : Code) (rs : List ℕ)
+entered : (ms : List Marks) (m : Marks) (test body : Code) (rs : List ℕ)
     → ((r : ℕ) → get nat_eq m r ≡ each_of (is_raise test body r) (changes_of r test body)) → AreRaised ms rs → AreRaised (ms ++ m ∷ []) (raised_in rs test body)
 entered ms m test body rs tells round r =
     let there = summands_with body (summands_with test rs) in
@@ -163,3 +163,35 @@ entered ms m test body rs tells round r =
     ∙ (with_marks test body r rs cs
     ∙ (implied (is_among there r) (is_raised test body rs r) (raised_there test body r rs cs (in_loop test body r rs r))
     ∙ sym (in_filter (is_raised test body rs) there r)))))
+
+-- the offsets of the test and then of the body, each with that table behind the others, are those of the loop
+pub loop_offsets : (ms pushed kept : List Marks) (m : Marks) (test body : Code) (rs ds first second : List ℕ)
+    → ((r : ℕ) → get nat_eq m r ≡ each_of (is_raise test body r) (changes_of r test body)) → AreRaised ms rs → pushed ≡ ms ++ m ∷ [] → kept ≡ pushed
+    → ((qs : List ℕ) → AreRaised pushed qs → first ≡ offsets_with test qs ds) → ((qs : List ℕ) → AreRaised kept qs → second ≡ offsets_with body qs first)
+    → second ≡ offsets_with body (raised_in rs test body) (offsets_with test (raised_in rs test body) ds)
+loop_offsets ms pushed kept m test body rs ds first second tells round p k f g =
+    let inner = raised_in rs test body in
+    let inside : AreRaised pushed inner = subst (λ (l : List Marks). AreRaised l inner) (sym p) (entered ms m test body rs tells round) in
+    let still : AreRaised kept inner = subst (λ (l : List Marks). AreRaised l inner) (sym k) inside in
+    g inner still ∙ ap (offsets_with body inner) (f inner inside)
+
+-- ---- code without checks has no offsets
+
+no_offset : (o : Operation) (rs ds : List ℕ) → is_check o ≡ false → with_offset rs o ds ≡ ds
+no_offset (CheckIndex d r i size) rs ds e = absurd (cc e)
+no_offset o rs ds e = refl
+
+pub no_offsets : (code : Code) (rs ds : List ℕ) → has_checks code ≡ false → offsets_with code rs ds ≡ ds
+no_offsets (Do o) rs ds e = no_offset o rs ds e
+no_offsets (Then a b) rs ds e =
+    let parts = or_parts (has_checks a) (has_checks b) e in
+    no_offsets b rs (offsets_with a rs ds) parts.1 ∙ no_offsets a rs ds parts.0
+no_offsets (Choose c a b) rs ds e =
+    let parts = or_parts (has_checks a) (has_checks b) e in
+    no_offsets b rs (offsets_with a rs ds) parts.1 ∙ no_offsets a rs ds parts.0
+no_offsets (Loop a c b) rs ds e =
+    let parts = or_parts (has_checks a) (has_checks b) e in
+    let inner = raised_in rs a b in
+    no_offsets b inner (offsets_with a inner ds) parts.1 ∙ no_offsets a inner ds parts.0
+no_offsets (Block a) rs ds e = no_offsets a rs ds e
+no_offsets code rs ds e = refl

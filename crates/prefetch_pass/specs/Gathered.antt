@@ -1,5 +1,5 @@
 -- What is gathered of a loop: its assignments in order, and for each register that it assigns what these tell of it.
-use Rattle.std.specs.Prelude.{◌≡◌, ℕ, ◌==◌, nat_eq, Bool, false, cond, Option, Some, None, List, [], ◌∷◌, unwrap_or, fold}
+use Rattle.std.specs.Prelude.{◌≡◌, ℕ, ◌==◌, nat_eq, Bool, false, cond, Option, Some, None, List, [], ◌∷◌, unwrap_or, fold, true, ◌||◌}
 use Rattle.std.specs.List.{list_all}
 use Rattle.std.specs.Option.{option_eq}
 use Rattle.std.specs.HashMap.{HashMap, get}
@@ -8,8 +8,9 @@ use Rattle.std.specs.declared.hash.FoldHasher.{FoldHasher}
 use Rattle.std.specs.declared.hash.BuildHasherDefault.{BuildHasherDefault}
 use Rattle.cells.specs.declared.int32.Int32Op.TheVariants.{Add}
 use Rattle.code_form.specs.declared.form.Operation.{Operation}
-use Rattle.code_form.specs.declared.form.Operation.TheVariants.{Binary, Move}
+use Rattle.code_form.specs.declared.form.Operation.TheVariants.{Binary, CheckIndex, Move}
 use Rattle.code_form.specs.Code.{is_register}
+use Rattle.middle_form.specs.Scoped.{Code, Do, Then, Choose, Loop, Block}
 use Rattle.prefetch_pass.specs.declared.changes.Assignment.{Assignment}
 use Rattle.prefetch_pass.specs.Raised.{is_among}
 
@@ -71,3 +72,19 @@ AreRaised ms rs = (r : ℕ) → last_mark ms r ≡ is_among rs r
 -- a set has just these registers
 abbrev pub HasJust : HashSet ℕ (BuildHasherDefault FoldHasher) → List ℕ → Type 0
 HasJust s rs = (r : ℕ) → contains nat_eq s r ≡ is_among rs r
+
+-- ---- what concerns no offset
+
+-- an instruction checks an index
+abbrev pub is_check : Operation → Bool
+is_check (CheckIndex d r i size) = true
+is_check o = false
+
+-- code has such an instruction
+abbrev pub has_checks : Code → Bool
+has_checks (Do o) = is_check o
+has_checks (Then a b) = has_checks a || has_checks b
+has_checks (Choose c a b) = has_checks a || has_checks b
+has_checks (Loop test c body) = has_checks test || has_checks body
+has_checks (Block a) = has_checks a
+has_checks _ = false

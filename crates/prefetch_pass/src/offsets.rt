@@ -1,6 +1,6 @@
 //! The offsets of elements at an index that is only raised.
 ghost use Rattle.middle_form.specs.ScopedViews.{scoped_code_of};
-ghost use Rattle.prefetch_pass.specs.Gathered.{AreRaised};
+ghost use Rattle.prefetch_pass.specs.Gathered.{AreRaised, has_checks as has_checks_of, is_check as is_check_of};
 ghost use Rattle.prefetch_pass.specs.Raised.{offsets_with, with_offset};
 ghost use Rattle.std.specs.Prelude.{◌≡◌, [], IfOk, List, OnOk, ℕ};
 
@@ -9,6 +9,41 @@ use code_form::Operation;
 use middle_form::ScopedCode;
 use std::alloc::{AllocError, Global};
 use std::collections::HashMap;
+
+/// Whether an instruction checks an index.
+fn is_check(operation: &Operation) -> bool
+    ensures { result ≡ is_check_of operation.now }
+{
+    match operation {
+        Operation::CheckIndex { .. } => true,
+        _ => false,
+    }
+}
+
+/// Whether code checks an index.
+fn has_checks(code: &ScopedCode) -> bool
+    ensures { result ≡ has_checks_of (scoped_code_of code.now) }
+{
+    match code {
+        ScopedCode::Sequence(parts) => {
+            for part in parts {
+                if has_checks(part) {
+                    return true;
+                }
+            }
+            false
+        }
+        ScopedCode::Do(operation) => is_check(operation),
+        ScopedCode::Choose {
+            then_code,
+            else_code,
+            ..
+        } => has_checks(then_code) || has_checks(else_code),
+        ScopedCode::Loop { test, body, .. } => has_checks(test) || has_checks(body),
+        ScopedCode::Block(inner) => has_checks(inner),
+        _ => false,
+    }
+}
 
 /// The register of an offset at an index that these loops raise, beside these offsets.
 fn note_offset(
@@ -53,6 +88,10 @@ fn note_offsets(
             note_offsets(alloc, offsets, else_code, loops)
         }
         ScopedCode::Loop { test, body, .. } => {
+            // What a loop raises is looked for only where an offset may hang on it.
+            if !has_checks(code) {
+                return Ok(());
+            }
             loops.push(raises_in(alloc, test, body)?)?;
             note_offsets(alloc, offsets, test, loops)?;
             note_offsets(alloc, offsets, body, loops)?;
