@@ -2,6 +2,7 @@ pub mod Aimed
 pub mod Hoists
 pub mod Lifts
 pub mod Parts
+pub mod Places
 pub mod Ranks
 pub mod Same
 pub mod Serving

@@ -1,7 +1,8 @@
 -- Places in lists of ways and uses, found from the first on.
-use Rattle.std.proofs.Common.{◌≡◌, ℕ, zero, suc, ◌+◌, ◌<◌, ◌≤◌, Bool, true, false, cond, Option, List, [], ◌∷◌, ◌++◌, length, get_or, drop, refl, sym, ap, ◌∙◌, arith, append_assoc}
+use Rattle.std.proofs.Common.{◌≡◌, ℕ, zero, suc, ◌+◌, ◌<◌, ◌≤◌, Bool, true, false, cond, Option, List, [], ◌∷◌, ◌++◌, length, get_or, drop, take, refl, sym, ap, ◌∙◌, arith, append_assoc}
 use Rattle.std.specs.Prelude.{nat_lt, slice_set}
 use Rattle.std.specs.List.{insert}
+use Rattle.std.proofs.lemmas.List.{take-take}
 use Rattle.middle_form.specs.declared.scoped.ScopedCode.{ScopedCode}
 use Rattle.middle_form.specs.declared.scoped.ScopedCode as scoped
 use Rattle.middle_form.specs.Scoped.{Code, Leave}
@@ -12,7 +13,7 @@ use Rattle.guard_hoisting.specs.declared.ways.Use.{Use}
 use Rattle.guard_hoisting.specs.declared.ways.Way.{Way}
 use Rattle.guard_hoisting.specs.Building.{place_below, place_through}
 use Rattle.guard_hoisting.specs.Hoisted.{closings, opening, openings}
-use Rattle.guard_hoisting.specs.Ways.{first_use, first_way, is_through, ranked_in, scope_in, serves, used_again, with_use}
+use Rattle.guard_hoisting.specs.Ways.{first_use, first_way, is_through, ranked_in, ranked_with, scope_in, serves, used_again, with_use}
 use Rattle.guard_hoisting.proofs.Tests.{nil_right}
 
 -- ---- the scope that serves a cell
@@ -85,6 +86,27 @@ below_inside n (v ∷ us) = by_test (below_inside n us) (nat_lt v.times n)
     by_test : place_below n us ≤ length us → (b : Bool) → cond b 0 (suc (place_below n us)) ≤ suc (length us)
     by_test h true = omega arith
     by_test h false = omega (arith, h)
+
+-- the first n alone have a say in which the first n are
+
+take_front : (n : ℕ) (v : Use) (vs : List Use) → take n (v ∷ take n vs) ≡ take n (v ∷ vs)
+take_front zero v vs = refl
+take_front (suc n) v vs = ap (λ (xs : List Use). v ∷ xs) (take-take n (suc n) vs (omega arith))
+
+kept_in : (n : ℕ) (u : Use) (vs : List Use) → take n (ranked_in u (take n vs)) ≡ take n (ranked_in u vs)
+kept_in zero u vs = refl
+kept_in (suc n) u [] = refl
+kept_in (suc n) u (v ∷ vs) = by_test (kept_in n u vs) (nat_lt v.times u.times)
+  where
+    by_test : take n (ranked_in u (take n vs)) ≡ take n (ranked_in u vs) → (b : Bool)
+        → take (suc n) (cond b (u ∷ v ∷ take n vs) (v ∷ ranked_in u (take n vs))) ≡ take (suc n) (cond b (u ∷ v ∷ vs) (v ∷ ranked_in u vs))
+    by_test h true = ap (λ (xs : List Use). u ∷ xs) (take_front n v vs)
+    by_test h false = ap (λ (xs : List Use). v ∷ xs) h
+
+pub kept_with : (n : ℕ) (vs us : List Use) → take n (ranked_with (take n vs) us) ≡ take n (ranked_with vs us)
+kept_with n vs [] = take-take n n vs (omega arith)
+kept_with n vs (u ∷ us) =
+    sym (kept_with n (ranked_in u (take n vs)) us) ∙ (ap (λ (xs : List Use). take n (ranked_with xs us)) (kept_in n u vs) ∙ kept_with n (ranked_in u vs) us)
 
 -- ---- the scopes of a loop, opened and left
 

@@ -1,14 +1,16 @@
 //! Which scopes a loop has.
-ghost use Rattle.guard_hoisting.specs.Building.{listed, place_below};
-ghost use Rattle.guard_hoisting.specs.Ways.{assigns as assigns_of, chosen, fitting, is_closed as is_closed_of, ranked_in, ranked_with, settled as settled_of, ways_for as ways_for_of, ways_of as ways_of_uses};
+ghost use Rattle.guard_hoisting.specs.Building.{AreAssigned, listed, place_below};
+ghost use Rattle.guard_hoisting.specs.Ways.{chosen, fitting, is_closed as is_closed_of, ranked_in, ranked_with, settled as settled_of, uses_with, ways_for as ways_for_of, ways_of as ways_of_uses};
+ghost use Rattle.middle_form.specs.Scoped.{Code};
 ghost use Rattle.middle_form.specs.ScopedViews.{scoped_code_of};
-ghost use Rattle.std.specs.Prelude.{◌≡◌, ◌≤◌, [], IfOk, IfSome, OnOk, length, map};
+ghost use Rattle.std.specs.Prelude.{◌≡◌, ◌≤◌, [], IfOk, IfSome, OnOk, length, map, take};
 
-use crate::walks::{has_loop, is_quiet, most_left, note_uses, writes};
+use crate::walks::{has_loop, is_quiet, most_left, note_uses, note_writes};
 use crate::ways::{Use, Way};
 use code_form::{Kind, is_place};
 use middle_form::ScopedCode;
 use std::alloc::{AllocError, Global};
+use std::collections::{HashMap, HashSet};
 
 /// How many scopes a loop has, at most.
 const MOST: usize = 4;
@@ -23,20 +25,27 @@ fn is_closed(test: &ScopedCode, body: &ScopedCode) -> bool
     is_quiet(test) && is_quiet(body) && most_left(test) <= 1 && most_left(body) <= 1
 }
 
-/// Whether a loop assigns a register.
-fn assigns(test: &ScopedCode, body: &ScopedCode, register: u32) -> bool
-    ensures { result ≡ assigns_of (scoped_code_of test.now) (scoped_code_of body.now) register }
+/// The registers that a loop assigns.
+fn assigned_in(
+    alloc: Global,
+    test: &ScopedCode,
+    body: &ScopedCode,
+) -> Result<HashSet<u32>, AllocError>
+    ensures { IfOk result (λ s. AreAssigned s (scoped_code_of test.now) (scoped_code_of body.now)) }
 {
-    writes(test, register) || writes(body, register)
+    let mut written = HashSet::new(alloc);
+    note_writes(&mut written, test)?;
+    note_writes(&mut written, body)?;
+    Ok(written)
 }
 
-/// A register that is used, with the scope that it may have in the loop.
-fn settled(kinds: &[Kind], test: &ScopedCode, body: &ScopedCode, used: Use) -> Use
-    ensures { result ≡ settled_of kinds.now (scoped_code_of test.now) (scoped_code_of body.now) used }
+/// A register that is used, with the scope that it may have in a loop that assigns these.
+fn settled(kinds: &[Kind], assigned: &HashSet<u32>, used: Use) -> Use
+    ensures { (test body : Code) → AreAssigned assigned.now test body → result ≡ settled_of kinds.now test body used }
 {
     let times = used.times;
     match used.way {
-        Way::Fixed { register, .. } => if assigns(test, body, register) {
+        Way::Fixed { register, .. } => if assigned.contains(&register) {
             Use {
                 way: Way::Own(register),
                 times: 0,
@@ -49,7 +58,7 @@ fn settled(kinds: &[Kind], test: &ScopedCode, body: &ScopedCode, used: Use) -> U
                 times,
             }
         },
-        Way::Own(register) => if assigns(test, body, register) {
+        Way::Own(register) => if assigned.contains(&register) {
             Use {
                 way: Way::Own(register),
                 times: 0,
@@ -65,15 +74,14 @@ fn settled(kinds: &[Kind], test: &ScopedCode, body: &ScopedCode, used: Use) -> U
 fn settle(
     alloc: Global,
     kinds: &[Kind],
-    test: &ScopedCode,
-    body: &ScopedCode,
+    assigned: &HashSet<u32>,
     uses: Vec<Use>,
 ) -> Result<Vec<Use>, AllocError>
-    ensures { IfOk result (λ v. v.items ≡ map (settled_of kinds.now (scoped_code_of test.now) (scoped_code_of body.now)) uses.items) }
+    ensures { IfOk result (λ v. (test body : Code) → AreAssigned assigned.now test body → v.items ≡ map (settled_of kinds.now test body) uses.items) }
 {
     let mut made = Vec::new(alloc);
     for used in uses {
-        made.push(settled(kinds, test, body, used))?;
+        made.push(settled(kinds, assigned, used))?;
     }
     Ok(made)
 }
@@ -90,18 +98,19 @@ fn place_for(ranked: &[Use], times: u32) -> usize
     ranked.len()
 }
 
-/// One more register in its place.
+/// One more register in its place. The first alone are kept, so that it is found at once.
 fn rank(ranked: &mut Vec<Use>, used: Use) -> Result<(), AllocError>
-    ensures { OnOk result (ranked.new.items ≡ ranked_in used ranked.old.items) }
+    ensures { OnOk result (ranked.new.items ≡ take 3 (ranked_in used ranked.old.items)) }
 {
     let place = place_for(ranked, used.times);
     ranked.insert(place, used)?;
+    ranked.truncate(OWN);
     Ok(())
 }
 
-/// The registers by their rank.
+/// The first registers by their rank.
 fn rank_all(alloc: Global, uses: Vec<Use>) -> Result<Vec<Use>, AllocError>
-    ensures { IfOk result (λ v. v.items ≡ ranked_with [] uses.items) }
+    ensures { IfOk result (λ v. take 3 v.items ≡ take 3 (ranked_with [] uses.items)) }
 {
     let mut ranked = Vec::new(alloc);
     for used in uses {
@@ -150,8 +159,20 @@ fn fit(
     if uses.len() > MOST && (has_loop(test) || has_loop(body)) {
         return Ok(None);
     }
-    let uses = settle(alloc, kinds, test, body, uses)?;
+    let assigned = assigned_in(alloc, test, body)?;
+    let uses = settle(alloc, kinds, &assigned, uses)?;
     Ok(Some(choose(alloc, uses)?))
+}
+
+/// The registers that a loop uses.
+fn uses_in(alloc: Global, test: &ScopedCode, body: &ScopedCode) -> Result<Vec<Use>, AllocError>
+    ensures { IfOk result (λ v. v.items ≡ uses_with (scoped_code_of body.now) (uses_with (scoped_code_of test.now) [])) }
+{
+    let mut uses = Vec::new(alloc);
+    let mut places = HashMap::new(alloc);
+    note_uses(&mut uses, &mut places, test)?;
+    note_uses(&mut uses, &mut places, body)?;
+    Ok(uses)
 }
 
 /// The ways of a loop's scopes; nothing where it stays as it is.
@@ -167,8 +188,6 @@ pub(crate) fn ways_for(
     if !is_closed(test, body) {
         return Ok(None);
     }
-    let mut uses = Vec::new(alloc);
-    note_uses(&mut uses, test)?;
-    note_uses(&mut uses, body)?;
+    let uses = uses_in(alloc, test, body)?;
     fit(alloc, kinds, test, body, uses)
 }

@@ -3,12 +3,15 @@ ghost use Rattle.guard_hoisting.specs.Ways.{has_loop as has_loop_of, is_quiet as
 ghost use Rattle.middle_form.specs.Discipline.{writes as writes_of};
 ghost use Rattle.middle_form.specs.ScopedViews.{scoped_code_of};
 ghost use Rattle.code_form.specs.Code.{is_register as is_register_of};
-ghost use Rattle.std.specs.Prelude.{◌≡◌, OnOk};
+ghost use Rattle.guard_hoisting.specs.Building.{ArePlaces};
+ghost use Rattle.std.specs.HashSet.{contains};
+ghost use Rattle.std.specs.Prelude.{◌≡◌, ◌||◌, OnOk, nat_eq, ℕ};
 
 use crate::ways::{Use, note};
 use code_form::{Instruction, needs_shut, written_by};
 use middle_form::ScopedCode;
 use std::alloc::AllocError;
+use std::collections::{HashMap, HashSet};
 
 /// Whether code makes no call and no allocation, and its scopes are aimed at each load and store.
 pub(crate) fn is_quiet(code: &ScopedCode) -> bool
@@ -113,57 +116,68 @@ pub(crate) fn has_loop(code: &ScopedCode) -> bool
     }
 }
 
-/// Whether a register is the one that is given.
-fn is_register(register: u32, given: Option<u32>) -> bool
-    ensures { result ≡ is_register_of register given }
+/// A register is written, if there is one.
+fn note_write(written: &mut HashSet<u32>, to: Option<u32>) -> Result<(), AllocError>
+    ensures { OnOk result ((r : ℕ) → contains nat_eq written.new r ≡ contains nat_eq written.old r || is_register_of r to) }
 {
-    match given {
-        None => false,
-        Some(other) => register == other,
-    }
+    let Some(to) = to else {
+        return Ok(());
+    };
+    written.insert(to)?;
+    Ok(())
 }
 
-/// Whether code writes a register somewhere.
-pub(crate) fn writes(code: &ScopedCode, register: u32) -> bool
-    ensures { result ≡ writes_of (scoped_code_of code.now) register }
+/// The registers that code writes somewhere are noted.
+pub(crate) fn note_writes(written: &mut HashSet<u32>, code: &ScopedCode) -> Result<(), AllocError>
+    ensures { OnOk result ((r : ℕ) → contains nat_eq written.new r ≡ contains nat_eq written.old r || writes_of (scoped_code_of code.now) r) }
 {
     match code {
         ScopedCode::Sequence(parts) => {
             for part in parts {
-                if writes(part, register) {
-                    return true;
-                }
+                note_writes(written, part)?;
             }
-            false
+            Ok(())
         }
-        ScopedCode::Do(operation) => is_register(register, written_by(operation)),
-        ScopedCode::Load { to, .. } | ScopedCode::LoadBy { to, .. } => register == *to,
-        ScopedCode::Call { to, .. } => is_register(register, *to),
+        ScopedCode::Do(operation) => note_write(written, written_by(operation)),
+        ScopedCode::Load { to, .. } | ScopedCode::LoadBy { to, .. } => {
+            note_write(written, Some(*to))
+        }
+        ScopedCode::Call { to, .. } => note_write(written, *to),
         ScopedCode::Choose {
             then_code,
             else_code,
             ..
-        } => writes(then_code, register) || writes(else_code, register),
-        ScopedCode::Loop { test, body, .. } => writes(test, register) || writes(body, register),
-        ScopedCode::Block(inner) => writes(inner, register),
+        } => {
+            note_writes(written, then_code)?;
+            note_writes(written, else_code)
+        }
+        ScopedCode::Loop { test, body, .. } => {
+            note_writes(written, test)?;
+            note_writes(written, body)
+        }
+        ScopedCode::Block(inner) => note_writes(written, inner),
         ScopedCode::Store { .. }
         | ScopedCode::StoreBy { .. }
         | ScopedCode::Aim { .. }
         | ScopedCode::Leave(_)
         | ScopedCode::Loose(_)
         | ScopedCode::Fail { .. }
-        | ScopedCode::Exit(_) => false,
+        | ScopedCode::Exit(_) => Ok(()),
     }
 }
 
 /// The registers through which code loads and stores are noted.
-pub(crate) fn note_uses(uses: &mut Vec<Use>, code: &ScopedCode) -> Result<(), AllocError>
-    ensures { OnOk result (uses.new.items ≡ uses_with (scoped_code_of code.now) uses.old.items) }
+pub(crate) fn note_uses(
+    uses: &mut Vec<Use>,
+    places: &mut HashMap<u32, usize>,
+    code: &ScopedCode,
+) -> Result<(), AllocError>
+    ensures { OnOk result (ArePlaces places.old uses.old.items → ArePlaces places.new uses.new.items × (uses.new.items ≡ uses_with (scoped_code_of code.now) uses.old.items)) }
 {
     match code {
         ScopedCode::Sequence(parts) => {
             for part in parts {
-                note_uses(uses, part)?;
+                note_uses(uses, places, part)?;
             }
             Ok(())
         }
@@ -178,20 +192,20 @@ pub(crate) fn note_uses(uses: &mut Vec<Use>, code: &ScopedCode) -> Result<(), Al
             offset,
             displacement,
             ..
-        } => note(uses, *register, *offset, *displacement),
+        } => note(uses, places, *register, *offset, *displacement),
         ScopedCode::Choose {
             then_code,
             else_code,
             ..
         } => {
-            note_uses(uses, then_code)?;
-            note_uses(uses, else_code)
+            note_uses(uses, places, then_code)?;
+            note_uses(uses, places, else_code)
         }
         ScopedCode::Loop { test, body, .. } => {
-            note_uses(uses, test)?;
-            note_uses(uses, body)
+            note_uses(uses, places, test)?;
+            note_uses(uses, places, body)
         }
-        ScopedCode::Block(inner) => note_uses(uses, inner),
+        ScopedCode::Block(inner) => note_uses(uses, places, inner),
         _ => Ok(()),
     }
 }

@@ -1,9 +1,11 @@
 //! What the scopes of a loop serve, and how often its registers are used.
-ghost use Rattle.guard_hoisting.specs.Building.{place_through};
-ghost use Rattle.guard_hoisting.specs.Ways.{first_way as first_way_of, is_through as is_through_of, scope_in, serves as serves_of, used_again as used_again_of, way_at as way_at_of, with_use};
-ghost use Rattle.std.specs.Prelude.{◌≡◌, ◌≤◌, OnOk, length};
+ghost use Rattle.guard_hoisting.specs.Building.{ArePlaces};
+ghost use Rattle.guard_hoisting.specs.Ways.{first_way as first_way_of, scope_in, serves as serves_of, used_again as used_again_of, way_at as way_at_of, with_use};
+ghost use Rattle.std.specs.HashMap.{get};
+ghost use Rattle.std.specs.Prelude.{◌≡◌, ◌≤◌, OnOk, length, nat_eq, unwrap_or};
 
 use std::alloc::AllocError;
+use std::collections::HashMap;
 
 /// What a scope serves in a loop.
 #[derive(Clone, Copy)]
@@ -65,20 +67,6 @@ pub(crate) fn way_at(ways: &[Way], scope: u8) -> Way
     }
 }
 
-/// Whether a way is that of a register.
-fn is_through(way: Way, register: u32) -> bool
-    ensures { result ≡ is_through_of way register }
-{
-    match way {
-        Way::Fixed {
-            register: pointer,
-            ..
-        } => register == pointer,
-        Way::Own(own) => register == own,
-        Way::Shared => false,
-    }
-}
-
 /// The way of a register that is used for the first time.
 fn first_way(register: u32, offset: Option<u32>, displacement: u32) -> Way
     ensures { result ≡ first_way_of register offset displacement }
@@ -108,34 +96,34 @@ fn used_again(used: Use, register: u32, offset: Option<u32>, displacement: u32) 
 }
 
 /// The place of a register among those that are used, or that behind them.
-fn place_of(uses: &[Use], register: u32) -> usize
-    ensures { result ≡ place_through register uses.now }
+fn place_of(uses: &[Use], places: &HashMap<u32, usize>, register: u32) -> usize
+    ensures { result ≡ unwrap_or (get nat_eq places.now register) (length uses.now) }
 {
-    for place in 0..uses.len() {
-        if is_through(uses[place].way, register) {
-            return place;
-        }
+    match places.get(&register) {
+        Some(place) => *place,
+        None => uses.len(),
     }
-    uses.len()
 }
 
 /// One more load or store.
 pub(crate) fn note(
     uses: &mut Vec<Use>,
+    places: &mut HashMap<u32, usize>,
     register: u32,
     offset: Option<u32>,
     displacement: u32,
 ) -> Result<(), AllocError>
-    ensures { OnOk result (uses.new.items ≡ with_use register offset displacement uses.old.items) }
+    ensures { OnOk result (ArePlaces places.old uses.old.items → ArePlaces places.new uses.new.items × (uses.new.items ≡ with_use register offset displacement uses.old.items)) }
 {
-    let place = place_of(uses, register);
+    let place = place_of(uses, places, register);
     if place < uses.len() {
         uses[place] = used_again(uses[place], register, offset, displacement);
-    } else {
-        uses.push(Use {
-            way: first_way(register, offset, displacement),
-            times: 1,
-        })?;
+        return Ok(());
     }
+    places.insert(register, place)?;
+    uses.push(Use {
+        way: first_way(register, offset, displacement),
+        times: 1,
+    })?;
     Ok(())
 }

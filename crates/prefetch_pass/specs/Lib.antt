@@ -1,3 +1,4 @@
+pub mod Gathered
 pub mod Laws
 pub mod Prefetched
 pub mod Raised

@@ -1,101 +1,81 @@
-//! How a loop assigns a register.
-ghost use Rattle.code_form.specs.Code.{is_register as is_register_of};
+//! The assignments of registers in a loop.
 ghost use Rattle.middle_form.specs.ScopedViews.{scoped_code_of};
-ghost use Rattle.prefetch_pass.specs.Raised.{changes_of, changes_with, is_among as is_among_of, noted_where};
-ghost use Rattle.std.specs.Prelude.{◌≡◌, IfOk, OnOk};
+ghost use Rattle.prefetch_pass.specs.Gathered.{changes_among};
+ghost use Rattle.prefetch_pass.specs.Raised.{changes_of, changes_with, noted_where};
+ghost use Rattle.code_form.specs.Code.{is_register};
+ghost use Rattle.std.specs.Prelude.{◌≡◌, IfOk, OnOk, ℕ};
 
 use code_form::{Operation, written_by};
 use middle_form::ScopedCode;
 use std::alloc::{AllocError, Global};
 
-/// Whether a register is one of these.
-pub(crate) fn is_among(registers: &[u32], register: u32) -> bool
-    ensures { result ≡ is_among_of registers.now register }
-{
-    for place in 0..registers.len() {
-        if register == registers[place] {
-            return true;
-        }
-    }
-    false
+/// An assignment of a register: by a simple instruction, or by a load or a call.
+#[derive(Clone, Copy)]
+pub(crate) struct Assignment {
+    pub to: u32,
+    pub change: Option<Operation>,
 }
 
-/// Whether a register is the one that is given.
-fn is_register(register: u32, given: Option<u32>) -> bool
-    ensures { result ≡ is_register_of register given }
-{
-    match given {
-        None => false,
-        Some(other) => register == other,
-    }
-}
-
-/// One more assignment, where it is so: by a simple instruction, or by a load or a call.
-fn note_where(
-    changes: &mut Vec<Option<Operation>>,
-    so: bool,
+/// One more assignment, where there is a register.
+fn note_assignment(
+    assignments: &mut Vec<Assignment>,
+    to: Option<u32>,
     change: Option<Operation>,
 ) -> Result<(), AllocError>
-    ensures { OnOk result (changes.new.items ≡ noted_where so change changes.old.items) }
+    ensures { OnOk result ((r : ℕ) → changes_among r assignments.new.items ≡ noted_where (is_register r to) change (changes_among r assignments.old.items)) }
 {
-    if so {
-        changes.push(change)?;
-    }
+    let Some(to) = to else {
+        return Ok(());
+    };
+    assignments.push(Assignment { to, change })?;
     Ok(())
 }
 
-/// The assignments of a register in code are noted.
-fn note_changes(
-    changes: &mut Vec<Option<Operation>>,
-    code: &ScopedCode,
-    register: u32,
-) -> Result<(), AllocError>
-    ensures { OnOk result (changes.new.items ≡ changes_with register (scoped_code_of code.now) changes.old.items) }
+/// The assignments in code are noted.
+fn note_assignments(assignments: &mut Vec<Assignment>, code: &ScopedCode) -> Result<(), AllocError>
+    ensures { OnOk result ((r : ℕ) → changes_among r assignments.new.items ≡ changes_with r (scoped_code_of code.now) (changes_among r assignments.old.items)) }
 {
     match code {
         ScopedCode::Sequence(parts) => {
             for part in parts {
-                note_changes(changes, part, register)?;
+                note_assignments(assignments, part)?;
             }
             Ok(())
         }
-        ScopedCode::Do(operation) => note_where(
-            changes,
-            is_register(register, written_by(operation)),
-            Some(*operation),
-        ),
-        ScopedCode::Load { to, .. } | ScopedCode::LoadBy { to, .. } => {
-            note_where(changes, register == *to, None)
+        ScopedCode::Do(operation) => {
+            note_assignment(assignments, written_by(operation), Some(*operation))
         }
-        ScopedCode::Call { to, .. } => note_where(changes, is_register(register, *to), None),
+        ScopedCode::Load { to, .. } | ScopedCode::LoadBy { to, .. } => {
+            note_assignment(assignments, Some(*to), None)
+        }
+        ScopedCode::Call { to, .. } => note_assignment(assignments, *to, None),
         ScopedCode::Choose {
             then_code,
             else_code,
             ..
         } => {
-            note_changes(changes, then_code, register)?;
-            note_changes(changes, else_code, register)
+            note_assignments(assignments, then_code)?;
+            note_assignments(assignments, else_code)
         }
         ScopedCode::Loop { test, body, .. } => {
-            note_changes(changes, test, register)?;
-            note_changes(changes, body, register)
+            note_assignments(assignments, test)?;
+            note_assignments(assignments, body)
         }
-        ScopedCode::Block(inner) => note_changes(changes, inner, register),
+        ScopedCode::Block(inner) => note_assignments(assignments, inner),
         _ => Ok(()),
     }
 }
 
-/// The assignments of a register in a loop.
-pub(crate) fn changes_in(
+/// The assignments in a loop.
+pub(crate) fn assignments_in(
     alloc: Global,
     test: &ScopedCode,
     body: &ScopedCode,
-    register: u32,
-) -> Result<Vec<Option<Operation>>, AllocError>
-    ensures { IfOk result (λ v. v.items ≡ changes_of register (scoped_code_of test.now) (scoped_code_of body.now)) }
+) -> Result<Vec<Assignment>, AllocError>
+    ensures { IfOk result (λ v. (r : ℕ) → changes_among r v.items ≡ changes_of r (scoped_code_of test.now) (scoped_code_of body.now)) }
 {
-    let mut changes = Vec::new(alloc);
-    note_changes(&mut changes, test, register)?;
-    note_changes(&mut changes, body, register)?;
-    Ok(changes)
+    let mut assignments = Vec::new(alloc);
+    note_assignments(&mut assignments, test)?;
+    note_assignments(&mut assignments, body)?;
+    Ok(assignments)
 }

@@ -5,7 +5,7 @@ ghost use Rattle.prefetch_pass.specs.Prefetched.{hinted, hinted_for, prefetched_
 ghost use Rattle.guard_hoisting.specs.Building.{is_straight};
 ghost use Rattle.std.specs.Prelude.{◌≡◌, ◌<◌, ◌+◌, IfOk, map, true};
 
-use crate::changes::is_among;
+use crate::members::{Members, is_among, members_of};
 use crate::offsets::offsets_of;
 use cells::Piece;
 use code_form::Operation;
@@ -38,13 +38,13 @@ fn hinted_access(
 fn with_hint(
     alloc: Global,
     access: ScopedCode,
-    offsets: &[u32],
+    offsets: &Members,
     register: u32,
     offset: Option<u32>,
     displacement: u32,
     ahead: u32,
 ) -> Result<ScopedCode, AllocError>
-    ensures { IfOk result (λ c. scoped_code_of c ≡ with_hint_of ahead offsets.now register offset displacement (scoped_code_of access)) }
+    ensures { IfOk result (λ c. scoped_code_of c ≡ with_hint_of ahead offsets.now.registers.items register offset displacement (scoped_code_of access)) }
 {
     let Some(offset) = offset else {
         return Ok(access);
@@ -60,10 +60,10 @@ fn with_hint(
 fn hint_straight(
     alloc: Global,
     code: ScopedCode,
-    offsets: &[u32],
+    offsets: &Members,
     ahead: u32,
 ) -> Result<ScopedCode, AllocError>
-    ensures { IfOk result (λ c. is_straight (scoped_code_of code) ≡ true → scoped_code_of c ≡ hinted ahead offsets.now (scoped_code_of code)) }
+    ensures { IfOk result (λ c. is_straight (scoped_code_of code) ≡ true → scoped_code_of c ≡ hinted ahead offsets.now.registers.items (scoped_code_of code)) }
 {
     match code {
         ScopedCode::Load {
@@ -99,10 +99,10 @@ fn hint_straight(
 fn hint_code(
     alloc: Global,
     code: ScopedCode,
-    offsets: &[u32],
+    offsets: &Members,
     ahead: u32,
 ) -> Result<ScopedCode, AllocError>
-    ensures { IfOk result (λ c. scoped_code_of c ≡ hinted ahead offsets.now (scoped_code_of code)) }
+    ensures { IfOk result (λ c. scoped_code_of c ≡ hinted ahead offsets.now.registers.items (scoped_code_of code)) }
 {
     match code {
         ScopedCode::Sequence(all) => {
@@ -142,10 +142,10 @@ fn hint_code(
 fn hint_whole(
     alloc: Global,
     code: Box<ScopedCode>,
-    offsets: &[u32],
+    offsets: &Members,
     ahead: u32,
 ) -> Result<Box<ScopedCode>, AllocError>
-    ensures { IfOk result (λ c. scoped_code_of c.value ≡ hinted ahead offsets.now (scoped_code_of code.value)) }
+    ensures { IfOk result (λ c. scoped_code_of c.value ≡ hinted ahead offsets.now.registers.items (scoped_code_of code.value)) }
 {
     let code = hint_code(alloc, Box::into_inner(code), offsets, ahead)?;
     Ok(Box::new(alloc, code)?)
@@ -167,7 +167,7 @@ fn prefetch_function(
         body,
         value,
     } = function;
-    let offsets = offsets_of(alloc, &body)?;
+    let offsets = members_of(alloc, offsets_of(alloc, &body)?)?;
     let body = hint_code(alloc, body, &offsets, ahead)?;
     Ok(ScopedFunction {
         result,

@@ -8,8 +8,10 @@
 mod changes;
 mod hints;
 mod laws;
+mod members;
 mod offsets;
 mod raised;
+mod tables;
 
 pub use hints::prefetch;
 pub use laws::{

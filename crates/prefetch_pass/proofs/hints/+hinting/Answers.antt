@@ -12,7 +12,7 @@ use Rattle.prefetch_pass.proofs.hints.+hinting.Goals as goal
 pub hint_code-returns-in-None : goal.hint_code-returns-in-None
 hint_code-returns-in-None t c =
     let n = c.args.ahead in
-    let ds = c.args.offsets.now in
+    let ds = c.args.offsets.now.registers.items in
     let all = c.in-Sequence.all in
     let gives = c.into_iter-part-iterator.ensures.into_iter_gives in
     let end = YieldsList-end (YieldsList-from_vec all.items gives.0 (gives.1 ∙ all.ok.0)) c.loop-part.yielded c.loop-part.part-iterator c.loop-part.yielded_by c.next.result c.next.new.self c.in-None.is c.next.ensures.steps in
