@@ -10,6 +10,7 @@ import tempfile
 
 import depths
 import files
+import sizes
 import stores
 from process import Failure, Process
 
@@ -19,7 +20,7 @@ def main():
         sys.exit(__doc__)
     program = os.path.abspath(sys.argv[1])
     passed = failed = 0
-    for script in (files, stores, depths):
+    for script in (files, stores, depths, sizes):
         for test in script.TESTS:
             with tempfile.TemporaryDirectory() as folder:
                 try:
