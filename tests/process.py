@@ -11,6 +11,13 @@ class Failure(Exception):
     """What a test expected did not come."""
 
 
+def lower(what, limit):
+    """Limits a resource, where no lower limit is set already."""
+    _, most = resource.getrlimit(what)
+    least = limit if most == resource.RLIM_INFINITY else min(limit, most)
+    resource.setrlimit(what, (least, least))
+
+
 class Process:
     """A program in a folder. `run` gives what it did; `check` compares that."""
 
@@ -33,9 +40,9 @@ class Process:
         """Its status, or minus the signal that ended it, and what it wrote; no more than so many bytes of stack and of memory, and so many seconds."""
 
         def limit():
-            resource.setrlimit(resource.RLIMIT_STACK, (stack, stack))
+            lower(resource.RLIMIT_STACK, stack)
             if memory is not None:
-                resource.setrlimit(resource.RLIMIT_AS, (memory, memory))
+                lower(resource.RLIMIT_AS, memory)
 
         try:
             ran = subprocess.run([self.program, *words], cwd=self.folder, capture_output=True, stdin=subprocess.DEVNULL, timeout=seconds, preexec_fn=limit, check=False)
