@@ -8,11 +8,14 @@ TEXT = "int main() { return 7; }\n"
 def many_words(it):
     """As a `*` in a large folder gives them."""
     it.write("a.c0", TEXT)
-    for command in ("check", "list", "mean"):
-        status, out, err = it.run(command, *["a.c0"] * 120_000)
-        want((status, out) == (2, b"") and err, f"{command} of many files gave {status}")
-    status, out, err = it.run(*["x"] * 120_000)
-    want((status, out) == (2, b"") and err, f"many words gave {status}")
+    for words, complaint in (
+        (["check"], "other words are wanted behind check"),
+        (["list"], "other words are wanted behind list"),
+        (["mean"], "other words are wanted behind mean"),
+        (["x"], "there is no command x"),
+    ):
+        status, out, err = it.run(*words, *["a.c0"] * 120_000)
+        want((status, out) == (2, b"") and err.startswith(f"c0far: {complaint}\n".encode()), f"{words[0]} with many words gave {status} {err[:80]}")
 
 
 def a_number_of_many_digits(it):
@@ -23,10 +26,11 @@ def a_number_of_many_digits(it):
 
 
 def a_schedule_of_many_lines(it):
-    it.write("a.c0", TEXT)
+    it.write("a.c0", "int main() { while (true) { } return 7; }\n")
     it.write("turns.schedule", "p0\n" * 300_000)
-    status, out, err = it.run("replay", "--schedule", "turns.schedule", "a.c0")
-    want(status in (0, 2) and (out or err), f"a long schedule gave {status}")
+    it.check("replay", "--schedule", "turns.schedule", "a.c0", out="running\n")
+    it.write("turns.schedule", "p0\n" * 300_000 + "p1\n")
+    it.check("replay", "--schedule", "turns.schedule", "a.c0", status=2, err="refused line 300001\n")
 
 
 def a_name_of_many_letters(it):
@@ -35,11 +39,13 @@ def a_name_of_many_letters(it):
     it.check("mean", "--turns", "1", "a.c0", out="result: 7\n")
 
 
-def brackets_beyond_the_limit(it):
-    for open_bracket, close_bracket in (("(", ")"), ("-", ""), ("!", "")):
-        it.write("a.c0", f"int main() {{ return {open_bracket * 100_000}7{close_bracket * 100_000}; }}\n")
-        status, out, err = it.run("check", "a.c0")
-        want((status, out) == (2, b"") and err.startswith(b"a.c0:1:"), f"100,000 {open_bracket} gave {status} {err[:80]}")
+def operators_beyond_the_limit(it):
+    """The function is the first of 200 nodes and the statement the second, so the 199th of these is the first that is too deep."""
+    before = "int main() { return "
+    for operator, behind in (("(", ")"), ("!", ""), ("~", ""), ("- ", "")):
+        it.write("a.c0", f"{before}{operator * 100_000}7{behind * 100_000}; }}\n")
+        column = len(before) + 1 + 198 * len(operator)
+        it.check("check", "a.c0", status=2, err=f"a.c0:1:{column}: fault 21 TooDeep\n")
 
 
 def statements_in_a_row(it):
@@ -52,6 +58,6 @@ TESTS = [
     a_number_of_many_digits,
     a_schedule_of_many_lines,
     a_name_of_many_letters,
-    brackets_beyond_the_limit,
+    operators_beyond_the_limit,
     statements_in_a_row,
 ]
