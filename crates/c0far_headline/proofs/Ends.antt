@@ -25,7 +25,7 @@ use Rattle.c0far_headline.specs.Admitted.{AdmittedHeadline, PromisedEnd, Replaye
 use Rattle.c0far_headline.specs.Headline.{EndsSo, Headline, Promised}
 
 -- an end among the ends of programs
-ended_at : (ps : ℕ → Program) (i k : ℕ) (es : List Ended) (e : Ended) → AreEnds ps i es → slice_get es k ≡ Some e → IsEnded (ps (i + k)) e
+pub ended_at : (ps : ℕ → Program) (i k : ℕ) (es : List Ended) (e : Ended) → AreEnds ps i es → slice_get es k ≡ Some e → IsEnded (ps (i + k)) e
 ended_at ps i k [] e ends is = absurd (let no : ⊥ = cc in no)
 ended_at ps i zero (x ∷ xs) e ends is =
     let same : x ≡ e = cc in
@@ -36,7 +36,7 @@ ended_at ps i (suc k) (x ∷ xs) e ends is =
     subst (λ (n : ℕ). IsEnded (ps n) e) at (ended_at ps (suc i) k xs e ends.1 is)
 
 -- what a program that stopped has stopped as
-ends_so : (P : Typed) (checks : Bool) (c : Core) (s : Stop) → stop_of c ≡ Some s → ((t : Stop) (al : _) (o : List ℕ) → c ≡ Stopped t al o → EndsSo P checks t o) → EndsSo P checks s (output_of c)
+pub ends_so : (P : Typed) (checks : Bool) (c : Core) (s : Stop) → stop_of c ≡ Some s → ((t : Stop) (al : _) (o : List ℕ) → c ≡ Stopped t al o → EndsSo P checks t o) → EndsSo P checks s (output_of c)
 ends_so P checks (Running f st al o) s is so = absurd (let no : ⊥ = cc in no)
 ends_so P checks (Stopped t al o) s is so = let same : t ≡ s = cc in subst (λ (x : Stop). EndsSo P checks x o) same (so t al o refl)
 ends_so P checks (Stuck al o) s is so = absurd (let no : ⊥ = cc in no)
@@ -76,7 +76,7 @@ admitted headline enough programs frames objects evacuators fetchers admits z is
 )
 
 -- a piece has some cells, also that of no program
-some_cells : (o : Option Verified) → 0 < (image_by o).piece
+pub some_cells : (o : Option Verified) → 0 < (image_by o).piece
 some_cells None = lit< tt
 some_cells (Some v) = piece_some (cells_in v.image.piece) (is_a_piece v.image.piece)
 

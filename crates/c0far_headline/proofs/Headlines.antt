@@ -113,12 +113,12 @@ module _ (laws : Laws) where
       (z.0, so.3 ∙ sym (stays_stopped C z.0 k so.0 so.1 so.2 (omega arith) so.3) ∙ e, λ i lt. none_of (stop_of (code_run (code C) i).0) (z.3 i lt))
 
   module _ (P : Typed) (checks : Bool) (C : Image) (behaves : Behaves P checks C) where
-    at_beginning : (c : Core) (j : ℕ) → c ≡ (code_run (code C) j).0 → (n : ℕ) × ((m : ℕ) → n ≤ m → IsPrefix (output_of c) (mean P checks m).output)
+    pub at_beginning : (c : Core) (j : ℕ) → c ≡ (code_run (code C) j).0 → (n : ℕ) × ((m : ℕ) → n ≤ m → IsPrefix (output_of c) (mean P checks m).output)
     at_beginning c j e =
         let b = behaves.runs j in
         (b.0, λ m le. further _ _ _ (subst (λ (d : Core). IsPrefix (output_of d) (mean P checks b.0).output) (sym e) b.1) (kept_prints _ _ (laws.more P checks b.0 m le)))
 
-    at_stop : (c : Core) (j : ℕ) → c ≡ (code_run (code C) j).0 → (s : Stop) (al : List Allocation) (o : List ℕ) → c ≡ Stopped s al o → EndsSo P checks s o
+    pub at_stop : (c : Core) (j : ℕ) → c ≡ (code_run (code C) j).0 → (s : Stop) (al : List Allocation) (o : List ℕ) → c ≡ Stopped s al o → EndsSo P checks s o
     at_stop c j e s al o is_stopped =
         let b = behaves.runs j in
         (b.0, λ m le. kept_stops _ _ s o (b.2 s al o (sym e ∙ is_stopped)) (laws.more P checks b.0 m le))

@@ -3,6 +3,7 @@
 
 ghost use Rattle.c0far_headline.specs.Admitted.{AdmittedHeadline, ReplayedHeadline};
 ghost use Rattle.c0far_headline.specs.Headline.{Headline};
+ghost use Rattle.c0far_headline.specs.Ran.{EndsSettle, RunHeadline};
 
 use c0_image::one_image;
 use c0_typed::more_turns;
@@ -36,4 +37,19 @@ pub fn headline_of_replays()
     ensures { ReplayedHeadline }
 {
     headline_of_admitted();
+}
+
+/// The same of the ends that `run_all` answers, program by program, whatever its threads do: what was printed is a beginning of what the text means,
+/// a stop is the meaning's with its whole output, and a want has its cause. And where the meaning ends, each end of a replay or of a run on
+/// threads that completed a certain number of instructions, which is the text's, or more, is that stop.
+pub fn headline_of_ends()
+    ensures ends { RunHeadline }
+    ensures settled { EndsSettle }
+{
+    headline();
+    one_image();
+    more_turns();
+    run_laws();
+    programs_follow();
+    wants();
 }
