@@ -7,7 +7,12 @@ use c0far::say::say_memory;
 use c0far::stream::CountedWriter;
 use std::alloc::{AllocError, Global};
 use std::process::ExitCode;
+use std::thread::{self, Builder};
 use std::{env, io};
+
+/// How many bytes the thread has for its calls on which a command is done, and how many where the system has no room for so many. A type may have
+/// as many levels as its text has bytes, and a call a level, of some 200 bytes, copies it or lets it go. What is not used takes no memory.
+const STACKS: [usize; 2] = [0x2000_0000, 0x400_0000];
 
 /// The words as slices.
 fn slices<'a>(alloc: Global, words: &'a [String]) -> Result<Vec<&'a str>, AllocError> {
@@ -18,23 +23,43 @@ fn slices<'a>(alloc: Global, words: &'a [String]) -> Result<Vec<&'a str>, AllocE
     Ok(slices)
 }
 
-fn main(rt: HostRuntime) -> io::Result<ExitCode> {
+/// Does the command that the program's words name, and gives the exit status.
+fn command(rt: &HostRuntime) -> u8 {
     let mut err = CountedWriter::new(rt.stderr());
-    let words: Vec<String> = match env::args(&rt) {
+    let words: Vec<String> = match env::args(rt) {
         Ok(words) => match words.collect(rt.alloc()) {
             Ok(words) => words,
-            Err(_refused) => return Ok(ExitCode::from(say_memory(&mut err))),
+            Err(_refused) => return say_memory(&mut err),
         },
-        Err(error) if error.kind() == io::ErrorKind::OutOfMemory => {
-            return Ok(ExitCode::from(say_memory(&mut err)));
-        }
-        Err(_unread) => return Ok(ExitCode::from(say_help(&mut err, &[]))),
+        Err(error) if error.kind() == io::ErrorKind::OutOfMemory => return say_memory(&mut err),
+        Err(_unread) => return say_help(&mut err, &[]),
     };
     let Ok(names) = slices(rt.alloc(), &words) else {
-        return Ok(ExitCode::from(say_memory(&mut err)));
+        return say_memory(&mut err);
     };
-    let mut out = CountedWriter::new(io::writer(&rt));
-    let mut files = FolderFiles::new(&rt);
-    let status = drive(rt.alloc(), &rt, &names, &mut files, &mut out, &mut err);
-    Ok(ExitCode::from(status))
+    let mut out = CountedWriter::new(io::writer(rt));
+    let mut files = FolderFiles::new(rt);
+    drive(rt.alloc(), rt, &names, &mut files, &mut out, &mut err)
+}
+
+/// The same on a thread with room for so many bytes of calls; nothing is done where no such thread can be made.
+fn command_on(rt: &HostRuntime, stack: usize) -> Option<u8> {
+    thread::scope(thread::scope_env(), rt, |scope| {
+        match Builder::new()
+            .stack_size(stack)
+            .spawn_scoped(scope, || command(rt))
+        {
+            Ok(thread) => Some(thread.join(rt)),
+            Err(_refused) => None,
+        }
+    })
+}
+
+fn main(rt: HostRuntime) -> io::Result<ExitCode> {
+    for stack in STACKS {
+        if let Some(status) = command_on(&rt, stack) {
+            return Ok(ExitCode::from(status));
+        }
+    }
+    Ok(ExitCode::from(command(&rt)))
 }
