@@ -8,6 +8,7 @@ use c0_types_tables::resolved::ResolvedType;
 use c0_types_tables::typedefs::Typedefs;
 use std::alloc::{AllocError, Global};
 use std::fmt::Write;
+use std::rc::Rc;
 use std::str::from_utf8;
 
 /// The two lines of a text.
@@ -62,6 +63,6 @@ pub(crate) fn pointer(alloc: Global, text: &[u8]) -> Result<Vec<u8>, Fault> {
     typedefs.insert(&name(alloc, known, 0)?, ResolvedType::Int)?;
     let written = written(alloc, name(alloc, asked, known.len().saturating_add(1))?)?;
     let resolved = typedefs.resolve(alloc, &written)?;
-    let same = resolved == ResolvedType::Pointer(Box::new(alloc, ResolvedType::Int)?);
+    let same = resolved == ResolvedType::Pointer(Rc::new(alloc, ResolvedType::Int)?);
     Ok(format!(in alloc; "{resolved:?} {same}")?.into_bytes())
 }

@@ -109,7 +109,7 @@ fn first_scope(
         locals,
         parameters: signature.parameters.len(),
         declared: Vec::new(alloc),
-        result: signature.result.duplicate(alloc)?,
+        result: signature.result.duplicate()?,
         in_loop: false,
     })
 }

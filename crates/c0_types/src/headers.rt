@@ -230,7 +230,7 @@ pub(crate) fn parameter_locals(
         locals.push(Local {
             name: items[i].name.text.clone()?,
             number,
-            resolved: types[i].duplicate(alloc)?,
+            resolved: types[i].duplicate()?,
         })?;
     }
     Ok(locals)

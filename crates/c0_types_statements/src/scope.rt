@@ -11,7 +11,7 @@ ghost use Rattle.c0_types_tables.specs.Views.{resolved_of};
 use c0_syntax::name::Name;
 use c0_types_expressions::typing::{Local, Place};
 use c0_types_tables::resolved::ResolvedType;
-use std::alloc::{AllocError, Global};
+use std::alloc::AllocError;
 
 /// The locals in scope, the number of parameters, the types of all other locals of the function so far, its result's type, and whether a
 /// loop of the function is round it.
@@ -51,19 +51,14 @@ impl Scope {
     }
 
     /// A new local, and its number. Where memory is refused, nothing is said of the scope.
-    pub(crate) fn push(
-        &mut self,
-        alloc: Global,
-        name: &Name,
-        resolved: ResolvedType,
-    ) -> Result<u32, AllocError>
+    pub(crate) fn push(&mut self, name: &Name, resolved: ResolvedType) -> Result<u32, AllocError>
         ensures { IfOk result (λ n. (n ≡ next_number (scope_of self.old)) × (scope_of self.new ≡ with_local (name_of name.now) (resolved_of resolved) (scope_of self.old))) }
     {
         let number = self.next_number()?;
         self.locals.push(Local {
             name: name.text.clone()?,
             number,
-            resolved: resolved.duplicate(alloc)?,
+            resolved: resolved.duplicate()?,
         })?;
         self.declared.push(resolved)?;
         Ok(number)

@@ -5,9 +5,11 @@ ghost use Rattle.c0_rules.specs.Types.{base_type, is_small, same_type};
 ghost use Rattle.c0_types_tables.specs.Views.{resolved_of};
 
 use c0_source::kind::Base;
-use std::alloc::{AllocError, Global};
+use std::alloc::AllocError;
+use std::rc::Rc;
 
-/// A type in which no name of a typedef is left. A struct is known by its name.
+/// A type in which no name of a typedef is left. A struct is known by its name. What is behind a pointer or in an array is shared by all types that
+/// were made of it, so that a copy takes one step, however deep it is.
 #[derive(Debug, PartialEq, Drop)]
 #[cycle(resolved_type)]
 pub enum ResolvedType {
@@ -17,8 +19,8 @@ pub enum ResolvedType {
     Char,
     Text,
     Struct(String),
-    Pointer(Box<ResolvedType>),
-    Array(Box<ResolvedType>),
+    Pointer(Rc<ResolvedType>),
+    Array(Rc<ResolvedType>),
 }
 
 impl ResolvedType {
@@ -65,9 +67,8 @@ impl ResolvedType {
         }
     }
 
-    /// The same type once more.
-    #[cycle(copy)]
-    pub fn duplicate(&self, alloc: Global) -> Result<ResolvedType, AllocError>
+    /// The same type once more. `Err` where memory is refused, for the name of a struct, or where there are 2^64 - 1 of it.
+    pub fn duplicate(&self) -> Result<ResolvedType, AllocError>
         ensures { IfOk result (λ r. resolved_of r ≡ resolved_of self.now) }
     {
         match self {
@@ -77,14 +78,8 @@ impl ResolvedType {
             ResolvedType::Char => Ok(ResolvedType::Char),
             ResolvedType::Text => Ok(ResolvedType::Text),
             ResolvedType::Struct(name) => Ok(ResolvedType::Struct(name.clone()?)),
-            ResolvedType::Pointer(a) => {
-                let target = a.duplicate(alloc)?;
-                Ok(ResolvedType::Pointer(Box::new(alloc, target)?))
-            }
-            ResolvedType::Array(a) => {
-                let element = a.duplicate(alloc)?;
-                Ok(ResolvedType::Array(Box::new(alloc, element)?))
-            }
+            ResolvedType::Pointer(target) => Ok(ResolvedType::Pointer(target.clone()?)),
+            ResolvedType::Array(element) => Ok(ResolvedType::Array(element.clone()?)),
         }
     }
 }

@@ -15,6 +15,7 @@ use c0_syntax::name::Name;
 use c0_syntax::value_type::{TypeKind, ValueType};
 use std::alloc::{AllocError, Global};
 use std::collections::BTreeMap;
+use std::rc::Rc;
 
 /// What each name of a typedef stands for.
 #[derive(Debug, Drop)]
@@ -100,7 +101,7 @@ impl Typedefs {
             }),
             TypeKind::Struct(name) => Ok(ResolvedType::Struct(name.text.clone()?)),
             TypeKind::Named(name) => match self.get(&name.text) {
-                Some(resolved) => Ok(resolved.duplicate(alloc)?),
+                Some(resolved) => Ok(resolved.duplicate()?),
                 None => Err(Fault {
                     kind: FaultKind::Syntax,
                     span: name.span,
@@ -108,11 +109,11 @@ impl Typedefs {
             },
             TypeKind::Pointer(target) => {
                 let resolved = self.resolve_kind(alloc, &target.kind, target.span)?;
-                Ok(ResolvedType::Pointer(Box::new(alloc, resolved)?))
+                Ok(ResolvedType::Pointer(Rc::new(alloc, resolved)?))
             }
             TypeKind::Array(element) => {
                 let resolved = self.resolve_kind(alloc, &element.kind, element.span)?;
-                Ok(ResolvedType::Array(Box::new(alloc, resolved)?))
+                Ok(ResolvedType::Array(Rc::new(alloc, resolved)?))
             }
         }
     }

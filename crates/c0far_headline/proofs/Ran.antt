@@ -76,9 +76,9 @@ ran_settled : (reliable : Type 0) (objects : ℕ) (C : Image) (j : ℕ) (s : Sto
 ran_settled reliable objects C j s al o e there is le = ⊎_elim
     (λ (below : j < e.completed). absurd (no_stop s (sym (is.going j below) ∙ stopped_so (code_run (code C) j).0 s al o there)))
     (λ (same : j ≡ e.completed).
-        let at : (code_run (code C) e.completed).0 ≡ Stopped s al o = subst (λ (n : ℕ). (code_run (code C) n).0 ≡ Stopped s al o) same there in
-        let ended = ran_so reliable objects C (code_run (code C) e.completed).0 s al o e.run at is.ends in
-        (ended.0, ended.1, ended.2, is.output ∙ ap output_of at))
+    let at : (code_run (code C) e.completed).0 ≡ Stopped s al o = subst (λ (n : ℕ). (code_run (code C) n).0 ≡ Stopped s al o) same there in
+    let ended = ran_so reliable objects C (code_run (code C) e.completed).0 s al o e.run at is.ends in
+    (ended.0, ended.1, ended.2, is.output ∙ ap output_of at))
     (below_or_same j e.completed le)
 
 -- an end that a replay tells of a program that j instructions or more leave stopped so
@@ -119,7 +119,7 @@ settled headline loops text checks cells meant means s o ends C compiled =
           let some : 0 < z.cells = subst (λ (y : _). 0 < y.cells) (sym is) (some_cells (slice_get programs 0)) in
           let from_zero : 0 + k ≡ k = omega arith in
           told_settled (told.world.programs k) by.0 s o e (stops.2 z (image_at programs) told.events told.world k (some, told.leads.follows) same)
-              (subst (λ (n : ℕ). IsEnded (told.world.programs n) e) from_zero (ended_at told.world.programs 0 k es e told.ended at)),
+          (subst (λ (n : ℕ). IsEnded (told.world.programs n) e) from_zero (ended_at told.world.programs 0 k es e told.ended at)),
       λ reliable objects programs es all k v e is too same.
           let executed : IsExecutedOver reliable objects C e = subst (λ (D : Image). IsExecutedOver reliable objects D e) same (zipped_at _ programs es k v e all is too tt) in
           ran_settled reliable objects C by.0 s stops.1.0 o e stops.1.1 executed,

@@ -27,6 +27,7 @@ use c0_syntax::operator::PrefixOperator;
 use c0_typed::{Expression as TypedExpression, ValueType};
 use c0_types_tables::resolved::ResolvedType;
 use std::alloc::AllocError;
+use std::rc::Rc;
 
 impl<'a> Terms<'a> {
     /// An expression of this type, as it was typed; a void call has no value.
@@ -81,7 +82,7 @@ impl<'a> Terms<'a> {
     ) -> Result<Typing, AllocError>
         ensures { IfOk result (λ r. typing_of self.now.texts.now r ≡ x.Has (t.ArrayOf (resolved_of element)) (y.AllocArray (x.num (env_of self.now) (resolved_of element)) (exp_of self.now.texts.now length.value))) }
     {
-        let element = Box::new(self.alloc, element)?;
+        let element = Rc::new(self.alloc, element)?;
         let value_type = self.numbered(&element)?;
         Ok(Typing::Has(
             ResolvedType::Array(element),
@@ -149,7 +150,7 @@ impl<'a> Terms<'a> {
                 TypedExpression::Print(output, arguments),
             )),
             Callee::Function(number, signature) => {
-                let resolved = signature.result.duplicate(self.alloc)?;
+                let resolved = signature.result.duplicate()?;
                 Ok(Typing::Has(resolved, TypedExpression::Call(number, arguments)))
             }
         }

@@ -24,6 +24,7 @@ use c0_typed::{Constant, Expression, Output};
 use c0_types_tables::resolved::ResolvedType;
 use c0_types_tables::signatures::Signature;
 use std::alloc::{AllocError, Global};
+use std::rc::Rc;
 
 /// What is called: an output call, or a function by its number.
 #[derive(Clone, Copy)]
@@ -107,7 +108,7 @@ impl<'a> Terms<'a> {
     {
         match local_named(self.locals, &name.text) {
             Some(local) => {
-                let resolved = local.resolved.duplicate(self.alloc)?;
+                let resolved = local.resolved.duplicate()?;
                 Ok(Typing::Has(resolved, Expression::Local(local.number)))
             }
             None => Err(fault_at(FaultKind::UnknownName, name.span)),
@@ -121,7 +122,7 @@ impl<'a> Terms<'a> {
     {
         match self.result {
             Some(resolved) => {
-                let resolved = resolved.duplicate(self.alloc)?;
+                let resolved = resolved.duplicate()?;
                 Ok(Typing::Has(resolved, Expression::Local(0)))
             }
             None => Err(fault_at(FaultKind::BadContract, span)),
@@ -163,7 +164,7 @@ impl<'a> Terms<'a> {
         ensures cause { IfErr result (λ f. (f.kind ≡ OutOfMemory) ⊎ HeldTypeCause (env_of self.now) f written.now) }
     {
         let resolved = self.held(written)?;
-        let target = Box::new(self.alloc, resolved)?;
+        let target = Rc::new(self.alloc, resolved)?;
         let value_type = self.numbered(&target)?;
         Ok(Typing::Has(ResolvedType::Pointer(target), Expression::Alloc(value_type)))
     }

@@ -22,6 +22,7 @@ use c0_typed::{Expression, Place as TypedPlace};
 use c0_types_tables::resolved::ResolvedType;
 use c0_types_tables::structs::{FieldEntry, StructEntry};
 use std::alloc::AllocError;
+use std::rc::Rc;
 
 impl<'a> Terms<'a> {
     /// What a pointer points to. NULL itself points to nothing, which is told at the sign.
@@ -46,13 +47,13 @@ impl<'a> Terms<'a> {
     }
 
     // What this pointer points to, of this type.
-    fn target_of(&self, target: Box<ResolvedType>, e: Expression) -> Result<Place, AllocError>
+    fn target_of(&self, target: Rc<ResolvedType>, e: Expression) -> Result<Place, AllocError>
         ensures { IfOk result (λ r. x.pointed (env_of self.now) (x.Has (t.PointerTo (resolved_of target.value)) (exp_of self.now.texts.now e)) ≡ Some (place_of self.now.texts.now r)) }
     {
         let pointer = Box::new(self.alloc, e)?;
         let value_type = self.numbered(&target)?;
         Ok(Place {
-            resolved: Box::into_inner(target),
+            resolved: target.duplicate()?,
             place: TypedPlace::Deref(value_type, pointer),
         })
     }
@@ -89,7 +90,7 @@ impl<'a> Terms<'a> {
     // An element of this array, of this type.
     fn element_at(
         &self,
-        element: Box<ResolvedType>,
+        element: Rc<ResolvedType>,
         array: Expression,
         index: Expression,
         span: Span,
@@ -105,7 +106,7 @@ impl<'a> Terms<'a> {
         let (array, index) = boxed(self.alloc, array, index)?;
         let value_type = self.numbered(&element)?;
         Ok(Place {
-            resolved: Box::into_inner(element),
+            resolved: element.duplicate()?,
             place: TypedPlace::Index(value_type, array, index),
         })
     }
@@ -180,7 +181,7 @@ impl<'a> Terms<'a> {
             return Err(AllocError);
         }
         let number = self.environment.struct_names.number(name);
-        let resolved = field.resolved.duplicate(self.alloc)?;
+        let resolved = field.resolved.duplicate()?;
         Ok(Place {
             resolved,
             place: TypedPlace::Field(number, place, field.number as u32),

@@ -23,6 +23,7 @@ use c0_syntax::operator::PrefixOperator;
 use c0_typed::{Expression, Relation, UnaryOperator, ValueType};
 use c0_types_tables::resolved::ResolvedType;
 use std::alloc::{AllocError, Global};
+use std::rc::Rc;
 
 /// A fault at a place.
 pub(crate) fn fault_at(kind: FaultKind, span: Span) -> Fault
@@ -461,7 +462,7 @@ impl<'a> Terms<'a> {
     }
 
     // The length of this array, of elements of this type.
-    fn length_of(&self, element: Box<ResolvedType>, array: Expression) -> Result<Typing, AllocError>
+    fn length_of(&self, element: Rc<ResolvedType>, array: Expression) -> Result<Typing, AllocError>
         ensures { IfOk result (λ r. typing_of self.now.texts.now r ≡ x.Has IntType (t.Length (x.num (env_of self.now) (resolved_of element.value)) (exp_of self.now.texts.now array))) }
     {
         let array = Box::new(self.alloc, array)?;

@@ -113,7 +113,7 @@ impl<'a> Body<'a> {
         ensures cause { IfErr result (λ f. (f.kind ≡ OutOfMemory) ⊎ TakenCause (environment_of self.old.environment.now) f (scope_of self.old.scope) name.now) }
     {
         self.check_free(name)?;
-        Ok(self.scope.push(self.alloc, name, resolved)?)
+        Ok(self.scope.push(name, resolved)?)
     }
 
     // A declaration of a local without a value.
