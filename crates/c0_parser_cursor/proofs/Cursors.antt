@@ -1,6 +1,15 @@
 -- The next token, and names of types.
-use Rattle.std.proofs.Common.{◌≡◌, ◌≤◌, ◌<◌, ◌+◌, ℕ, zero, suc, Bool, true, false, List, [], ◌∷◌, ◌++◌, length, map, drop, get_or, refl, sym, ap, ◌∙◌, arith, Option, Some, None, Bor, ◌||◌}
+use Rattle.std.proofs.Common.{◌≡◌, ◌≤◌, ℕ, Bool, true, false, List, [], ◌∷◌, ◌++◌, length, map, drop, get_or, refl, sym, ap, ◌∙◌, arith, subst, Option, Some, None, Bor, Vec, Global, ◌||◌}
+use Rattle.std.specs.BTreeSet.{BTreeSet, UpdatesBy, contains_by}
+use Rattle.std.specs.Cmp.{eq_by_cmp_equiv}
+use Rattle.std.specs.Cmp.Lexicographic.{bytes_decides, nat_list_cmp_total, nat_list_eq_equiv, slice_cmp}
+use Rattle.std.specs.List.{list_any}
+use Rattle.std.specs.Map.{AreApart, IsKeyTest}
+use Rattle.std.specs.Ordering.{is_eq, nat_cmp}
+use Rattle.std.specs.Set.{KeepsOthers}
+use Rattle.std.specs.Prelude.{cond}
 use Rattle.std.specs.Str.{bytes_eq}
+use Rattle.std.proofs.lemmas.Map.Text.{is_eq-slice_cmp}
 use Rattle.c0_source.specs.declared.kind.Kind.{Kind}
 use Rattle.c0_source.specs.declared.kind.Kind.TheVariants as k
 use Rattle.c0_source.specs.Terminals.{Terminal, terminal_by, terminals, or_empty, use_terminal}
@@ -44,39 +53,29 @@ pub last_push : (before : List (List ℕ)) (xs : List (Bor (List ℕ))) (y : Bor
 last_push before [] y = refl
 last_push before (x ∷ xs) y = last_push (x.now ∷ before) xs y
 
-pub same_before : (a b xs : List (List ℕ)) (x : List ℕ) → is_type_name a x ≡ is_type_name b x → is_type_name (last_first a xs) x ≡ is_type_name (last_first b xs) x
-same_before a b [] x e = e
-same_before a b (y ∷ ys) x e = same_before (y ∷ a) (y ∷ b) ys x (ap (λ c. bytes_eq y x || c) e)
+-- ---- names in a set
 
-kept : (a xs : List (List ℕ)) (x : List ℕ) → is_type_name a x ≡ true → is_type_name (last_first a xs) x ≡ true
-kept a [] x e = e
-kept a (y ∷ ys) x e = kept (y ∷ a) ys x (either (bytes_eq y x) (is_type_name a x) e)
+apart : (a b c : List ℕ) → bytes_eq a b ≡ false → bytes_eq a c ≡ true → bytes_eq b c ≡ false
+apart a b c other same = nat_list_eq_equiv.symm b c ∙ sym (nat_list_eq_equiv.congr a c b same) ∙ other
+
+apart_in_order : (a b c : List ℕ) → bytes_eq a b ≡ false → is_eq (slice_cmp nat_cmp a c) ≡ true → is_eq (slice_cmp nat_cmp b c) ≡ false
+apart_in_order a b c other same = is_eq-slice_cmp b c ∙ apart a b c other (sym (is_eq-slice_cmp a c) ∙ same)
+
+module _ {K : Type 0} (eq : K → K → Bool) (test : K → Bool) where
+  other_keys : (old new : List K) → KeepsOthers eq test old new → (other : K → Bool) → IsKeyTest eq other → AreApart test other → list_any other new ≡ list_any other old
+  unfolding KeepsOthers
+  other_keys old new h = h
+
+cond_or : (b c : Bool) → cond b true c ≡ (b || c)
+cond_or true c = refl
+cond_or false c = refl
+
+-- a set of names with one name more has it, and what it had
+pub known_after : (known after : BTreeSet (Vec ℕ Global)) (before : List (List ℕ)) (y : Vec ℕ Global) → UpdatesBy (λ a b. slice_cmp nat_cmp a.items b.items) (λ k. slice_cmp nat_cmp y.items k.items) known after true
+    → ((n : List ℕ) → contains_by (λ k. slice_cmp nat_cmp n k.items) known ≡ is_type_name before n)
+    → (n : List ℕ) → contains_by (λ k. slice_cmp nat_cmp n k.items) after ≡ is_type_name (y.items ∷ before) n
+known_after known after before y updates holds n = at (bytes_eq y.items n) refl ∙ cond_or (bytes_eq y.items n) (contains_by (λ k. slice_cmp nat_cmp n k.items) known) ∙ ap (λ b. bytes_eq y.items n || b) (holds n)
   where
-    either : (b c : Bool) → c ≡ true → (b || c) ≡ true
-    either true c e = refl
-    either false c e = e
-
--- the first name is this one
-pub is_first : (y x : List ℕ) (ys : List (List ℕ)) → bytes_eq y x ≡ true → is_type_name (last_first [] (y ∷ ys)) x ≡ true
-is_first y x ys e = kept (y ∷ []) ys x (rw e refl)
-
--- ... or is not
-pub not_first : (y x : List ℕ) (ys : List (List ℕ)) → bytes_eq y x ≡ false → is_type_name (last_first [] (y ∷ ys)) x ≡ is_type_name (last_first [] ys) x
-not_first y x ys e = same_before (y ∷ []) [] ys x (rw e refl)
-
-drop_at : {A : Type 0} (xs : List A) (i : ℕ) (d : A) → i < length xs → drop i xs ≡ get_or xs i d ∷ drop (suc i) xs
-drop_at [] i d lt = absurd (omega arith)
-drop_at (x ∷ xs) zero d lt = refl
-drop_at (x ∷ xs) (suc i) d lt = drop_at xs i d (omega arith)
-
--- one turn of the search for a name
-pub found_at : (xs : List (Bor (List ℕ))) (i : ℕ) (d : Bor (List ℕ)) (x : List ℕ) (total : Bool) → i < length xs → bytes_eq (get_or xs i d).now x ≡ true → is_type_name (last_first [] (texts (drop i xs))) x ≡ total → true ≡ total
-found_at xs i d x total lt e so_far =
-    let one : is_type_name (last_first [] (texts (drop i xs))) x ≡ true = rw (drop_at xs i d lt) (is_first (get_or xs i d).now x (texts (drop (suc i) xs)) e) in
-    sym one ∙ so_far
-
-pub not_at : (xs : List (Bor (List ℕ))) (i : ℕ) (d : Bor (List ℕ)) (x : List ℕ) (total : Bool) → i < length xs → bytes_eq (get_or xs i d).now x ≡ false → is_type_name (last_first [] (texts (drop i xs))) x ≡ total → is_type_name (last_first [] (texts (drop (i + 1) xs))) x ≡ total
-not_at xs i d x total lt e so_far =
-    let one : is_type_name (last_first [] (texts (drop i xs))) x ≡ is_type_name (last_first [] (texts (drop (suc i) xs))) x = rw (drop_at xs i d lt) (not_first (get_or xs i d).now x (texts (drop (suc i) xs)) e) in
-    let turn : i + 1 ≡ suc i = omega arith in
-    rw turn (sym one ∙ so_far)
+    at : (b : Bool) → bytes_eq y.items n ≡ b → contains_by (λ k. slice_cmp nat_cmp n k.items) after ≡ cond b true (contains_by (λ k. slice_cmp nat_cmp n k.items) known)
+    at true e = subst (λ l. contains_by (λ k. slice_cmp nat_cmp l k.items) after ≡ true) ((bytes_decides y.items n).0 e) updates.1
+    at false e = other_keys _ _ _ _ updates.3 _ (λ a b. (eq_by_cmp_equiv nat_list_cmp_total).congr n a.items b.items) (λ k. apart_in_order y.items n k.items e)

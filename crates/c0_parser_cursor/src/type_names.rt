@@ -10,8 +10,10 @@ use std::marker::Model;
 /// The names that `typedef`s have declared so far, the last one first.
 #[derive(Drop)]
 pub struct TypeNames<'a> {
+    alloc: Global,
     names: Vec<&'a [u8]>,
-    known: BTreeSet<&'a [u8]>,
+    // The same names, where they are sought.
+    known: BTreeSet<Vec<u8>>,
 }
 
 impl<'a> Model for TypeNames<'a> {
@@ -26,7 +28,7 @@ impl<'a> Model for TypeNames<'a> {
 
     ghost view = { λ t. last_first [] (map (λ x. x.now) t.names.items) };
 
-    ghost invariant = { λ t. (n : List ℕ) → contains_by (λ k. slice_cmp nat_cmp n k.now) t.known ≡ is_type_name (last_first [] (map (λ x. x.now) t.names.items)) n };
+    ghost invariant = { λ t. (n : List ℕ) → contains_by (λ k. slice_cmp nat_cmp n k.items) t.known ≡ is_type_name (last_first [] (map (λ x. x.now) t.names.items)) n };
 }
 
 impl<'a> TypeNames<'a> {
@@ -35,6 +37,7 @@ impl<'a> TypeNames<'a> {
         ensures { result ≡ [] }
     {
         TypeNames {
+            alloc,
             names: Vec::new(alloc),
             known: BTreeSet::new(alloc),
         }
@@ -44,15 +47,19 @@ impl<'a> TypeNames<'a> {
     pub fn contains(&self, name: &[u8]) -> bool
         ensures { result ≡ is_type_name self.now name.now }
     {
-        self.known.contains(&name)
+        self.known.contains(name)
     }
 
     /// One name more. `Err` where memory is refused; what is left then is not told.
     pub fn add(&mut self, name: &'a [u8]) -> Result<(), AllocError>
         ensures { IfOk result (λ _. self.new ≡ name.now ∷ self.old) }
     {
-        self.known.insert(name)?;
+        let letters = Vec::from_slice(self.alloc, name)?;
         self.names.push(name)?;
+        if let Err(refused) = self.known.insert(letters) {
+            self.names.pop();
+            return Err(refused.into());
+        }
         Ok(())
     }
 }
