@@ -38,14 +38,14 @@ impl FaultPlan {
 // A plan, and the count of calls that ways share. It has no type parameter, since the checker does not cover a method of
 // `RawStore` that calls a method over `S` in which an atomic is stepped.
 #[derive(Drop)]
-struct PlannedCalls {
-    plan: FaultPlan,
-    count: Arc<AtomicU64>,
+pub(crate) struct PlannedCalls {
+    pub(crate) plan: FaultPlan,
+    pub(crate) count: Arc<AtomicU64>,
 }
 
 impl PlannedCalls {
     // Counts a call, and says whether it fails by plan.
-    fn next_fails(&self) -> bool
+    pub(crate) fn next_fails(&self) -> bool
         ensures { result ≡ true → MayFail self.now.plan }
     {
         let before = self.count.fetch_add(1, Ordering::SeqCst);

@@ -107,6 +107,13 @@ impl<'a, S: RawStore> Program<'a, S> {
         self.completed
     }
 
+    /// How many calls of the store were refused through the seat's port, modulo 2^64.
+    pub(crate) fn refusals(&self) -> u64
+        ensures { result ≡ self.now.refusals }
+    {
+        self.owner.refusals()
+    }
+
     pub(crate) fn output(&self) -> &[u8]
         ensures { result.now ≡ output_of self.now.core }
     {

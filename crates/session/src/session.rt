@@ -138,4 +138,11 @@ impl<'a, S: RawStore> Session<'a, S> {
     {
         self.program.completed()
     }
+
+    /// How many calls of the store were refused through the session's own port, modulo 2^64.
+    pub fn refusals(&self) -> u64
+        ensures { result ≡ self.now.refusals }
+    {
+        self.program.refusals()
+    }
 }
