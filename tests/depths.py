@@ -53,6 +53,38 @@ def statements_in_a_row(it):
     it.check("run", "a.c0", out="result: 2000\n", memory=2_048 * MEBIBYTE)
 
 
+def typedefs(count, stars):
+    """Each name stands for what the one before it stands for, with so many pointers more."""
+    names = ["int"] + [f"t{number}" for number in range(count)]
+    return "".join(f"typedef {names[number]}{'*' * stars} {names[number + 1]};\n" for number in range(count))
+
+
+def types_of_many_levels(it):
+    """A type has as many levels as its text has stars: 47,500 here, and 190,000 where it is used, too."""
+    it.write("a.c0", typedefs(250, 190) + TEXT)
+    for stack in (8 * MEBIBYTE, MEBIBYTE * 3 // 4):
+        it.check("check", "a.c0", out="ok\n", stack=stack)
+        it.check("run", "a.c0", out="result: 7\n", stack=stack)
+        it.check("mean", "--turns", "1", "a.c0", out="result: 7\n", stack=stack)
+        it.check("build", "-o", "a.c0i", "a.c0", stack=stack)
+    it.write("a.c0", typedefs(1_000, 190) + "int main() { t999 x = NULL; if (x == NULL) { return 7; } return 8; }\n")
+    it.check("check", "a.c0", out="ok\n")
+    it.check("mean", "--turns", "1", "a.c0", out="result: 7\n")
+
+
+def typedefs_of_typedefs(it):
+    """What a name stands for is kept once."""
+    it.write("a.c0", typedefs(40_000, 1) + TEXT)
+    it.check("check", "a.c0", out="ok\n", memory=512 * MEBIBYTE, seconds=20)
+
+
+def nests_on_a_small_stack(it):
+    it.write("a.c0", "int main() { int x = 7; " + "if (x == 7) { " * 95 + "x = x + 1; " + "}" * 95 + " return x; }\n")
+    for command in (["check"], ["run"], ["mean", "--turns", "1"]):
+        status, out, err = it.run(*command, "a.c0", stack=MEBIBYTE // 2)
+        want((status, err) == (0, b"") and out in (b"ok\n", b"result: 8\n"), f"{command[0]} gave {status} {out[:80]} {err[:80]}")
+
+
 TESTS = [
     many_words,
     a_number_of_many_digits,
@@ -60,4 +92,7 @@ TESTS = [
     a_name_of_many_letters,
     operators_beyond_the_limit,
     statements_in_a_row,
+    types_of_many_levels,
+    typedefs_of_typedefs,
+    nests_on_a_small_stack,
 ]

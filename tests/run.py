@@ -9,6 +9,7 @@ import sys
 import tempfile
 
 import depths
+import drawn
 import files
 import sizes
 import stores
@@ -20,7 +21,7 @@ def main():
         sys.exit(__doc__)
     program = os.path.abspath(sys.argv[1])
     passed = failed = 0
-    for script in (files, stores, depths, sizes):
+    for script in (files, stores, depths, sizes, drawn):
         for test in script.TESTS:
             with tempfile.TemporaryDirectory() as folder:
                 try:

@@ -7,7 +7,9 @@ use c0far::say::say_memory;
 use c0far::stream::CountedWriter;
 use std::alloc::{AllocError, Global};
 use std::process::ExitCode;
-use std::thread::{self, Builder};
+use std::sync::Wait;
+use std::thread::{self, Builder, Threads};
+use std::time::Clock;
 use std::{env, io};
 
 /// How many bytes the thread has for its calls on which a command is done, and how many where the system has no room for so many. A type may have
@@ -23,31 +25,36 @@ fn slices<'a>(alloc: Global, words: &'a [String]) -> Result<Vec<&'a str>, AllocE
     Ok(slices)
 }
 
-/// Does the command that the program's words name, and gives the exit status.
-fn command(rt: &HostRuntime) -> u8 {
-    let mut err = CountedWriter::new(rt.stderr());
-    let words: Vec<String> = match env::args(rt) {
-        Ok(words) => match words.collect(rt.alloc()) {
+/// Does the command that the program's words name, in the process of `host`, and gives the exit status.
+fn command<R: Wait + Threads + Clock + Sync>(host: &HostRuntime, rt: &R) -> u8 {
+    let alloc = host.alloc();
+    let mut err = CountedWriter::new(host.stderr());
+    let words: Vec<String> = match env::args(host) {
+        Ok(words) => match words.collect(alloc) {
             Ok(words) => words,
             Err(_refused) => return say_memory(&mut err),
         },
         Err(error) if error.kind() == io::ErrorKind::OutOfMemory => return say_memory(&mut err),
         Err(_unread) => return say_help(&mut err, &[]),
     };
-    let Ok(names) = slices(rt.alloc(), &words) else {
+    let Ok(names) = slices(alloc, &words) else {
         return say_memory(&mut err);
     };
-    let mut out = CountedWriter::new(io::writer(rt));
-    let mut files = FolderFiles::new(rt);
-    drive(rt.alloc(), rt, &names, &mut files, &mut out, &mut err)
+    let mut out = CountedWriter::new(io::writer(host));
+    let mut files = FolderFiles::new(host);
+    drive(alloc, rt, &names, &mut files, &mut out, &mut err)
 }
 
 /// The same on a thread with room for so many bytes of calls; nothing is done where no such thread can be made.
-fn command_on(rt: &HostRuntime, stack: usize) -> Option<u8> {
+fn command_on<R: Wait + Threads + Clock + Sync>(
+    host: &HostRuntime,
+    rt: &R,
+    stack: usize,
+) -> Option<u8> {
     thread::scope(thread::scope_env(), rt, |scope| {
         match Builder::new()
             .stack_size(stack)
-            .spawn_scoped(scope, || command(rt))
+            .spawn_scoped(scope, || command(host, rt))
         {
             Ok(thread) => Some(thread.join(rt)),
             Err(_refused) => None,
@@ -57,9 +64,9 @@ fn command_on(rt: &HostRuntime, stack: usize) -> Option<u8> {
 
 fn main(rt: HostRuntime) -> io::Result<ExitCode> {
     for stack in STACKS {
-        if let Some(status) = command_on(&rt, stack) {
+        if let Some(status) = command_on(&rt, &rt, stack) {
             return Ok(ExitCode::from(status));
         }
     }
-    Ok(ExitCode::from(command(&rt)))
+    Ok(ExitCode::from(command(&rt, &rt)))
 }

@@ -142,6 +142,10 @@ module _ (n : ℕ) where
       let s = learned_settled singles ty in
       (settled_kept inner (with_kind (kind.Arr k) inner) ty x s, subst (λ j. Has (kind.Arr j) (with_kind (kind.Arr k) inner)) (sym (same_number inner (with_kind (kind.Arr k) inner) ty x s)) (with_kind_has (kind.Arr k) inner))
 
+  -- one kind more changes no layout of a type that was learned
+  pub number_kept : (singles : List Kind) (ty : t.Ty) (k : Kind) → layout_number n (with_kind k (learned n singles ty)) ty ≡ layout_number n (learned n singles ty) ty
+  number_kept singles ty k = same_number (learned n singles ty) (with_kind k (learned n singles ty)) ty (with_kind_grows k (learned n singles ty)) (learned_settled singles ty)
+
   settled_known : (singles : List Kind) (ty : t.Ty) → Settled singles ty → IsKnown n singles ty
   settled_known singles t.VoidTy s h = absurd h
   settled_known singles (t.StructTy j) s h = absurd h

@@ -1,11 +1,12 @@
 //! The kinds of single cells that a program needs.
 ghost use Rattle.c0_typed.specs.Views.{type_of};
 ghost use Rattle.lower_tables.specs.Gathered.{all_learned, learned, singles_of, types_at, types_in, types_in_all, types_of, types_of_all, types_of_function, types_of_functions, with_kind};
+ghost use Rattle.lower_tables.specs.Kinds.{layout_number as layout_with};
 ghost use Rattle.lower_tables.specs.Known.{KnowsProgram};
 ghost use Rattle.lower_tables.specs.Tables.{structs_of};
 ghost use Rattle.std.specs.Prelude.{◌≡◌, ◌++◌, ◌+◌, ◌<◌, ◌^◌, IfOk, OnOk, length, map};
 
-use crate::kinds::{layout_number, position};
+use crate::kinds::{position, single_layout, struct_number};
 use c0_typed::{Expression, Function, Place, Statement, Typed, ValueType};
 use code_form::Kind;
 use std::alloc::{AllocError, Global};
@@ -26,29 +27,26 @@ fn add_kind(structs: u32, singles: &mut Vec<Kind>, kind: Kind) -> Result<(), All
     Ok(())
 }
 
-/// What a type tells.
-fn learn(structs: u32, singles: &mut Vec<Kind>, ty: &ValueType) -> Result<(), AllocError>
+/// What a type tells, and the number of its layout then.
+#[tactic(auto, using(crate::proofs::CodeKnown::number_kept))]
+fn learn(structs: u32, singles: &mut Vec<Kind>, ty: &ValueType) -> Result<u32, AllocError>
     requires { structs + length singles.old.items + 1 < 2 ^ 32 }
     ensures numbered { structs + length singles.new.items + 1 < 2 ^ 32 }
     ensures learned { OnOk result (singles.new.items ≡ learned structs singles.old.items (type_of ty.now)) }
+    ensures layout { IfOk result (λ n. n ≡ layout_with structs singles.new.items (type_of ty.now)) }
 {
-    match ty {
-        ValueType::Void | ValueType::Struct(_) => Ok(()),
-        ValueType::Int => add_kind(structs, singles, Kind::Int),
-        ValueType::Bool => add_kind(structs, singles, Kind::Bool),
-        ValueType::Char => add_kind(structs, singles, Kind::Char),
-        ValueType::Text => add_kind(structs, singles, Kind::Text),
-        ValueType::Pointer(inner) => {
-            learn(structs, singles, inner)?;
-            let kind = Kind::Ptr(layout_number(structs, singles, inner));
-            add_kind(structs, singles, kind)
-        }
-        ValueType::Array(inner) => {
-            learn(structs, singles, inner)?;
-            let kind = Kind::Arr(layout_number(structs, singles, inner));
-            add_kind(structs, singles, kind)
-        }
-    }
+    let kind = match ty {
+        ValueType::Void => return Ok(structs),
+        ValueType::Struct(number) => return Ok(struct_number(structs, *number)),
+        ValueType::Int => Kind::Int,
+        ValueType::Bool => Kind::Bool,
+        ValueType::Char => Kind::Char,
+        ValueType::Text => Kind::Text,
+        ValueType::Pointer(inner) => Kind::Ptr(learn(structs, singles, inner)?),
+        ValueType::Array(inner) => Kind::Arr(learn(structs, singles, inner)?),
+    };
+    add_kind(structs, singles, kind)?;
+    Ok(single_layout(structs, singles, kind))
 }
 
 /// What an expression tells.
@@ -79,7 +77,10 @@ fn from_expression(
         Expression::Call(_, given) => from_expressions(structs, singles, given),
         Expression::Print(_, given) => from_expressions(structs, singles, given),
         Expression::Load(_, place) => from_place(structs, singles, place),
-        Expression::Alloc(ty) => learn(structs, singles, ty),
+        Expression::Alloc(ty) => {
+            learn(structs, singles, ty)?;
+            Ok(())
+        }
         Expression::AllocArray(ty, count) => {
             learn(structs, singles, ty)?;
             from_expression(structs, singles, count)

@@ -2,7 +2,7 @@
 ghost use Rattle.c0_typed.specs.Views.{type_of};
 ghost use Rattle.code_form.specs.Code.{same_kind};
 ghost use Rattle.lower_tables.specs.Kinds.{kind_of as kind_with, layout_number as layout_with, position as place_of, single_layout as single_with};
-ghost use Rattle.std.specs.Prelude.{◌≡◌, ◌+◌, ◌<◌, ◌≤◌, ◌^◌, length};
+ghost use Rattle.std.specs.Prelude.{◌≡◌, ◌+◌, ◌<◌, ◌≤◌, ◌^◌, cond, length, nat_lt};
 
 use c0_typed::ValueType;
 use code_form::Kind;
@@ -36,7 +36,7 @@ pub(crate) fn position(kinds: &[Kind], kind: Kind) -> usize
 }
 
 /// The layout of a single cell of this kind; the one without cells where the list has no such kind.
-fn single_layout(structs: u32, singles: &[Kind], kind: Kind) -> u32
+pub(crate) fn single_layout(structs: u32, singles: &[Kind], kind: Kind) -> u32
     requires { structs + length singles.now + 1 < 2 ^ 32 }
     ensures { result ≡ single_with structs singles.now kind }
 {
@@ -48,6 +48,13 @@ fn single_layout(structs: u32, singles: &[Kind], kind: Kind) -> u32
     }
 }
 
+/// The layout of the struct of this number; the one without cells for a struct that is never defined.
+pub(crate) fn struct_number(structs: u32, number: u32) -> u32
+    ensures { result ≡ cond (nat_lt number structs) number structs }
+{
+    if number < structs { number } else { structs }
+}
+
 /// The layout of what a pointer or an array of this type refers to, by its number.
 pub fn layout_number(structs: u32, singles: &[Kind], ty: &ValueType) -> u32
     requires { structs + length singles.now + 1 < 2 ^ 32 }
@@ -55,7 +62,7 @@ pub fn layout_number(structs: u32, singles: &[Kind], ty: &ValueType) -> u32
 {
     let kind = match ty {
         ValueType::Void => return structs,
-        ValueType::Struct(number) => return if *number < structs { *number } else { structs },
+        ValueType::Struct(number) => return struct_number(structs, *number),
         ValueType::Int => Kind::Int,
         ValueType::Bool => Kind::Bool,
         ValueType::Char => Kind::Char,
