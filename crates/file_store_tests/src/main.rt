@@ -6,6 +6,8 @@
 //! - `= store foreign N`: writes and reads of a row's words, over two folders whose reads give so many bytes, and of which each write fails;
 //! - `= store planned N`: the same over a folder in memory, where call `N` of the store fails by plan;
 //! - `= port heap PLAN`: puts and gets over a store in memory that fails by plan: `never`, `at N` or `from N`;
+//! - `= port lying LIE PLAN`: the same over a store in memory whose reads lie by plan: the lie is `older`, `other` or `short`. Each way has two cells, one for objects
+//!   with even numbers and one for the others;
 //! - `= store heap PLAN`: writes and reads of a row's words, over such a store;
 //! - `= folder missing` and `= folder disk NAME`: writes and reads of a row's bytes, in such a folder itself.
 //!

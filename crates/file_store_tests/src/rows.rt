@@ -1,7 +1,7 @@
 //! Reading a row.
 
 use cells::Piece;
-use remote_store::FaultPlan;
+use remote_store::{FaultPlan, Lie};
 
 /// What a test goes over.
 #[derive(Clone, Copy)]
@@ -18,6 +18,8 @@ pub(crate) enum Over<'a> {
     PlannedStores(u64),
     /// Ports to a store in memory that fails by this plan.
     PortsOfHeap(FaultPlan),
+    /// Ports to a store in memory that tells this lie by this plan.
+    PortsOfLying(Lie, FaultPlan),
     /// Stores in memory that fail by this plan.
     StoresOfHeap(FaultPlan),
     /// A folder in memory that is not there.
@@ -32,6 +34,16 @@ fn plan(words: &[&str]) -> Option<FaultPlan> {
         ["never"] => Some(FaultPlan::Never),
         ["at", number] => Some(FaultPlan::Only(number.parse().ok()?)),
         ["from", number] => Some(FaultPlan::From(number.parse().ok()?)),
+        _ => None,
+    }
+}
+
+/// The lie of this word.
+fn lie(word: &str) -> Option<Lie> {
+    match word {
+        "older" => Some(Lie::OlderVersion),
+        "other" => Some(Lie::OtherObject),
+        "short" => Some(Lie::ShortCell),
         _ => None,
     }
 }
@@ -59,6 +71,9 @@ impl<'a> Over<'a> {
             ["store", "foreign", count] => Some(Over::StoresOfForeign(count.parse().ok()?)),
             ["store", "planned", number] => Some(Over::PlannedStores(number.parse().ok()?)),
             ["port", "heap", plan_words @ ..] => Some(Over::PortsOfHeap(plan(plan_words)?)),
+            ["port", "lying", word, plan_words @ ..] => {
+                Some(Over::PortsOfLying(lie(word)?, plan(plan_words)?))
+            }
             ["store", "heap", plan_words @ ..] => Some(Over::StoresOfHeap(plan(plan_words)?)),
             ["folder", "missing"] => Some(Over::MissingFolder),
             ["folder", "disk", name] => Some(Over::DiskFolder(name)),

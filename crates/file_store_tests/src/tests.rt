@@ -6,10 +6,13 @@ use crate::disk::Disk;
 use crate::foreign::Foreign;
 use crate::play::play;
 use crate::rows::{Over, sized};
-use crate::ways::{BerthWay, Counted, FolderWay, PortWay, StoreWay};
+use crate::ways::{BerthWay, Counted, FolderWay, LyingWay, PortWay, StoreWay};
 use cells::{Piece, Want};
 use file_store::{FileStore, FileStores, Folder, MemFolder};
-use remote_store::{FarHeap, FaultPlan, FaultStore, FaultStores, HEADER_WORDS, RawStore, Stores};
+use remote_store::{
+    FarHeap, FaultPlan, FaultStore, FaultStores, HEADER_WORDS, Lie, LyingStore, LyingStores,
+    RawStore, Stores,
+};
 use std::alloc::Global;
 use std::io;
 use std::io::Write;
@@ -76,6 +79,35 @@ fn heap_ports(
     Ok((BerthWay::new(alloc, first)?, BerthWay::new(alloc, other)?))
 }
 
+/// Two ways to a store in memory for pieces of this size that tells this lie by this plan.
+fn lying(
+    alloc: Global,
+    piece: Piece,
+    lie: Lie,
+    plan: FaultPlan,
+) -> Result<Two<LyingStore<FarHeap>>, Want>
+    ensures { IfOk result (λ two. (two.0.store.words ≡ cells_in piece + 3) × (two.1.store.words ≡ cells_in piece + 3)) }
+{
+    let Ok(stores) = LyingStores::new(alloc, FarHeap::new(piece), lie, plan) else {
+        return Err(Want::OutOfMemory);
+    };
+    Ok((stores.one(alloc)?, stores.one(alloc)?))
+}
+
+/// Two ways through ports to such a store.
+fn lying_ports(
+    alloc: Global,
+    piece: Piece,
+    lie: Lie,
+    plan: FaultPlan,
+) -> Result<Two<LyingWay>, Want>
+    ensures first { IfOk result (λ two. (length two.0.even.cell.cell.row.items ≡ cells_in piece + 3) × (length two.0.odd.cell.cell.row.items ≡ cells_in piece + 3)) }
+    ensures other { IfOk result (λ two. (length two.1.even.cell.cell.row.items ≡ cells_in piece + 3) × (length two.1.odd.cell.cell.row.items ≡ cells_in piece + 3)) }
+{
+    let (first, other) = lying(alloc, piece, lie, plan)?;
+    Ok((LyingWay::new(alloc, first)?, LyingWay::new(alloc, other)?))
+}
+
 /// Two ways to such a store.
 fn heap_stores(
     alloc: Global,
@@ -127,6 +159,9 @@ fn test<O: Write>(
         Over::StoresOfForeign(count) => play(disk, foreign(alloc, count), row, rows, out),
         Over::PlannedStores(number) => play(disk, planned(alloc, number), row, rows, out),
         Over::PortsOfHeap(plan) => play(disk, heap_ports(alloc, piece, plan), cells, rows, out),
+        Over::PortsOfLying(lie, plan) => {
+            play(disk, lying_ports(alloc, piece, lie, plan), cells, rows, out)
+        }
         Over::StoresOfHeap(plan) => play(disk, heap_stores(alloc, piece, plan), row, rows, out),
         Over::MissingFolder => play(disk, folders(alloc, MemFolder::missing()), row, rows, out),
         Over::DiskFolder(old) => play(disk, folders(alloc, disk.make(old, row)?), row, rows, out),

@@ -7,7 +7,9 @@ use cells::Want;
 use file_store::{
     DiskFolder, FileStore, Folder, MOST_BYTES, MemFolder, get_from_file, put_into_file,
 };
-use remote_store::{Berth, Failed, FarHeap, FaultStore, Port, RawStore, Refusal};
+use remote_store::{
+    Berth, Failed, FarCell, FarHeap, FaultStore, LyingCell, LyingStore, Port, RawStore, Refusal,
+};
 use std::alloc::Global;
 use std::fmt;
 
@@ -16,6 +18,8 @@ use std::fmt;
 pub(crate) enum Counts {
     /// The version of the berth, how many puts and gets were refused, and how many calls of the store failed.
     Port(u64, u64, u64),
+    /// The versions of two berths, how many puts and gets were refused, and how many reads of the store lied.
+    Lying(u64, u64, u64, u64),
     /// How many calls failed.
     Store(u64),
     /// How many calls failed, and how many bytes the last read gave.
@@ -28,6 +32,10 @@ impl fmt::Display for Counts {
             Counts::Port(version, refusals, failures) => write!(
                 f,
                 "version {version}, refusals {refusals}, failures {failures}"
+            ),
+            Counts::Lying(even, odd, refusals, lies) => write!(
+                f,
+                "versions {even} and {odd}, refusals {refusals}, lies {lies}"
             ),
             Counts::Store(failures) => write!(f, "failures {failures}"),
             Counts::Folder(failures, count) => write!(f, "failures {failures}, bytes {count}"),
@@ -172,6 +180,75 @@ impl Way for BerthWay<FaultStore<FarHeap>> {
             self.berth.version,
             self.port.refusals(),
             self.port.store().failed_calls(),
+        )
+    }
+}
+
+/// Two berths in a store that lies, one for objects with even numbers and one for the others, and a port to it.
+#[derive(Drop)]
+pub(crate) struct LyingWay {
+    port: Port<LyingStore<FarHeap>>,
+    even: Berth<LyingCell<FarCell>>,
+    odd: Berth<LyingCell<FarCell>>,
+}
+
+impl LyingWay {
+    /// Two berths in new cells of this store.
+    pub(crate) fn new(alloc: Global, store: LyingStore<FarHeap>) -> Result<LyingWay, Want>
+        ensures { IfOk result (λ way. (length way.even.cell.cell.row.items ≡ store.store.words) × (length way.odd.cell.cell.row.items ≡ store.store.words)) }
+    {
+        let even = store.cell(alloc)?;
+        let odd = store.cell(alloc)?;
+        Ok(LyingWay {
+            port: Port::new(store),
+            even: Berth::new(even),
+            odd: Berth::new(odd),
+        })
+    }
+}
+
+/// Gets the object's words from this berth. Nothing is asked of one into which nothing was put.
+fn get_of(
+    berth: &Berth<LyingCell<FarCell>>,
+    port: &mut Port<LyingStore<FarHeap>>,
+    object: usize,
+    words: &mut [u64],
+) -> Result<(), Refusal>
+    requires most { length words.old ≤ 256 }
+    requires fits { length berth.now.cell.cell.row.items ≡ length words.old + 3 }
+    ensures { length words.new ≡ length words.old }
+{
+    if berth.version == 0 {
+        return Err(Refusal::Wrong);
+    }
+    berth.get(port, object, words)
+}
+
+impl Way for LyingWay {
+    ghost takes = { λ w n. (n ≤ 256) × (length w.even.cell.cell.row.items ≡ n + 3) × (length w.odd.cell.cell.row.items ≡ n + 3) };
+
+    fn put(&mut self, object: usize, words: &[u64]) -> Result<(), Failed> {
+        if object % 2 == 0 {
+            self.even.put(&mut self.port, object, words)
+        } else {
+            self.odd.put(&mut self.port, object, words)
+        }
+    }
+
+    fn get(&mut self, object: usize, words: &mut [u64]) -> Result<(), Refusal> {
+        if object % 2 == 0 {
+            get_of(&self.even, &mut self.port, object, words)
+        } else {
+            get_of(&self.odd, &mut self.port, object, words)
+        }
+    }
+
+    fn counts(&self) -> Counts {
+        Counts::Lying(
+            self.even.version,
+            self.odd.version,
+            self.port.refusals(),
+            self.port.store().lies(),
         )
     }
 }
