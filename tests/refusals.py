@@ -18,7 +18,6 @@ WANT = b"out of memory\n"
 FAILED = b"store failed\n"
 WANTED = 3
 BUILT = "out.c0i"
-MANY = 5500
 
 
 @dataclass(frozen=True)
@@ -93,13 +92,14 @@ def lines_of(told):
 
 @dataclass(frozen=True)
 class Row:
-    """A command: its words, the programs of its files, and how their ends are shown, if it shows any."""
+    """A command: its words, the programs of its files, whether it shows their ends, and what it says if not, where the sweep knows it."""
 
     name: str
     words: tuple
     programs: tuple
     checks: bool = False
     shows: bool = False
+    says: bytes | None = None
     wants: tuple = (WANT,)
     schedule: str = ""
     before: bytes | None = None
@@ -188,9 +188,15 @@ class Swept:
         folder.reset()
         self.whole = command.run()
         self.built = folder.built()
-        wanted = row.status() if row.shows else 0
-        if self.whole.status != wanted or self.whole.err or (row.shows and self.shown.get(self.whole.out) != 0):
+        if not self.is_wanted():
             self.complain("with ample memory", self.whole)
+
+    def is_wanted(self):
+        """Whether ample memory gives what the row wants."""
+        status, out, err = self.whole.answer()
+        if self.row.shows:
+            return (status, self.shown.get(out), err) == (self.row.status(), 0, b"")
+        return (status, err) == (0, b"") and self.row.says in (None, out)
 
     def complain(self, how, told):
         self.complaints.append(f"{self.row.name}, {how}: {told.status} {told.out[:120]!r} {told.err[:120]!r}")
@@ -215,6 +221,8 @@ class Swept:
         if self.built is not None:
             self.folder.reset()
         told = self.command.run(**limits)
+        if ("allocations" in limits and not told.refused) or ("threads" in limits and not told.threads_refused):
+            wants = 0
         if not self.is_answer(told, wants):
             self.complain(how, told)
         elif not self.is_left_whole(told):
@@ -222,21 +230,21 @@ class Swept:
         return told
 
 
-def numbers_of(calls):
-    """Each number from 1 on; where there are very many calls, a thousand of them at equal steps, the last 500, and those behind."""
-    if calls <= MANY:
+def numbers_of(calls, many):
+    """Each number from 1 on; where there are many calls, a thousand of them at equal steps, the last 500, and those behind."""
+    if calls <= many:
         return itertools.count(1)
     return itertools.chain(range(1, calls - 500, calls // 1000), itertools.count(calls - 499))
 
 
 def once(swept):
-    for number in numbers_of(swept.whole.calls):
+    for number in numbers_of(swept.whole.calls, 6000):
         if not swept.run(f"allocation {number} refused", 1, allocations=only(number)).refused:
             return
 
 
 def for_good(swept):
-    for number in numbers_of(swept.whole.calls):
+    for number in numbers_of(swept.whole.calls, 5000):
         if not swept.run(f"all from allocation {number} on refused", len(swept.row.programs), allocations=from_on(number)).refused:
             return
 
@@ -286,16 +294,17 @@ def room(name):
 def meanings(name, checks):
     """Checked, a long run is cut, since it is the same run as the other."""
     turns = "300" if checks and name == "list" else "5000"
-    return Row(f"mean {name}", ("mean", *flags(checks), "--turns", turns, f"{name}.c0"), (name,), checks, shows=turns == "5000")
+    words = ("mean", *flags(checks), "--turns", turns, f"{name}.c0")
+    return Row(f"mean {name}", words, (name,), checks, shows=turns == "5000", says=b"cut\n")
 
 
 def builds(file, name, checks=False):
     words = ("build", *flags(checks), "-o", BUILT, file)
-    return [Row(f"build {file}", words, (name,), checks, before=before) for before in (None, b"what was there")]
+    return [Row(f"build {file}", words, (name,), checks, says=b"", before=before) for before in (None, b"what was there")]
 
 
 def looks(file, name):
-    return [Row(f"{command} {file}", (command, file), (name,)) for command in ("check", "list")]
+    return [Row(f"{command} {file}", (command, file), (name,), says=says) for command, says in (("check", b"ok\n"), ("list", None))]
 
 
 def running(file, name, checks=False):
@@ -306,7 +315,7 @@ def replayed(file, name, checks=False):
     """Some lines, enough for the end of all but the list."""
     lines = "13 p0; p0 claim 0; 83 p0; p0 claim 1; 65 p0" if name == "list" else f"{LINES[name][checks]} p0"
     words = ("replay", *flags(checks), *room(name), "--schedule", "turns.schedule", file)
-    return Row(f"replay {file}", words, (name,), checks, shows=name != "list", schedule=lines_of(lines))
+    return Row(f"replay {file}", words, (name,), checks, shows=name != "list", says=b"running\n", schedule=lines_of(lines))
 
 
 def compiled():
@@ -347,9 +356,10 @@ def with_movers():
 
 
 def growing():
-    """A replay that grows on and on."""
+    """A replay that grows on and on: each turn of its loop is five instructions, of which one prints."""
     words = ("replay", "--objects", "4", "--schedule", "turns.schedule", "endless.c0")
-    return Row("replay of endless.c0", words, ("endless",), schedule="p0\n" * 60_000)
+    said = ended(b"0123456789" * 12_000, b"running\n")
+    return Row("replay of endless.c0", words, ("endless",), says=said, schedule="p0\n" * 60_000)
 
 
 def sweep(it, how, rows):
