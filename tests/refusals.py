@@ -1,7 +1,8 @@
 """Each allocation of a command refused in turn, all from one on, memory that is limited, and threads that cannot be made.
 
 Each answer is the one that the command gives with ample memory, or its want: `out of memory` and status 3, where of each program's output there is a
-beginning that ends between two instructions. No run ends by a signal or takes 20 seconds, and what it leaves in its folder is whole.
+beginning that ends between two instructions. No run ends by a signal or takes 20 seconds, what it leaves in its folder is whole, and of its memory it keeps
+nothing, but for a block of the C library for each thread that it made.
 """
 
 import itertools
@@ -225,6 +226,8 @@ class Swept:
             wants = 0
         if not self.is_answer(told, wants):
             self.complain(how, told)
+        elif told.kept > told.threads:
+            self.complain(f"{how}, {told.kept} blocks kept", told)
         elif not self.is_left_whole(told):
             self.complain(f"{how}, left {self.folder.left()} and {len(self.folder.built() or b'')} bytes built", told)
         return told

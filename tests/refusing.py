@@ -12,12 +12,13 @@ from dataclasses import dataclass
 BETWEEN = r"""
 typedef unsigned long size;
 typedef struct { long first, last, first_thread, last_thread, space, alone; } Order;
-typedef struct { long calls, refused, threads, threads_refused; } Counts;
+typedef struct { long calls, refused, threads, threads_refused, kept; } Counts;
 typedef struct { long status, out, err; Counts counts; } Answer;
 typedef struct { unsigned long now, most; } Limit;
 enum { SECONDS = 20, NO_MEMORY = 12, AGAIN = 11, ADDRESS_SPACE = 9, PROCESSES = 6, CORE = 4, SHARED = 1, NOBODYS = 32, READ_WRITE = 3, LAST = 2, NOBODY = 61234, UNLIMITED = 99 };
 
 extern void *__libc_malloc(size), *__libc_calloc(size, size), *__libc_realloc(void *, size), *__libc_memalign(size, size);
+extern void __libc_free(void *);
 extern void *dlsym(void *, const char *), *mmap(void *, size, int, int, int, long);
 extern char *getenv(const char *);
 extern long read(int, void *, size), write(int, const void *, size), lseek(int, long, int), pread(int, void *, size, long);
@@ -42,15 +43,26 @@ static int no_memory(void) {
     return 1;
 }
 
-void *malloc(size many) { return no_memory() ? 0 : __libc_malloc(many); }
-void *calloc(size many, size each) { return no_memory() ? 0 : __libc_calloc(many, each); }
-void *realloc(void *old, size many) { return no_memory() ? 0 : __libc_realloc(old, many); }
-void *aligned_alloc(size align, size many) { return no_memory() ? 0 : __libc_memalign(align, many); }
-void *memalign(size align, size many) { return no_memory() ? 0 : __libc_memalign(align, many); }
+static void *given(void *block) {
+    if (counts && block) __atomic_add_fetch(&counts->kept, 1, __ATOMIC_SEQ_CST);
+    return block;
+}
+
+void *malloc(size many) { return no_memory() ? 0 : given(__libc_malloc(many)); }
+void *calloc(size many, size each) { return no_memory() ? 0 : given(__libc_calloc(many, each)); }
+void *realloc(void *old, size many) {
+    if (no_memory()) return 0;
+    return old ? __libc_realloc(old, many) : given(__libc_realloc(old, many));
+}
+void *aligned_alloc(size align, size many) { return no_memory() ? 0 : given(__libc_memalign(align, many)); }
+void *memalign(size align, size many) { return aligned_alloc(align, many); }
 int posix_memalign(void **place, size align, size many) {
-    if (no_memory()) return NO_MEMORY;
-    *place = __libc_memalign(align, many);
+    *place = aligned_alloc(align, many);
     return *place ? 0 : NO_MEMORY;
+}
+void free(void *block) {
+    if (counts && block) __atomic_sub_fetch(&counts->kept, 1, __ATOMIC_SEQ_CST);
+    __libc_free(block);
 }
 
 int pthread_create(void *thread, const void *how, void *(*body)(void *), void *given) {
@@ -95,7 +107,7 @@ __attribute__((constructor)) static void serve(void) {
     Counts *shared = mmap(0, sizeof *shared, READ_WRITE, SHARED | NOBODYS, -1, 0);
     for (;;) {
         all(read, orders, &order, sizeof order);
-        *shared = (Counts){0, 0, 0, 0};
+        *shared = (Counts){0, 0, 0, 0, 0};
         ftruncate(out, 0), ftruncate(err, 0), lseek(out, 0, 0), lseek(err, 0, 0);
         int child = fork();
         if (child == 0) {
@@ -111,7 +123,7 @@ __attribute__((constructor)) static void serve(void) {
 }
 """
 
-ANSWER = struct.Struct("7l")
+ANSWER = struct.Struct("8l")
 NONE = (-1, -1)
 
 
@@ -131,7 +143,8 @@ def make_library(folder):
 
 @dataclass(frozen=True)
 class Told:
-    """What a run did: its status, or minus the signal that ended it, what it wrote, and how many allocations and threads it asked for and was refused."""
+    """What a run did: its status, or minus the signal that ended it, what it wrote, how many allocations and threads it asked for and was refused, and how
+    many blocks it was given and has not given back."""
 
     status: int
     out: bytes
@@ -140,6 +153,7 @@ class Told:
     refused: int
     threads: int
     threads_refused: int
+    kept: int
 
     def answer(self):
         return self.status, self.out, self.err

@@ -1,7 +1,8 @@
 #!/usr/bin/env python3
 """Runs the built program as a process: run.py PROGRAM. Prints each test that fails, and last 'N passed, M failed'.
 
-For what no contract sees: files, folders, the machine's stack, and how long a run takes. Each test has an empty folder. Nothing else is needed.
+For what no contract sees: files, folders, the machine's stack, how long a run takes, and want of memory. Each test has an empty folder. Nothing is needed but
+`rt`, whose clang makes a library for the refusals of memory.
 """
 
 import os
