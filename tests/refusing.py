@@ -15,7 +15,8 @@ typedef struct { long first, last, first_thread, last_thread, space, alone; } Or
 typedef struct { long calls, refused, threads, threads_refused, kept; } Counts;
 typedef struct { long status, out, err; Counts counts; } Answer;
 typedef struct { unsigned long now, most; } Limit;
-enum { SECONDS = 20, NO_MEMORY = 12, AGAIN = 11, ADDRESS_SPACE = 9, PROCESSES = 6, CORE = 4, SHARED = 1, NOBODYS = 32, READ_WRITE = 3, LAST = 2, NOBODY = 61234, UNLIMITED = 99 };
+enum { SECONDS = 20, NOBODY = 61234, UNLIMITED = 99 };
+enum { NO_MEMORY = 12, AGAIN = 11, ADDRESS_SPACE = 9, PROCESSES = 6, CORE = 4, SHARED = 1, NOBODYS = 32, READ_WRITE = 3, LAST = 2 };
 
 extern void *__libc_malloc(size), *__libc_calloc(size, size), *__libc_realloc(void *, size), *__libc_memalign(size, size);
 extern void __libc_free(void *);
@@ -134,10 +135,8 @@ def make_library(folder):
     with open(source, "w", encoding="utf-8") as file:
         file.write(BETWEEN)
     tools = os.path.join(kit, "toolchain", "bin")
-    subprocess.run(
-        [f"{tools}/clang", "--target=x86_64-unknown-linux-gnu", "-O1", "-w", "-fPIC", "-ffreestanding", "-shared", "-nostdlib", f"-fuse-ld={tools}/ld.lld", "-o", library, source],
-        check=True,
-    )
+    flags = ["--target=x86_64-unknown-linux-gnu", "-O1", "-w", "-fPIC", "-ffreestanding", "-shared", "-nostdlib", f"-fuse-ld={tools}/ld.lld"]
+    subprocess.run([f"{tools}/clang", *flags, "-o", library, source], check=True)
     return library
 
 
