@@ -10,6 +10,7 @@ import os
 import shutil
 import subprocess
 from concurrent.futures import ThreadPoolExecutor
+from contextlib import suppress
 from dataclasses import dataclass
 
 from process import Failure
@@ -19,6 +20,7 @@ WANT = b"out of memory\n"
 FAILED = b"store failed\n"
 WANTED = 3
 BUILT = "out.c0i"
+MOST = 5
 
 
 @dataclass(frozen=True)
@@ -177,6 +179,10 @@ class Folder:
         return sorted(name for name in os.listdir(self.place) if name != BUILT)
 
 
+class Enough(Exception):
+    """So many answers of a row were wrong that no more are looked at."""
+
+
 class Swept:
     """A row and what it does with ample memory, which is what the row wants."""
 
@@ -201,6 +207,8 @@ class Swept:
 
     def complain(self, how, told):
         self.complaints.append(f"{self.row.name}, {how}: {told.status} {told.out[:120]!r} {told.err[:120]!r}")
+        if len(self.complaints) == MOST:
+            raise Enough
 
     def is_answer(self, told, wants):
         """Whether this is the whole answer, or want of memory, for which at most so many programs may have it."""
@@ -372,7 +380,7 @@ def sweep(it, how, rows):
     def one(numbered):
         number, row = numbered
         folder = Folder(it.program, it.path(str(number)), row)
-        with Refusing(library, it.program, folder.place, row.words) as command:
+        with Refusing(library, it.program, folder.place, row.words) as command, suppress(Enough):
             swept = Swept(command, folder, row)
             how(swept)
         shutil.rmtree(folder.place)

@@ -41,6 +41,13 @@ fn end_of(alloc: Global, program: &Program<'_>) -> Result<Ended, AllocError>
     })
 }
 
+/// Whether this is where a program is that wants memory.
+fn lacks_memory(mode: Mode) -> bool
+    ensures { (result ≡ true) ↔ (mode ≡ Mode.Wanted Want.OutOfMemory) }
+{
+    matches!(mode, Mode::Wanted(Want::OutOfMemory))
+}
+
 impl<'a, S: RawStore> World<'a, S> {
     /// What a program printed, how it runs, and how many instructions it completed, modulo 2^64. `Err` where memory is refused for the
     /// output or the text of an error.
@@ -63,7 +70,7 @@ impl<'a, S: RawStore> World<'a, S> {
         if number >= self.programs.len() {
             return false;
         }
-        matches!(self.programs[number].0.mode(), Mode::Wanted(Want::OutOfMemory))
+        lacks_memory(self.programs[number].0.mode())
     }
 
     /// How many programs there are.

@@ -65,7 +65,8 @@ pub(crate) fn follow<S: RawStore>(world: &mut World<'_, S>, schedule: &[u8]) -> 
 /// then nothing, or a blank and a verb with its numbers (`look F`, `claim F`, `mark O F`, `begin O`), and a newline.
 ///
 /// `Line` names the first line that can't be read or is not enabled, counted from 1. `OutOfMemory` where a growth was refused, or a store
-/// could not be made, and in place of `Line` where the line is one of a program that wants memory. There are 1 to 256 images, all of one piece, and at most 64 evacuators and 64 fetchers.
+/// could not be made, and in place of `Line` where the line is one of a program that wants memory. There are 1 to 256 images, all of one piece, and at most 64
+/// evacuators and 64 fetchers.
 pub fn replay<M: Stores + Drop>(
     alloc: Global,
     images: Vec<Image>,
