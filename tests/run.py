@@ -1,7 +1,8 @@
 #!/usr/bin/env python3
 """Runs the built program as a process: run.py PROGRAM. Prints each test that fails, and last 'N passed, M failed'.
 
-For what no contract sees: files, folders, the machine's stack, and how long a run takes. Each test has an empty folder. Nothing else is needed.
+For what no contract sees: files, folders, the machine's stack, how long a run takes, and want of memory. Each test has an empty folder. Nothing is needed but
+`rt`, whose clang makes a library for the refusals of memory.
 """
 
 import os
@@ -11,6 +12,7 @@ import tempfile
 import depths
 import drawn
 import files
+import refusals
 import sizes
 import stores
 from process import Failure, Process
@@ -21,7 +23,7 @@ def main():
         sys.exit(__doc__)
     program = os.path.abspath(sys.argv[1])
     passed = failed = 0
-    for script in (files, stores, depths, sizes, drawn):
+    for script in (files, stores, depths, sizes, drawn, refusals):
         for test in script.TESTS:
             with tempfile.TemporaryDirectory() as folder:
                 try:

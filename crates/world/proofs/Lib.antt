@@ -1,3 +1,4 @@
 pub mod Opened
 pub mod Happening
 pub mod Replaying
+pub mod Starving

@@ -4,12 +4,14 @@ use Rattle.cells.specs.declared.ending.Ended.{Ended}
 use Rattle.cells.specs.declared.ending.Run.{Run}
 use Rattle.cells.specs.declared.ending.Run.TheVariants as run
 use Rattle.cells.specs.declared.ending.Want.{Want}
+use Rattle.cells.specs.declared.ending.Want.TheVariants as want
 use Rattle.cells.specs.Stops.{stop_of as stop_read}
 use Rattle.code_form.specs.Code.{output_of, stop_of}
 use Rattle.code_form.specs.Form.{Image}
 use Rattle.remote_store.specs.declared.port.Port.{Port}
 use Rattle.schedule_lines.specs.Lines.{Line, IsLine, IsLine32, IsNoLine, spell}
 use Rattle.world_semantics.specs.declared.event.Actor.{Actor}
+use Rattle.world_semantics.specs.declared.event.Actor.TheVariants as actor
 use Rattle.world_semantics.specs.Programs.{Program, Wanted}
 use Rattle.world_memory.specs.Answered.{AnswersSo}
 use Rattle.world.specs.Telling.{IsPortOf, asked_by}
@@ -45,9 +47,15 @@ abbrev pub AreEnds : (ℕ → Program) → ℕ → List Ended → Type 0
 AreEnds programs k [] = Unit {0}
 AreEnds programs k (e ∷ es) = IsEnded (programs k) e × AreEnds programs (suc k) es
 
--- what comes next in the schedule is, in the world w, no line, or a line that is not enabled, whatever is answered
+-- the actor is a program to which memory was refused
+abbrev pub WantsMemory : Sizes → World → Actor → Type 0
+WantsMemory z w (actor.Program k) = (k < z.programs) × ((w.programs k).mode ≡ Wanted want.OutOfMemory)
+WantsMemory z w _ = ⊥
+
+-- what comes next in the schedule is, in the world w, no line, or a line that is not enabled, whatever is answered, and not for want of memory
 abbrev pub IsStuckAt : Sizes → (ℕ → Image) → World → List ℕ → Type 0
-IsStuckAt z images w text = IsNoLine text ⊎ ((x : Line) × (rest : List ℕ) × IsLine x rest text × ((a : Answer) → event z images w (event_of x a) ≡ None))
+IsStuckAt z images w text = IsNoLine text
+    ⊎ ((x : Line) × (rest : List ℕ) × IsLine x rest text × ((a : Answer) → event z images w (event_of x a) ≡ None) × (WantsMemory z w x.actor → ⊥))
 
 -- `honest` says that the store gives back what was put, `reliable` that it never fails, `failures` counts its calls that failed, and
 -- `gives` tells what a read of a cell gave, by the store before it and after it
@@ -85,6 +93,16 @@ module _ {S C : Type 0} (honest reliable : Type 0) (failures : S → ℕ) (gives
   abbrev pub IsRefusedLine : Sizes → (ℕ → Image) → World → Parts S C → List ℕ → ℕ → Type 0
   IsRefusedLine z images w x schedule line =
       (v : World) × (y : Parts S C) × (rest : List ℕ) × HasCome z images w x schedule rest line v y × (0 < length rest) × IsStuckAt z images v rest
+
+  -- the lines before some line lead from the world w to one in which that line is one of a program that wants memory
+  abbrev pub IsStarved : Sizes → (ℕ → Image) → World → Parts S C → List ℕ → Type 0
+  IsStarved z images w x schedule =
+      (line : ℕ) × (v : World) × (y : Parts S C) × (rest : List ℕ) × HasCome z images w x schedule rest line v y × ((l : Line) × (others : List ℕ) × IsLine l others rest × WantsMemory z v l.actor)
+
+  -- why the lines of the schedule are not all done from the world w on: a line of it, or want of memory of a program of it
+  abbrev pub IsRefusedFrom : Sizes → (ℕ → Image) → World → Parts S C → List ℕ → Refused → Type 0
+  IsRefusedFrom z images w x schedule (refused.Line line) = IsRefusedLine z images w x schedule line
+  IsRefusedFrom z images w x schedule refused.OutOfMemory = IsStarved z images w x schedule
 
   -- all lines of the schedule lead from the beginning to a world, and these are the ends of its programs
   pub record IsReport (z : Sizes) (images : ℕ → Image) (schedule : List ℕ) (ends : List Ended) : Type 0 where

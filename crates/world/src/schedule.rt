@@ -5,7 +5,7 @@ ghost use Rattle.world.specs.Stepped.{IsWorld};
 ghost use Rattle.world.specs.Opened.{images_of, sizes_of};
 ghost use Rattle.world_semantics.specs.Pieces.{HaveOnePiece, piece_of};
 ghost use Rattle.world.specs.Parts.{parts};
-ghost use Rattle.world.specs.Reports.{HasLed, IsRefusal, IsRefusedLine, IsReport};
+ghost use Rattle.world.specs.Reports.{HasLed, IsRefusal, IsRefusedFrom, IsReport};
 ghost use Rattle.world_semantics.specs.Worlds.{Sizes, World as Defined};
 
 use crate::world::World;
@@ -26,34 +26,36 @@ pub struct Report {
 /// Why a schedule is not replayed.
 #[derive(Clone, Copy, PartialEq, Eq, Debug, Error)]
 pub enum Refused {
-    /// This line, counted from 1, can't be read or is not enabled.
+    /// This line, counted from 1, can't be read or is not enabled, and is none of a program that wants memory.
     #[error("refused line {line}")]
     Line { line: u64 },
-    /// A growth of memory was refused, or a store could not be made.
+    /// A growth of memory was refused, also to a program that is to do a line behind that, or a store could not be made.
     #[error("out of memory")]
     OutOfMemory,
 }
 
-/// Does the lines of a schedule in turn. The number of the first that can't be read or is not enabled, if there is one.
-pub(crate) fn follow<S: RawStore>(world: &mut World<'_, S>, schedule: &[u8]) -> Option<u64>
+/// Does the lines of a schedule in turn, up to the first that can't be read or is not enabled, if there is one: `OutOfMemory` where it is one of a program that
+/// wants memory, else its number.
+pub(crate) fn follow<S: RawStore>(world: &mut World<'_, S>, schedule: &[u8]) -> Option<Refused>
     ensures { (z : Sizes) (images : ℕ → ImageOf) (w : Defined) → IsWorld S.content S.honest z images (parts world.old) w
         → MatchOption result ((v : Defined) × HasLed S.honest S.reliable S.failures S.read_gives z images w (parts world.old)
         schedule.now v (parts world.new)
         × IsWorld S.content S.honest z images (parts world.new) v)
-        (λ line. IsRefusedLine S.honest S.reliable S.failures S.read_gives z images w (parts world.old) schedule.now line) }
+        (λ refused. IsRefusedFrom S.honest S.reliable S.failures S.read_gives z images w (parts world.old) schedule.now refused) }
 {
     let mut rest = schedule;
     let mut line = 1;
     while !rest.is_empty() {
         let Some((actor, choice, others)) = read_line(rest) else {
-            return Some(line);
+            return Some(Refused::Line { line });
         };
         match world.step(actor, choice) {
             Step::Took => {
                 rest = others;
                 line += 1;
             }
-            Step::NotEnabled => return Some(line),
+            Step::NotEnabled if world.wants_memory(actor) => return Some(Refused::OutOfMemory),
+            Step::NotEnabled => return Some(Refused::Line { line }),
         }
     }
     None
@@ -63,7 +65,8 @@ pub(crate) fn follow<S: RawStore>(world: &mut World<'_, S>, schedule: &[u8]) -> 
 /// then nothing, or a blank and a verb with its numbers (`look F`, `claim F`, `mark O F`, `begin O`), and a newline.
 ///
 /// `Line` names the first line that can't be read or is not enabled, counted from 1. `OutOfMemory` where a growth was refused, or a store
-/// could not be made. There are 1 to 256 images, all of one piece, and at most 64 evacuators and 64 fetchers.
+/// could not be made, and in place of `Line` where the line is one of a program that wants memory. There are 1 to 256 images, all of one piece, and at most 64
+/// evacuators and 64 fetchers.
 pub fn replay<M: Stores + Drop>(
     alloc: Global,
     images: Vec<Image>,
@@ -84,8 +87,8 @@ pub fn replay<M: Stores + Drop>(
     let Ok(mut world) = World::new(alloc, &images, config) else {
         return Err(Refused::OutOfMemory);
     };
-    if let Some(line) = follow(&mut world, schedule) {
-        return Err(Refused::Line { line });
+    if let Some(refused) = follow(&mut world, schedule) {
+        return Err(refused);
     }
     match world.ends(alloc) {
         Ok(ended) => Ok(Report { ended }),

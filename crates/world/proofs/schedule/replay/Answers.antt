@@ -3,8 +3,8 @@ use Rattle.code_form.specs.declared.form.Image.{Image}
 use Rattle.world.specs.Opened.{images_of, sizes_of}
 use Rattle.world_semantics.specs.Pieces.{piece_of}
 use Rattle.world.specs.Reports.{IsRefusal, IsReport}
-use Rattle.world.specs.declared.schedule.Refused.TheVariants as refused
 use Rattle.world_semantics.specs.Worlds.{start}
+use Rattle.world.proofs.Starving.{refused_from}
 use Rattle.world.proofs.schedule.replay.Goals as goal
 
 pub returns-in-Ok-ends : goal.returns-in-Ok-ends
@@ -26,4 +26,5 @@ returns-in-Some g c =
     let z = sizes_of (length given) now.frames now.objects now.evacuators now.fetchers (piece_of images) in
     let stuck = c.in-Some.ensures z images (start images) c.in-Ok.ensures.opens in
     subst (λ (xs : List Image). IsRefusal g.M.S.RawStore.honest g.M.S.RawStore.reliable g.M.S.RawStore.failures g.M.S.RawStore.read_gives (sizes_of (length xs) now.frames now.objects now.evacuators now.fetchers (piece_of (images_of xs))) (images_of xs)
-    c.args.schedule.now (refused.Line c.in-Some.line)) c.deref.ensures.value (_, stuck)
+    c.args.schedule.now c.in-Some.refused) c.deref.ensures.value
+    (refused_from g.M.S.RawStore.honest g.M.S.RawStore.reliable g.M.S.RawStore.failures g.M.S.RawStore.read_gives z images _ c.args.schedule.now c.in-Some.refused stuck)
