@@ -10,6 +10,7 @@ import tempfile
 
 import depths
 import files
+import schedules
 import sizes
 import stores
 from process import Failure, Process
@@ -20,7 +21,7 @@ def main():
         sys.exit(__doc__)
     program = os.path.abspath(sys.argv[1])
     passed = failed = 0
-    for script in (files, stores, depths, sizes):
+    for script in (files, stores, depths, sizes, schedules):
         for test in script.TESTS:
             with tempfile.TemporaryDirectory() as folder:
                 try:
