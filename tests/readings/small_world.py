@@ -1,6 +1,6 @@
 """A second reading of docs/SCHEDULES.md: a world of a few programs, evacuators and fetchers over a store that never fails, without a call of the program.
 
-A line is taken by `step`, which tells whether it is enabled. Instructions are those of image_reading.py, of which programs here have these: an `alloc` of one piece, `const`,
+A line is taken by `step`, which tells whether it is enabled. Programs here have these instructions, as image_reading.py reads them: an `alloc` of one piece, `const`,
 `chk_null` of what is no NULL, aims without an offset at a cell of that piece, `ld`, `st`, `leave` and `ret`."""
 
 
@@ -23,7 +23,7 @@ class Object:
 
 
 class Actor:
-    """A program or a mover: `mode` is what it is about, `object` and `frame` what it brings in or out, `victim` and `source` what a program moves out; `words` were copied or got."""
+    """A program or a mover. `mode` is what it is about; it brings `object` into `frame`, or moves `victim` out of `source`; `words` are those filled or copied."""
 
     __slots__ = ("mover", "mode", "object", "frame", "victim", "source", "words", "next", "registers", "aims", "held", "writes", "share")
 

@@ -1,5 +1,5 @@
 #!/usr/bin/env python3
-"""Writes the rows of forged images of `crates/sweeps`: usage: bench/forged.py > crates/sweeps/data/forged.rows
+"""Writes the rows of forged images of `crates/sweeps`: usage: tests/readings/forged.py > crates/sweeps/data/forged.rows
 
 The images are forged here as they are there, and image_reading.py, which calls no program of ours, tells what becomes of each. It takes some minutes."""
 
@@ -8,6 +8,12 @@ from multiprocessing import Pool
 
 from forged_images import ALL, STRUCT, image_bytes, number
 from image_reading import Reader, outcome
+
+
+FAULTS = [*[f"image fault {number}" for number in range(1, 8)], *[f"verify fault {number}" for number in range(1, 9)]]
+STOPS = ["result", "assertion failed", "error", "null fault", "bounds fault", "length fault", "arithmetic fault"]
+ORDER = [*FAULTS, "running", *STOPS, "no objects"]
+
 
 def beginnings(data, _):
     return [data[:end] for end in range(len(data))]
@@ -51,12 +57,8 @@ def rows(pool, name, image, objects):
         print(f"results come to {sum(result for _, result, _ in found)}, {sum(completed for _, _, completed in found)} completed")
 
 
-ORDER = [*[f"image fault {k}" for k in range(1, 8)], *[f"verify fault {k}" for k in range(1, 9)], "running", "result", "assertion failed", "error", "null fault", "bounds fault", "length fault",
-         "arithmetic fault", "no objects"]
-
-
 def main():
-    print("Images, each by its bytes, and what becomes of those that are forged of it: written by bench/forged.py.")
+    print("Images, each by its bytes, and what becomes of those that are forged of it: written by tests/readings/forged.py.")
     with Pool() as pool:
         rows(pool, "a struct is written and read", STRUCT, 1)
         rows(pool, "each instruction, each kind, three functions, and each sort of an entry fact", ALL, 2)

@@ -1,5 +1,5 @@
 #!/usr/bin/env python3
-"""Writes the rows of walks of `crates/sweeps`: usage: bench/lists_of_steps.py > crates/sweeps/data/walks.rows
+"""Writes the rows of walks of `crates/sweeps`: usage: tests/readings/lists_of_steps.py > crates/sweeps/data/walks.rows
 
 small_world.py, which calls no program of ours, tells how many walks, states and refused events there are."""
 
@@ -103,30 +103,35 @@ def tell(pool, row, image):
     print("\n".join([f"== {title}", *lines, "--", f"{walks} walks, {ended} to the end", f"{states} states, 0 wrong; {refused} events not enabled"]), flush=True)
 
 
-def show_image(name, image):
+def show_rows(pool, name, image, rows):
     data = image_bytes(image)
     digits = data.hex()
     print("\n".join([f"== {name}", *[digits[at : at + 120] for at in range(0, len(digits), 120)], "--", f"{len(data)} bytes"]))
+    for row in rows:
+        tell(pool, row, image)
 
 
 WRITTEN = [(5, "p0"), (1, "p0 claim 0"), (68, "p0")]
 AWAY = [*WRITTEN, (1, "e0 mark 0 0"), (67, "e0")]
 FIVE = {"result": 5, "stored": ["0 5 0 0 5"]}
 STRUCT_ROWS = [
-    FIVE | {"title": "an evacuator does k lines behind its mark, and then the program goes on", "frames": 2, "evacuators": 1, "before": [*WRITTEN, (1, "e0 mark 0 0"), ("0..67", "e0")],
-            "rest": ["p0", "p0 claim 1"]},
+    FIVE | {"title": "an evacuator does k lines behind its mark, and then the program goes on", "frames": 2, "evacuators": 1,
+            "before": [*WRITTEN, (1, "e0 mark 0 0"), ("0..67", "e0")], "rest": ["p0", "p0 claim 1"]},
     FIVE | {"title": "the same of a clean object that may leave", "frames": 2, "evacuators": 1,
             "before": [*AWAY, (2, "p0"), (1, "p0 claim 1"), ("0..68", "p0"), ("0..1", "e0 leave 0 1"), ("0..1", "e0")], "rest": ["p0", "p0 claim 0"]},
     FIVE | {"title": "a fetcher does k lines, the program opens, and then both go on", "frames": 3, "evacuators": 1, "fetchers": 1,
             "before": [*AWAY, ("0..1", "f0 begin 0"), ("0..1", "f0 claim 1"), ("0..67", "f0"), ("0..2", "p0")], "rest": ["p0", "p0 claim 2", "f0"]},
     FIVE | {"title": "the program does k lines from its open on, and then a fetcher tries", "frames": 3, "evacuators": 1, "fetchers": 1,
-            "before": [*AWAY, ("0..2", "p0"), ("0..1", "p0 claim 1"), ("0..67", "p0"), (1, "f0 begin 0"), (1, "f0 claim 2"), (1, "f0")], "rest": ["p0", "p0 claim 1", "f0"]},
+            "before": [*AWAY, ("0..2", "p0"), ("0..1", "p0 claim 1"), ("0..67", "p0"), (1, "f0 begin 0"), (1, "f0 claim 2"), (1, "f0")],
+            "rest": ["p0", "p0 claim 1", "f0"]},
     FIVE | {"title": "two evacuators race for one object", "frames": 2, "evacuators": 2,
             "before": [*WRITTEN, ("0..1", "e0 mark 0 0"), ("0..67", "e0"), (1, "e1 mark 0 0"), ("0..67", "e1")], "rest": ["p0", "p0 claim 0", "p0 claim 1"]},
 ]
 
 SIX = {"result": 6, "stored": ["0 5 0 0 5", "0 9 0 0 6", "0 11 0 1 6"], "frames": 2}
 FIRST = [(5, "p0"), (1, "p0 claim 0"), (21, "p0")]
+MOVED = [*FIRST, (1, "e0 mark 0 0"), (18, "e0")]
+BACK = [*MOVED, (2, "p0"), (1, "p0 claim 0"), ("17..18", "p0")]
 PROGRAM = [["p0", "p0 claim 0"], ["p0 claim 1"]]
 EVACUATOR = ["e0", "e0 mark 0 0"]
 TWICE_ROWS = [
@@ -134,22 +139,20 @@ TWICE_ROWS = [
            "letters": [*PROGRAM, EVACUATOR], "rest": ["p0", "p0 claim 0", "p0 claim 1"]},
     SIX | {"title": "the same with two evacuators", "evacuators": 2, "lists": 12, "before": [*FIRST, (1, "e0 mark 0 0"), (15, "e0")],
            "letters": [*PROGRAM, EVACUATOR, ["e1", "e1 mark 0 0"]]},
-    SIX | {"title": "begin of a fetcher against begin of the owner", "evacuators": 1, "fetchers": 1, "lists": 12, "before": [*FIRST, (1, "e0 mark 0 0"), (18, "e0")],
+    SIX | {"title": "begin of a fetcher against begin of the owner", "evacuators": 1, "fetchers": 1, "lists": 12, "before": MOVED,
            "letters": [*PROGRAM, ["f0", "f0 begin 0"], ["f0 claim 0"], ["f0 claim 1"]]},
-    SIX | {"title": "leave against open", "evacuators": 1, "lists": 12, "before": [*FIRST, (1, "e0 mark 0 0"), (18, "e0"), (2, "p0"), (1, "p0 claim 0"), ("17..18", "p0")],
+    SIX | {"title": "leave against open", "evacuators": 1, "lists": 12, "before": BACK,
            "letters": [*PROGRAM, ["e0", "e0 leave 0 0"]]},
-    SIX | {"title": "leave and mark against open", "evacuators": 1, "lists": 10, "before": [*FIRST, (1, "e0 mark 0 0"), (18, "e0"), (2, "p0"), (1, "p0 claim 0"), ("17..18", "p0")],
+    SIX | {"title": "leave and mark against open", "evacuators": 1, "lists": 10, "before": BACK,
            "letters": [*PROGRAM, EVACUATOR, ["e0 leave 0 0"]]},
 ]
 
 
 def main():
-    print("Images, each by its bytes, and how many walks and states there are of steps of its programs: written by bench/lists_of_steps.py.")
+    print("Images, each by its bytes, and how many walks and states there are of steps of its programs: written by tests/readings/lists_of_steps.py.")
     with Pool() as pool:
-        for name, image, rows in (("a struct is written and read", STRUCT, STRUCT_ROWS), ("a struct is written twice and read, in pieces of 16 cells", TWICE, TWICE_ROWS)):
-            show_image(name, image)
-            for row in rows:
-                tell(pool, row, image)
+        show_rows(pool, "a struct is written and read", STRUCT, STRUCT_ROWS)
+        show_rows(pool, "a struct is written twice and read, in pieces of 16 cells", TWICE, TWICE_ROWS)
 
 
 main()
