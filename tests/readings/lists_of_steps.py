@@ -117,7 +117,9 @@ FIVE = {"result": 5, "stored": ["0 5 0 0 5"]}
 STRUCT_ROWS = [
     FIVE | {"title": "an evacuator does k lines behind its mark, and then the program goes on", "frames": 2, "evacuators": 1,
             "before": [*WRITTEN, (1, "e0 mark 0 0"), ("0..67", "e0")], "rest": ["p0", "p0 claim 1"]},
-    FIVE | {"title": "the same of a clean object that may leave", "frames": 2, "evacuators": 1,
+    FIVE | {"title": "the same, where the program does some lines before the evacuator ends", "frames": 2, "evacuators": 1,
+            "before": [*WRITTEN, (1, "e0 mark 0 0"), ("0..67", "e0"), ("0..4", "p0"), (67, "e0")], "rest": ["p0", "p0 claim 0", "p0 claim 1"]},
+    FIVE | {"title": "an evacuator tries to have a clean object leave, at each line of the program", "frames": 2, "evacuators": 1, "frames": 2, "evacuators": 1,
             "before": [*AWAY, (2, "p0"), (1, "p0 claim 1"), ("0..68", "p0"), ("0..1", "e0 leave 0 1"), ("0..1", "e0")], "rest": ["p0", "p0 claim 0"]},
     FIVE | {"title": "a fetcher does k lines, the program opens, and then both go on", "frames": 3, "evacuators": 1, "fetchers": 1,
             "before": [*AWAY, ("0..1", "f0 begin 0"), ("0..1", "f0 claim 1"), ("0..67", "f0"), ("0..2", "p0")], "rest": ["p0", "p0 claim 2", "f0"]},
@@ -125,7 +127,7 @@ STRUCT_ROWS = [
             "before": [*AWAY, ("0..2", "p0"), ("0..1", "p0 claim 1"), ("0..67", "p0"), (1, "f0 begin 0"), (1, "f0 claim 2"), (1, "f0")],
             "rest": ["p0", "p0 claim 1", "f0"]},
     FIVE | {"title": "two evacuators race for one object", "frames": 2, "evacuators": 2,
-            "before": [*WRITTEN, ("0..1", "e0 mark 0 0"), ("0..67", "e0"), (1, "e1 mark 0 0"), ("0..67", "e1")], "rest": ["p0", "p0 claim 0", "p0 claim 1"]},
+            "before": [*WRITTEN, ("0..1", "e0 mark 0 0"), ("0..67", "e0"), (1, "e1 mark 0 0"), ("0..67", "e1")], "rest": ["p0", "p0 claim 0", "p0 claim 1", "e0", "e1"]},
 ]
 
 SIX = {"result": 6, "stored": ["0 5 0 0 5", "0 9 0 0 6", "0 11 0 1 6"], "frames": 2}
