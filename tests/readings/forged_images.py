@@ -14,6 +14,12 @@ TWICE = {"version": 2, "size": 16, "texts": [], "layouts": [[(INT,), (INT,)]], "
         (0x01, 1, 6), (0x33, 0, 0, None, 0), (0x35, 0, 1), (0x33, 0, 0, None, 1), (0x35, 0, 1), (0x36, 0),
         (0x33, 0, 0, None, 0), (0x34, 1, 0), (0x36, 0), (0x62, 1)])]}]}
 
+# writes 5 to a struct, and reads it in three holds
+READ = {"version": 2, "size": 16, "texts": [], "layouts": [[(INT,)]], "functions": [
+    {"result": (INT,), "parameters": 0, "kinds": [(PTR, 0), (INT,)], "scopes": 1, "blocks": [([(SHUT, 0)], [
+        (0x40, 0, 0), (0x01, 1, 5), (0x30, 0), (0x33, 0, 0, None, 0), (0x35, 0, 1), (0x36, 0),
+        *[(0x33, 0, 0, None, 0), (0x34, 1, 0), (0x36, 0)] * 3, (0x62, 1)])]}]}
+
 # each instruction, each kind, three functions, each sort of an entry fact: numbers in r0 and r1, a struct in r5 and an array in r6, at which scopes are aimed
 ALL = {"version": 2, "size": 16, "texts": [b"a"], "layouts": [[(INT,), (BOOL,)], [(CHAR,), (TEXT,), (PTR, 0), (ARR, 1)]], "functions": [
     {"result": (INT,), "parameters": 0, "scopes": 2, "kinds": [(INT,), (INT,), (BOOL,), (CHAR,), (TEXT,), (PTR, 0), (ARR, 0), (OFF, 0)], "blocks": [

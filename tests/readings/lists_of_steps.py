@@ -6,7 +6,7 @@ small_world.py, which calls no program of ours, tells how many walks, states and
 from itertools import product
 from multiprocessing import Pool
 
-from forged_images import STRUCT, TWICE, image_bytes
+from forged_images import READ, STRUCT, TWICE, image_bytes
 from small_world import World
 
 
@@ -132,7 +132,7 @@ STRUCT_ROWS = [
 
 SIX = {"result": 6, "stored": ["0 5 0 0 5", "0 9 0 0 6", "0 11 0 1 6"], "frames": 2}
 FIRST = [(5, "p0"), (1, "p0 claim 0"), (21, "p0")]
-MOVED = [*FIRST, (1, "e0 mark 0 0"), (18, "e0")]
+MOVED = [*FIRST, (1, "e0 mark 0 0"), (19, "e0")]
 BACK = [*MOVED, (2, "p0"), (1, "p0 claim 0"), ("17..18", "p0")]
 PROGRAM = [["p0", "p0 claim 0"], ["p0 claim 1"]]
 EVACUATOR = ["e0", "e0 mark 0 0"]
@@ -143,10 +143,14 @@ TWICE_ROWS = [
            "letters": [*PROGRAM, EVACUATOR, ["e1", "e1 mark 0 0"]]},
     SIX | {"title": "begin of a fetcher against begin of the owner", "evacuators": 1, "fetchers": 1, "lists": 12, "before": MOVED,
            "letters": [*PROGRAM, ["f0", "f0 begin 0"], ["f0 claim 0"], ["f0 claim 1"]]},
-    SIX | {"title": "leave against open", "evacuators": 1, "lists": 12, "before": BACK,
-           "letters": [*PROGRAM, ["e0", "e0 leave 0 0"]]},
-    SIX | {"title": "leave and mark against open", "evacuators": 1, "lists": 10, "before": BACK,
-           "letters": [*PROGRAM, EVACUATOR, ["e0 leave 0 0"]]},
+    SIX | {"title": "begin_write against leave", "evacuators": 1, "lists": 10, "before": BACK, "letters": [*PROGRAM, EVACUATOR, ["e0 leave 0 0"]]},
+]
+
+ONCE = [(5, "p0"), (1, "p0 claim 0"), (20, "p0"), (1, "e0 mark 0 0"), (19, "e0"), (2, "p0"), (1, "p0 claim 0"), ("18..20", "p0")]
+READ_ROWS = [
+    FIVE | {"title": "leave against open", "frames": 2, "evacuators": 1, "lists": 12, "before": ONCE, "letters": [*PROGRAM, ["e0", "e0 leave 0 0"]]},
+    FIVE | {"title": "leave, and a fetcher, against open", "frames": 2, "evacuators": 1, "fetchers": 1, "lists": 12, "before": [*ONCE[:-1], (19, "p0")],
+            "letters": [["p0", "p0 claim 0"], ["e0", "e0 leave 0 0"], ["f0 claim 1", "f0", "f0 begin 0"]]},
 ]
 
 
@@ -155,6 +159,7 @@ def main():
     with Pool() as pool:
         show_rows(pool, "a struct is written and read", STRUCT, STRUCT_ROWS)
         show_rows(pool, "a struct is written twice and read, in pieces of 16 cells", TWICE, TWICE_ROWS)
+        show_rows(pool, "a struct is written, and read three times, in pieces of 16 cells", READ, READ_ROWS)
 
 
 main()
