@@ -5,7 +5,7 @@
 //! - each program runs, or has stopped with the result that is wanted.
 
 use crate::setting::Setting;
-use crate::words::{frame_of, is_lawful, is_word};
+use crate::words::{frame_bit, is_lawful, is_word};
 use cells::{Run, Stop};
 use remote_store::RawStore;
 use std::alloc::{AllocError, Global};
@@ -46,17 +46,15 @@ fn owns(actor: Actor, object: u32, setting: &Setting) -> bool {
 }
 
 /// The last value that was stored in this cell, where the programs have completed so many instructions.
-fn latest(stored: &[u64], completed: &[u64], object: u32, index: usize) -> u64 {
+fn latest(stored: &[usize], completed: &[u64], object: u32, index: usize) -> u64 {
     let mut latest = 0;
     for store in stored.chunks_exact(5) {
         if let [program, behind, stored_in, at, value] = store
-            && *stored_in == u64::from(object)
-            && *at == index as u64
-            && completed
-                .get(*program as usize)
-                .is_some_and(|count| count >= behind)
+            && *stored_in == object as usize
+            && *at == index
+            && completed.get(*program).copied().unwrap_or(0) >= *behind as u64
         {
-            latest = *value;
+            latest = *value as u64;
         }
     }
     latest
@@ -122,12 +120,12 @@ fn look_at_words<S: RawStore>(
         .wrapping_add(u64::from(setting.fetchers));
     let mut frames: u64 = 0;
     let mut right = true;
-    for (object, word) in (0u32..).zip(words.iter_mut()) {
-        let new = world.word(object).bits;
-        let held = match frame_of(new) {
-            Some(frame) => 1u64.checked_shl(frame as u32).unwrap_or(0),
-            None => 0,
+    for object in 0..setting.objects {
+        let Some(word) = words.get_mut(object as usize) else {
+            return right;
         };
+        let new = world.word(object).bits;
+        let held = frame_bit(new);
         let lawful = if took {
             is_lawful(
                 *word,

@@ -155,7 +155,11 @@ fn forge_at(
         return Ok(());
     };
     for other in number..setting.places.len() {
-        let second = place_at(&setting.places, other).filter(|_| other > number);
+        let second = if other > number {
+            place_at(&setting.places, other)
+        } else {
+            None
+        };
         if (other == number || second.is_some()) && forge(forged, bytes, sweep, first, second)? {
             try_bytes(alloc, forged, setting, table)?;
         }

@@ -39,7 +39,7 @@ pub struct Setting {
     pub(crate) letters: Vec<Line>,
     pub(crate) rest: Vec<Line>,
     /// Five for each store: the program, how many instructions it has completed then, the object, the index, and the value.
-    pub(crate) stored: Vec<u64>,
+    pub(crate) stored: Vec<usize>,
     /// Three for each instruction: where its block's count stands, where it begins, and where what is behind it begins.
     pub(crate) places: Vec<usize>,
 }
@@ -92,23 +92,12 @@ fn put_line(
 }
 
 /// Puts these numbers behind others. Whether all words are numbers.
-fn put_numbers(numbers: &mut Vec<u64>, words: &str) -> Result<bool, AllocError> {
+fn put_numbers(numbers: &mut Vec<usize>, words: &str) -> Result<bool, AllocError> {
     for word in words.split(' ') {
         let Ok(number) = word.parse() else {
             return Ok(false);
         };
         numbers.push(number)?;
-    }
-    Ok(true)
-}
-
-/// The same of places.
-fn put_places(places: &mut Vec<usize>, words: &str) -> Result<bool, AllocError> {
-    for word in words.split(' ') {
-        let Ok(place) = word.parse() else {
-            return Ok(false);
-        };
-        places.push(place)?;
     }
     Ok(true)
 }
@@ -148,7 +137,7 @@ impl Setting {
             "lists" => Ok(set(&mut self.length, rest)),
             "result" => Ok(set(&mut self.result, rest)),
             "stored" => put_numbers(&mut self.stored, rest),
-            "instruction" => put_places(&mut self.places, rest),
+            "instruction" => put_numbers(&mut self.places, rest),
             "rest" => put_line(alloc, &mut self.rest, "1", rest),
             "letter" => {
                 let (number, line) = rest.split_once(' ').unwrap_or((rest, ""));

@@ -210,9 +210,11 @@ fn finish<S: RawStore>(
 }
 
 /// The words are those of the world.
-fn set_words<S: RawStore>(world: &World<'_, S>, words: &mut [u64]) {
-    for (object, word) in (0u32..).zip(words.iter_mut()) {
-        *word = world.word(object).bits;
+fn set_words<S: RawStore>(world: &World<'_, S>, objects: u32, words: &mut [u64]) {
+    for object in 0..objects {
+        if let Some(word) = words.get_mut(object as usize) {
+            *word = world.word(object).bits;
+        }
     }
 }
 
@@ -224,10 +226,10 @@ fn go<S: RawStore>(
     walk: &mut Walk,
 ) -> Result<(), AllocError> {
     let is_first = walk.path.is_empty();
-    set_words(world, &mut walk.seen.words);
+    set_words(world, setting.objects, &mut walk.seen.words);
     begin(alloc, world, setting, is_first, walk)?;
     take_again(alloc, world, setting, walk)?;
-    set_words(world, &mut walk.seen.words);
+    set_words(world, setting.objects, &mut walk.seen.words);
     if go_to_end(alloc, world, setting, walk)? {
         finish(alloc, world, setting, walk)?;
         walk.tally.end(walk.seen.running);

@@ -19,12 +19,13 @@ const MOVER: u64 = 0xffff << 44;
 
 const CLEAN: u64 = 1 << 60;
 
-/// The frame where the object is, if it is in one.
-pub(crate) fn frame_of(word: u64) -> Option<u64> {
+/// One bit for the frame where the object is, if it is in one of the first 64.
+pub(crate) fn frame_bit(word: u64) -> u64 {
     if word & HERE == 0 {
-        return None;
+        return 0;
     }
-    Some((word & FRAME) >> 20)
+    let frame = u32::try_from((word & FRAME) >> 20).unwrap_or(64);
+    1u64.checked_shl(frame).unwrap_or(0)
 }
 
 /// Whether the word is one of an object that is away, comes by one of so many movers, or is in one of so many frames: there it is clean, or not, or is moved out by one of
