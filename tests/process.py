@@ -36,13 +36,15 @@ class Process:
         with open(self.path(name), "rb") as file:
             return file.read()
 
-    def run(self, *words, stack=8 * MEBIBYTE, memory=None, seconds=60):
-        """Its status, or minus the signal that ended it, and what it wrote; no more than so many bytes of stack and of memory, and so many seconds."""
+    def run(self, *words, stack=8 * MEBIBYTE, memory=None, processor=None, seconds=60):
+        """Its status, or minus the signal that ended it, and what it wrote; no more than so many bytes of stack and of memory, and so many seconds, also of a processor."""
 
         def limit():
             lower(resource.RLIMIT_STACK, stack)
             if memory is not None:
                 lower(resource.RLIMIT_AS, memory)
+            if processor is not None:
+                lower(resource.RLIMIT_CPU, processor)
 
         try:
             ran = subprocess.run([self.program, *words], cwd=self.folder, capture_output=True, stdin=subprocess.DEVNULL, timeout=seconds, preexec_fn=limit, check=False)

@@ -13,6 +13,7 @@ import depths
 import drawn
 import files
 import refusals
+import schedules
 import sizes
 import stores
 from process import Failure, Process
@@ -23,7 +24,7 @@ def main():
         sys.exit(__doc__)
     program = os.path.abspath(sys.argv[1])
     passed = failed = 0
-    for script in (files, stores, depths, sizes, drawn, refusals):
+    for script in (files, stores, depths, sizes, drawn, schedules, refusals):
         for test in script.TESTS:
             with tempfile.TemporaryDirectory() as folder:
                 try:
