@@ -12,6 +12,7 @@ import depths
 import files
 import sizes
 import stores
+import words
 from process import Failure, Process
 
 
@@ -20,7 +21,7 @@ def main():
         sys.exit(__doc__)
     program = os.path.abspath(sys.argv[1])
     passed = failed = 0
-    for script in (files, stores, depths, sizes):
+    for script in (files, words, stores, depths, sizes):
         for test in script.TESTS:
             with tempfile.TemporaryDirectory() as folder:
                 try:
