@@ -11,11 +11,14 @@ LONG = 1048577
 SHORT_NUMBER = "a number below 4,294,967,296"
 LONG_NUMBER = "a number below 18,446,744,073,709,551,616"
 
+FAULTS = (*range(10, 13), *range(20, 23), *range(30, 49), 50)
+
 # words, and what is told of them in front of the page of help
 MISTAKES = (
     ("run --frames -5 a.c0", f"--frames wants {SHORT_NUMBER}, not -5"),
     ("run --frames 4294967296 a.c0", f"--frames wants {SHORT_NUMBER}, not 4294967296"),
     ("run --frames=8x a.c0", f"--frames wants {SHORT_NUMBER}, not 8x"),
+    ("run --frames= a.c0", f"--frames wants {SHORT_NUMBER}"),
     ("run a.c0 --quantum", f"--quantum wants {SHORT_NUMBER}"),
     ("run --fail-from x a.c0", f"--fail-from wants {LONG_NUMBER}, not x"),
     ("run --level 2 a.c0", "--level wants 0 or 1, not 2"),
@@ -66,8 +69,7 @@ def options_stand_anywhere(it):
 
 def help_has_each_fault(it):
     """A fault's page, by its number and by its name, with a text that has it where the page says."""
-    numbers = (*range(10, 13), *range(20, 23), *range(30, 49), 50)
-    for number in numbers:
+    for number in FAULTS:
         status, out, page = it.run("help", str(number))
         want((status, out) == (2, b"") and page.startswith(f"fault {number} ".encode()), f"help {number}")
         name = page.decode().split("\n")[0].split()[2]
@@ -82,7 +84,7 @@ def help_has_each_fault(it):
 def help_lists_the_faults_and_stops(it):
     _, _, page = it.run("help", "faults")
     listed = re.findall(r"(?m)^(\d+) (\w+)", page.decode())
-    want(len(listed) == 26, f"{len(listed)} faults are listed")
+    want(len(listed) == len(FAULTS), f"{len(listed)} faults are listed")
     for number, name in listed:
         want(it.run("help", number)[2].startswith(f"fault {number} {name}\n".encode()), f"help {number}")
     _, _, page = it.run("help", "stops")
@@ -91,7 +93,7 @@ def help_lists_the_faults_and_stops(it):
 
 
 def help_is_within_80_columns(it):
-    for topic in ("", "build", "check", "list", "mean", "replay", "run", "faults", "stops", *map(str, range(10, 51))):
+    for topic in ("", "build", "check", "list", "mean", "replay", "run", "faults", "stops", *map(str, FAULTS)):
         for line in it.run("help", *topic.split())[2].decode().split("\n"):
             want(len(line) <= 80, f"help {topic} has a line of {len(line)} columns: {line}")
 
