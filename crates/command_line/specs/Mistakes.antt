@@ -54,11 +54,12 @@ attached_step place choice (Some value) = cond (accepts choice value) (Goes plac
 abbrev pub known_step : Place → Choice → Text → List Text → Step
 known_step place choice word behind = cond (is_among choice behind) (Tells (twice choice)) (attached_step place choice (attached_value word))
 
--- a word that is an option, or this one
+-- ... where it is this one, or none
 abbrev pub choice_step : Text → Place → Text → List Text → Option Choice → Step
 choice_step name place word behind None = Tells (no_option word)
 choice_step name place word behind (Some choice) = cond (has_choice name choice) (known_step place choice word behind) (Tells (no_option word))
 
+-- a word that is an option, with the words behind it
 abbrev pub option_step : Text → Place → Text → List Text → Step
 option_step name place word behind = choice_step name place word behind (named (word_name word))
 
@@ -69,11 +70,12 @@ plain_step name place word behind =
     (cond (bytes_eq word (codes "--")) (Goes (record place { is_trailing = true }))
     (cond (is_option_word word) (option_step name place word behind) (file_step name place word)))
 
--- a word, with those behind it, where this option waits for its value
+-- a word, with those behind it, for which this option waits, or none
 abbrev pub waited_step : Text → Place → Text → List Text → Option Choice → Step
 waited_step name place word behind None = plain_step name place word behind
 waited_step name place word behind (Some choice) = value_step place choice word
 
+-- a word, with those behind it
 abbrev pub word_step : Text → Place → Text → List Text → Step
 word_step name place word behind = waited_step name place word behind place.waiting
 
@@ -81,19 +83,21 @@ word_step name place word behind = waited_step name place word behind place.wait
 abbrev pub unfiled : Text → Bool → Text
 unfiled name has_file = cond has_file (other_words name) (no_file name)
 
--- what is missing behind a command's name that wants this option
+-- what is missing behind the name of a command that wants this option, or none
 abbrev pub lacking : Text → List Text → Bool → Option Choice → Text
 lacking name words has_file None = unfiled name has_file
 lacking name words has_file (Some choice) = cond (is_among choice words) (unfiled name has_file) (lacks name choice)
 
+-- what is missing behind a command's name, where no word is wrong
 abbrev pub missing : Text → List Text → Bool → Text
 missing name words has_file = lacking name words has_file (required_in name)
 
--- what is wrong where no word is, and this option waits for its value
+-- what is wrong where no word is, and this option waits for its value, or none
 abbrev pub left_over : Text → List Text → Bool → Option Choice → Text
 left_over name words has_file None = missing name words has_file
 left_over name words has_file (Some choice) = no_value choice
 
+-- what is wrong where no word is
 abbrev pub ending : Text → List Text → Place → Text
 ending name words place = left_over name words place.has_file place.waiting
 

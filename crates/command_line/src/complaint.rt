@@ -41,7 +41,10 @@ impl fmt::Display for Complaint<'_> {
         match self {
             Complaint::Help => Ok(()),
             Complaint::NoHelp(word) => {
-                writeln!(f, "c0far: there is no help on {word}; there is on a command, a fault's number or name, `faults` and `stops`")
+                writeln!(
+                    f,
+                    "c0far: there is no help on {word}; there is on a command, a fault's number or name, `faults` and `stops`"
+                )
             }
             Complaint::NoCommand => writeln!(f, "c0far: a command is wanted"),
             Complaint::NoSuchCommand(word) => writeln!(f, "c0far: there is no command {word}"),

@@ -54,12 +54,10 @@ fn file<'a>(name: &'a str, place: Place, word: &'a str) -> Step<'a>
     if place.has_file && is_single(name) {
         return Step::Tells(Complaint::OneMore(name, word));
     }
-    Step::Goes(
-        Place {
-            has_file: true,
-            ..place
-        },
-    )
+    Step::Goes(Place {
+        has_file: true,
+        ..place
+    })
 }
 
 /// What is told of an option with a value that it does not take.
@@ -78,12 +76,10 @@ fn value<'a>(place: Place, choice: Choice, word: &'a str) -> Step<'a>
     ensures { step_of result ≡ value_step place choice word.now }
 {
     if !is_option(word) && accepts(choice, word) {
-        return Step::Goes(
-            Place {
-                waiting: None,
-                ..place
-            },
-        );
+        return Step::Goes(Place {
+            waiting: None,
+            ..place
+        });
     }
     Step::Tells(refused(choice, word))
 }
@@ -102,12 +98,10 @@ fn attached<'a>(place: Place, choice: Choice, value: Option<&'a str>) -> Step<'a
         }
         None => {
             if takes_value(choice) {
-                Step::Goes(
-                    Place {
-                        waiting: Some(choice),
-                        ..place
-                    },
-                )
+                Step::Goes(Place {
+                    waiting: Some(choice),
+                    ..place
+                })
             } else {
                 Step::Goes(place)
             }
@@ -149,12 +143,10 @@ fn plain<'a>(name: &'a str, place: Place, word: &'a str, behind: &[&str]) -> Ste
         return file(name, place, word);
     }
     if word == "--" {
-        return Step::Goes(
-            Place {
-                is_trailing: true,
-                ..place
-            },
-        );
+        return Step::Goes(Place {
+            is_trailing: true,
+            ..place
+        });
     }
     if is_option(word) {
         option(name, place, word, behind)

@@ -222,11 +222,7 @@ fn is_out(word: &str) -> bool
 pub(crate) fn name_in<'a>(word: &'a str) -> &'a str
     ensures { result.now ≡ word_name word.now }
 {
-    if is_out(word) {
-        "-o"
-    } else {
-        front(word)
-    }
+    if is_out(word) { "-o" } else { front(word) }
 }
 
 /// The value that is a part of the word with its option.

@@ -210,7 +210,8 @@ refused line K            that line of the schedule is none, or what it says
                           cannot be done then (docs/SCHEDULES.md)";
 
 /// The page that lists the faults.
-pub const FAULTS_PAGE: &str = "FILE:LINE:COLUMN: fault NUMBER NAME tells why a text is refused, and where.
+pub const FAULTS_PAGE: &str =
+    "FILE:LINE:COLUMN: fault NUMBER NAME tells why a text is refused, and where.
 `c0far help NUMBER` or `c0far help NAME` tells of one, with a text that has it.
 
 10 BadByte            a byte over 127

@@ -1,4 +1,3 @@
-use Rattle.std.proofs.Common.{rules}
 use Rattle.std.proofs.lemmas.Str.Pattern.{starts_text}
 use Rattle.command_line.proofs.options.begins.Goals as goal
 
