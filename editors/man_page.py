@@ -20,7 +20,7 @@ def text_of(path):
 def pages():
     """The pages of help by their commands, that of all commands under the empty name."""
     source = text_of(f"{ROOT}/crates/command_line/src/pages.rt")
-    found = re.findall(r'pub const (?:([A-Z]+)_)?PAGE: &str = "((?:[^"\\]|\\.)*)";', source)
+    found = re.findall(r'pub const (?:([A-Z]+)_)?PAGE: &str =\s*"((?:[^"\\]|\\.)*)";', source)
     return {name.lower(): re.sub(r"\\(.)", r"\1", text) for name, text in found}
 
 
