@@ -22,7 +22,7 @@ _c0far() {
         return
     fi
     if [[ $command == help ]]; then
-        mapfile -t COMPREPLY < <(compgen -W "$commands faults stops" -- "$word")
+        mapfile -t COMPREPLY < <(compgen -W "$commands faults images stops" -- "$word")
         return
     fi
     case $before in

@@ -9,7 +9,7 @@ import sys
 HERE = os.path.dirname(os.path.realpath(__file__))
 ROOT = os.path.dirname(HERE)
 COMMANDS = ("build", "check", "list", "mean", "run", "replay")
-TOPICS = (("stops", "Last lines"), ("faults", "Faults"))
+TOPICS = (("stops", "Last lines"), ("faults", "Faults"), ("images", "Images"))
 
 
 def text_of(path):

@@ -42,7 +42,7 @@ MISTAKES = (
     ("replay a.c0", "replay wants --schedule with a file"),
     ("walk a.c0", "there is no command walk"),
     ("", "a command is wanted"),
-    ("help bogus", "there is no help on bogus; there is on a command, a fault's number or name, `faults` and `stops`"),
+    ("help bogus", "there is no help on bogus; there is on a command, a fault's number or name, `faults`, `images` and `stops`"),
 )
 
 
@@ -93,7 +93,7 @@ def help_lists_the_faults_and_stops(it):
 
 
 def help_is_within_80_columns(it):
-    for topic in ("", "build", "check", "list", "mean", "replay", "run", "faults", "stops", *map(str, FAULTS)):
+    for topic in ("", "build", "check", "list", "mean", "replay", "run", "faults", "images", "stops", *map(str, FAULTS)):
         for line in it.run("help", *topic.split())[2].decode().split("\n"):
             want(len(line) <= 80, f"help {topic} has a line of {len(line)} columns: {line}")
 

@@ -12,7 +12,7 @@ newline = 10 ∷ []
 
 -- there is no help on this word
 abbrev pub no_help : Text → Text
-no_help word = codes "c0far: there is no help on " ++ (word ++ (codes "; there is on a command, a fault's number or name, `faults` and `stops`" ++ newline))
+no_help word = codes "c0far: there is no help on " ++ (word ++ (codes "; there is on a command, a fault's number or name, `faults`, `images` and `stops`" ++ newline))
 
 -- no word stands behind the program's name
 abbrev pub no_command : Text

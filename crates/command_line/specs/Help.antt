@@ -6,7 +6,7 @@ use Rattle.command_line.specs.Complaints.{newline, no_command, no_help, no_such_
 use Rattle.command_line.specs.Mistakes.{mistake, start}
 use Rattle.command_line.specs.declared.faults.TheConstants.{FAULTS}
 use Rattle.command_line.specs.declared.help.TheConstants.{VERSION}
-use Rattle.command_line.specs.declared.pages.TheConstants.{PAGE, BUILD_PAGE, CHECK_PAGE, FAULTS_PAGE, LIST_PAGE, MEAN_PAGE, REPLAY_PAGE, RUN_PAGE, STOPS_PAGE}
+use Rattle.command_line.specs.declared.pages.TheConstants.{PAGE, BUILD_PAGE, CHECK_PAGE, FAULTS_PAGE, IMAGES_PAGE, LIST_PAGE, MEAN_PAGE, REPLAY_PAGE, RUN_PAGE, STOPS_PAGE}
 
 -- the word asks for help wherever it stands
 abbrev pub is_help_flag : Text → Bool
@@ -30,17 +30,18 @@ abbrev pub topic : List Text → Text
 topic [] = []
 topic (w ∷ ws) = cond (is_command w) w (topic ws)
 
--- the page of the command of this name, of faults or of stops, or else that of all commands
+-- the page of the command of this name, of faults, images or stops, or else that of all commands
 abbrev pub page_named : Text → Text
 page_named name =
     cond (bytes_eq name (codes "build")) BUILD_PAGE.now
     (cond (bytes_eq name (codes "check")) CHECK_PAGE.now
     (cond (bytes_eq name (codes "faults")) FAULTS_PAGE.now
+    (cond (bytes_eq name (codes "images")) IMAGES_PAGE.now
     (cond (bytes_eq name (codes "list")) LIST_PAGE.now
     (cond (bytes_eq name (codes "mean")) MEAN_PAGE.now
     (cond (bytes_eq name (codes "replay")) REPLAY_PAGE.now
     (cond (bytes_eq name (codes "run")) RUN_PAGE.now
-    (cond (bytes_eq name (codes "stops")) STOPS_PAGE.now PAGE.now)))))))
+    (cond (bytes_eq name (codes "stops")) STOPS_PAGE.now PAGE.now))))))))
 
 -- of these pages on faults the first of this number or name
 abbrev pub first_fault : List (Text × Text × Text) → Text → Option Text
@@ -67,7 +68,7 @@ behind (w ∷ ws) = ws
 
 -- there is help on what the word names
 abbrev pub is_topic : Text → Bool
-is_topic word = is_command word || (bytes_eq word (codes "help") || (bytes_eq word (codes "faults") || (bytes_eq word (codes "stops") || is_some (fault_page word))))
+is_topic word = is_command word || (bytes_eq word (codes "help") || (bytes_eq word (codes "faults") || (bytes_eq word (codes "images") || (bytes_eq word (codes "stops") || is_some (fault_page word)))))
 
 -- what is told in front of the page that is asked for: nothing where there is such a page
 abbrev pub complaint_on : List Text → Text

@@ -43,7 +43,7 @@ impl fmt::Display for Complaint<'_> {
             Complaint::NoHelp(word) => {
                 writeln!(
                     f,
-                    "c0far: there is no help on {word}; there is on a command, a fault's number or name, `faults` and `stops`"
+                    "c0far: there is no help on {word}; there is on a command, a fault's number or name, `faults`, `images` and `stops`"
                 )
             }
             Complaint::NoCommand => writeln!(f, "c0far: a command is wanted"),

@@ -8,8 +8,8 @@ use crate::complaint::Complaint;
 use crate::faults::FAULTS;
 use crate::mistakes::mistake;
 use crate::pages::{
-    BUILD_PAGE, CHECK_PAGE, FAULTS_PAGE, LIST_PAGE, MEAN_PAGE, PAGE, REPLAY_PAGE, RUN_PAGE,
-    STOPS_PAGE,
+    BUILD_PAGE, CHECK_PAGE, FAULTS_PAGE, IMAGES_PAGE, LIST_PAGE, MEAN_PAGE, PAGE, REPLAY_PAGE,
+    RUN_PAGE, STOPS_PAGE,
 };
 
 /// What `--version` prints.
@@ -69,7 +69,7 @@ fn topic_of<'a>(words: &[&'a str]) -> &'a str
     ""
 }
 
-/// The page of the command of this name, of faults or of stops, or else that of all commands.
+/// The page of the command of this name, of faults, images or stops, or else that of all commands.
 fn named_page(name: &str) -> &'static str
     ensures { result.now ≡ page_named name.now }
 {
@@ -77,6 +77,7 @@ fn named_page(name: &str) -> &'static str
         "build" => BUILD_PAGE,
         "check" => CHECK_PAGE,
         "faults" => FAULTS_PAGE,
+        "images" => IMAGES_PAGE,
         "list" => LIST_PAGE,
         "mean" => MEAN_PAGE,
         "replay" => REPLAY_PAGE,
@@ -146,6 +147,7 @@ fn is_topic(word: &str) -> bool
     is_name(word)
         || word == "help"
         || word == "faults"
+        || word == "images"
         || word == "stops"
         || fault_page(word).is_some()
 }

@@ -13,6 +13,7 @@ commands:
   help [COMMAND]              shows this page, or that of a command
   help FAULT                  tells of a fault, by its number or its name
   help faults                 lists the faults
+  help images                 tells what may be wrong with an image
   help stops                  tells what each last line of a program means
   --version                   prints `c0far` and its number
 
@@ -67,8 +68,8 @@ options:
 status: 0 where it is accepted; 2 where it is refused, or cannot be read;
   3 where memory ran out
 
-`c0far help 38` tells of fault 38; docs/LANGUAGE.md shows each fault with a text
-that has it, docs/IMAGES.md those of images";
+`c0far help 38` tells of fault 38, `c0far help images` of those of images;
+docs/LANGUAGE.md shows each fault with a text that has it";
 
 /// The page of `list`.
 pub const LIST_PAGE: &str = "usage: c0far list [--level L] [--piece C] FILE
@@ -240,3 +241,28 @@ pub const FAULTS_PAGE: &str =
 47 BadUse             another #use than <conio>, or one behind a declaration
 48 NotInLoop          break or continue outside the loops of its function
 50 OutOfMemory        a growth was refused; it is told as `out of memory`";
+
+/// The page on what is told of images.
+pub const IMAGES_PAGE: &str =
+    "FILE: image fault NUMBER tells that the bytes are no image; the first is told:
+1  the bytes end within the image
+2  the first four bytes are not those of an image
+3  the version is neither 1 nor 2
+4  no instruction has this code
+5  a size of pieces, a kind, a fact, a truth value or a character is none
+6  bytes stand behind the image
+7  memory ran out
+
+FILE: verify fault NUMBER tells that the image may not be run:
+1  a cell is read or written by a scope that is not aimed at it
+2  a cell is read or written where no check was made, or behind the last cell
+3  a scope is not shut at a call, a return or an allocation
+4  more than four scopes, or a scope that the function has not
+5  a block is not there, or does not end as a block has to
+6  another number is out of range, or a value is of another kind
+7  a fact that a block needs is not known where it is entered
+8  memory ran out
+
+What build writes has none of these: build it anew from its text.
+
+docs/IMAGES.md tells the bytes, and which images may be run";

@@ -6,4 +6,4 @@ use Rattle.command_line.proofs.help.named_page.Goals as goal
 pub returns-in_default : goal.returns-in_default
 returns-in_default c =
     let name : List ℕ = c.args.name.now in
-    rw (unlike name _ c.in_default.not-build, unlike name _ c.in_default.not-check, unlike name _ c.in_default.not-faults, unlike name _ c.in_default.not-list, unlike name _ c.in_default.not-mean, unlike name _ c.in_default.not-replay, unlike name _ c.in_default.not-run, unlike name _ c.in_default.not-stops) refl
+    rw (unlike name _ c.in_default.not-build, unlike name _ c.in_default.not-check, unlike name _ c.in_default.not-faults, unlike name _ c.in_default.not-images, unlike name _ c.in_default.not-list, unlike name _ c.in_default.not-mean, unlike name _ c.in_default.not-replay, unlike name _ c.in_default.not-run, unlike name _ c.in_default.not-stops) refl
