@@ -4,11 +4,12 @@
 _c0far_options() {
     local memory='--frames --objects --store --fail-from' work='--evacuators --fetchers --workers --quantum'
     case $1 in
-        build) echo '-d --level -o' ;;
-        check | list) echo '--level' ;;
+        build) echo '-d --level --piece -o' ;;
+        check) echo '--level' ;;
+        list) echo '--level --piece' ;;
         mean) echo '-d --level --turns' ;;
-        run) echo "-d --level $memory $work" ;;
-        replay) echo "-d --level $memory $work --schedule" ;;
+        run) echo "-d --level --piece $memory $work" ;;
+        replay) echo "-d --level --piece $memory $work --schedule" ;;
     esac
 }
 
@@ -16,12 +17,17 @@ _c0far() {
     local word=${COMP_WORDS[COMP_CWORD]} before=${COMP_WORDS[COMP_CWORD - 1]} command=${COMP_WORDS[1]}
     local commands='build check list mean replay run help'
     COMPREPLY=()
-    if ((COMP_CWORD == 1)) || [[ $command == help ]]; then
-        mapfile -t COMPREPLY < <(compgen -W "$commands" -- "$word")
+    if ((COMP_CWORD == 1)); then
+        mapfile -t COMPREPLY < <(compgen -W "$commands --version" -- "$word")
+        return
+    fi
+    if [[ $command == help ]]; then
+        mapfile -t COMPREPLY < <(compgen -W "$commands faults images stops" -- "$word")
         return
     fi
     case $before in
         --level) mapfile -t COMPREPLY < <(compgen -W '0 1' -- "$word") ;;
+        --piece) mapfile -t COMPREPLY < <(compgen -W '16 32 64 128 256' -- "$word") ;;
         --store) mapfile -t COMPREPLY < <(compgen -d -- "$word") ;;
         --schedule | -o) mapfile -t COMPREPLY < <(compgen -f -- "$word") ;;
         --frames | --objects | --fail-from | --evacuators | --fetchers | --workers | --quantum | --turns) ;;

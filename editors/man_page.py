@@ -1,5 +1,5 @@
 #!/usr/bin/env python3
-"""man_page.py [--check]: writes c0far.1 beside it, from the pages of help in crates/command_line/src/help.rt and the newest number of CHANGELOG.md.
+"""man_page.py [--check]: writes c0far.1 beside it, from the pages of help in crates/command_line/src/pages.rt and the newest number of CHANGELOG.md.
 With --check it writes nothing, and fails where c0far.1 is not what they make."""
 
 import os
@@ -9,6 +9,7 @@ import sys
 HERE = os.path.dirname(os.path.realpath(__file__))
 ROOT = os.path.dirname(HERE)
 COMMANDS = ("build", "check", "list", "mean", "run", "replay")
+TOPICS = (("stops", "Last lines"), ("faults", "Faults"), ("images", "Images"))
 
 
 def text_of(path):
@@ -18,8 +19,8 @@ def text_of(path):
 
 def pages():
     """The pages of help by their commands, that of all commands under the empty name."""
-    source = text_of(f"{ROOT}/crates/command_line/src/help.rt")
-    found = re.findall(r'pub const (?:([A-Z]+)_)?PAGE: &str = "((?:[^"\\]|\\.)*)";', source)
+    source = text_of(f"{ROOT}/crates/command_line/src/pages.rt")
+    found = re.findall(r'pub const (?:([A-Z]+)_)?PAGE: &str =\s*"((?:[^"\\]|\\.)*)";', source)
     return {name.lower(): re.sub(r"\\(.)", r"\1", text) for name, text in found}
 
 
@@ -62,8 +63,8 @@ def block(lines, under):
     """A block between two empty lines, under headings of this kind."""
     if lines[0].startswith("usage:"):
         return usage(lines)
-    if lines[0] in ("options:", "commands:"):
-        return [f".{under} {lines[0].strip(':').capitalize()}", *entries(lines[1:])]
+    if lines[0].startswith(("options", "commands:")):
+        return [f".{under} {roff(lines[0].strip(':').capitalize())}", *entries(lines[1:])]
     if lines[0].startswith("status:"):
         return [f".{under} Exit status", *statuses(lines)]
     return paragraph(lines)
@@ -76,7 +77,7 @@ def blocks(page):
 def man_page():
     found = pages()
     number = re.search(r"(?m)^## (\S+)", text_of(f"{ROOT}/CHANGELOG.md"))[1]
-    made = ['.\\" Made by editors/man_page.py: change crates/command_line/src/help.rt, and run it again.', f'.TH C0FAR 1 "" "c0far {number}" "User Commands"']
+    made = ['.\\" Made by editors/man_page.py: change crates/command_line/src/pages.rt, and run it again.', f'.TH C0FAR 1 "" "c0far {number}" "User Commands"']
     made += [".SH NAME", "c0far \\- compiles programs of C0, and runs them over a heap that may be larger than local memory"]
     made += [".SH SYNOPSIS"]
     first, *others = blocks(found[""])
@@ -87,6 +88,8 @@ def man_page():
         made.append(f".SH C0FAR {name.upper()}")
         for it in blocks(found[name]):
             made += block(it, "SS")
+    for name, title in TOPICS:
+        made += [f".SH {title.upper()}", ".nf", roff(found[name]), ".fi"]
     return "\n".join(made) + "\n"
 
 

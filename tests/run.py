@@ -16,6 +16,7 @@ import refusals
 import schedules
 import sizes
 import stores
+import words
 from process import Failure, Process
 
 
@@ -24,7 +25,7 @@ def main():
         sys.exit(__doc__)
     program = os.path.abspath(sys.argv[1])
     passed = failed = 0
-    for script in (files, stores, depths, sizes, drawn, schedules, refusals):
+    for script in (files, words, stores, depths, sizes, drawn, schedules, refusals):
         for test in script.TESTS:
             with tempfile.TemporaryDirectory() as folder:
                 try:

@@ -13,7 +13,7 @@ use Rattle.c0far.specs.NoCode.{HasFailed, HasNoCode, IsUnread, LacksMemory}
 use Rattle.c0far.specs.Replays.{Replays}
 use Rattle.c0far.specs.Runs.{Runs}
 use Rattle.c0far.specs.Shown.{newline, shown_meaning}
-use Rattle.command_line.specs.Help.{help_text}
+use Rattle.command_line.specs.Help.{asks_version, behind, help_text, version_text}
 use Rattle.command_line.specs.Shell.{Check, Command, Compiling, Mean, Names, Replay, Run, Texts}
 use Rattle.command_line.specs.Shell as shell
 use Rattle.c0far.specs.Statuses.{ended_status}
@@ -111,11 +111,15 @@ Does honest held now (Mean texts turns file) out err result = Means file texts t
 Does honest held now (Replay asked files) out err result = Replays honest asked files held out err result × KeepsFiles held now
 Does honest held now (Run asked files) out err result = Runs honest asked files held out err result × KeepsFiles held now
 
--- the words are no command: it is told what is refused, and a page of help is shown
+-- the number of this version is told where the words ask for it; of others it is told what is refused, and a page of help is shown
+abbrev pub Answers : List Text → Writes → Writes → ℕ → Type 0
+Answers words out err result =
+    elim (asks_version (behind words)) as (λ b. Type 0) [ true ↦ Says out version_text 0 result × IsQuiet err | false ↦ Says err (help_text words) 2 result × IsQuiet out ]
+
+-- the words are no command, and are answered
 pub record IsUsage (words : List Text) (out err : Writes) (result : ℕ) : Type 0 where
   pub none : (command : Command) → Names words command → ⊥
-  pub shown : Says err (help_text words) 2 result
-  pub quiet : IsQuiet out
+  pub answered : Answers words out err result
 
 -- what the words ask for was done, where files held this and hold that now, and folders are honest or not
 abbrev pub IsDriven : Type 0 → (held now : Text → Known) → List Text → Writes → Writes → ℕ → Type 0

@@ -9,7 +9,7 @@ ghost use Rattle.code_form.specs.Form.{image_of};
 ghost use Rattle.c0far.specs.NoCode.{HasFailed, HasNoCode, IsUnfit, LacksCode, LacksMemory};
 ghost use Rattle.c0far.specs.Shown.{newline};
 ghost use Rattle.c0far.specs.FileCode.{AreCodes, HoldsCode, names_image, unchecked as unchecked_code};
-ghost use Rattle.c0far.specs.FileTexts.{HasText, Known};
+ghost use Rattle.c0far.specs.FileTexts.{HasText, IsMissing, Known};
 ghost use Rattle.c0far.specs.Streams.{IsQuiet, Says, Writes, writes};
 ghost use Rattle.command_line.specs.Shell.{compiling_of};
 ghost use Rattle.instruction_table.specs.FaultNumbers.{fault_line as image_line};
@@ -116,6 +116,19 @@ fn of_named<E: Stream>(
     }
 }
 
+/// The bytes of a file that is an image, or those of its text.
+fn bytes_of<F: Files>(alloc: Global, file: &str, files: &mut F) -> Result<Vec<u8>, FileError>
+    ensures text { IfOk result (λ v. HasText (F.holds files.old file.now) v.items) }
+    ensures missing { IfErr result (λ e. e ≡ FileError.Cannot → IsMissing (F.holds files.old file.now)) }
+    ensures same { (name : List ℕ) → F.holds files.new name ≡ F.holds files.old name }
+{
+    if is_image_name(file) {
+        files.read(alloc, file)
+    } else {
+        files.read_text(alloc, file)
+    }
+}
+
 /// The code of a file, where a text is compiled so, or the status behind what was said of it: of a file that cannot be read, of a text or an image that is refused, or of want
 /// of memory.
 pub fn code_of<F: Files, E: Stream>(
@@ -130,7 +143,7 @@ pub fn code_of<F: Files, E: Stream>(
     ensures quiet { IfOk result (λ v. IsQuiet (writes E.contents E.failures err.old err.new)) }
     ensures refused { IfErr result (λ status. (out : Writes) → IsQuiet out → HasNoCode (has_loops compiling.texts.level) file.now (F.holds files.old file.now) out (writes E.contents E.failures err.old err.new) status) }
 {
-    match files.read(alloc, file) {
+    match bytes_of(alloc, file, files) {
         Ok(bytes) => of_named(alloc, compiling, file, &bytes, err),
         Err(FileError::Cannot) => Err(say_unread(err, file)),
         Err(FileError::OutOfMemory) => Err(say_memory(err)),

@@ -1,8 +1,8 @@
 //! The commands, over files and two streams.
 ghost use Rattle.std.specs.Prelude.{◌≡◌, ◌++◌, ℕ, List, codes, map};
 ghost use Rattle.c0_syntax.specs.Levels.{has_loops};
-ghost use Rattle.command_line.specs.Help.{help_text};
-ghost use Rattle.c0far.specs.Driven.{Checks, ChecksImage, ChecksText, IsDriven};
+ghost use Rattle.command_line.specs.Help.{help_text, version_text};
+ghost use Rattle.c0far.specs.Driven.{Answers, Checks, ChecksImage, ChecksText, IsDriven};
 ghost use Rattle.c0far.specs.FileTexts.{HasText, Known};
 ghost use Rattle.c0far.specs.Shown.{newline};
 ghost use Rattle.c0far.specs.Streams.{Says, writes};
@@ -19,7 +19,7 @@ use c0_front::check_text;
 use c0_source::fault::FaultKind;
 use c0_syntax::level::Level;
 use cells::Piece;
-use command_line::help::{complaint, page};
+use command_line::help::{VERSION, asks_version, complaint, page};
 use command_line::line::line;
 use command_line::words::{Line, Usage};
 use std::alloc::Global;
@@ -41,6 +41,25 @@ pub fn say_help<E: Stream>(err: &mut E, words: &[&str]) -> u8
     let complaint = complaint(words);
     let page = page(words);
     after(writeln!(err, "{complaint}{page}"), REFUSED)
+}
+
+/// Says the number of this version.
+fn say_version<O: Stream>(out: &mut O) -> u8
+    ensures { Says (writes O.contents O.failures out.old out.new) version_text 0 result }
+{
+    let version = VERSION;
+    after(writeln!(out, "{version}"), 0)
+}
+
+/// Answers words that are no command: by the number of this version where they ask for it.
+fn answer<O: Stream, E: Stream>(out: &mut O, err: &mut E, words: &[&str]) -> u8
+    ensures { Answers (map (λ w. w.now) words.now) (writes O.contents O.failures out.old out.new) (writes E.contents E.failures err.old err.new) result }
+{
+    if asks_version(words) {
+        say_version(out)
+    } else {
+        say_help(err, words)
+    }
 }
 
 /// Tells whether a text, which stands in this file, keeps the static rules of this level.
@@ -73,7 +92,7 @@ fn check_text_of<F: Files, O: Stream, E: Stream>(
     ensures files { (name : List ℕ) → F.holds files.new name ≡ F.holds files.old name }
     ensures done { ChecksText (has_loops level) file.now (F.holds files.old file.now) (writes O.contents O.failures out.old out.new) (writes E.contents E.failures err.old err.new) result }
 {
-    match files.read(alloc, file) {
+    match files.read_text(alloc, file) {
         Ok(text) => check_named(alloc, level, file, &text, out, err),
         Err(FileError::Cannot) => say_unread(err, file),
         Err(FileError::OutOfMemory) => say_memory(err),
@@ -161,7 +180,7 @@ pub fn drive<W: Wait + Threads + Clock + Sync, F: Files, O: Stream, E: Stream>(
                 files: names,
             },
         ) => run(alloc, rt, asked, &names, files, out, err),
-        Err(Usage::Refused) => say_help(err, words),
+        Err(Usage::Refused) => answer(out, err, words),
         Err(Usage::OutOfMemory) => say_memory(err),
     }
 }

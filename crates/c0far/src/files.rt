@@ -5,13 +5,19 @@ ghost use Rattle.std.specs.Str.{bytes_eq};
 ghost use Rattle.c0far.specs.FileTexts.{HasText, IsMissing};
 
 use crate::replacing::write_whole;
+use c0_source::source::MOST_BYTES;
 use file_store::{DiskFolder, Folder, MemFolder};
 use std::alloc::{AllocError, Global};
 use std::collections::BTreeMap;
+use std::fs::File;
+use std::io::Read;
 use std::os::unix::fs::MetadataExt;
 use std::rt::Files as SystemFiles;
 use std::{fs, io};
 use thiserror::Error;
+
+/// So many bytes tell that a text has too many.
+const MOST_READ: u64 = MOST_BYTES as u64 + 1;
 
 /// Why a file was not read or written.
 #[derive(Clone, Copy, Debug, PartialEq, Eq, Error)]
@@ -33,6 +39,12 @@ pub trait Files {
 
     /// The bytes of a file. `Cannot` where it is not there or the system refuses, `OutOfMemory` where a growth is refused.
     fn read(&mut self, alloc: Global, name: &str) -> Result<Vec<u8>, FileError>
+        ensures text { IfOk result (λ v. HasText (holds self.old name.now) v.items) }
+        ensures missing { IfErr result (λ e. e ≡ FileError.Cannot → IsMissing (holds self.old name.now)) }
+        ensures same { (n : List ℕ) → holds self.new n ≡ holds self.old n };
+
+    /// The text of a file: its bytes, or the first `MOST_BYTES + 1` where there are more, which are no text. Else as `read`.
+    fn read_text(&mut self, alloc: Global, name: &str) -> Result<Vec<u8>, FileError>
         ensures text { IfOk result (λ v. HasText (holds self.old name.now) v.items) }
         ensures missing { IfErr result (λ e. e ≡ FileError.Cannot → IsMissing (holds self.old name.now)) }
         ensures same { (n : List ℕ) → holds self.new n ≡ holds self.old n };
@@ -73,6 +85,14 @@ fn refusal(error: io::Error) -> FileError {
     }
 }
 
+// The bytes of a file, but no more than tell that it is too long for a text.
+fn read_begun<R: SystemFiles>(rt: &R, alloc: Global, name: &str) -> io::Result<Vec<u8>> {
+    let mut begun = File::open(rt, name)?.take(MOST_READ);
+    let mut text = Vec::new(alloc);
+    begun.read_to_end(&mut text)?;
+    Ok(text)
+}
+
 // Whether the system tells that one file is there under both names.
 fn is_one_file<R: SystemFiles>(rt: &R, first: &str, second: &str) -> bool {
     match (fs::metadata(rt, first), fs::metadata(rt, second)) {
@@ -86,6 +106,10 @@ impl<'a, R: SystemFiles + AllocGlobal + Sync> Files for FolderFiles<'a, R> {
 
     fn read(&mut self, _alloc: Global, name: &str) -> Result<Vec<u8>, FileError> {
         fs::read(self.rt, name).map_err(refusal)
+    }
+
+    fn read_text(&mut self, alloc: Global, name: &str) -> Result<Vec<u8>, FileError> {
+        read_begun(self.rt, alloc, name).map_err(refusal)
     }
 
     fn is_same(&self, first: &str, second: &str) -> bool {
@@ -150,6 +174,10 @@ impl Files for MemFiles {
             Some(bytes) => bytes.to_vec(alloc).map_err(|_| FileError::OutOfMemory),
             None => Err(FileError::Cannot),
         }
+    }
+
+    fn read_text(&mut self, alloc: Global, name: &str) -> Result<Vec<u8>, FileError> {
+        self.read(alloc, name)
     }
 
     fn is_same(&self, first: &str, second: &str) -> bool

@@ -89,7 +89,7 @@ pub fn mean<R: Threads, F: Files, O: Stream, E: Stream>(
     ensures files { (name : List ℕ) → F.holds files.new name ≡ F.holds files.old name }
     ensures done { Means file.now (texts_of bound.texts) bound.turns (F.holds files.old file.now) (writes O.contents O.failures out.old out.new) (writes E.contents E.failures err.old err.new) result }
 {
-    match files.read(alloc, file) {
+    match files.read_text(alloc, file) {
         Ok(text) => mean_named(alloc, rt, bound, file, &text, out, err),
         Err(FileError::Cannot) => say_unread(err, file),
         Err(FileError::OutOfMemory) => say_memory(err),

@@ -1,2 +1,5 @@
+pub mod Complaints
 pub mod Help
+pub mod Mistakes
+pub mod Options
 pub mod Shell

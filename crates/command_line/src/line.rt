@@ -200,7 +200,7 @@ fn has_plus(text: &[u8]) -> bool
 }
 
 /// The number that the text writes in digits. None where there is a sign or no digit, or it has more than 64 bits.
-fn number(text: &str) -> Option<u64>
+pub(crate) fn number(text: &str) -> Option<u64>
     ensures { result ≡ number_in text.now }
 {
     if has_plus(text.as_bytes()) {
@@ -210,7 +210,7 @@ fn number(text: &str) -> Option<u64>
 }
 
 /// The number that the text writes in digits. None where there is a sign or no digit, or it has more than 32 bits.
-fn short_number(text: &str) -> Option<u32>
+pub(crate) fn short_number(text: &str) -> Option<u32>
     ensures { result ≡ short_number_in text.now }
 {
     match number(text) {

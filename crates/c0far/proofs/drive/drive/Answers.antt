@@ -16,8 +16,7 @@ returns-in-Err-Refused g c =
       (λ name. refl),
       inl (record {
         none = λ command names. let other : Refused ≡ OutOfMemory = sym c.in-Err-Refused.field-0-is ∙ c.in-Err-Refused.ensures.refused command names in cc;
-        shown = c.say_help.ensures;
-        quiet = refl;
+        answered = c.answer.ensures;
       }),
     )
 

@@ -1,10 +1,10 @@
 use Rattle.std.proofs.Common.{◌≡◌, length, map}
-use Rattle.command_line.specs.Help.{ask_help}
+use Rattle.command_line.specs.Help.{ask_flag}
 use Rattle.command_line.proofs.help.ask.Given as goal
 
 -- none of the words so far asks for help
 abbrev pub invariant-loop-rest : goal.invariant-loop-rest
-invariant-loop-rest l = ask_help (map (λ w. w.now) l.rest) ≡ ask_help (map (λ w. w.now) l.words)
+invariant-loop-rest l = ask_flag (map (λ w. w.now) l.rest) ≡ ask_flag (map (λ w. w.now) l.words)
 
 abbrev pub decreases-loop-rest : goal.decreases-loop-rest
 decreases-loop-rest l = length l.rest
