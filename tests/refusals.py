@@ -392,28 +392,21 @@ def sweep(it, how, rows):
         raise Failure(f"{len(complaints)} answers are wrong, the first of them:\n" + "\n".join(complaints[:20]))
 
 
+def in_memory():
+    return [*compiled(), *run(), *images(), side_by_side(), with_movers()]
+
+
 def everything():
-    return [*compiled(), *run(), *images(), side_by_side(), with_movers(), in_files()]
+    return [*in_memory(), in_files()]
 
 
-def texts_refused_in_turn(it):
-    sweep(it, once, compiled())
-
-
-def runs_refused_in_turn(it):
-    sweep(it, once, [*run(), side_by_side(), with_movers()])
-
-
-def images_refused_in_turn(it):
-    sweep(it, once, images())
+def allocations_refused_in_turn(it):
+    """The longest first, so that the others are swept beside it."""
+    sweep(it, once, [by_default(), *in_memory()])
 
 
 def a_store_in_files_refused_in_turn(it):
     sweep(it, readable, [in_files()])
-
-
-def default_sizes_refused_in_turn(it):
-    sweep(it, once, [by_default()])
 
 
 def memory_refused_for_good(it):
@@ -429,11 +422,8 @@ def threads_refused(it):
 
 
 TESTS = [
-    texts_refused_in_turn,
-    runs_refused_in_turn,
-    images_refused_in_turn,
+    allocations_refused_in_turn,
     a_store_in_files_refused_in_turn,
-    default_sizes_refused_in_turn,
     memory_refused_for_good,
     little_address_space,
     threads_refused,
