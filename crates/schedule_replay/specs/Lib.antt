@@ -1,1 +1,2 @@
+pub mod Reliable
 pub mod Replayed
