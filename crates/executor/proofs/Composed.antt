@@ -158,3 +158,10 @@ mapped_more f done x ends new is pushed = pushed ∙ ap (λ l. l ++ f x ∷ []) 
 -- ... and of all, where nothing is left
 pub mapped_all : {A B : Type 0} (f : A → B) (done left all : List A) (ends : List B) → done ++ left ≡ all → length left ≡ 0 → ends ≡ map f done → ends ≡ map f all
 mapped_all f done left all ends e is made = made ∙ ap (map f) (none done left all e is)
+
+-- as many ends as programs
+pub as_many : (honest reliable : Type 0) (objects : ℕ) (programs : List Verified) (all : List Finished) → AreFinished honest reliable objects programs all → length all ≡ length programs
+as_many honest reliable objects [] [] h = refl
+as_many honest reliable objects [] (f ∷ fs) h = absurd h
+as_many honest reliable objects (v ∷ vs) [] h = absurd h
+as_many honest reliable objects (v ∷ vs) (f ∷ fs) h = ap suc (as_many honest reliable objects vs fs h.1)

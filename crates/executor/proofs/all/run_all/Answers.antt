@@ -1,8 +1,16 @@
-use Rattle.std.proofs.Common.{◌≡◌, ◌/◌, List, length, map, subst, sym}
+use Rattle.std.proofs.Common.{◌≡◌, ◌/◌, List, arith, length, subst, sym}
 use Rattle.cells.specs.declared.ending.Ended.{Ended}
 use Rattle.executor.specs.Ends.{AreEnds}
-use Rattle.executor.proofs.Composed.{ends_alone}
+use Rattle.executor.proofs.Composed.{as_many, ends_alone}
 use Rattle.executor.proofs.all.run_all.Goals as goal
+
+pub without_numbers-requires-clause-room : goal.without_numbers-requires-clause-room
+without_numbers-requires-clause-room g c =
+    let programs = c.args.programs.items in
+    let many = as_many g.S.RawStore.honest g.S.RawStore.reliable (c.args.config.objects / length programs) programs c.in_ok-finished.finished.items c.in_ok-finished.ensures.ends in
+    let room = c.in-Ok.ensures.capacity in
+    let count = c.len.ensures in
+    omega arith
 
 pub returns-clause-ends : goal.returns-clause-ends
 returns-clause-ends g c =
@@ -11,6 +19,3 @@ returns-clause-ends g c =
     let all = c.in_ok-finished.finished.items in
     subst (λ (ends : List Ended). AreEnds g.S.RawStore.honest g.S.RawStore.reliable objects programs ends) (sym c.without_numbers.ensures)
     (ends_alone g.S.RawStore.honest g.S.RawStore.reliable objects programs all c.in_ok-finished.ensures.ends)
-
-pub returns-clause-own : goal.returns-clause-own
-returns-clause-own g c = (c.in_ok-finished.finished.items, c.in_ok-finished.ensures.ends, c.without_numbers.ensures)
