@@ -1,12 +1,13 @@
 -- Tasks, seats and ends of programs, put together.
-use Rattle.std.proofs.Common.{◌≡◌, ◌<◌, ◌+◌, ◌⊎◌, refl, ℕ, zero, suc, List, [], ◌∷◌, ◌++◌, Option, Some, None, is_some, false, length, sym, ap, ◌∙◌, subst, slice_get, slice_index_or, take, set, inl, inr, ⊎_elim, arith, length-append, append_assoc, append-nil}
+use Rattle.std.proofs.Common.{◌≡◌, ◌<◌, ◌+◌, ◌⊎◌, refl, ℕ, zero, suc, List, [], ◌∷◌, ◌++◌, Option, Some, None, is_some, false, length, map, sym, ap, ◌∙◌, subst, slice_get, slice_index_or, take, set, inl, inr, ⊎_elim, arith, length-append, append_assoc, append-nil}
 use Rattle.std.proofs.Math.Seq.{take-length}
 use Rattle.std.proofs.lemmas.List.{length-map, length-set}
 use Rattle.std.proofs.lemmas.List.FromFn.{length-range_with_len}
 use Rattle.std.specs.List.{All, AllZip, remove}
 use Rattle.cells.specs.declared.ending.Ended.{Ended}
 use Rattle.code_form.specs.Form.{image_of}
-use Rattle.program_run.specs.Executed.{IsExecutedOver}
+use Rattle.program_run.specs.Executed.{IsExecutedOver, IsFinishedOver}
+use Rattle.program_run.specs.declared.run.Finished.{Finished}
 use Rattle.program_run.specs.Runs.{RunView}
 use Rattle.scope_verifier.specs.declared.acceptance.Verified.{Verified}
 use Rattle.object_lock.specs.Fresh.{AreNumbered, IsFreshMover}
@@ -16,7 +17,7 @@ use Rattle.region.specs.Admission.{image_at}
 use Rattle.task_queue.specs.Queues.{QueueView}
 use Rattle.task_queue.specs.Tasked.{IsTask}
 use Rattle.task_queue.specs.declared.rule.Roster.{Roster}
-use Rattle.executor.specs.Ends.{AreEnds, AreFiled, AreSame, IsDone, IsEndOf, IsSeatOf}
+use Rattle.executor.specs.Ends.{AreEnds, AreFiled, AreFinished, AreSame, IsDone, IsEndOf, IsSeatOf, end_of}
 use Rattle.executor.specs.declared.workers.Done.{Done}
 
 zip_more : {A B : Type 0} (R : A → B → Type 0) (xs : List A) (ys : List B) (x : A) (y : B) → length ys < length xs → x ≡ slice_index_or xs (length ys) x → AllZip R (take (length ys) xs) ys → R x y → AllZip R (take (suc (length ys)) xs) (ys ++ y ∷ [])
@@ -74,23 +75,30 @@ image_there (v ∷ vs) zero low = (v, refl, refl)
 image_there (v ∷ vs) (suc k) low = image_there vs k (omega arith)
 
 -- ends so far, and one more
-pub ends_more : (honest reliable : Type 0) (objects : ℕ) (programs : List Verified) (ends new : List Ended) (e : Ended) → length ends < length programs → new ≡ ends ++ e ∷ []
-    → AreEnds honest reliable objects (take (length ends) programs) ends → (honest → IsExecutedOver reliable objects (image_at programs (length ends)) e)
-    → AreEnds honest reliable objects (take (length new) programs) new
+pub ends_more : (honest reliable : Type 0) (objects : ℕ) (programs : List Verified) (ends new : List Finished) (e : Finished) → length ends < length programs → new ≡ ends ++ e ∷ []
+    → AreFinished honest reliable objects (take (length ends) programs) ends → (honest → IsFinishedOver reliable objects (image_at programs (length ends)) e)
+    → AreFinished honest reliable objects (take (length new) programs) new
 ends_more honest reliable objects programs ends new e low is h f =
     let there = image_there programs (length ends) low in
     let n : suc (length ends) ≡ length new = omega (arith, ap length is, length-append ends (e ∷ [])) in
-    let this : honest → IsExecutedOver reliable objects (image_of there.0.image) e = λ good. subst (λ C. IsExecutedOver reliable objects C e) there.2 (f good) in
-    subst (λ (k : ℕ × List Ended). AreEnds honest reliable objects (take k.0 programs) k.1) (λ i. (n i, sym is i)) (zip_more (λ v e. honest → IsExecutedOver reliable objects (image_of v.image) e) programs ends there.0 e low there.1 h this)
+    let this : honest → IsFinishedOver reliable objects (image_of there.0.image) e = λ good. subst (λ C. IsFinishedOver reliable objects C e) there.2 (f good) in
+    subst (λ (k : ℕ × List Finished). AreFinished honest reliable objects (take k.0 programs) k.1) (λ i. (n i, sym is i)) (zip_more (λ v e. honest → IsFinishedOver reliable objects (image_of v.image) e) programs ends there.0 e low there.1 h this)
 
 -- the ends of all programs
-pub ends_all : (honest reliable : Type 0) (objects k : ℕ) (programs : List Verified) (ends : List Ended) → k ≡ length programs → AreEnds honest reliable objects (take k programs) ends → AreEnds honest reliable objects programs ends
+pub ends_all : (honest reliable : Type 0) (objects k : ℕ) (programs : List Verified) (ends : List Finished) → k ≡ length programs → AreFinished honest reliable objects (take k programs) ends → AreFinished honest reliable objects programs ends
 ends_all honest reliable objects k programs ends e b =
     let whole : take k programs ≡ programs = ap (λ n. take n programs) e ∙ take-length programs in
-    subst (λ vs. AreEnds honest reliable objects vs ends) whole b
+    subst (λ vs. AreFinished honest reliable objects vs ends) whole b
+
+-- ends that are told with numbers are ends
+pub ends_alone : (honest reliable : Type 0) (objects : ℕ) (programs : List Verified) (all : List Finished) → AreFinished honest reliable objects programs all → AreEnds honest reliable objects programs (map end_of all)
+ends_alone honest reliable objects [] [] h = h
+ends_alone honest reliable objects [] (f ∷ fs) h = h
+ends_alone honest reliable objects (v ∷ vs) [] h = h
+ends_alone honest reliable objects (v ∷ vs) (f ∷ fs) h = (λ good. (h.0 good).executed, ends_alone honest reliable objects vs fs h.1)
 
 -- what is read of places of which one was filled
-set_at : (places : List (Option Ended)) (n k : ℕ) (end e : Ended) → slice_get (set places n (Some end)) k ≡ Some (Some e) → ((k ≡ n) × (end ≡ e)) ⊎ (slice_get places k ≡ Some (Some e))
+set_at : (places : List (Option Finished)) (n k : ℕ) (end e : Finished) → slice_get (set places n (Some end)) k ≡ Some (Some e) → ((k ≡ n) × (end ≡ e)) ⊎ (slice_get places k ≡ Some (Some e))
 set_at [] n k end e at = inr at
 set_at (p ∷ ps) zero zero end e at = inl (refl, let same : end ≡ e = cc at in same)
 set_at (p ∷ ps) zero (suc k) end e at = inr at
@@ -98,30 +106,30 @@ set_at (p ∷ ps) (suc n) zero end e at = inr at
 set_at (p ∷ ps) (suc n) (suc k) end e at = ⊎_elim (λ (x : (k ≡ n) × (end ≡ e)). inl (ap suc x.0, x.1)) (λ (x : slice_get ps k ≡ Some (Some e)). inr x) (set_at ps n k end e at)
 
 -- an end is filed
-pub filed : (honest reliable : Type 0) (r : Roster) (places : List (Option Ended)) (d : Done) → IsDone honest reliable r d → AreFiled honest reliable r places → AreFiled honest reliable r (set places d.number (Some d.end))
+pub filed : (honest reliable : Type 0) (r : Roster) (places : List (Option Finished)) (d : Done) → IsDone honest reliable r d → AreFiled honest reliable r places → AreFiled honest reliable r (set places d.number (Some d.end))
 filed honest reliable r places d done all = record {
   count = length-set places d.number (Some d.end) ∙ all.count;
   each = λ k e at.
       ⊎_elim
-      (λ (x : (k ≡ d.number) × (d.end ≡ e)). subst (λ (n : ℕ × Ended). IsEndOf honest reliable r n.0 n.1) (λ i. (sym x.0 i, x.1 i)) done.1)
+      (λ (x : (k ≡ d.number) × (d.end ≡ e)). subst (λ (n : ℕ × Finished). IsEndOf honest reliable r n.0 n.1) (λ i. (sym x.0 i, x.1 i)) done.1)
       (λ (x : slice_get places k ≡ Some (Some e)). all.each k e x)
       (set_at places d.number k d.end e at);
 }
 
 -- no place has an end yet
-pub unfiled : (honest reliable : Type 0) (r : Roster) (places : List (Option Ended)) → length places ≡ length r.programs → All (λ p. p ≡ None) places → AreFiled honest reliable r places
+pub unfiled : (honest reliable : Type 0) (r : Roster) (places : List (Option Finished)) → length places ≡ length r.programs → All (λ p. p ≡ None) places → AreFiled honest reliable r places
 unfiled honest reliable r places count none = record { count = count; each = λ k e at. absurd (empty places k e none at) }
   where
-    empty : (places : List (Option Ended)) (k : ℕ) (e : Ended) → All (λ p. p ≡ None) places → slice_get places k ≡ Some (Some e) → ⊥
+    empty : (places : List (Option Finished)) (k : ℕ) (e : Finished) → All (λ p. p ≡ None) places → slice_get places k ≡ Some (Some e) → ⊥
     empty [] k e none at = let no : ⊥ = cc at in no
     empty (p ∷ ps) zero e none at = let is = none 0 p (omega arith) in let no : ⊥ = cc (at, is) in no
     empty (p ∷ ps) (suc k) e none at = empty ps k e (λ j d l. none (suc j) d (omega arith)) at
 
 -- the place behind those that were read
-pub place_there : (done rest all : List (Option Ended)) (p : Option Ended) → done ++ p ∷ rest ≡ all → slice_get all (length done) ≡ Some p
+pub place_there : (done rest all : List (Option Finished)) (p : Option Finished) → done ++ p ∷ rest ≡ all → slice_get all (length done) ≡ Some p
 place_there done rest all p is = subst (λ l. slice_get l (length done) ≡ Some p) is (here done rest p)
   where
-    here : (done rest : List (Option Ended)) (p : Option Ended) → slice_get (done ++ p ∷ rest) (length done) ≡ Some p
+    here : (done rest : List (Option Finished)) (p : Option Finished) → slice_get (done ++ p ∷ rest) (length done) ≡ Some p
     here [] rest p = refl
     here (d ∷ ds) rest p = here ds rest p
 
@@ -138,3 +146,22 @@ all_same q old new same all = λ k d low. let count = same.count in same.each k 
 pub not_some : {A : Type 0} (o : Option A) → is_some o ≡ false → o ≡ None
 not_some None e = refl
 not_some (Some x) e = absurd (let no : ⊥ = cc e in no)
+
+-- one more of what a function makes of each
+mapped_push : {A B : Type 0} (f : A → B) (done : List A) (x : A) → map f (done ++ x ∷ []) ≡ map f done ++ f x ∷ []
+mapped_push f [] x = refl
+mapped_push f (d ∷ ds) x = ap (λ l. f d ∷ l) (mapped_push f ds x)
+
+pub mapped_more : {A B : Type 0} (f : A → B) (done : List A) (x : A) (ends new : List B) → ends ≡ map f done → new ≡ ends ++ f x ∷ [] → new ≡ map f (done ++ x ∷ [])
+mapped_more f done x ends new is pushed = pushed ∙ ap (λ l. l ++ f x ∷ []) is ∙ sym (mapped_push f done x)
+
+-- ... and of all, where nothing is left
+pub mapped_all : {A B : Type 0} (f : A → B) (done left all : List A) (ends : List B) → done ++ left ≡ all → length left ≡ 0 → ends ≡ map f done → ends ≡ map f all
+mapped_all f done left all ends e is made = made ∙ ap (map f) (none done left all e is)
+
+-- as many ends as programs
+pub as_many : (honest reliable : Type 0) (objects : ℕ) (programs : List Verified) (all : List Finished) → AreFinished honest reliable objects programs all → length all ≡ length programs
+as_many honest reliable objects [] [] h = refl
+as_many honest reliable objects [] (f ∷ fs) h = absurd h
+as_many honest reliable objects (v ∷ vs) [] h = absurd h
+as_many honest reliable objects (v ∷ vs) (f ∷ fs) h = ap suc (as_many honest reliable objects vs fs h.1)

@@ -1,8 +1,8 @@
 -- What a worker keeps, call by call.
 use Rattle.std.proofs.Common.{◌≡◌, ◌<◌, ◌≤◌, ◌+◌, ℕ, List, [], ◌∷◌, ◌++◌, Option, Some, None, IfSome, MatchOption, ◌∙◌, ap, length, sym, subst, arith, true}
 use Rattle.std.proofs.lemmas.List.Elements.{All-push}
-use Rattle.cells.specs.declared.ending.Ended.{Ended}
-use Rattle.program_run.specs.Executed.{IsExecutedOver}
+use Rattle.program_run.specs.Executed.{IsFinishedOver}
+use Rattle.program_run.specs.declared.run.Finished.{Finished}
 use Rattle.program_run.specs.Runs.{RunView}
 use Rattle.region.specs.Admission.{image_at}
 use Rattle.task_queue.specs.Queues.{PassView, QueueView}
@@ -16,13 +16,13 @@ pub still_task : (r : Roster) (p q : RunView) (n : ℕ) → IsTask r p → q ≡
 still_task r p q n t is = subst (IsTask r) (sym is) (record { of = t.of; named = t.named; going = t.going })
 
 -- the end of a task whose run is over is that of its program
-pub ended_task : (honest reliable : Type 0) (r : Roster) (p q : RunView) (k : ℕ) (e : Ended) → IsTask r p → q ≡ record p { completed = q.completed; over = true } → k ≡ q.number
-    → (honest → IsExecutedOver reliable q.objects (image_at q.programs q.number) e) → IsDone honest reliable r (record { number = k; end = e })
+pub ended_task : (honest reliable : Type 0) (r : Roster) (p q : RunView) (k : ℕ) (e : Finished) → IsTask r p → q ≡ record p { completed = q.completed; refusals = q.refusals; over = true } → k ≡ q.number
+    → (honest → IsFinishedOver reliable q.objects (image_at q.programs q.number) e) → IsDone honest reliable r (record { number = k; end = e })
 ended_task honest reliable r p q k e t is same told =
     let of : roster_of q ≡ r = ap roster_of is ∙ t.of in
     let number : k ≡ p.number = same ∙ ap (λ (x : RunView). x.number) is in (
       subst (λ n. n < length r.programs) (sym number) t.named,
-      λ good. subst (λ (x : Roster × ℕ). IsExecutedOver reliable x.0.objects (image_at x.0.programs x.1) e) (λ i. (of i, sym same i)) (told good),
+      λ good. subst (λ (x : Roster × ℕ). IsFinishedOver reliable x.0.objects (image_at x.0.programs x.1) e) (λ i. (of i, sym same i)) (told good),
     )
 
 module _ (honest reliable : Type 0) (q : QueueView) where

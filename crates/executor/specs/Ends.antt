@@ -1,11 +1,12 @@
 -- How all programs of a region end.
-use Rattle.std.specs.Prelude.{◌≡◌, ℕ, ◌<◌, ◌≤◌, ◌+◌, IfSome, List, Option, Some, None, length, slice_index_or, slice_get}
+use Rattle.std.specs.Prelude.{◌≡◌, ℕ, ◌<◌, ◌≤◌, ◌+◌, IfSome, List, Option, Some, None, length, map, slice_index_or, slice_get}
 use Rattle.std.specs.List.{All, AllZip}
 use Rattle.cells.specs.declared.ending.Ended.{Ended}
 use Rattle.code_form.specs.Form.{image_of}
 use Rattle.object_lock.specs.SeatViews.{IsSeat, SeatView, TableView}
 use Rattle.pointer_word.specs.Asked.{HasNothing}
-use Rattle.program_run.specs.Executed.{IsExecutedOver}
+use Rattle.program_run.specs.Executed.{IsExecutedOver, IsFinishedOver}
+use Rattle.program_run.specs.declared.run.Finished.{Finished}
 use Rattle.program_run.specs.Runs.{RunView}
 use Rattle.region.specs.Admission.{image_at}
 use Rattle.scope_verifier.specs.declared.acceptance.Verified.{Verified}
@@ -24,8 +25,8 @@ in_hand None = 0
 in_hand (Some t) = 1
 
 -- an end is that of program k of the roster, where the store is honest
-abbrev pub IsEndOf : Type 0 → Type 0 → Roster → ℕ → Ended → Type 0
-IsEndOf honest reliable r k e = honest → IsExecutedOver reliable r.objects (image_at r.programs k) e
+abbrev pub IsEndOf : Type 0 → Type 0 → Roster → ℕ → Finished → Type 0
+IsEndOf honest reliable r k e = honest → IsFinishedOver reliable r.objects (image_at r.programs k) e
 
 -- an end is that of the program of its number
 abbrev pub IsDone : Type 0 → Type 0 → Roster → Done → Type 0
@@ -46,9 +47,9 @@ pub record Works (honest reliable : Type 0) (q : QueueView) (p : PassView) (kept
   pub ends : AreDone honest reliable q.roster done
 
 -- there is a place for each program, and an end in it is that of the program
-pub record AreFiled (honest reliable : Type 0) (r : Roster) (places : List (Option Ended)) : Type 0 where
+pub record AreFiled (honest reliable : Type 0) (r : Roster) (places : List (Option Finished)) : Type 0 where
   pub count : length places ≡ length r.programs
-  pub each : (k : ℕ) (e : Ended) → slice_get places k ≡ Some (Some e) → IsEndOf honest reliable r k e
+  pub each : (k : ℕ) (e : Finished) → slice_get places k ≡ Some (Some e) → IsEndOf honest reliable r k e
 
 -- each worker is with the queue with which it was
 pub record AreSame (old new : List QueueView) : Type 0 where
@@ -58,3 +59,15 @@ pub record AreSame (old new : List QueueView) : Type 0 where
 -- There is an end of each program, at the program's place: over an honest store it is that of the code's run with so many objects
 abbrev pub AreEnds : Type 0 → Type 0 → ℕ → List Verified → List Ended → Type 0
 AreEnds honest reliable objects = AllZip (λ v e. honest → IsExecutedOver reliable objects (image_of v.image) e)
+
+-- The same of ends that are told with the number of calls that were refused through each program's own port
+abbrev pub AreFinished : Type 0 → Type 0 → ℕ → List Verified → List Finished → Type 0
+AreFinished honest reliable objects = AllZip (λ v e. honest → IsFinishedOver reliable objects (image_of v.image) e)
+
+-- the end that is told with a number
+abbrev pub end_of : Finished → Ended
+end_of f = f.end
+
+-- Of each program there is such an end with such a number, and these are the ends
+abbrev pub HaveOwnCauses : Type 0 → Type 0 → ℕ → List Verified → List Ended → Type 0
+HaveOwnCauses honest reliable objects programs ends = (all : List Finished) × AreFinished honest reliable objects programs all × (ends ≡ map end_of all)

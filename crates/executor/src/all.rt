@@ -1,18 +1,18 @@
 //! The run of all programs of a region.
 ghost use Rattle.std.specs.List.{All};
 ghost use Rattle.std.specs.Prelude.{◌≡◌, ◌⊎◌, ◌+◌, ◌/◌, ◌<◌, ◌≤◌, ℕ, IfErr, IfOk, length};
-ghost use Rattle.executor.specs.Ends.{AreEnds};
+ghost use Rattle.executor.specs.Ends.{AreEnds, AreFinished, HaveOwnCauses};
 ghost use Rattle.object_lock.specs.Fresh.{AreNumbered, IsFreshMover, IsFreshOwner};
 ghost use Rattle.region.specs.Admission.{IsRefused, image_at};
 ghost use Rattle.world_semantics.specs.Pieces.{piece_of};
 
-use crate::filing::{all_ends, file_all, no_ends};
+use crate::filing::{all_ends, file_all, no_ends, without_numbers};
 use crate::places::run_beside;
 use crate::starting::{begin_all, enqueue, start_movers, start_workers};
 use cells::Ended;
 use fetcher::Hints;
 use object_lock::{MoverSeat, OwnerSeat};
-use program_run::Gate;
+use program_run::{Finished, Gate};
 use region::{AdmitFault, Region, admit};
 use remote_store::{Config, RawStore, Stores};
 use scope_verifier::Verified;
@@ -34,13 +34,13 @@ fn run_region<S: RawStore + Send, G: Gate, R: Threads + Wait + Clock + Sync>(
     share: usize,
     workers: usize,
     quantum: u64,
-) -> Result<Vec<Ended>, AllocError>
+) -> Result<Vec<Finished>, AllocError>
     requires numbers { AreNumbered 1 (length region.now.programs) owners.items }
     requires owners { All (IsFreshOwner region.now.table share) owners.items }
     requires movers { All (IsFreshMover region.now.table) movers.items }
     requires enough { length movers.items ≤ evacuators + region.now.fetchers }
     requires cells { (k : ℕ) → k < length region.now.programs → (image_at region.now.programs k).piece ≡ region.now.table.sizes.cells }
-    ensures { IfOk result (λ v. AreEnds S.honest S.reliable share region.now.programs v.items) }
+    ensures { IfOk result (λ v. AreFinished S.honest S.reliable share region.now.programs v.items) }
 {
     let Ok((hints, mut passes)) = Hints::new(alloc, region) else {
         return Err(AllocError);
@@ -57,10 +57,44 @@ fn run_region<S: RawStore + Send, G: Gate, R: Threads + Wait + Clock + Sync>(
     all_ends(&queue, file_all(&queue, workers, places), ends)
 }
 
+/// Runs the programs as `run_all` does, and tells beside each end how many calls of the store were refused through the program's own port, modulo 2^64: over an
+/// honest store one where the program wants the store, and else none. So what fails through other ports, those of other programs, evacuators and fetchers, ends no
+/// program. The faults are those of `run_all`.
+pub fn run_all_counted<
+    S: RawStore + Send,
+    M: Stores<S = S> + Drop,
+    G: Gate,
+    R: Threads + Wait + Clock + Sync,
+>(
+    alloc: Global,
+    rt: &R,
+    programs: Vec<Verified>,
+    config: Config<M>,
+    gate: &G,
+) -> Result<Vec<Finished>, AdmitFault>
+    requires { M.makes config.stores (piece_of (image_at programs.items) + 3) }
+    ensures ends { IfOk result (λ v. AreFinished S.honest S.reliable (config.objects / length programs.items) programs.items v.items) }
+    ensures refused { IfErr result (λ fault. (fault ≡ AdmitFault.OutOfMemory) ⊎ IsRefused programs.items config.frames config.objects config.evacuators config.fetchers config.workers config.quantum fault) }
+{
+    let objects = config.objects as usize;
+    let evacuators = config.evacuators as usize;
+    let workers = config.workers as usize;
+    let quantum = u64::from(config.quantum);
+    let (region, owners, movers) = admit(alloc, programs, config)?;
+    let share = objects / region.programs().max(1);
+    match run_region(
+        alloc, rt, gate, &region, owners, evacuators, movers, share, workers, quantum,
+    ) {
+        Ok(ends) => Ok(ends),
+        Err(_refused) => Err(AdmitFault::OutOfMemory),
+    }
+}
+
 /// Runs the programs to their ends over a region of these numbers, by turns on the threads of so many workers, beside evacuators and fetchers on threads of
 /// theirs. A worker takes the program that waits longest, asks the gate once whether it may go, runs it for `quantum` instructions where it may, and puts it
 /// back. The ends stand in the programs' order: over an honest store each is that of the code's run with an equal share of the objects, whatever the others
-/// do. The gate is told of each end and of each turn of a mover. Movers go on until every program has ended. A worker or a mover whose thread cannot be made is
+/// do, and it is that the program wants the store only where a call was refused through the program's own port. The gate is told of each end and of each turn of
+/// a mover. Movers go on until every program has ended. A worker or a mover whose thread cannot be made is
 /// not run; where none can be made the calling thread is the one worker. The faults are those of `admit`; `OutOfMemory` also where a growth for the programs,
 /// the workers, the movers or the queues was refused before any of them ran.
 pub fn run_all<
@@ -77,18 +111,12 @@ pub fn run_all<
 ) -> Result<Vec<Ended>, AdmitFault>
     requires { M.makes config.stores (piece_of (image_at programs.items) + 3) }
     ensures ends { IfOk result (λ v. AreEnds S.honest S.reliable (config.objects / length programs.items) programs.items v.items) }
+    ensures own { IfOk result (λ v. HaveOwnCauses S.honest S.reliable (config.objects / length programs.items) programs.items v.items) }
     ensures refused { IfErr result (λ fault. (fault ≡ AdmitFault.OutOfMemory) ⊎ IsRefused programs.items config.frames config.objects config.evacuators config.fetchers config.workers config.quantum fault) }
 {
-    let objects = config.objects as usize;
-    let evacuators = config.evacuators as usize;
-    let workers = config.workers as usize;
-    let quantum = u64::from(config.quantum);
-    let (region, owners, movers) = admit(alloc, programs, config)?;
-    let share = objects / region.programs().max(1);
-    match run_region(
-        alloc, rt, gate, &region, owners, evacuators, movers, share, workers, quantum,
-    ) {
-        Ok(ends) => Ok(ends),
-        Err(_refused) => Err(AdmitFault::OutOfMemory),
-    }
+    let Ok(ends) = Vec::with_capacity(alloc, programs.len()) else {
+        return Err(AdmitFault::OutOfMemory);
+    };
+    let finished = run_all_counted(alloc, rt, programs, config, gate)?;
+    Ok(without_numbers(finished, ends))
 }

@@ -8,6 +8,6 @@ mod places;
 mod starting;
 mod workers;
 
-pub use all::run_all;
-pub use program_run::{Gate, OpenGate};
+pub use all::{run_all, run_all_counted};
+pub use program_run::{Finished, Gate, OpenGate};
 pub use session::Session;

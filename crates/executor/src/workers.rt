@@ -3,8 +3,7 @@ ghost use Rattle.std.specs.Prelude.{◌≡◌, ◌≤◌, IfOk, length};
 ghost use Rattle.executor.specs.Ends.{AreDone};
 
 use crate::movers::rest;
-use cells::Ended;
-use program_run::{Gate, ProgramRun, Turn};
+use program_run::{Finished, Gate, ProgramRun, Turn};
 use remote_store::RawStore;
 use std::alloc::{AllocError, Global};
 use std::marker::Model;
@@ -18,7 +17,7 @@ use task_queue::{TaskPass, TaskQueue};
 #[derive(Drop)]
 pub(crate) struct Done {
     pub(crate) number: usize,
-    pub(crate) end: Ended,
+    pub(crate) end: Finished,
 }
 
 // The pass has no bytes, and nothing to drop: a type that borrows and has a pass as it is has no proof of its drop.
@@ -94,7 +93,7 @@ impl<'q, 'a, S: RawStore> Worker<'q, 'a, S> {
             Turn::Ended => {
                 self.done.push_reserved(Done {
                     number: task.number() as usize,
-                    end: task.into_ended(),
+                    end: task.into_finished(),
                 });
                 left.fetch_sub(1, Ordering::SeqCst);
                 true

@@ -1,5 +1,5 @@
 -- The end of a run.
-use Rattle.std.proofs.Common.{◌≡◌, None, true, refl, ◌<◌, ◌≤◌, ◌+◌, ℕ, List, [], ◌∷◌, sym, ap, ◌∙◌, subst, arith}
+use Rattle.std.proofs.Common.{◌⊎◌, ⊎_elim, ◌%◌, ◌≡◌, true, refl, ◌<◌, ◌≤◌, ◌+◌, ℕ, List, [], ◌∷◌, sym, ap, ◌∙◌, subst, arith}
 use Rattle.std.specs.declared.vec.Vec.{Vec}
 use Rattle.std.specs.declared.alloc.Global.{Global}
 use Rattle.cells.specs.declared.ending.Run.{Run}
@@ -10,8 +10,9 @@ use Rattle.code_form.specs.Form.{Image}
 use Rattle.code_form.specs.Effects.{code_run}
 use Rattle.code_form.specs.Code.{Core, allocations_of, code, output_of, sizes, stop_of}
 use Rattle.code_form.specs.Placed.{next_object, pieces}
-use Rattle.session.specs.State.{Caused, HasRoom as HasRoomFor, IsAt, IsGoing, State, cells_in}
-use Rattle.program_run.specs.Executed.{EndsAs, IsExecutedOver, IsOver, WantsFor, objects_of}
+use Rattle.object_moves.specs.Taken.{Refused}
+use Rattle.session.specs.State.{Caused, HasRoom as HasRoomFor, IsAt, IsGoing, IsUntold, Ran, State, cells_in}
+use Rattle.program_run.specs.Executed.{EndsAs, IsExecutedOver, IsOver, WantsFor, objects_of, refusals_at}
 use Rattle.program_run.specs.Runs.{HasCome, is_over}
 
 -- objects are counted from a program's first one on
@@ -77,3 +78,22 @@ pub comes : (reliable : Type 0) (before : ℕ) (t : State) (r : Run) → before 
 comes reliable before t Running none h = absurd h
 comes reliable before t (Stopped x) none h = h
 comes reliable before t (Wanted w) none h = (h.0, subst (λ b. Caused reliable b t w) none h.1)
+
+-- how many calls were refused where the run wants something
+refused_for : (reliable : Type 0) (s t : State) (w : Want) → s.refusals ≡ 0 → Caused reliable s.refusals t w → (w ≡ StoreFailed → Refused reliable s.refusals t.refusals) → t.refusals ≡ refusals_at (Wanted w)
+refused_for reliable s t NoObjects none c failed = c.0 ∙ none
+refused_for reliable s t OutOfMemory none c failed = c.0 ∙ none
+refused_for reliable s t StoreFailed none c failed = (failed refl).0 ∙ ap (λ (n : ℕ). (n + 1) % 18446744073709551616) none
+
+-- where a text is not told memory is wanted, and nothing is changed
+untold_none : (s t : State) (r : Run) → s.refusals ≡ 0 → IsUntold s t r → t.refusals ≡ refusals_at r
+untold_none s t r none u = ap (λ (x : State). x.refusals) u.0 ∙ none ∙ ap refusals_at (sym u.2)
+
+ran_refused : (reliable : Type 0) (n : ℕ) (s t : State) (r : Run) → IsGoing s → s.refusals ≡ 0 → Ran reliable n s t r → (r ≡ Wanted StoreFailed → Refused reliable s.refusals t.refusals) → t.refusals ≡ refusals_at r
+ran_refused reliable n s t Running going none ran failed = ran.3 ∙ none
+ran_refused reliable n s t (Stopped x) going none ran failed = ran.3 ∙ none
+ran_refused reliable n s t (Wanted w) going none ran failed = refused_for reliable s t w none (ran.4 going) (λ e. failed (ap Wanted e))
+
+-- of a session through whose port nothing had been refused: one call is, where it comes to want the store, and else none
+pub refused_own : (reliable : Type 0) (n : ℕ) (s t : State) (r : Run) → IsGoing s → s.refusals ≡ 0 → Ran reliable n s t r ⊎ IsUntold s t r → (r ≡ Wanted StoreFailed → Refused reliable s.refusals t.refusals) → t.refusals ≡ refusals_at r
+refused_own reliable n s t r going none told failed = ⊎_elim (λ (ran : Ran reliable n s t r). ran_refused reliable n s t r going none ran failed) (λ (u : IsUntold s t r). untold_none s t r none u) told

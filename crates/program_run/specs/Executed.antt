@@ -14,6 +14,7 @@ use Rattle.code_form.specs.Placed.{next_object, pieces}
 use Rattle.code_form.specs.Touches.{touch_of}
 use Rattle.code_form.specs.declared.touch.Touch.TheVariants.{Allocs}
 use Rattle.session.specs.State.{Caused, IsGoing, State}
+use Rattle.program_run.specs.declared.run.Finished.{Finished}
 
 -- the next instruction allocates this many cells
 abbrev pub AllocatesNext : Image → Core → ℕ → Type 0
@@ -64,3 +65,16 @@ pub record IsExecutedOver (reliable : Type 0) (objects : ℕ) (C : Image) (e : E
 -- the same over a reliable store
 abbrev pub IsExecuted : ℕ → Image → Ended → Type 0
 IsExecuted objects C e = IsExecutedOver (Unit {0}) objects C e
+
+-- how many calls are refused through the port of a program that runs or ends so: one where it wants the store, else none
+abbrev pub refusals_at : Run → ℕ
+refusals_at Running = 0
+refusals_at (Stopped x) = 0
+refusals_at (Wanted NoObjects) = 0
+refusals_at (Wanted OutOfMemory) = 0
+refusals_at (Wanted StoreFailed) = 1
+
+-- The same of an end that is told with the number of calls that were refused through the program's own port: one was, exactly where the program wants the store
+pub record IsFinishedOver (reliable : Type 0) (objects : ℕ) (C : Image) (f : Finished) : Type 0 where
+  pub executed : IsExecutedOver reliable objects C f.end
+  pub own : f.refusals ≡ refusals_at f.end.run

@@ -6,28 +6,29 @@ use Rattle.cells.specs.declared.ending.Want.TheVariants.{StoreFailed}
 use Rattle.code_form.specs.Code.{Covered}
 use Rattle.session.specs.State.{IsAt, IsGoing, State}
 use Rattle.scope_verifier.specs.declared.acceptance.Verified.{Verified}
-use Rattle.program_run.specs.Executed.{IsOver}
+use Rattle.program_run.specs.Executed.{IsOver, refusals_at}
 use Rattle.program_run.specs.declared.run.Turn.{Turn}
 use Rattle.program_run.specs.declared.run.Turn.TheVariants as turn
 
--- a program that is run: the programs of its region, its number, how many objects it has, how many instructions it completed, and whether its run is over
+-- a program that is run: the programs of its region, its number, how many objects it has, how many instructions it completed, how many calls were refused through its own port, and whether its run is over
 pub record RunView : Type 0 where
   pub programs : List Verified
   pub number : ℕ
   pub objects : ℕ
   pub completed : ℕ
+  pub refusals : ℕ
   pub over : Bool
 
 -- the program of this number with so many objects, at its beginning
 abbrev pub begun : List Verified → ℕ → ℕ → RunView
-begun programs k n = record { programs = programs; number = k; objects = n; completed = 0; over = false }
+begun programs k n = record { programs = programs; number = k; objects = n; completed = 0; refusals = 0; over = false }
 
--- What became of a program's turn of n instructions: nothing was done; or they were completed, and it goes on; or its run is over, after some number of
--- instructions in all
+-- What became of a program's turn of n instructions: nothing was done; or they were completed, and it goes on, with no call refused; or its run is over, after
+-- some number of instructions in all
 abbrev pub HasTurned : ℕ → RunView → RunView → Turn → Type 0
 HasTurned n p q turn.Held = q ≡ p
 HasTurned n p q turn.Ran = q ≡ record p { completed = p.completed + n }
-HasTurned n p q turn.Ended = q ≡ record p { completed = q.completed; over = true }
+HasTurned n p q turn.Ended = q ≡ record p { completed = q.completed; refusals = q.refusals; over = true }
 
 -- whether a run that answered this is over
 abbrev pub is_over : Run → Bool
@@ -41,11 +42,13 @@ HasCome reliable s Running = IsGoing s × (s.refusals ≡ 0)
 HasCome reliable s (Stopped x) = IsOver reliable 0 s (Stopped x)
 HasCome reliable s (Wanted w) = IsOver reliable 0 s (Wanted w)
 
--- A session of a verified image, over a table of its pieces, that has come so far; over a store that is honest and reliable it never wants the store
+-- A session of a verified image, over a table of its pieces, that has come so far; over an honest store a call was refused through its port exactly where it wants
+-- the store, and over one that is reliable, too, it never does
 pub record IsOnRun (honest reliable : Type 0) (s : State) (r : Run) : Type 0 where
   pub at : honest → IsAt s
   pub cells : s.view.sizes.cells ≡ s.image.piece
   pub share : s.view.low ≤ s.view.high
   pub covered : Covered s.image
   pub come : HasCome reliable s r
+  pub own : honest → s.refusals ≡ refusals_at r
   pub sure : honest → reliable → r ≢ Wanted StoreFailed

@@ -5,4 +5,4 @@ mod gate;
 mod run;
 
 pub use gate::{Gate, OpenGate};
-pub use run::{ProgramRun, Turn};
+pub use run::{Finished, ProgramRun, Turn};

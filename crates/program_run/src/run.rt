@@ -4,7 +4,7 @@ ghost use Rattle.cells.specs.declared.ending.Run.TheVariants.{Wanted};
 ghost use Rattle.cells.specs.declared.ending.Want.TheVariants.{OutOfMemory, StoreFailed};
 ghost use Rattle.code_form.specs.Code.{Covered};
 ghost use Rattle.object_lock.specs.Fresh.{IsFresh};
-ghost use Rattle.program_run.specs.Executed.{HasRunOn, IsExecutedOver};
+ghost use Rattle.program_run.specs.Executed.{HasRunOn, IsFinishedOver, refusals_at};
 ghost use Rattle.program_run.specs.Runs.{HasTurned, begun};
 ghost use Rattle.region.specs.Admission.{image_at};
 ghost use Rattle.session.specs.State.{IsAt, IsGoing, SameProgram};
@@ -39,12 +39,20 @@ fn run_on<S: RawStore, W: Wait>(rt: &W, session: &mut Session<'_, S>, quantum: u
     ensures same { SameProgram session.old session.new }
     ensures told { HasRunOn S.reliable quantum session.old session.new result }
     ensures covered { S.honest → S.reliable → Covered session.old.image → result ≢ Wanted StoreFailed }
+    ensures own { S.honest → Covered session.old.image → session.old.refusals ≡ 0 → session.new.refusals ≡ refusals_at result }
 {
     session.run(rt, quantum)
 }
 
+/// How a program ended, and how many calls of the store were refused through its own port, modulo 2^64.
+#[derive(Drop)]
+pub struct Finished {
+    pub end: Ended,
+    pub refusals: u64,
+}
+
 /// A program of a region that is run to its end at its seat. A contract sees the region's programs, the number of this one, how many objects it has, how many
-/// instructions it completed, and whether its run is over.
+/// instructions it completed, how many calls were refused through its own port, and whether its run is over.
 #[derive(Drop)]
 pub struct ProgramRun<'a, S: RawStore> {
     region: &'a Region<S>,
@@ -60,7 +68,7 @@ impl<'a, S: RawStore> Model for ProgramRun<'a, S> {
 
     ghost Value = { RunView };
 
-    ghost view = { λ p. record { programs = p.region.now.programs; number = p.number; objects = p.session.view.high - p.session.view.low; completed = p.session.completed; over = is_over p.run } };
+    ghost view = { λ p. record { programs = p.region.now.programs; number = p.number; objects = p.session.view.high - p.session.view.low; completed = p.session.completed; refusals = p.session.refusals; over = is_over p.run } };
 
     ghost invariant = { λ p.
         IsOnRun S.honest S.reliable p.session p.run
@@ -129,17 +137,21 @@ impl<'a, S: RawStore> ProgramRun<'a, S> {
         }
     }
 
-    /// What it printed, how it ended, and how many instructions it completed: over an honest store those of the code's run.
-    pub fn into_ended(self) -> Ended
+    /// What it printed, how it ended, and how many instructions it completed: over an honest store those of the code's run. Beside it, how many calls of the
+    /// store were refused through its own port: over an honest store one where it wants the store, and else none.
+    pub fn into_finished(self) -> Finished
         requires over { self.over ≡ true }
-        ensures { S.honest → IsExecutedOver S.reliable self.entry.objects (image_at self.entry.programs self.entry.number) result }
+        ensures end { S.honest → IsFinishedOver S.reliable self.entry.objects (image_at self.entry.programs self.entry.number) result }
+        ensures refusals { result.refusals ≡ self.entry.refusals }
     {
         let ProgramRun { session, run, .. } = self;
         let completed = session.completed();
-        Ended {
+        let refusals = session.refusals();
+        let end = Ended {
             output: session.into_output(),
             run,
             completed,
-        }
+        };
+        Finished { end, refusals }
     }
 }

@@ -1,21 +1,21 @@
-use Rattle.std.proofs.Common.{rules, arith, ◌≡◌, ◌∙◌, ◌+◌, ◌<◌, List, ap, length, subst, suc, sym}
-use Rattle.object_lock.specs.Seats.{Sizes}
-use Rattle.region.specs.Admission.{image_at}
-use Rattle.world_semantics.specs.Pieces.{piece_of}
-use Rattle.scope_verifier.specs.declared.acceptance.Verified.{Verified}
-use Rattle.executor.proofs.Composed.{numbered_count}
+use Rattle.std.proofs.Common.{◌≡◌, ◌/◌, List, arith, length, subst, sym}
+use Rattle.cells.specs.declared.ending.Ended.{Ended}
+use Rattle.executor.specs.Ends.{AreEnds}
+use Rattle.executor.proofs.Composed.{as_many, ends_alone}
 use Rattle.executor.proofs.all.run_all.Goals as goal
 
-pub run_region-requires-clause-enough : goal.run_region-requires-clause-enough
-run_region-requires-clause-enough g c κs within =
-    let many = numbered_count (suc (length c.args.programs.items)) (c.args.config.evacuators + c.args.config.fetchers) c.in_ok-region.movers.items c.in_ok-region.ensures.movers.0 in
-    let fetchers = c.in_ok-region.ensures.numbers.1 in
+pub without_numbers-requires-clause-room : goal.without_numbers-requires-clause-room
+without_numbers-requires-clause-room g c =
+    let programs = c.args.programs.items in
+    let many = as_many g.S.RawStore.honest g.S.RawStore.reliable (c.args.config.objects / length programs) programs c.in_ok-finished.finished.items c.in_ok-finished.ensures.ends in
+    let room = c.in-Ok.ensures.capacity in
+    let count = c.len.ensures in
     omega arith
 
-pub run_region-requires-clause-cells : goal.run_region-requires-clause-cells
-run_region-requires-clause-cells g c κs within k low =
-    let region = c.in_ok-region.region in
-    let programs = c.in_ok-region.ensures.region.0 in
-    let cells : region.table.sizes.cells ≡ piece_of (image_at c.args.programs.items) = ap (λ (z : Sizes). z.cells) c.in_ok-region.ensures.region.1 in
-    let one = c.in_ok-region.ensures.admitted.2 k (subst (λ (l : List Verified). k < length l) programs low) in
-    subst (λ (l : List Verified). (image_at l k).piece ≡ region.table.sizes.cells) (sym programs) (one ∙ sym cells)
+pub returns-clause-ends : goal.returns-clause-ends
+returns-clause-ends g c =
+    let programs = c.args.programs.items in
+    let objects = c.args.config.objects / length programs in
+    let all = c.in_ok-finished.finished.items in
+    subst (λ (ends : List Ended). AreEnds g.S.RawStore.honest g.S.RawStore.reliable objects programs ends) (sym c.without_numbers.ensures)
+    (ends_alone g.S.RawStore.honest g.S.RawStore.reliable objects programs all c.in_ok-finished.ensures.ends)

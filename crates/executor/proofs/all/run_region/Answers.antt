@@ -1,6 +1,6 @@
 use Rattle.std.proofs.Common.{rules, arith, ◌≡◌, ◌∙◌, ◌+◌, ◌≤◌, IfOk, ap, length, subst, sym}
 use Rattle.task_queue.specs.declared.rule.Roster.{Roster}
-use Rattle.executor.specs.Ends.{AreEnds}
+use Rattle.executor.specs.Ends.{AreFinished}
 use Rattle.executor.proofs.Composed.{all_same}
 use Rattle.executor.proofs.all.run_region.Goals as goal
 
@@ -34,4 +34,4 @@ all_ends-requires-clause-room g c κs within =
 
 pub returns : goal.returns
 returns g c =
-    subst (λ (r : Roster). IfOk c.all_ends.result (λ v. AreEnds g.S.RawStore.honest g.S.RawStore.reliable r.objects r.programs v.items)) c.in_ok-queue.ensures.queue c.all_ends.ensures
+    subst (λ (r : Roster). IfOk c.all_ends.result (λ v. AreFinished g.S.RawStore.honest g.S.RawStore.reliable r.objects r.programs v.items)) c.in_ok-queue.ensures.queue c.all_ends.ensures

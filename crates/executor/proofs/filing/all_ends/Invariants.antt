@@ -1,6 +1,6 @@
 use Rattle.std.proofs.Common.{◌≡◌, ◌+◌, ◌++◌, ◌≤◌, length, take, vec_capacity, vec_len}
 use Rattle.std.specs.Vec.Iter.{into_iter_items}
-use Rattle.executor.specs.Ends.{AreEnds}
+use Rattle.executor.specs.Ends.{AreFinished}
 use Rattle.executor.proofs.filing.all_ends.Given as goal
 
 -- the ends so far
@@ -10,4 +10,4 @@ invariant-loop-place g l =
     × (l.yielded ++ into_iter_items l.place-iterator ≡ l.fn.places.items)
     × (length l.yielded ≡ length l.ends.items)
     × (vec_len l.ends + length (into_iter_items l.place-iterator) ≤ vec_capacity l.ends)
-    × AreEnds g.S.RawStore.honest g.S.RawStore.reliable l.queue.roster.objects (take (length l.ends.items) l.queue.roster.programs) l.ends.items
+    × AreFinished g.S.RawStore.honest g.S.RawStore.reliable l.queue.roster.objects (take (length l.ends.items) l.queue.roster.programs) l.ends.items

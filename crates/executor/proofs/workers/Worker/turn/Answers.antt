@@ -34,8 +34,8 @@ invariant_of-self-in-Ended g c =
     let most = vec_capacity c.self.inside.done in
     let was : c.self.inside.kept ≡ Some c.in-Some.task = search rules in
     let w : Works h r q p (Some c.in-Some.task) items long most = subst (λ k. Works h r q p k items long most) was c.self.invariant in
-    let ended : c.turn.new.self ≡ record c.in-Some.task { completed = c.turn.new.self.completed; over = true } = search rules in
-    let end = ended_task h r q.roster c.in-Some.task c.turn.new.self c.number.result c.into_ended.result w.task ended c.number.ensures.number c.into_ended.ensures in
+    let ended : c.turn.new.self ≡ record c.in-Some.task { completed = c.turn.new.self.completed; refusals = c.turn.new.self.refusals; over = true } = search rules in
+    let end = ended_task h r q.roster c.in-Some.task c.turn.new.self c.number.result c.into_finished.result w.task ended c.number.ensures.number c.into_finished.ensures.end in
     let none : c.take.new.self ≡ None = search rules in
     let more = c.push_reserved.ensures.len in
     let filed = works_filed h r q p c.in-Some.task items c.push_reserved.new.self.items _ long (vec_len c.push_reserved.new.self) most w c.push_reserved.ensures.items (search rules) end in
