@@ -72,6 +72,14 @@ def types_of_many_levels(it):
     it.check("mean", "--turns", "1", "a.c0", out="result: 7\n")
 
 
+def a_type_of_many_levels_that_is_used(it):
+    """Each level is looked at once, and gives a layout of its own."""
+    it.write("a.c0", typedefs(20, 190) + "int main() { t19* p = alloc(t19); if (*p == NULL) { return 7; } return 8; }\n")
+    it.check("run", "a.c0", out="result: 7\n", seconds=20)
+    it.check("build", "-o", "a.c0i", "a.c0", seconds=20)
+    it.check("check", "a.c0i", out="ok\n", seconds=20)
+
+
 def typedefs_of_typedefs(it):
     """What a name stands for is kept once."""
     it.write("a.c0", typedefs(40_000, 1) + TEXT)
@@ -93,6 +101,7 @@ TESTS = [
     operators_beyond_the_limit,
     statements_in_a_row,
     types_of_many_levels,
+    a_type_of_many_levels_that_is_used,
     typedefs_of_typedefs,
     nests_on_a_small_stack,
 ]
