@@ -9,9 +9,9 @@ def many_words(it):
     """As a `*` in a large folder gives them."""
     it.write("a.c0", TEXT)
     for words, complaint in (
-        (["check"], "other words are wanted behind check"),
-        (["list"], "other words are wanted behind list"),
-        (["mean"], "other words are wanted behind mean"),
+        (["check"], "check takes one FILE, and a.c0 is one more"),
+        (["list"], "list takes one FILE, and a.c0 is one more"),
+        (["mean"], "mean takes one FILE, and a.c0 is one more"),
         (["x"], "there is no command x"),
     ):
         status, out, err = it.run(*words, *["a.c0"] * 120_000)
