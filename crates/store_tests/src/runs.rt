@@ -9,7 +9,7 @@ use executor::{Finished, OpenGate, run_all_counted};
 use file_store::{FileStores, MemFolder};
 use image_reader::decode;
 use region::piece_of;
-use remote_store::{Config, FarHeap, FaultPlan, FaultStores, LyingStores, Stores};
+use remote_store::{Config, FarHeap, FaultPlan, FaultStores, Lie, LyingStores, Stores};
 use scope_verifier::{Verified, verify};
 use std::alloc::Global;
 use std::sync::Wait;
@@ -54,6 +54,24 @@ fn run_over<R: Threads + Wait + Clock + Sync, M: Stores + Drop>(
     run_all_counted(alloc, rt, programs, config, &OpenGate).ok()
 }
 
+/// The same over ways to these stores, of which the read of this number lies so.
+fn run_lying<R: Threads + Wait + Clock + Sync, M: Stores + Drop>(
+    alloc: Global,
+    rt: &R,
+    programs: Vec<Verified>,
+    row: Row<'_>,
+    lying: (Lie, u64),
+    stores: M,
+) -> Option<Vec<Finished>>
+    requires { M.makes stores (first_piece (image_at programs.items) + 3) }
+{
+    let (lie, number) = lying;
+    match LyingStores::new(alloc, stores, lie, FaultPlan::Only(number)) {
+        Ok(stores) => run_over(alloc, rt, programs, row, stores),
+        Err(_refused) => None,
+    }
+}
+
 /// The same over ways to these stores that go wrong by this plan at the call, or the read, of this number.
 fn run_planned<R: Threads + Wait + Clock + Sync, M: Stores + Drop>(
     alloc: Global,
@@ -65,12 +83,15 @@ fn run_planned<R: Threads + Wait + Clock + Sync, M: Stores + Drop>(
 ) -> Option<Vec<Finished>>
     requires { M.makes stores (first_piece (image_at programs.items) + 3) }
 {
-    if let Plan::Lies(lie) = row.plan {
-        let stores = LyingStores::new(alloc, stores, lie, FaultPlan::Only(number)).ok()?;
-        return run_over(alloc, rt, programs, row, stores);
+    match row.plan {
+        Plan::Lies(lie) => run_lying(alloc, rt, programs, row, (lie, number), stores),
+        Plan::Never | Plan::At | Plan::From => {
+            match FaultStores::new(alloc, stores, row.plan.faults(number)) {
+                Ok(stores) => run_over(alloc, rt, programs, row, stores),
+                Err(_refused) => None,
+            }
+        }
     }
-    let stores = FaultStores::new(alloc, stores, row.plan.faults(number)).ok()?;
-    run_over(alloc, rt, programs, row, stores)
 }
 
 /// The ends of a row's programs, where the call, or the read, of this number goes wrong. The calls that came to the store below are counted.
