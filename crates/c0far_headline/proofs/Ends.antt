@@ -1,5 +1,5 @@
 -- what is promised of programs that are admitted, and of the ends that a replay told
-use Rattle.std.proofs.Common.{◌≡◌, ◌∙◌, ℕ, zero, suc, ◌+◌, ◌<◌, ◌≤◌, Bool, List, [], ◌∷◌, Option, Some, None, length, refl, sym, ap, subst, arith, lit<}
+use Rattle.std.proofs.Common.{◌≡◌, ℕ, zero, suc, ◌+◌, ◌<◌, ◌≤◌, Bool, List, [], ◌∷◌, Option, Some, None, refl, sym, subst, arith, lit<}
 use Rattle.std.specs.Prelude.{slice_get}
 use Rattle.cells.specs.declared.ending.Ended.{Ended}
 use Rattle.cells.specs.declared.ending.Run.{Run}
@@ -16,7 +16,6 @@ use Rattle.cells.proofs.Pieces.{is_a_piece, piece_some}
 use Rattle.cells.specs.Pieces.{cells_in}
 use Rattle.region.specs.Admission.{image_at, image_by}
 use Rattle.scope_verifier.specs.declared.acceptance.Verified.{Verified}
-use Rattle.world.specs.Opened.{sizes_of}
 use Rattle.world.specs.Reports.{AreEnds, IsEnded, RunsAs}
 use Rattle.world_semantics.specs.Enough.{IsUnheld, need}
 use Rattle.world_semantics.specs.Programs.{Bringing, Program, Wanted}

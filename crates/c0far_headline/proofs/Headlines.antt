@@ -17,7 +17,7 @@ use Rattle.world_semantics.specs.Programs.{Wanted}
 use Rattle.world_semantics.specs.Worlds.{Event, Follows, Sizes, World, start}
 use Rattle.c0_image.specs.Compiled.{OneImage}
 use Rattle.c0_image.specs.Correct.{Behaves}
-use Rattle.c0far_headline.specs.Headline.{EndsSo, IsRun, Promised, Settles, Headline}
+use Rattle.c0far_headline.specs.Headline.{EndsSo, IsRun, Promised, Headline}
 
 -- what the compiler, the meaning, the code's run and the world promise
 pub record Laws : Type 0 where

@@ -1,5 +1,5 @@
 -- what is promised of the ends of a run on threads, and where ends are settled
-use Rattle.std.proofs.Common.{◌≡◌, ◌∙◌, ℕ, zero, suc, ◌+◌, ◌-◌, ◌<◌, ◌≤◌, ◌⊎◌, inl, inr, ⊎_elim, Bool, List, [], ◌∷◌, Option, Some, None, length, refl, sym, ap, subst, arith}
+use Rattle.std.proofs.Common.{◌≡◌, ◌∙◌, ℕ, zero, suc, ◌+◌, ◌%◌, ◌<◌, ◌≤◌, ◌⊎◌, inl, inr, ⊎_elim, Bool, List, [], ◌∷◌, Option, Some, None, refl, sym, ap, subst, arith}
 use Rattle.std.specs.List.{AllZip}
 use Rattle.std.specs.Prelude.{slice_get}
 use Rattle.cells.specs.declared.ending.Ended.{Ended}
@@ -8,26 +8,21 @@ use Rattle.cells.specs.declared.ending.Run.TheVariants as run
 use Rattle.cells.specs.declared.ending.Stop.{Stop as StopRead}
 use Rattle.cells.specs.Outcomes.{IsPrefix}
 use Rattle.cells.specs.Stops.{Stop, stop_of as stop_read}
-use Rattle.c0_front.specs.Texts.{IsTypedAs}
-use Rattle.c0_image.specs.Compiled.{IsCompiled}
 use Rattle.c0_image.specs.Correct.{Behaves}
 use Rattle.c0_typed.specs.Meaning.{mean}
-use Rattle.c0_typed.specs.More.{MoreTurnsExtend}
 use Rattle.c0_typed.specs.Trees.{Program as Typed}
 use Rattle.code_form.specs.declared.allocation.Allocation.{Allocation}
-use Rattle.code_form.specs.Code.{Core, Running, Stopped, Stuck, code, output_of, stop_of}
+use Rattle.code_form.specs.Code.{Core, Stopped, code, output_of, stop_of}
 use Rattle.code_form.specs.Effects.{code_run}
 use Rattle.code_form.specs.Form.{Image, image_of}
-use Rattle.executor.specs.Ends.{AreEnds}
 use Rattle.program_run.specs.Executed.{EndsAs, IsExecutedOver, WantsFor}
 use Rattle.region.specs.Admission.{image_at}
 use Rattle.std.proofs.Math.Nat.{mod-le}
-use Rattle.scope_verifier.specs.declared.acceptance.Verified.{Verified}
 use Rattle.world.specs.Reports.{IsEnded, RunsAs}
 use Rattle.world_semantics.specs.Programs.{Program}
 use Rattle.c0far_headline.specs.Admitted.{PromisedEnd}
 use Rattle.c0far_headline.specs.Headline.{EndsSo, Headline}
-use Rattle.c0far_headline.specs.Ran.{EndsSettle, IsSettledBy, ReplaysSettle, RunHeadline, RunsSettle}
+use Rattle.c0far_headline.specs.Ran.{EndsSettle, IsSettledBy, NeverFails, RunHeadline}
 use Rattle.c0far_headline.proofs.Ends.{ended_at, ends_so, some_cells}
 use Rattle.c0far_headline.proofs.Headlines.{Laws, at_beginning, at_stop}
 
@@ -108,7 +103,7 @@ module _ (laws : Laws) where
   ran reliable objects programs ends all k v e is too loops text checks cells meant compiled means =
       let same : compiled.program ≡ meant = sym (compiled.only meant means) in
       let behaves : Behaves meant checks (image_of v.image) = subst (λ (p : Typed). Behaves p checks (image_of v.image)) same compiled.behaves in
-      promised_end meant checks (image_of v.image) reliable objects e behaves (zipped_at _ programs ends k v e all is too tt)
+      promised_end meant checks (image_of v.image) (NeverFails reliable) objects e behaves (zipped_at _ programs ends k v e all is too tt)
 
 pub settled : Headline → EndsSettle
 settled headline loops text checks cells meant means s o ends C compiled =
@@ -121,6 +116,6 @@ settled headline loops text checks cells meant means s o ends C compiled =
           told_settled (told.world.programs k) by.0 s o e (stops.2 z (image_at programs) told.events told.world k (some, told.leads.follows) same)
           (subst (λ (n : ℕ). IsEnded (told.world.programs n) e) from_zero (ended_at told.world.programs 0 k es e told.ended at)),
       λ reliable objects programs es all k v e is too same.
-          let executed : IsExecutedOver reliable objects C e = subst (λ (D : Image). IsExecutedOver reliable objects D e) same (zipped_at _ programs es k v e all is too tt) in
-          ran_settled reliable objects C by.0 s stops.1.0 o e stops.1.1 executed,
+          let executed : IsExecutedOver (NeverFails reliable) objects C e = subst (λ (D : Image). IsExecutedOver (NeverFails reliable) objects D e) same (zipped_at _ programs es k v e all is too tt) in
+          ran_settled (NeverFails reliable) objects C by.0 s stops.1.0 o e stops.1.1 executed,
     )

@@ -1,5 +1,5 @@
 -- What is promised of the ends that a run on threads answers, and where an end is settled.
-use Rattle.std.specs.Prelude.{◌≡◌, ℕ, ◌≤◌, Bool, List, length, Some, slice_get}
+use Rattle.std.specs.Prelude.{◌≡◌, ℕ, ◌≤◌, Bool, true, false, List, length, Some, slice_get}
 use Rattle.cells.specs.declared.ending.Ended.{Ended}
 use Rattle.cells.specs.declared.ending.Run.TheVariants as run
 use Rattle.cells.specs.declared.ending.Stop.{Stop as StopRead}
@@ -21,13 +21,18 @@ use Rattle.world_semantics.specs.Worlds.{Sizes}
 use Rattle.c0far_headline.specs.Admitted.{PromisedEnd}
 use Rattle.c0far_headline.specs.Headline.{EndsSo}
 
--- Of the ends that `run_all` answers of programs, over an honest store: each, of a program whose image a text was compiled to, is as promised of that
+-- a store that never fails, or one that may
+abbrev pub NeverFails : Bool → Type 0
+NeverFails true = Unit {0}
+NeverFails false = ⊥
+
+-- Of the ends that `run_all` answers of programs, over an honest store, which never fails or may fail: each, of a program whose image a text was compiled to, is as promised of that
 -- text, and a want has its cause in the code's run
 abbrev pub RunHeadline : Type 0
-RunHeadline = (reliable : Type 0) (objects : ℕ) (programs : List Verified) (ends : List Ended) → AreEnds (Unit {0}) reliable objects programs ends
+RunHeadline = (reliable : Bool) (objects : ℕ) (programs : List Verified) (ends : List Ended) → AreEnds (Unit {0}) (NeverFails reliable) objects programs ends
     → (k : ℕ) (v : Verified) (e : Ended) → slice_get programs k ≡ Some v → slice_get ends k ≡ Some e
     → (loops : Bool) (text : List ℕ) (checks : Bool) (cells : ℕ) (meant : Typed) → IsCompiled loops text checks cells (image_of v.image) → IsTypedAs loops text meant
-    → PromisedEnd meant checks e (WantsFor reliable objects (image_of v.image) (code_run (code (image_of v.image)) e.completed).0)
+    → PromisedEnd meant checks e (WantsFor (NeverFails reliable) objects (image_of v.image) (code_run (code (image_of v.image)) e.completed).0)
 
 -- an end after this number of completed instructions or more is this stop, with this output
 abbrev pub IsSettledBy : ℕ → Stop → List ℕ → Ended → Type 0
@@ -41,7 +46,7 @@ ReplaysSettle C j s o = (programs : List Verified) (frames objects evacuators fe
 
 -- in each run on threads, over an honest store, each end of a program of this image is settled by this number
 abbrev pub RunsSettle : Image → ℕ → Stop → List ℕ → Type 0
-RunsSettle C j s o = (reliable : Type 0) (objects : ℕ) (programs : List Verified) (ends : List Ended) → AreEnds (Unit {0}) reliable objects programs ends
+RunsSettle C j s o = (reliable : Bool) (objects : ℕ) (programs : List Verified) (ends : List Ended) → AreEnds (Unit {0}) (NeverFails reliable) objects programs ends
     → (k : ℕ) (v : Verified) (e : Ended) → slice_get programs k ≡ Some v → slice_get ends k ≡ Some e → image_of v.image ≡ C → IsSettledBy j s o e
 
 -- Where the meaning of a text ends, some number of completed instructions, the text's at its level, with or without checks, and for pieces of that size, settles each end

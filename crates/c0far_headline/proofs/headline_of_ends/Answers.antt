@@ -1,8 +1,8 @@
 use Rattle.c0far_headline.proofs.Ran.{ran, settled}
 use Rattle.c0far_headline.proofs.headline_of_ends.Goals as goal
 
-pub returns-ends : goal.returns-ends
-returns-ends c = ran (record {
+pub returns-clause-ends : goal.returns-clause-ends
+returns-clause-ends c = ran (record {
   one = c.one_image.ensures;
   more = c.more_turns.ensures;
   add = c.run_laws.ensures.add;
@@ -11,5 +11,5 @@ returns-ends c = ran (record {
   wanted = c.wants.ensures.wanted;
 })
 
-pub returns-settled : goal.returns-settled
-returns-settled c = settled c.headline.ensures
+pub returns-clause-settled : goal.returns-clause-settled
+returns-clause-settled c = settled c.headline.ensures
