@@ -9,6 +9,7 @@ import os
 import sys
 import tempfile
 
+import commands
 import depths
 import drawn
 import files
@@ -25,7 +26,7 @@ def main():
         sys.exit(__doc__)
     program = os.path.abspath(sys.argv[1])
     passed = failed = 0
-    for script in (files, words, stores, depths, sizes, drawn, schedules, refusals):
+    for script in (files, commands, words, stores, depths, sizes, drawn, schedules, refusals):
         for test in script.TESTS:
             with tempfile.TemporaryDirectory() as folder:
                 try:

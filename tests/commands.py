@@ -1,0 +1,309 @@
+"""Command lines over a real folder: what stands in it before and after, what each writes to its two streams, and its status.
+
+A scene is a folder with some files, and command lines that follow one another in it. Behind each the folder holds just the files that it held before and those that
+the line says.
+"""
+
+import os
+import resource
+import struct
+import subprocess
+
+from process import want
+
+SCRIPT = os.path.join(os.path.dirname(os.path.dirname(os.path.realpath(__file__))), "c0far")
+
+SEVEN = "int main() { return 7; }\n"
+UNKNOWN = "int main() { return x; }\n"
+PRINTS = '#use <conio>\nint main() { print("one"); println(" two"); printint(-3); printchar(\'\\n\'); printbool(true); println(""); return 0; }\n'
+PRINTED = "one two\n-3\ntrue\n"
+CONTRACT = "int f(int x) //@requires x > 0;\n{ return x; }\nint main() { return f(0); }\n"
+LEVEL_ONE = "int main() { int i = 0; while (true) { i = i + 1; if (i == 5) { break; } } return i; }\n"
+STOPS = (
+    ("null", "int main() { int* p = NULL; return *p; }\n", "null fault"),
+    ("bounds", "int main() { int[] a = alloc_array(int, 3); return a[3]; }\n", "bounds fault"),
+    ("length", "int main() { int[] a = alloc_array(int, 0 - 1); return 0; }\n", "length fault"),
+    ("arithmetic", "int main() { int z = 0; return 1 / z; }\n", "arithmetic fault"),
+    ("assertion", "int main() { assert(false); return 0; }\n", "assertion failed"),
+    ("error", 'int main() { error("no more"); return 0; }\n', "error: no more"),
+)
+# of SEVEN: the number, its move to the result, and the return
+SCHEDULE = "p0\np0\np0\n"
+
+# the name of a scene, its files, and its lines: words, status, output, errors, and the files that it leaves new
+SCENES = (
+    ("texts are checked", {"a.c0": SEVEN, "b.c0": UNKNOWN, "e.c0": "", "l.c0": LEVEL_ONE}, (
+        ("check a.c0", 0, "ok\n", "", ()),
+        ("check b.c0", 2, "", "b.c0:1:21: fault 30 UnknownName\n", ()),
+        ("check e.c0", 2, "", "e.c0:1:1: fault 41 BadMain\n", ()),
+        ("check l.c0", 2, "", "l.c0:1:65: fault 20 Syntax\n", ()),
+        ("check --level 1 l.c0", 0, "ok\n", "", ()),
+        ("check ./a.c0", 0, "ok\n", "", ()),
+        ("check folder/../a.c0", 2, "", "folder/../a.c0: cannot be read\n", ()),
+    )),
+    ("files that are not there", {"d/a.c0": SEVEN}, (
+        ("check a.c0", 2, "", "a.c0: cannot be read\n", ()),
+        ("run a.c0", 2, "", "a.c0: cannot be read\n", ()),
+        ("run a.c0i", 2, "", "a.c0i: cannot be read\n", ()),
+        ("list a.c0", 2, "", "a.c0: cannot be read\n", ()),
+        ("mean --turns 9 a.c0", 2, "", "a.c0: cannot be read\n", ()),
+        ("build -o o.c0i a.c0", 2, "", "a.c0: cannot be read\n", ()),
+        ("check d", 2, "", "d: cannot be read\n", ()),
+        ("replay --schedule none d/a.c0", 2, "", "none: cannot be read\n", ()),
+        ("run d/a.c0 d/b.c0", 2, "", "d/b.c0: cannot be read\n", ()),
+        ("run d/a.c0", 0, "result: 7\n", "", ()),
+    )),
+    ("plain runs", {"a.c0": SEVEN, "p.c0": PRINTS, "c.c0": CONTRACT, "l.c0": LEVEL_ONE}, (
+        ("mean --turns 1 a.c0", 0, "result: 7\n", "", ()),
+        ("mean --turns 0 a.c0", 0, "cut\n", "", ()),
+        ("mean --turns 1 p.c0", 0, PRINTED + "result: 0\n", "", ()),
+        ("mean --turns 2 c.c0", 0, "result: 0\n", "", ()),
+        ("mean -d --turns 2 c.c0", 1, "assertion failed\n", "", ()),
+        ("mean --level 1 --turns 5 l.c0", 0, "cut\n", "", ()),
+        ("mean --level 1 --turns 6 l.c0", 0, "result: 5\n", "", ()),
+    )),
+    ("runs", {"a.c0": SEVEN, "p.c0": PRINTS, "c.c0": CONTRACT, "l.c0": LEVEL_ONE}, (
+        ("run a.c0", 0, "result: 7\n", "", ()),
+        ("run p.c0", 0, PRINTED + "result: 0\n", "", ()),
+        ("run c.c0", 0, "result: 0\n", "", ()),
+        ("run -d c.c0", 1, "assertion failed\n", "", ()),
+        ("run --level 1 l.c0", 0, "result: 5\n", "", ()),
+        ("run a.c0 p.c0", 0, "program 0:\nresult: 7\nprogram 1:\n" + PRINTED + "result: 0\n", "", ()),
+        ("run --workers 1 --quantum 1 --evacuators 0 --fetchers 0 a.c0 a.c0", 0, "program 0:\nresult: 7\nprogram 1:\nresult: 7\n", "", ()),
+        ("run --frames 1 a.c0", 2, "", "too small: need 2 have 1\n", ()),
+        ("run --evacuators 65 a.c0", 2, "", "too many\n", ()),
+    )),
+    ("how programs stop", {f"{name}.c0": text for name, text, _ in STOPS}, tuple(
+        (f"{command} {name}.c0", 1, f"{line}\n", "", ()) for name, _, line in STOPS for command in ("run", "mean --turns 9"))),
+    ("an image is built, and used", {"p.c0": PRINTS, "c.c0": CONTRACT}, (
+        ("build -o p.c0i p.c0", 0, "", "", ("p.c0i",)),
+        ("check p.c0i", 0, "ok\n", "", ()),
+        ("run p.c0i", 0, PRINTED + "result: 0\n", "", ()),
+        ("run p.c0i p.c0", 0, f"program 0:\n{PRINTED}result: 0\nprogram 1:\n{PRINTED}result: 0\n", "", ()),
+        ("build -d -o c.c0i c.c0", 0, "", "", ("c.c0i",)),
+        ("run c.c0i", 1, "assertion failed\n", "", ()),
+        ("build -o again.c0i p.c0i", 0, "", "", ("again.c0i",)),
+        ("run again.c0i", 0, PRINTED + "result: 0\n", "", ()),
+        ("build --piece 16 -o s.c0i p.c0", 0, "", "", ("s.c0i",)),
+        ("run s.c0i", 0, PRINTED + "result: 0\n", "", ()),
+        ("run p.c0i s.c0i", 2, "", "piece differs: program 1\n", ()),
+        ("mean --turns 9 p.c0i", 2, "", "p.c0i:1:5: fault 11 BadToken\n", ()),
+    )),
+    ("images that are none", {"short.c0i": b"C0FI", "other.c0i": b"C1FI", "empty.c0i": b"", "new.c0i": b"C0FI\x09\x00"}, (
+        ("check short.c0i", 2, "", "short.c0i: image fault 1\n", ()),
+        ("run other.c0i", 2, "", "other.c0i: image fault 2\n", ()),
+        ("list empty.c0i", 2, "", "empty.c0i: image fault 1\n", ()),
+        ("check new.c0i", 2, "", "new.c0i: image fault 3\n", ()),
+        ("build -o out.c0i short.c0i", 2, "", "short.c0i: image fault 1\n", ()),
+    )),
+    ("what cannot be written", {"a.c0": SEVEN, "d/file": "kept"}, (
+        ("build -o none/a.c0i a.c0", 2, "", "none/a.c0i: cannot be written\n", ()),
+        ("build -o d a.c0", 2, "", "d: cannot be written\n", ()),
+        ("build -o d/file/a.c0i a.c0", 2, "", "d/file/a.c0i: cannot be written\n", ()),
+        ("build -o d/a.c0i a.c0", 0, "", "", ("d/a.c0i",)),
+        ("run d/a.c0i", 0, "result: 7\n", "", ()),
+    )),
+    ("schedules", {"a.c0": SEVEN, "all": SCHEDULE, "more": SCHEDULE + "p0\n", "none": "", "wrong": "p0\nq0\n", "open": "p0\np0", "far": "p1\n"}, (
+        ("replay --schedule all a.c0", 0, "result: 7\n", "", ()),
+        ("replay --schedule none a.c0", 0, "running\n", "", ()),
+        ("replay --schedule more a.c0", 2, "", "refused line 4\n", ()),
+        ("replay --schedule wrong a.c0", 2, "", "refused line 2\n", ()),
+        ("replay --schedule open a.c0", 2, "", "refused line 2\n", ()),
+        ("replay --schedule far a.c0", 2, "", "refused line 1\n", ()),
+        ("replay --schedule far a.c0 a.c0", 0, "program 0:\nrunning\nprogram 1:\nrunning\n", "", ()),
+    )),
+)
+
+
+def names_in(folder):
+    """Each file below the folder, with what it holds."""
+    found = {}
+    for at, _, files in os.walk(folder):
+        for name in files:
+            with open(os.path.join(at, name), "rb") as file:
+                found[os.path.relpath(os.path.join(at, name), folder)] = file.read()
+    return found
+
+
+def play(it, scene):
+    name, files, lines = scene
+    for file, text in files.items():
+        os.makedirs(os.path.dirname(it.path(file)), exist_ok=True)
+        it.write(file, text)
+    held = names_in(it.folder)
+    for words, status, out, err, new in lines:
+        it.check(*words.split(), status=status, out=out, err=err)
+        holds = names_in(it.folder)
+        want(set(holds) == set(held) | set(new), f"{name}: {words} left {sorted(holds)}")
+        want(all(holds[file] == held[file] for file in held), f"{name}: {words} changed a file")
+        held = holds
+
+
+def played(scene):
+    def test(it):
+        play(it, scene)
+
+    test.__name__ = scene[0].replace(" ", "_")
+    return test
+
+
+def counted(objects):
+    """A text that writes its number into each of so many structs, and reads nothing again."""
+    return f"int main() {{ for (int i = 0; i < {objects}; i++) {{ int* p = alloc(int); *p = i; }} return 7; }}\n"
+
+
+def each_call_fails_in_turn(it):
+    """Of 16 objects 12 are put to make room in four frames; from call K on, no call succeeds."""
+    it.write("a.c0", counted(16))
+    for first in range(14):
+        store = f"store{first}"
+        os.mkdir(it.path(store))
+        fails = 1 <= first <= 12
+        words = f"run --frames 4 --evacuators 0 --fetchers 0 --store {store} --fail-from {first} a.c0"
+        it.check(*words.split(), status=3 if fails else 0, out="store failed\n" if fails else "result: 7\n")
+        files = os.listdir(it.path(store))
+        puts = first - 1 if fails else 12
+        want(len(files) == puts, f"{words} left {len(files)} files")
+
+
+def an_array_in_files(it):
+    """Elements i of 1,100 pieces of 64: where file K is there it holds a header of three words and the cells of one piece, each piece in one file."""
+    it.write("a.c0", "int main() { int[] a = alloc_array(int, 70400); for (int i = 0; i < 70400; i++) { a[i] = i; } int s = 0; for (int i = 0; i < 70400; i += 64) { s += a[i]; } return s; }\n")
+    os.mkdir(it.path("store"))
+    it.check(*"run --frames 8 --evacuators 0 --fetchers 0 --store store a.c0".split(), out=f"result: {sum(range(0, 70400, 64))}\n")
+    want(sorted(os.listdir(it.folder)) == ["a.c0", "store"], "a file stands beside the folder")
+    pieces = set()
+    for file, held in names_in(it.path("store")).items():
+        want(file.isdigit() and len(held) == 8 * 67, f"{file} has {len(held)} bytes")
+        owner, _, count, first, *rest = struct.unpack("<67Q", held)
+        want(count == 64 and first % 64 == 0 and rest == list(range(first + 1, first + 64)), f"{file} does not hold a piece")
+        want(owner == first // 64, f"{file} is of object {owner}, and holds piece {first // 64}")
+        pieces.add(owner)
+    want(len(pieces) == len(os.listdir(it.path("store"))) >= 1092, f"{len(pieces)} pieces are there")
+
+
+def many_programs(it):
+    for number in range(256):
+        it.write(f"{number}.c0", f"int main() {{ return {number}; }}\n")
+    files = [f"{number}.c0" for number in range(256)]
+    told = "".join(f"program {number}:\nresult: {number}\n" for number in range(256))
+    for words in ("--workers 1", "--workers 4 --evacuators 0", "--workers 64 --quantum 1"):
+        it.check("run", "--frames", "1024", *words.split(), *files, out=told)
+    it.check("run", "--frames", "1024", *files, "0.c0", status=2, err="too many\n")
+
+
+def many_instructions(it):
+    """Some thirty millions of them, and each program gets its turns."""
+    turns = 3_000_000
+    it.write("a.c0", f"int main() {{ int s = 0; for (int i = 0; i < {turns}; i++) {{ s = s + i % 7; }} return s; }}\n")
+    it.check("run", "--workers", "1", "a.c0", "a.c0", out="".join(f"program {k}:\nresult: {sum(i % 7 for i in range(turns))}\n" for k in (0, 1)))
+
+
+def calls_that_nest(it):
+    depth = 200_000
+    it.write("a.c0", f"int down(int n) {{ if (n == 0) {{ return 0; }} return 1 + down(n - 1); }}\nint main() {{ return down({depth}); }}\n")
+    it.check("mean", "--turns", str(depth + 2), "a.c0", out=f"result: {depth}\n")
+    it.check("run", "a.c0", out=f"result: {depth}\n")
+
+
+def movers(it):
+    """Whatever their number, the result is the same; where there is an evacuator, and a program leaves it time, objects leave though no frame is wanted."""
+    it.write("a.c0", "int main() { int[] a = alloc_array(int, 3776); for (int i = 0; i < 3776; i++) { a[i] = i; } int s = 0;\n"
+             "for (int k = 0; k < 400000; k++) { s = s + 1; } for (int i = 0; i < 3776; i++) { s += a[i]; } return s; }\n")
+    told = f"result: {400000 + sum(range(3776))}\n"
+    for evacuators in range(4):
+        for fetchers in range(4):
+            left = 0
+            for number in range(10):
+                store = f"store{evacuators}{fetchers}{number}"
+                os.mkdir(it.path(store))
+                it.check(*f"run --evacuators {evacuators} --fetchers {fetchers} --store {store} a.c0".split(), out=told)
+                left = len(os.listdir(it.path(store)))
+                if left or not evacuators:
+                    break
+            want((left > 0) == (evacuators > 0), f"{evacuators} evacuators and {fetchers} fetchers left {left} files")
+
+
+def started_by_the_script(it, words, most):
+    """What `./c0far` gives where files have a limit of so many bytes: it keeps the signal from the program, which stands where it would have built it."""
+
+    def limit():
+        resource.setrlimit(resource.RLIMIT_FSIZE, (most, most))
+
+    started = {**os.environ, "C0FAR_BUILD": it.path("built")}
+    ran = subprocess.run([SCRIPT, *words.split()], cwd=it.path("work"), env=started, capture_output=True, stdin=subprocess.DEVNULL, timeout=60, preexec_fn=limit, check=False)
+    return ran.returncode, ran.stdout, ran.stderr
+
+
+def as_if_built(it):
+    """The program and its stamp: the place of the sources, and what is watched."""
+    os.mkdir(it.path("built"))
+    os.symlink(it.program, it.path("built/c0far_program"))
+    root = os.path.dirname(SCRIPT)
+    at = os.stat(os.path.join(root, "crates"))
+    it.write("built/stamp", f"{at.st_dev}:{at.st_ino}\nHANDLES\n")
+
+
+def a_limit_of_the_size_of_files(it):
+    """An image that is cut is no image: what was there stays, and nothing is left beside it. A file of the store that is cut is a failure of the store."""
+    as_if_built(it)
+    os.makedirs(it.path("work/store"))
+    it.write("work/a.c0", SEVEN)
+    for image in (None, "what was there"):
+        if image is not None:
+            it.write("work/a.c0i", image)
+        held = names_in(it.path("work"))
+        told = started_by_the_script(it, "build -o a.c0i a.c0", 20)
+        want(told == (2, b"", b"a.c0i: cannot be written\n"), f"build gave {told}")
+        want(names_in(it.path("work")) == held, f"build left {sorted(names_in(it.path('work')))}")
+    it.write("work/b.c0", counted(16))
+    told = started_by_the_script(it, "run --frames 4 --evacuators 0 --fetchers 0 --store store b.c0", 100)
+    want(told == (3, b"store failed\n", b""), f"run gave {told}")
+
+
+def a_full_disk(it):
+    """A small disk in memory, where one can be had."""
+    os.mkdir(it.path("disk"))
+    mounted = subprocess.run(["mount", "-t", "tmpfs", "-o", "size=16k", "none", it.path("disk")], capture_output=True, check=False).returncode == 0
+    if not mounted:
+        return
+    try:
+        it.write("a.c0", SEVEN)
+        it.write("b.c0", counted(64))
+        it.check("build", "-o", "disk/a.c0i", "a.c0")
+        it.check(*"run --frames 4 --evacuators 0 --fetchers 0 --store disk b.c0".split(), status=3, out="store failed\n")
+        with open(it.path("disk/rest"), "wb", buffering=0) as file:
+            try:
+                while True:
+                    file.write(b"x" * 512)
+            except OSError:
+                pass
+        held = it.read("disk/a.c0i")
+        files = set(os.listdir(it.path("disk")))
+        it.check("build", "-o", "disk/a.c0i", "a.c0", status=2, err="disk/a.c0i: cannot be written\n")
+        want(it.read("disk/a.c0i") == held and set(os.listdir(it.path("disk"))) == files, "a full disk was left otherwise")
+        it.check("run", "disk/a.c0i", out="result: 7\n")
+    finally:
+        subprocess.run(["umount", it.path("disk")], check=False)
+
+
+def output_that_nobody_takes(it):
+    it.write("p.c0", PRINTS)
+    for words in ("run p.c0", "mean --turns 9 p.c0", "check p.c0", "list p.c0"):
+        with open("/dev/full", "wb") as full:
+            ran = subprocess.run([it.program, *words.split()], cwd=it.folder, stdout=full, stderr=subprocess.PIPE, stdin=subprocess.DEVNULL, timeout=60, check=False)
+        want(ran.returncode == 2, f"{words} gave {ran.returncode}, {ran.stderr}")
+
+
+TESTS = [
+    *map(played, SCENES),
+    each_call_fails_in_turn,
+    an_array_in_files,
+    many_programs,
+    many_instructions,
+    calls_that_nest,
+    movers,
+    a_limit_of_the_size_of_files,
+    a_full_disk,
+    output_that_nobody_takes,
+]
