@@ -1,6 +1,8 @@
-"""Images by hand, and the bytes of each as docs/IMAGES.md has them."""
+#!/usr/bin/env python3
+"""Images by hand, and the bytes of each as docs/IMAGES.md has them: usage: tests/readings/forged_images.py > crates/run_tests/data/swept_images.rows"""
 
 from image_reading import AIMED, ARR, BOOL, CHAR, FACTS, INSIDE, INT, NONE, NONNULL, OFF, OPERANDS, PTR, SHUT, TEXT
+from listing import listing
 
 # allocates an int, stores 5 in it, loads it and returns it
 STRUCT = {"version": 1, "texts": [], "layouts": [[(INT,)]], "functions": [
@@ -36,6 +38,14 @@ ALL = {"version": 2, "size": 16, "texts": [b"a"], "layouts": [[(INT,), (BOOL,)],
             (0x62, 1)])]},
     {"result": (INT,), "parameters": 2, "scopes": 0, "kinds": [(INT,), (CHAR,), (PTR, 1)], "blocks": [([], [(0x62, 0)])]},
     {"result": None, "parameters": 0, "scopes": 0, "kinds": [], "blocks": [([], [(0x63,)])]}]}
+
+# under which each stands in the files of rows
+NAMES = {
+    id(STRUCT): "a struct is written and read",
+    id(TWICE): "a struct is written twice and read, in pieces of 16 cells",
+    id(READ): "a struct is written, and read three times, in pieces of 16 cells",
+    id(ALL): "each instruction, each kind, three functions, and each sort of an entry fact",
+}
 
 
 def number(value, count=4):
@@ -74,3 +84,15 @@ def image_bytes(image):
     texts = items([items([number(byte, 1) for byte in text]) for text in image["texts"]])
     layouts = items([items([kind_bytes(kind) for kind in cells]) for cells in image["layouts"]])
     return b"C0FI" + number(image["version"], 2) + size + texts + layouts + items([function_bytes(function) for function in image["functions"]])
+
+
+def rows():
+    """The rows of these images but the first, which stands among others: the bytes of each, and its listing."""
+    print("Images that are forged and walked through: written by tests/readings/forged_images.py.")
+    for image in (TWICE, READ, ALL):
+        digits = image_bytes(image).hex()
+        print("\n".join([f"== {NAMES[id(image)]}", *[digits[at : at + 120] for at in range(0, len(digits), 120)], "--", *listing(image)]))
+
+
+if __name__ == "__main__":
+    rows()

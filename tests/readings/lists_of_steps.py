@@ -1,12 +1,12 @@
 #!/usr/bin/env python3
-"""Writes the rows of walks of `crates/sweeps`: usage: tests/readings/lists_of_steps.py > crates/sweeps/data/walks.rows
+"""Writes the rows of walks of `crates/run_tests`: usage: tests/readings/lists_of_steps.py > crates/run_tests/data/walks.rows
 
 small_world.py, which calls no program of ours, tells how many walks, states and refused events there are."""
 
 from itertools import product
 from multiprocessing import Pool
 
-from forged_images import READ, STRUCT, TWICE, image_bytes
+from forged_images import NAMES, READ, STRUCT, TWICE
 from small_world import World
 
 
@@ -97,18 +97,10 @@ def tell(pool, row, image):
     found = pool.starmap(counted, [(row, *code_and_cells(image), one) for one in numbers])
     walks, ended, states, refused = (sum(one) for one in zip(*(counts for counts, _ in found)))
     title = row["title"] + (f": {len(set().union(*(worlds for _, worlds in found)))} worlds" if "lists" in row else "")
-    lines = [f"{name} {row[name]}" for name in ("programs", "frames", "objects", "evacuators", "fetchers", "lists", "result") if name in row]
+    lines = [f"image {NAMES[id(image)]}"] * row.get("programs", 1) + [f"{name} {row[name]}" for name in ("frames", "objects", "evacuators", "fetchers", "lists", "result") if name in row]
     lines += [f"stored {one}" for one in row["stored"]] + [f"{often} {line}" for often, line in row["before"]]
     lines += [f"letter {number} {line}" for number, letter in enumerate(row.get("letters", [])) for line in letter] + [f"rest {line}" for line in row.get("rest", [])]
     print("\n".join([f"== {title}", *lines, "--", f"{walks} walks, {ended} to the end", f"{states} states, 0 wrong; {refused} events not enabled"]), flush=True)
-
-
-def show_rows(pool, name, image, rows):
-    data = image_bytes(image)
-    digits = data.hex()
-    print("\n".join([f"== {name}", *[digits[at : at + 120] for at in range(0, len(digits), 120)], "--", f"{len(data)} bytes"]))
-    for row in rows:
-        tell(pool, row, image)
 
 
 WRITTEN = [(5, "p0"), (1, "p0 claim 0"), (68, "p0")]
@@ -155,11 +147,11 @@ READ_ROWS = [
 
 
 def main():
-    print("Images, each by its bytes, and how many walks and states there are of steps of its programs: written by tests/readings/lists_of_steps.py.")
+    print("Steps of the programs of images, and how many walks and states there are: written by tests/readings/lists_of_steps.py.")
     with Pool() as pool:
-        show_rows(pool, "a struct is written and read", STRUCT, STRUCT_ROWS)
-        show_rows(pool, "a struct is written twice and read, in pieces of 16 cells", TWICE, TWICE_ROWS)
-        show_rows(pool, "a struct is written, and read three times, in pieces of 16 cells", READ, READ_ROWS)
+        for image, rows in ((STRUCT, STRUCT_ROWS), (TWICE, TWICE_ROWS), (READ, READ_ROWS)):
+            for row in rows:
+                tell(pool, row, image)
 
 
 main()

@@ -27,7 +27,7 @@ module _ (h i r s : Type 0) (honest : i → h) (reliable : s → r) where
     none_refused = none_less z images (start images) events led.none_refused;
   }
 
-  replayed_less : (z : Sizes) (images : ℕ → Image) (schedule : List ℕ) (ends : List Ended) → IsReplayed h r z images schedule ends → IsReplayed i s z images schedule ends
+  pub replayed_less : (z : Sizes) (images : ℕ → Image) (schedule : List ℕ) (ends : List Ended) → IsReplayed h r z images schedule ends → IsReplayed i s z images schedule ends
   replayed_less z images schedule ends told = record {
     events = told.events;
     world = told.world;

@@ -1,6 +1,9 @@
 -- What `replay` does.
-use Rattle.std.specs.Prelude.{◌≡◌, ◌⊎◌, ℕ, List, ◌++◌, length, codes, decimal}
+use Rattle.std.specs.Prelude.{◌≡◌, ◌≢◌, ◌⊎◌, ℕ, List, ◌++◌, None, length, codes, decimal}
+use Rattle.std.specs.List.{All}
 use Rattle.cells.specs.declared.ending.Ended.{Ended}
+use Rattle.cells.specs.declared.ending.Run.TheVariants.{Wanted}
+use Rattle.cells.specs.declared.ending.Want.TheVariants.{StoreFailed}
 use Rattle.clap.specs.Words.{Text}
 use Rattle.command_line.specs.Shell.{Replayed}
 use Rattle.region.specs.Admission.{IsAdmitted, IsRefused, IsWithinWork, image_at}
@@ -71,3 +74,8 @@ module _ (h r : Type 0) (asked : Replayed) (files : List Text) (held : Text → 
 -- the command `replay` of these files, where files hold this and folders are honest or not; the store in memory never fails, unless it is asked to
 abbrev pub Replays : Type 0 → Replayed → List Text → (Text → Known) → Writes → Writes → ℕ → Type 0
 Replays honest asked files held out err result = ReplaysOver (IsHonestIn honest asked.memory.store) (IsReliableIn asked.memory) asked files held out err result ⊎ LacksCode asked.compiling held files out err result
+
+-- over the store in memory of which no call is to fail, a replay shows of no program that the store failed
+abbrev pub ReplaysNeverFail : Type 0
+ReplaysNeverFail = (asked : Replayed) (files : List Text) (held : Text → Known) (out err : Writes) (result : ℕ) → asked.memory.store ≡ None → asked.memory.fail_from ≡ 0
+    → (did : HasReplayed (Unit {0}) (IsReliableIn asked.memory) asked files held out err result) → All (λ e. e.run ≢ Wanted StoreFailed) did.ends

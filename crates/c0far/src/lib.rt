@@ -5,6 +5,7 @@ mod code;
 pub mod drive;
 pub mod files;
 mod images;
+mod laws;
 mod plain;
 mod replacing;
 mod replays;
@@ -13,3 +14,4 @@ pub mod say;
 pub mod stream;
 
 pub use command_line::{line, words};
+pub use laws::replays_never_fail;

@@ -1,6 +1,5 @@
 //! What is told of the bytes of an image.
 
-use crate::changes::{passing_changes, short_beginnings};
 use crate::versions::is_written_again;
 use code_form::Image;
 use image_bytes::encode;
@@ -16,7 +15,6 @@ use test_rows::without_blanks;
 pub enum Asked {
     Listing,
     Verdict,
-    Changes,
 }
 
 /// The listing of the image that has these bytes.
@@ -49,22 +47,12 @@ fn verdict(alloc: Global, image: Image) -> Result<String, AllocError> {
     }
 }
 
-/// How many beginnings are refused, and how many changes go through.
-fn changed(alloc: Global, bytes: &mut [u8]) -> Result<String, AllocError> {
-    let short = short_beginnings(alloc, bytes);
-    let changes = passing_changes(alloc, bytes);
-    format!(in alloc; "{short} beginnings\n{changes} changes\n")
-}
-
 /// What is told of the bytes that these digits are, in which blanks and newlines count for nothing.
 pub(crate) fn tell(alloc: Global, asked: Asked, digits: &[u8]) -> Result<String, AllocError> {
     let digits = without_blanks(alloc, digits)?;
-    let Ok(mut bytes) = hex::decode(alloc, &digits) else {
+    let Ok(bytes) = hex::decode(alloc, &digits) else {
         return format!(in alloc; "no hexadecimal digits\n");
     };
-    if let Asked::Changes = asked {
-        return changed(alloc, &mut bytes);
-    }
     match (decode(alloc, &bytes), asked) {
         (Err(fault), _) => refused(alloc, fault),
         (Ok(image), Asked::Verdict) => verdict(alloc, image),

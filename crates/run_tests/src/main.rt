@@ -6,8 +6,6 @@
 //!   of 64 cells;
 //! - `verify`: `scopes` and the number of scopes of an image that is verified, `verify fault` and its number of another, `fault` and its number where there
 //!   is none;
-//! - `change`: how many beginnings of the bytes are refused since they are too short, and how many of all changes of one byte go through: they are
-//!   refused by a number, or are an image with these bytes, in the version that is written, which is verified or refused by a number;
 //! - `images`: an image's bytes, under its name, and its listing; the rows behind it name it;
 //! - `touches`: a line for each instruction of a run tells what it touches, whether it is blocked, and whether the run has stopped, with plain ones in a row on one
 //!   line; then how the run stopped, and what it printed. `loads` has what its loads are given, in order;
@@ -20,15 +18,24 @@
 //!   program is told behind each seed;
 //! - `admission`: how many frames the verified images may need at once is told, and whether they are admitted, or why not.
 //! - `rounds`: two programs are admitted, and each brings its first object in, and closes its hold of it unless `held` stands there; `budgets` has the budget of
-//!   each round of an evacuator: what it came to is told, with how many frames are free then.
+//!   each round of an evacuator: what it came to is told, with how many frames are free then;
+//! - `forge`: images are forged of the bytes of an image, and it is counted what becomes of them: by which number they are refused, or how they end in a world of their
+//!   own within 1,000 instructions. `forged AT VALUE A B ..` puts a byte at a place, and then five parts of the bytes one behind another, each from `A` to before `B`;
+//!   a row without such a line has each byte changed to each other value;
+//! - `walk`: steps of a world. First come lines, each behind how often it comes; in place of that number may stand `A..B`, and the row holds for each of these numbers.
+//!   Behind them comes each list of `lists` letters in turn. `letter N LINE` is a line of letter `N`, which is the first of its lines that is enabled. Then the lines of
+//!   `rest LINE` are tried in turn, until none of them is enabled. `stored P K O I V`: program `P` has stored `V` in cell `I` of object `O` when it has completed `K`
+//!   instructions. `result V`: whoever stops has this result. In each state all that can be seen of the machine is looked at: see `clauses`.
 //!
 //! A row names its `image`, or each of its images, and its numbers: `frames`, `objects`, `evacuators`, `fetchers`. `fails at N` has the call of this number of the
 //! store fail alone, `fails from N` each one from there on.
 #![tactic(auto)]
 
 mod admissions;
-mod changes;
+mod clauses;
+mod forging;
 mod listings;
+mod opening;
 mod random;
 mod rounds;
 mod schedules;
@@ -38,6 +45,8 @@ mod shelf;
 mod steps;
 mod touches;
 mod versions;
+mod walks;
+mod words;
 
 use crate::setting::Setting;
 use crate::shelf::Shelf;
@@ -58,6 +67,8 @@ enum Asked {
     Random,
     Admission,
     Rounds,
+    Forge,
+    Walk,
 }
 
 /// What the rows of a file are.
@@ -74,7 +85,6 @@ impl Kind {
         match word {
             "list" => Some(Kind::Bytes(listings::Asked::Listing)),
             "verify" => Some(Kind::Bytes(listings::Asked::Verdict)),
-            "change" => Some(Kind::Bytes(listings::Asked::Changes)),
             "images" => Some(Kind::Images),
             "touches" => Some(Kind::Runs(Asked::Touches)),
             "session" => Some(Kind::Runs(Asked::Session)),
@@ -83,6 +93,8 @@ impl Kind {
             "random" => Some(Kind::Runs(Asked::Random)),
             "admission" => Some(Kind::Runs(Asked::Admission)),
             "rounds" => Some(Kind::Runs(Asked::Rounds)),
+            "forge" => Some(Kind::Runs(Asked::Forge)),
+            "walk" => Some(Kind::Runs(Asked::Walk)),
             _ => None,
         }
     }
@@ -107,6 +119,8 @@ fn tell_run<R: Wait>(
         Asked::Random => random::tell(alloc, shelf, &setting),
         Asked::Admission => admissions::tell(alloc, shelf, &setting),
         Asked::Rounds => rounds::tell(rt, alloc, shelf, &setting),
+        Asked::Forge => forging::tell(alloc, shelf, &setting),
+        Asked::Walk => walks::tell(alloc, shelf, &setting),
     }
 }
 

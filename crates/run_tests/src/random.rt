@@ -1,12 +1,12 @@
 //! Schedules that a generator makes.
-ghost use Rattle.std.specs.Prelude.{◌<◌, ◌≤◌, length};
 
-use crate::setting::{Setting, size_of};
+use crate::opening::open;
+use crate::setting::Setting;
 use crate::shelf::Shelf;
 use crate::steps::put_ends;
 use cells::Run;
 use code_form::Image;
-use remote_store::{FarHeap, FaultStore, RawStore};
+use remote_store::RawStore;
 use std::alloc::{AllocError, Global};
 use std::fmt::Write;
 use world::{Actor, Choice, World};
@@ -123,25 +123,17 @@ fn put_seed(
     images: &[Image],
     setting: &Setting<'_>,
     seed: u64,
-) -> Result<(), AllocError>
-    requires { (0 < length images.now) × (length images.now ≤ 256) }
-{
-    let Some(piece) = size_of(images) else {
-        return text.push_str("pieces of other sizes\n");
-    };
-    let Some(config) = setting.config(alloc, piece) else {
-        return text.push_str("numbers out of range\n");
-    };
+) -> Result<(), AllocError> {
     let numbers = Numbers {
         programs: images.len() as u32,
-        evacuators: config.evacuators,
-        fetchers: config.fetchers,
-        frames: config.frames,
-        objects: config.objects,
+        evacuators: setting.evacuators,
+        fetchers: setting.fetchers,
+        frames: setting.frames,
+        objects: setting.objects,
     };
-    match World::<FaultStore<FarHeap>>::new(alloc, images, &config) {
-        Ok(mut world) => put_steps(alloc, text, &mut world, numbers, seed),
-        Err(_) => Err(AllocError),
+    match open(alloc, images, setting) {
+        Some(mut world) => put_steps(alloc, text, &mut world, numbers, seed),
+        None => text.push_str("no world\n"),
     }
 }
 
@@ -154,9 +146,6 @@ pub(crate) fn tell(
     let Some(images) = setting.images(alloc, shelf)? else {
         return String::from_str(alloc, "no such image");
     };
-    if images.is_empty() || images.len() > 256 {
-        return String::from_str(alloc, "no image, or too many");
-    }
     let mut told = String::new(alloc);
     for seed in &setting.numbers {
         writeln!(told, "seed {seed}")?;

@@ -24,17 +24,22 @@ pub struct Repeated<'a> {
 #[derive(Drop)]
 pub struct Setting<'a> {
     names: Vec<&'a str>,
-    frames: u32,
-    objects: u32,
-    evacuators: u32,
+    pub(crate) frames: u32,
+    pub(crate) objects: u32,
+    pub(crate) evacuators: u32,
     fetchers: u32,
     workers: u32,
     quantum: u32,
     plan: FaultPlan,
     pub(crate) held: bool,
     pub(crate) written: bool,
+    pub(crate) length: u32,
+    pub(crate) result: u32,
     pub(crate) numbers: Vec<u64>,
     pub(crate) lines: Vec<Repeated<'a>>,
+    /// Lines of letters, whose least number is the letter's, and the lines that are tried behind all others.
+    pub(crate) letters: Vec<Repeated<'a>>,
+    pub(crate) rest: Vec<Repeated<'a>>,
 }
 
 /// The size of the pieces of these images. None where they have several.
@@ -89,6 +94,21 @@ fn line_of<'a>(word: &str, line: &'a str) -> Option<Repeated<'a>> {
     })
 }
 
+/// A line more, where the word is a number or two. Whether it is.
+fn put_line<'a>(
+    lines: &mut Vec<Repeated<'a>>,
+    word: &str,
+    line: &'a str,
+) -> Result<bool, AllocError> {
+    match line_of(word, line) {
+        Some(repeated) => {
+            lines.push(repeated)?;
+            Ok(true)
+        }
+        None => Ok(false),
+    }
+}
+
 impl<'a> Setting<'a> {
     /// One frame, one object, no evacuator and no fetcher, one worker that runs one instruction at once, a store that does not fail, and no hold that stays open.
     fn new(alloc: Global) -> Setting<'a> {
@@ -103,8 +123,12 @@ impl<'a> Setting<'a> {
             plan: FaultPlan::Never,
             held: false,
             written: false,
+            length: 0,
+            result: 0,
             numbers: Vec::new(alloc),
             lines: Vec::new(alloc),
+            letters: Vec::new(alloc),
+            rest: Vec::new(alloc),
         }
     }
 
@@ -133,7 +157,9 @@ impl<'a> Setting<'a> {
             "fetchers" => Ok(set(&mut self.fetchers, rest)),
             "workers" => Ok(set(&mut self.workers, rest)),
             "quantum" => Ok(set(&mut self.quantum, rest)),
-            "loads" | "runs" | "seeds" | "budgets" => self.add_numbers(rest),
+            "lists" => Ok(set(&mut self.length, rest)),
+            "result" => Ok(set(&mut self.result, rest)),
+            "loads" | "runs" | "seeds" | "budgets" | "stored" | "forged" => self.add_numbers(rest),
             "held" => {
                 self.held = true;
                 Ok(true)
@@ -149,13 +175,12 @@ impl<'a> Setting<'a> {
                 }
                 None => Ok(false),
             },
-            _ => match line_of(word, rest) {
-                Some(repeated) => {
-                    self.lines.push(repeated)?;
-                    Ok(true)
-                }
-                None => Ok(false),
-            },
+            "rest" => put_line(&mut self.rest, "1", rest),
+            "letter" => {
+                let (number, line) = rest.split_once(' ').unwrap_or((rest, ""));
+                put_line(&mut self.letters, number, line)
+            }
+            _ => put_line(&mut self.lines, word, rest),
         }
     }
 
@@ -171,6 +196,11 @@ impl<'a> Setting<'a> {
             }
         }
         Ok(Some(setting))
+    }
+
+    /// The bytes of the first image that it names, if that is there.
+    pub(crate) fn bytes<'s>(&self, shelf: &'s Shelf) -> Option<&'s [u8]> {
+        shelf.bytes(self.names.first()?)
     }
 
     /// The images that it names. None where one is not there.

@@ -54,13 +54,18 @@ impl Shelf {
         Ok(told)
     }
 
-    /// The image of this name, if there is one.
-    pub(crate) fn image(&self, alloc: Global, name: &str) -> Option<Image> {
+    /// The bytes of the image of this name, if there is one.
+    pub(crate) fn bytes(&self, name: &str) -> Option<&[u8]> {
         for named in &self.images {
             if named.name.as_slice() == name.as_bytes() {
-                return decode(alloc, &named.bytes).ok();
+                return Some(&named.bytes);
             }
         }
         None
+    }
+
+    /// The image of this name, if there is one.
+    pub(crate) fn image(&self, alloc: Global, name: &str) -> Option<Image> {
+        decode(alloc, self.bytes(name)?).ok()
     }
 }

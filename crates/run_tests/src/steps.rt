@@ -1,11 +1,11 @@
 //! Steps of a world.
-ghost use Rattle.std.specs.Prelude.{◌<◌, ◌≤◌, length};
 
+use crate::opening::open;
 use crate::schedules::put_ended;
-use crate::setting::{Repeated, Setting, size_of};
+use crate::setting::{Repeated, Setting};
 use crate::shelf::Shelf;
 use code_form::Image;
-use remote_store::{FarHeap, FaultStore, RawStore};
+use remote_store::RawStore;
 use schedule_lines::line::read_line;
 use std::alloc::{AllocError, Global};
 use std::fmt::Write;
@@ -86,18 +86,10 @@ fn tell_images(
     images: &[Image],
     setting: &Setting<'_>,
     more: u32,
-) -> Result<String, AllocError>
-    requires { (0 < length images.now) × (length images.now ≤ 256) }
-{
-    let Some(piece) = size_of(images) else {
-        return String::from_str(alloc, "pieces of other sizes");
-    };
-    let Some(config) = setting.config(alloc, piece) else {
-        return String::from_str(alloc, "numbers out of range");
-    };
-    match World::<FaultStore<FarHeap>>::new(alloc, images, &config) {
-        Ok(mut world) => tell_steps(alloc, &mut world, &setting.lines, more),
-        Err(_) => Err(AllocError),
+) -> Result<String, AllocError> {
+    match open(alloc, images, setting) {
+        Some(mut world) => tell_steps(alloc, &mut world, &setting.lines, more),
+        None => String::from_str(alloc, "no world"),
     }
 }
 
@@ -119,9 +111,6 @@ pub(crate) fn tell(
     let Some(images) = setting.images(alloc, shelf)? else {
         return String::from_str(alloc, "no such image");
     };
-    if images.is_empty() || images.len() > 256 {
-        return String::from_str(alloc, "no image, or too many");
-    }
     let mut first = tell_images(alloc, &images, setting, 0)?;
     for more in 1..=more(&setting.lines) {
         let other = tell_images(alloc, &images, setting, more)?;

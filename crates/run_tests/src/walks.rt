@@ -1,12 +1,13 @@
 //! Worlds that take steps, by lists of letters.
 use crate::clauses::{Seen, look};
 use crate::opening::open;
-use crate::setting::{Line, Setting};
+use crate::setting::{Repeated, Setting};
+use crate::shelf::Shelf;
 use code_form::Image;
-use image_reader::decode;
 use remote_store::RawStore;
+use schedule_lines::line::read_line;
 use std::alloc::{AllocError, Global};
-use world::{Step, World};
+use world::{Actor, Choice, Step, World};
 
 /// More rounds of the rest than programs take to end.
 const MOST_ROUNDS: u32 = 10_000;
@@ -44,6 +45,24 @@ impl Tally {
     }
 }
 
+/// An event, and the least and the greatest number of how often it is tried; of a letter's event the least is the letter's number.
+#[derive(Clone, Copy)]
+pub struct Line {
+    least: u32,
+    most: u32,
+    actor: Actor,
+    choice: Choice,
+}
+
+/// The lines of a row: those before all others, those of letters, and those of the rest.
+#[derive(Drop)]
+struct Plan<'a> {
+    setting: &'a Setting<'a>,
+    before: Vec<Line>,
+    letters: Vec<Line>,
+    rest: Vec<Line>,
+}
+
 /// How often each line comes beyond its least, the letters of the list, and what is seen.
 #[derive(Drop)]
 struct Walk {
@@ -57,14 +76,14 @@ struct Walk {
 fn take<S: RawStore>(
     alloc: Global,
     world: &mut World<'_, S>,
-    setting: &Setting,
+    plan: &Plan<'_>,
     line: Line,
     looks: bool,
     walk: &mut Walk,
 ) -> Result<bool, AllocError> {
     let took = world.step(line.actor, line.choice) == Step::Took;
     if looks {
-        let right = look(alloc, world, setting, line.actor, took, &mut walk.seen)?;
+        let right = look(alloc, world, plan.setting, line.actor, took, &mut walk.seen)?;
         walk.tally.note(took, right);
     }
     Ok(took)
@@ -74,14 +93,14 @@ fn take<S: RawStore>(
 fn take_often<S: RawStore>(
     alloc: Global,
     world: &mut World<'_, S>,
-    setting: &Setting,
+    plan: &Plan<'_>,
     line: Line,
     count: u32,
     looks: bool,
     walk: &mut Walk,
 ) -> Result<(), AllocError> {
     for _ in 0..count {
-        take(alloc, world, setting, line, looks, walk)?;
+        take(alloc, world, plan, line, looks, walk)?;
     }
     Ok(())
 }
@@ -90,15 +109,15 @@ fn take_often<S: RawStore>(
 fn begin<S: RawStore>(
     alloc: Global,
     world: &mut World<'_, S>,
-    setting: &Setting,
+    plan: &Plan<'_>,
     looks: bool,
     walk: &mut Walk,
 ) -> Result<(), AllocError> {
-    for number in 0..setting.before.len() {
-        if let Some(line) = setting.before.get(number) {
+    for number in 0..plan.before.len() {
+        if let Some(line) = plan.before.get(number) {
             let more = walk.more.get(number).copied().unwrap_or(0);
             let count = line.least.saturating_add(more);
-            take_often(alloc, world, setting, *line, count, looks, walk)?;
+            take_often(alloc, world, plan, *line, count, looks, walk)?;
         }
     }
     Ok(())
@@ -108,15 +127,15 @@ fn begin<S: RawStore>(
 fn take_letter<S: RawStore>(
     alloc: Global,
     world: &mut World<'_, S>,
-    setting: &Setting,
+    plan: &Plan<'_>,
     letter: u32,
     looks: bool,
     walk: &mut Walk,
 ) -> Result<bool, AllocError> {
     let mut taken = false;
-    for line in &setting.letters {
+    for line in &plan.letters {
         if line.least == letter && !taken {
-            taken = take(alloc, world, setting, *line, looks, walk)?;
+            taken = take(alloc, world, plan, *line, looks, walk)?;
         }
     }
     Ok(taken)
@@ -126,19 +145,19 @@ fn take_letter<S: RawStore>(
 fn take_again<S: RawStore>(
     alloc: Global,
     world: &mut World<'_, S>,
-    setting: &Setting,
+    plan: &Plan<'_>,
     walk: &mut Walk,
 ) -> Result<(), AllocError> {
     for number in 1..walk.path.len() {
         let letter = walk.path.get(number - 1).copied().unwrap_or(0);
-        take_letter(alloc, world, setting, letter, false, walk)?;
+        take_letter(alloc, world, plan, letter, false, walk)?;
     }
     Ok(())
 }
 
 /// The number behind that of the last letter.
-fn letters(setting: &Setting) -> u32 {
-    match setting.letters.last() {
+fn letters(plan: &Plan<'_>) -> u32 {
+    match plan.letters.last() {
         Some(line) => line.least.saturating_add(1),
         None => 0,
     }
@@ -148,12 +167,12 @@ fn letters(setting: &Setting) -> u32 {
 fn go_down<S: RawStore>(
     alloc: Global,
     world: &mut World<'_, S>,
-    setting: &Setting,
+    plan: &Plan<'_>,
     from: u32,
     walk: &mut Walk,
 ) -> Result<bool, AllocError> {
-    for letter in from..letters(setting) {
-        if take_letter(alloc, world, setting, letter, true, walk)? {
+    for letter in from..letters(plan) {
+        if take_letter(alloc, world, plan, letter, true, walk)? {
             walk.path.push(letter)?;
             return Ok(true);
         }
@@ -165,13 +184,13 @@ fn go_down<S: RawStore>(
 fn go_to_end<S: RawStore>(
     alloc: Global,
     world: &mut World<'_, S>,
-    setting: &Setting,
+    plan: &Plan<'_>,
     walk: &mut Walk,
 ) -> Result<bool, AllocError> {
     let mut from = walk.path.pop().unwrap_or(0);
-    let mut is_new = setting.length == 0;
-    for _ in walk.path.len()..setting.length as usize {
-        if !go_down(alloc, world, setting, from, walk)? {
+    let mut is_new = plan.setting.length == 0;
+    for _ in walk.path.len()..plan.setting.length as usize {
+        if !go_down(alloc, world, plan, from, walk)? {
             return Ok(is_new);
         }
         is_new = true;
@@ -184,12 +203,12 @@ fn go_to_end<S: RawStore>(
 fn go_round<S: RawStore>(
     alloc: Global,
     world: &mut World<'_, S>,
-    setting: &Setting,
+    plan: &Plan<'_>,
     walk: &mut Walk,
 ) -> Result<bool, AllocError> {
     let mut taken = false;
-    for line in &setting.rest {
-        taken = take(alloc, world, setting, *line, true, walk)? || taken;
+    for line in &plan.rest {
+        taken = take(alloc, world, plan, *line, true, walk)? || taken;
     }
     Ok(taken)
 }
@@ -198,11 +217,11 @@ fn go_round<S: RawStore>(
 fn finish<S: RawStore>(
     alloc: Global,
     world: &mut World<'_, S>,
-    setting: &Setting,
+    plan: &Plan<'_>,
     walk: &mut Walk,
 ) -> Result<(), AllocError> {
     for _ in 0..MOST_ROUNDS {
-        if !go_round(alloc, world, setting, walk)? {
+        if !go_round(alloc, world, plan, walk)? {
             return Ok(());
         }
     }
@@ -222,16 +241,16 @@ fn set_words<S: RawStore>(world: &World<'_, S>, objects: u32, words: &mut [u64])
 fn go<S: RawStore>(
     alloc: Global,
     world: &mut World<'_, S>,
-    setting: &Setting,
+    plan: &Plan<'_>,
     walk: &mut Walk,
 ) -> Result<(), AllocError> {
     let is_first = walk.path.is_empty();
-    set_words(world, setting.objects, &mut walk.seen.words);
-    begin(alloc, world, setting, is_first, walk)?;
-    take_again(alloc, world, setting, walk)?;
-    set_words(world, setting.objects, &mut walk.seen.words);
-    if go_to_end(alloc, world, setting, walk)? {
-        finish(alloc, world, setting, walk)?;
+    set_words(world, plan.setting.objects, &mut walk.seen.words);
+    begin(alloc, world, plan, is_first, walk)?;
+    take_again(alloc, world, plan, walk)?;
+    set_words(world, plan.setting.objects, &mut walk.seen.words);
+    if go_to_end(alloc, world, plan, walk)? {
+        finish(alloc, world, plan, walk)?;
         walk.tally.end(walk.seen.running);
     }
     Ok(())
@@ -262,11 +281,11 @@ fn next_numbers(lines: &[Line], more: &mut [u32]) -> bool {
 }
 
 /// The next walk. Whether there is one.
-fn next(setting: &Setting, walk: &mut Walk) -> Result<bool, AllocError> {
-    if next_list(&mut walk.path, letters(setting))? {
+fn next(plan: &Plan<'_>, walk: &mut Walk) -> Result<bool, AllocError> {
+    if next_list(&mut walk.path, letters(plan))? {
         return Ok(true);
     }
-    Ok(next_numbers(&setting.before, &mut walk.more))
+    Ok(next_numbers(&plan.before, &mut walk.more))
 }
 
 /// More walks than there are.
@@ -276,44 +295,70 @@ const MOST_WALKS: u32 = 100_000_000;
 fn go_all(
     alloc: Global,
     images: &[Image],
-    setting: &Setting,
+    plan: &Plan<'_>,
     walk: &mut Walk,
 ) -> Result<(), AllocError> {
     for _ in 0..MOST_WALKS {
-        match open(alloc, images, setting) {
-            Some(mut world) => go(alloc, &mut world, setting, walk)?,
+        match open(alloc, images, plan.setting) {
+            Some(mut world) => go(alloc, &mut world, plan, walk)?,
             None => return Err(AllocError),
         }
-        if !next(setting, walk)? {
+        if !next(plan, walk)? {
             return Ok(());
         }
     }
     Ok(())
 }
 
-/// As many images of these bytes as there are programs. None where they are no image.
-fn images(alloc: Global, bytes: &[u8], programs: u32) -> Result<Option<Vec<Image>>, AllocError> {
-    let mut images = Vec::new(alloc);
-    for _ in 0..programs {
-        match decode(alloc, bytes) {
-            Ok(image) => images.push(image)?,
-            Err(_) => return Ok(None),
-        }
+/// The events of these lines. None where one of them is no line.
+fn lines_of(alloc: Global, repeated: &[Repeated<'_>]) -> Result<Option<Vec<Line>>, AllocError> {
+    let mut lines = Vec::new(alloc);
+    for one in repeated {
+        let line = one.line;
+        let whole = format!(in alloc; "{line}\n")?;
+        let Some((actor, choice, _)) = read_line(whole.as_bytes()) else {
+            return Ok(None);
+        };
+        lines.push(Line {
+            least: one.least,
+            most: one.most,
+            actor,
+            choice,
+        })?;
     }
-    Ok(Some(images))
+    Ok(Some(lines))
+}
+
+/// The lines of a row. None where one of them is none.
+fn plan_of<'a>(alloc: Global, setting: &'a Setting<'a>) -> Result<Option<Plan<'a>>, AllocError> {
+    let Some(before) = lines_of(alloc, &setting.lines)? else {
+        return Ok(None);
+    };
+    let Some(letters) = lines_of(alloc, &setting.letters)? else {
+        return Ok(None);
+    };
+    let Some(rest) = lines_of(alloc, &setting.rest)? else {
+        return Ok(None);
+    };
+    Ok(Some(Plan {
+        setting,
+        before,
+        letters,
+        rest,
+    }))
 }
 
 /// Nothing seen.
-fn new_walk(alloc: Global, images: &[Image], setting: &Setting) -> Result<Walk, AllocError> {
+fn new_walk(alloc: Global, images: &[Image], plan: &Plan<'_>) -> Result<Walk, AllocError> {
     let cells = match images.first() {
         Some(image) => image.piece.cells(),
         None => 0,
     };
     Ok(Walk {
-        more: Vec::from_elem(alloc, 0, setting.before.len())?,
+        more: Vec::from_elem(alloc, 0, plan.before.len())?,
         path: Vec::new(alloc),
         seen: Seen {
-            words: Vec::from_elem(alloc, 0, setting.objects as usize)?,
+            words: Vec::from_elem(alloc, 0, plan.setting.objects as usize)?,
             completed: Vec::new(alloc),
             running: 0,
             cells,
@@ -329,9 +374,9 @@ fn new_walk(alloc: Global, images: &[Image], setting: &Setting) -> Result<Walk, 
 }
 
 /// What is seen on all walks of these images.
-fn tell_walks(alloc: Global, images: &[Image], setting: &Setting) -> Result<String, AllocError> {
-    let mut walk = new_walk(alloc, images, setting)?;
-    go_all(alloc, images, setting, &mut walk)?;
+fn tell_walks(alloc: Global, images: &[Image], plan: &Plan<'_>) -> Result<String, AllocError> {
+    let mut walk = new_walk(alloc, images, plan)?;
+    go_all(alloc, images, plan, &mut walk)?;
     let Tally {
         walks,
         ended,
@@ -345,9 +390,16 @@ fn tell_walks(alloc: Global, images: &[Image], setting: &Setting) -> Result<Stri
 }
 
 /// What is told of a row.
-pub(crate) fn tell(alloc: Global, bytes: &[u8], setting: &Setting) -> Result<String, AllocError> {
-    match images(alloc, bytes, setting.programs)? {
-        Some(images) => tell_walks(alloc, &images, setting),
-        None => String::from_str(alloc, "no image"),
+pub(crate) fn tell(
+    alloc: Global,
+    shelf: &Shelf,
+    setting: &Setting<'_>,
+) -> Result<String, AllocError> {
+    let Some(images) = setting.images(alloc, shelf)? else {
+        return String::from_str(alloc, "no such image");
+    };
+    match plan_of(alloc, setting)? {
+        Some(plan) => tell_walks(alloc, &images, &plan),
+        None => String::from_str(alloc, "no line"),
     }
 }

@@ -21,8 +21,8 @@ pub struct Seen {
 }
 
 /// The number of an actor as a mover, of so many programs and evacuators.
-fn mover_of(actor: Actor, setting: &Setting) -> u64 {
-    let programs = u64::from(setting.programs);
+fn mover_of(actor: Actor, programs: u32, setting: &Setting<'_>) -> u64 {
+    let programs = u64::from(programs);
     let evacuators = u64::from(setting.evacuators);
     match actor {
         Actor::Program(number) => u64::from(number).wrapping_add(1),
@@ -35,10 +35,10 @@ fn mover_of(actor: Actor, setting: &Setting) -> u64 {
 }
 
 /// Whether the object is one of the actor's share.
-fn owns(actor: Actor, object: u32, setting: &Setting) -> bool {
+fn owns(actor: Actor, object: u32, programs: u32, setting: &Setting<'_>) -> bool {
     match actor {
         Actor::Program(number) => {
-            let share = setting.objects.checked_div(setting.programs).unwrap_or(0);
+            let share = setting.objects.checked_div(programs).unwrap_or(0);
             object.checked_div(share) == Some(number)
         }
         Actor::Evacuator(_) | Actor::Fetcher(_) => false,
@@ -46,15 +46,15 @@ fn owns(actor: Actor, object: u32, setting: &Setting) -> bool {
 }
 
 /// The last value that was stored in this cell, where the programs have completed so many instructions.
-fn latest(stored: &[usize], completed: &[u64], object: u32, index: usize) -> u64 {
+fn latest(stored: &[u64], completed: &[u64], object: u32, index: usize) -> u64 {
     let mut latest = 0;
     for store in stored.chunks_exact(5) {
         if let [program, behind, stored_in, at, value] = store
-            && *stored_in == object as usize
-            && *at == index
-            && completed.get(*program).copied().unwrap_or(0) >= *behind as u64
+            && *stored_in == u64::from(object)
+            && *at == index as u64
+            && completed.get(*program as usize).copied().unwrap_or(0) >= *behind
         {
-            latest = *value as u64;
+            latest = *value;
         }
     }
     latest
@@ -63,13 +63,13 @@ fn latest(stored: &[usize], completed: &[u64], object: u32, index: usize) -> u64
 /// Whether each cell of the object, if it is in a frame, is the last value that was stored there.
 fn has_latest<S: RawStore>(
     world: &World<'_, S>,
-    setting: &Setting,
+    setting: &Setting<'_>,
     seen: &Seen,
     object: u32,
 ) -> bool {
     for index in 0..seen.cells {
         if let Some(value) = world.cell(object, index)
-            && value != latest(&setting.stored, &seen.completed, object, index)
+            && value != latest(&setting.numbers, &seen.completed, object, index)
         {
             return false;
         }
@@ -90,7 +90,7 @@ fn is_right(run: &Run, wanted: u32) -> bool {
 fn look_at_programs<S: RawStore>(
     alloc: Global,
     world: &World<'_, S>,
-    setting: &Setting,
+    setting: &Setting<'_>,
     seen: &mut Seen,
 ) -> Result<bool, AllocError> {
     let mut right = true;
@@ -110,12 +110,13 @@ fn look_at_programs<S: RawStore>(
 /// Looks at the words, behind an event of this actor, which was enabled or not. Whether they are as they must be.
 fn look_at_words<S: RawStore>(
     world: &World<'_, S>,
-    setting: &Setting,
+    setting: &Setting<'_>,
     actor: Actor,
     took: bool,
     words: &mut [u64],
 ) -> bool {
-    let movers = u64::from(setting.programs)
+    let programs = world.programs() as u32;
+    let movers = u64::from(programs)
         .wrapping_add(u64::from(setting.evacuators))
         .wrapping_add(u64::from(setting.fetchers));
     let mut frames: u64 = 0;
@@ -130,8 +131,8 @@ fn look_at_words<S: RawStore>(
             is_lawful(
                 *word,
                 new,
-                mover_of(actor, setting),
-                owns(actor, object, setting),
+                mover_of(actor, programs, setting),
+                owns(actor, object, programs, setting),
             )
         } else {
             *word == new
@@ -145,7 +146,7 @@ fn look_at_words<S: RawStore>(
 }
 
 /// Looks at the cells. Whether they are what was stored last.
-fn look_at_cells<S: RawStore>(world: &World<'_, S>, setting: &Setting, seen: &Seen) -> bool {
+fn look_at_cells<S: RawStore>(world: &World<'_, S>, setting: &Setting<'_>, seen: &Seen) -> bool {
     let mut right = true;
     for object in 0..setting.objects {
         right = right && has_latest(world, setting, seen, object);
@@ -157,7 +158,7 @@ fn look_at_cells<S: RawStore>(world: &World<'_, S>, setting: &Setting, seen: &Se
 pub(crate) fn look<S: RawStore>(
     alloc: Global,
     world: &World<'_, S>,
-    setting: &Setting,
+    setting: &Setting<'_>,
     actor: Actor,
     took: bool,
     seen: &mut Seen,

@@ -1,0 +1,11 @@
+//! What holds of all that the commands show.
+ghost use Rattle.c0far.specs.Replays.{ReplaysNeverFail};
+
+use schedule_replay::never_fails;
+
+/// Where no folder is named and no call of the store is to fail, `replay` shows of no program that the store failed.
+pub fn replays_never_fail()
+    ensures { ReplaysNeverFail }
+{
+    never_fails();
+}

@@ -1,0 +1,256 @@
+//! Images forged of an image's bytes, and what becomes of them, counted.
+
+use crate::opening::open;
+use crate::setting::Setting;
+use crate::shelf::Shelf;
+use cells::{Ended, Run, Stop};
+use code_form::Image;
+use image_reader::decode;
+use remote_store::RawStore;
+use scope_verifier::verify;
+use std::alloc::{AllocError, Global};
+use std::fmt::Write;
+use world::{Actor, Choice, Step, World};
+
+/// How many instructions of an image are looked at.
+const MOST_COMPLETED: u64 = 1_000;
+
+/// More events than so many instructions have.
+const MOST_EVENTS: u64 = MOST_COMPLETED * 300;
+
+/// What becomes of images, and of how many.
+#[derive(Drop)]
+struct Sort {
+    name: String,
+    count: u32,
+}
+
+/// What has become of images: how many of each sort, as they were met, the sum of the results, and how many instructions were completed.
+#[derive(Drop)]
+struct Table {
+    sorts: Vec<Sort>,
+    results: i64,
+    completed: u64,
+}
+
+impl Table {
+    /// One image more of this sort.
+    fn note(&mut self, name: String) -> Result<(), AllocError> {
+        for sort in &mut self.sorts {
+            if sort.name == name {
+                sort.count = sort.count.wrapping_add(1);
+                return Ok(());
+            }
+        }
+        self.sorts.push(Sort { name, count: 1 })?;
+        Ok(())
+    }
+
+    /// One run more, which ended so, or was long enough.
+    fn note_end(&mut self, alloc: Global, ended: &Ended) -> Result<(), AllocError> {
+        self.completed = self.completed.wrapping_add(ended.completed);
+        let name = match &ended.run {
+            Run::Stopped(Stop::Ended(result)) => {
+                self.results = self.results.wrapping_add(i64::from(*result));
+                String::from_str(alloc, "result")?
+            }
+            Run::Stopped(Stop::ErrorCalled(_)) => String::from_str(alloc, "error")?,
+            run => format!(in alloc; "{run}")?,
+        };
+        self.note(name)
+    }
+
+    /// A line for each sort, and the sums.
+    fn tell(&self, alloc: Global) -> Result<String, AllocError> {
+        let mut told = String::new(alloc);
+        for sort in &self.sorts {
+            let name = sort.name.as_str();
+            let count = sort.count;
+            writeln!(told, "{name}: {count}")?;
+        }
+        let results = self.results;
+        let completed = self.completed;
+        writeln!(told, "results come to {results}, {completed} completed")?;
+        Ok(told)
+    }
+}
+
+/// The first event of the program that is enabled of what is next and the claims of frames. Whether there is one.
+fn goes_on<S: RawStore>(world: &mut World<'_, S>, frames: u32) -> bool {
+    if world.step(Actor::Program(0), Choice::Next) == Step::Took {
+        return true;
+    }
+    for frame in 0..frames {
+        if world.step(Actor::Program(0), Choice::Claim(frame)) == Step::Took
+            && world.step(Actor::Program(0), Choice::Next) == Step::Took
+        {
+            return true;
+        }
+    }
+    false
+}
+
+/// Whether the program goes no further, or has completed enough. It is counted then.
+fn is_at_end<S: RawStore>(
+    alloc: Global,
+    world: &World<'_, S>,
+    table: &mut Table,
+) -> Result<bool, AllocError> {
+    if world.programs() == 0 {
+        return Ok(true);
+    }
+    let ended = world.ended(alloc, 0)?;
+    if let Run::Running = ended.run
+        && ended.completed < MOST_COMPLETED
+    {
+        return Ok(false);
+    }
+    table.note_end(alloc, &ended)?;
+    Ok(true)
+}
+
+/// Runs the program until it has ended or completed enough, and counts what became of it.
+fn follow<S: RawStore>(
+    alloc: Global,
+    world: &mut World<'_, S>,
+    frames: u32,
+    table: &mut Table,
+) -> Result<(), AllocError> {
+    for _ in 0..MOST_EVENTS {
+        if is_at_end(alloc, world, table)? {
+            return Ok(());
+        }
+        if !goes_on(world, frames) {
+            return table.note(String::from_str(alloc, "stuck")?);
+        }
+    }
+    table.note(String::from_str(alloc, "endless")?)
+}
+
+/// What becomes of an image that was read, counted: it is verified, and run.
+fn try_image(
+    alloc: Global,
+    image: Image,
+    setting: &Setting<'_>,
+    table: &mut Table,
+) -> Result<(), AllocError> {
+    let verified = match verify(alloc, image) {
+        Ok(verified) => verified,
+        Err(fault) => return table.note(format!(in alloc; "{fault}")?),
+    };
+    let mut images = Vec::new(alloc);
+    images.push(verified.into_image())?;
+    match open(alloc, &images, setting) {
+        Some(mut world) => follow(alloc, &mut world, setting.frames, table),
+        None => table.note(String::from_str(alloc, "no world")?),
+    }
+}
+
+/// What becomes of these bytes, counted.
+fn try_bytes(
+    alloc: Global,
+    bytes: &[u8],
+    setting: &Setting<'_>,
+    table: &mut Table,
+) -> Result<(), AllocError> {
+    match decode(alloc, bytes) {
+        Ok(image) => try_image(alloc, image, setting, table),
+        Err(fault) => table.note(format!(in alloc; "{fault}")?),
+    }
+}
+
+/// Puts this byte there.
+fn put(bytes: &mut [u8], at: usize, value: u8) {
+    if let Some(place) = bytes.get_mut(at) {
+        *place = value;
+    }
+}
+
+/// Puts each other value in place of a byte.
+fn change_at(
+    alloc: Global,
+    forged: &mut [u8],
+    at: usize,
+    setting: &Setting<'_>,
+    table: &mut Table,
+) -> Result<(), AllocError> {
+    let held = forged.get(at).copied().unwrap_or(0);
+    for value in 0..=255u8 {
+        put(forged, at, value);
+        if value != held {
+            try_bytes(alloc, forged, setting, table)?;
+        }
+    }
+    put(forged, at, held);
+    Ok(())
+}
+
+/// The same of each byte.
+fn change(
+    alloc: Global,
+    forged: &mut [u8],
+    setting: &Setting<'_>,
+    table: &mut Table,
+) -> Result<(), AllocError> {
+    for at in 0..forged.len() {
+        change_at(alloc, forged, at, setting, table)?;
+    }
+    Ok(())
+}
+
+/// The parts of the bytes that these numbers say, each from its first to before its last, one behind another.
+fn joined(alloc: Global, bytes: &[u8], numbers: &[u64]) -> Result<Vec<u8>, AllocError> {
+    let mut forged = Vec::new(alloc);
+    for part in numbers.chunks_exact(2) {
+        if let [start, end] = part
+            && let Some(part) = bytes.get(*start as usize..*end as usize)
+        {
+            forged.extend_from_slice(part)?;
+        }
+    }
+    Ok(forged)
+}
+
+/// Puts a byte at a place, and joins parts, as each twelve of the setting's numbers say.
+fn join(
+    alloc: Global,
+    bytes: &mut [u8],
+    setting: &Setting<'_>,
+    table: &mut Table,
+) -> Result<(), AllocError> {
+    for numbers in setting.numbers.chunks_exact(12) {
+        if let [at, value, parts @ ..] = numbers {
+            let at = *at as usize;
+            let held = bytes.get(at).copied().unwrap_or(0);
+            put(bytes, at, *value as u8);
+            let forged = joined(alloc, bytes, parts)?;
+            put(bytes, at, held);
+            try_bytes(alloc, &forged, setting, table)?;
+        }
+    }
+    Ok(())
+}
+
+/// What becomes of the images that are forged of the one that a row names, counted: as its numbers say, or, where there are none, with each byte changed to each
+/// other value.
+pub(crate) fn tell(
+    alloc: Global,
+    shelf: &Shelf,
+    setting: &Setting<'_>,
+) -> Result<String, AllocError> {
+    let Some(bytes) = setting.bytes(shelf) else {
+        return String::from_str(alloc, "no such image");
+    };
+    let mut bytes = bytes.to_vec(alloc)?;
+    let mut table = Table {
+        sorts: Vec::new(alloc),
+        results: 0,
+        completed: 0,
+    };
+    if setting.numbers.is_empty() {
+        change(alloc, &mut bytes, setting, &mut table)?;
+    } else {
+        join(alloc, &mut bytes, setting, &mut table)?;
+    }
+    table.tell(alloc)
+}
