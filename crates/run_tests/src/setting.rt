@@ -27,7 +27,7 @@ pub struct Setting<'a> {
     pub(crate) frames: u32,
     pub(crate) objects: u32,
     pub(crate) evacuators: u32,
-    fetchers: u32,
+    pub(crate) fetchers: u32,
     workers: u32,
     quantum: u32,
     plan: FaultPlan,
