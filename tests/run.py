@@ -1,7 +1,8 @@
 #!/usr/bin/env python3
 """Runs the built program as a process: run.py PROGRAM. Prints each test that fails, and last 'N passed, M failed'.
 
-For what no contract sees: files, folders, the machine's stack, how long a run takes, and want of memory. Each test has an empty folder. Nothing is needed but
+For what no contract sees: files, folders, the machine's stack, how long a run takes, and want of memory; and whether what scripts make of the sources is current
+(`pages`, which starts no program). Each test has an empty folder. Nothing is needed but
 `rt`, whose clang makes a library for the refusals of memory.
 """
 
@@ -13,6 +14,7 @@ import commands
 import depths
 import drawn
 import files
+import pages
 import refusals
 import schedules
 import sizes
@@ -26,7 +28,7 @@ def main():
         sys.exit(__doc__)
     program = os.path.abspath(sys.argv[1])
     passed = failed = 0
-    for script in (files, commands, words, stores, depths, sizes, drawn, schedules, refusals):
+    for script in (pages, files, commands, words, stores, depths, sizes, drawn, schedules, refusals):
         for test in script.TESTS:
             with tempfile.TemporaryDirectory() as folder:
                 try:
