@@ -1,4 +1,4 @@
-"""What scripts of the repository make of its sources is what stands there: tables of pages, and the page of the manual."""
+"""What scripts of the repository make of its sources is what stands there: tables of pages, the page of the manual, and the list of crates."""
 
 import os
 import subprocess
@@ -18,11 +18,16 @@ def what_to_read_is_as_the_page_has_it(_):
     is_current("tools/what_to_read.py")
 
 
+def crates_are_listed_as_their_sources_name_them(_):
+    is_current("tools/edges.py")
+
+
 def the_page_of_the_manual_is_that_of_help(_):
     is_current("editors/man_page.py")
 
 
 TESTS = (
     what_to_read_is_as_the_page_has_it,
+    crates_are_listed_as_their_sources_name_them,
     the_page_of_the_manual_is_that_of_help,
 )

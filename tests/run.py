@@ -2,8 +2,7 @@
 """Runs the built program as a process: run.py PROGRAM. Prints each test that fails, and last 'N passed, M failed'.
 
 For what no contract sees: files, folders, the machine's stack, how long a run takes, and want of memory; and whether what scripts make of the sources is current
-(`pages`, which starts no program). Each test has an empty folder. Nothing is needed but
-`rt`, whose clang makes a library for the refusals of memory.
+(`pages`, which starts no program). Each test has an empty folder. Nothing is needed but `rt`, whose clang makes a library for the refusals of memory.
 """
 
 import os
