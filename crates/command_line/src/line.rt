@@ -1,5 +1,5 @@
 //! From words to a command.
-ghost use Rattle.std.specs.Prelude.{◌≡◌, [], codes, false, IfErr, IfOk, List, MatchResult, None, Some, ℕ, map, option_and_then, option_map, true};
+ghost use Rattle.std.specs.Prelude.{◌≡◌, ◌≢◌, [], codes, false, IfErr, IfOk, List, MatchResult, None, Some, ℕ, map, option_and_then, option_map, true};
 ghost use Rattle.clap.specs.Words.{all_of, app_of, first_of, found_of, kind_of, rows_of, rule_of, subcommand_rows_of};
 ghost use Rattle.c0_syntax.specs.Levels.{has_loops};
 ghost use Rattle.cells.specs.Pieces.{cells_in};
@@ -181,7 +181,8 @@ fn command<'a>(alloc: Global) -> Result<Command<'a>, AllocError>
 }
 
 fn refusal(error: Error) -> Usage
-    ensures { kind_of error ≡ ErrorKind.OutOfMemory → result ≡ Usage.OutOfMemory }
+    ensures memory { kind_of error ≡ ErrorKind.OutOfMemory → result ≡ Usage.OutOfMemory }
+    ensures other { kind_of error ≢ ErrorKind.OutOfMemory → result ≡ Usage.Refused }
 {
     match error.kind() {
         ErrorKind::OutOfMemory => Usage::OutOfMemory,

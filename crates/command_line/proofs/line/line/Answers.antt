@@ -16,4 +16,4 @@ returns-clause-refused c =
 
 pub returns-in-Err-try_get_matches_from-clause-refused : goal.returns-in-Err-try_get_matches_from-clause-refused
 returns-in-Err-try_get_matches_from-clause-refused c = λ command named.
-    c.refusal.ensures (only_memory _ (map (λ w. w.now) c.args.words.now) c.in-Err-try_get_matches_from.error c.in-Ok.ensures c.in-Err-try_get_matches_from.ensures.kinds named.0)
+    c.refusal.ensures.memory (only_memory _ (map (λ w. w.now) c.args.words.now) c.in-Err-try_get_matches_from.error c.in-Ok.ensures c.in-Err-try_get_matches_from.ensures.kinds named.0)
