@@ -11,7 +11,7 @@ use Rattle.remote_store.specs.declared.berth.Berth.{Berth}
 use Rattle.object_lock.specs.Kept.{berth_fits, berth_keeps}
 use Rattle.object_lock.specs.Seats.{View, first_part, next_owner, whole_part, next_mover}
 use Rattle.object_lock.specs.SeatViews.{TableView, SeatView}
-use Rattle.object_lock.specs.Fresh.{IsFresh, IsFreshOwner, IsFreshMover, IsLastOwner, IsLastMover, AreNumbered}
+use Rattle.object_lock.specs.Fresh.{IsFresh, IsFreshOwner, IsFreshMover, IsLastOwner, IsLastMover, AreNumbered, EndWithLast}
 
 counts_on : (a n : ℕ) → range_with_len a (suc n) ≡ range_with_len a n ++ (a + n) ∷ []
 counts_on a zero = let e : a ≡ a + 0 = omega arith in ap (λ (q : ℕ). q ∷ []) e
@@ -109,6 +109,18 @@ module _ {W C : Type 0} where
 
   pub same_but_last : (s s' : SeatView W C) → s' ≡ record s { view = whole_part s.view } → s' ≡ record s { view = record s.view { last = s'.view.last } }
   same_but_last s s' e = e ∙ ap (λ (b : Bool). record s { view = record s.view { last = b } }) (sym (ap (λ (q : SeatView W C). q.view.last) e))
+
+  -- a seat behind others is the last
+  pub ends_on : (xs : List (SeatView W C)) (s : SeatView W C) → s.view.last ≡ true → EndWithLast (xs ++ s ∷ [])
+  ends_on [] s e = e
+  ends_on (x ∷ []) s e = e
+  ends_on (x ∷ y ∷ ys) s e = ends_on (y ∷ ys) s e
+
+  -- and more behind it, of which the last is the last
+  pub ends_behind : (xs : List (SeatView W C)) (s : SeatView W C) (ys : List (SeatView W C)) → EndWithLast (s ∷ ys) → EndWithLast ((xs ++ s ∷ []) ++ ys)
+  ends_behind [] s ys e = e
+  ends_behind (x ∷ []) s ys e = e
+  ends_behind (x ∷ y ∷ xs) s ys e = ends_behind (y ∷ xs) s ys e
 
   -- the last program's seat, when the others are made
   pub last_done : (t : TableView) (share programs : ℕ) (s s' : SeatView W C) (b : Bool) → 0 < programs → IsLastOwner t share programs (programs - 1) s → s' ≡ record s { view = record s.view { last = b } } → IsFreshOwner t share s'

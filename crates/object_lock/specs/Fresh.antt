@@ -1,5 +1,5 @@
 -- Seats as a table is made with them.
-use Rattle.std.specs.Prelude.{◌≡◌, ℕ, suc, ◌+◌, ◌-◌, ◌*◌, ◌<◌, ◌≤◌, true, List, map, replicate, None}
+use Rattle.std.specs.Prelude.{◌≡◌, ℕ, suc, ◌+◌, ◌-◌, ◌*◌, ◌<◌, ◌≤◌, true, List, [], ◌∷◌, map, replicate, None}
 use Rattle.std.specs.List.{range_with_len}
 use Rattle.pointer_word.specs.Hands.{empty_handed, blank}
 use Rattle.object_lock.specs.Seats.{Sizes}
@@ -20,6 +20,12 @@ IsFreshMover t s = IsFresh t s × (s.view.high ≡ s.view.low)
 -- these are seats of the movers from first on, count of them
 abbrev pub AreNumbered : {W C : Type 0} → ℕ → ℕ → List (SeatView W C) → Type 0
 AreNumbered first count seats = map (λ s. s.view.number) seats ≡ range_with_len first count
+
+-- the last of these is the last seat of its table
+abbrev pub EndWithLast : {W C : Type 0} → List (SeatView W C) → Type 0
+EndWithLast [] = ⊥
+EndWithLast (s ∷ []) = s.view.last ≡ true
+EndWithLast (s ∷ t ∷ ts) = EndWithLast (t ∷ ts)
 
 -- the numbers of a table of this many objects and frames, with pieces of n cells
 abbrev pub sizes_of : ℕ → ℕ → ℕ → Sizes

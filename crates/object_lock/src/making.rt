@@ -1,5 +1,5 @@
 //! How a table is made with all its seats.
-ghost use Rattle.std.specs.Prelude.{◌≡◌, ◌≢◌, ℕ, ◌+◌, ◌-◌, ◌*◌, ◌/◌, ◌<◌, ◌≤◌, true, None, IfOk, IfErr, [], ◌++◌, length, suc};
+ghost use Rattle.std.specs.Prelude.{◌≡◌, ◌≢◌, ℕ, ◌+◌, ◌-◌, ◌*◌, ◌/◌, ◌<◌, ◌≤◌, true, None, IfOk, IfErr, [], ◌∷◌, ◌++◌, length, suc};
 ghost use mathlib.Core.Option.{some};
 ghost use lib.ListN.{get_elem?};
 ghost use Rattle.std.specs.List.{All};
@@ -8,7 +8,7 @@ ghost use Rattle.object_lock.specs.Kept.{slot_keeps, slot_has};
 ghost use Rattle.object_lock.specs.NewTable.{BeginsAway};
 ghost use Rattle.object_lock.specs.Seats.{first_part, next_owner, whole_part, next_mover};
 ghost use Rattle.object_lock.specs.SeatViews.{IsSeat};
-ghost use Rattle.object_lock.specs.Fresh.{IsFresh, IsFreshOwner, IsFreshMover, IsLastOwner, IsLastMover, AreNumbered, IsWithinLimits, sizes_of};
+ghost use Rattle.object_lock.specs.Fresh.{IsFresh, IsFreshOwner, IsFreshMover, IsLastOwner, IsLastMover, AreNumbered, EndWithLast, IsWithinLimits, sizes_of};
 
 use crate::seat::{MoverSeat, OwnerSeat};
 use crate::shape::Shape;
@@ -129,6 +129,7 @@ impl<S: RawStore> ObjectTable<S> {
         requires numbers { (0 < self.now.sizes.objects) × (owner.old.view.number + count < 65535) }
         requires owner { IsFresh self.now owner.old × (owner.old.view.low ≤ owner.old.view.high) × (owner.old.view.last ≡ true) }
         ensures made { IfOk result (λ v. AreNumbered (suc owner.old.view.number) count v.items × All (IsFreshMover self.now) v.items × (owner.new ≡ record owner.old { view = record owner.old.view { last = owner.new.view.last } })) }
+        ensures last { IfOk result (λ v. EndWithLast (owner.new ∷ v.items)) }
         ensures wants { IfErr result (λ want. want ≢ Want.NoObjects) }
     {
         let mut movers = Vec::new(alloc);
@@ -162,6 +163,7 @@ impl<S: RawStore> ObjectTable<S> {
         requires numbers { (0 < self.now.sizes.objects) × (0 < programs) × (programs ≤ 256) × (count ≤ 128) }
         requires first { IsLastOwner self.now share programs 0 first }
         ensures made { IfOk result (λ t. AreNumbered 1 programs t.0.items × All (IsFreshOwner self.now share) t.0.items × AreNumbered (suc programs) count t.1.items × All (IsFreshMover self.now) t.1.items) }
+        ensures last { IfOk result (λ t. EndWithLast (t.0.items ++ t.1.items)) }
         ensures wants { IfErr result (λ want. want ≢ Want.NoObjects) }
     {
         let (mut owners, mut last) = self.owners(alloc, stores, first, programs, share)?;
@@ -173,7 +175,7 @@ impl<S: RawStore> ObjectTable<S> {
     }
 
     /// A table of `config`'s numbers, with frames for pieces of this size, whose objects are all away and in whose store nothing was put yet, with the seats of
-    /// the programs and those of the evacuators and then the fetchers. `OutOfMemory` where a growth was refused, and
+    /// the programs and those of the evacuators and then the fetchers: the table has no other seat. `OutOfMemory` where a growth was refused, and
     /// the wants of making the stores and their cells.
     pub fn new<M: Stores<S = S> + Drop>(
         alloc: Global,
@@ -186,6 +188,7 @@ impl<S: RawStore> ObjectTable<S> {
         ensures made { IfOk result (λ t. (t.0.sizes ≡ sizes_of config.now.objects config.now.frames (cells_in piece))
             × AreNumbered 1 programs t.1.items × All (IsFreshOwner t.0 (config.now.objects / programs)) t.1.items
             × AreNumbered (suc programs) (config.now.evacuators + config.now.fetchers) t.2.items × All (IsFreshMover t.0) t.2.items) }
+        ensures last { IfOk result (λ t. EndWithLast (t.1.items ++ t.2.items)) }
         ensures away { IfOk result (λ t. BeginsAway (slot_keeps S.fits S.content t.0.sizes.cells) (slot_has S.fits t.0.sizes.cells) S.honest t.0.sizes (t.1.items ++ t.2.items)) }
         ensures wants { IfErr result (λ want. want ≢ Want.NoObjects) }
     {

@@ -1,8 +1,8 @@
 use Rattle.std.proofs.Common.{◌≡◌, ℕ, suc, ◌+◌, List, ◌∷◌, ◌++◌, [], arith, sym, subst, ap, ◌∙◌}
 use Rattle.std.specs.List.{All}
 use Rattle.object_lock.specs.SeatViews.{SeatView}
-use Rattle.object_lock.specs.Fresh.{IsFreshMover, IsLastMover, AreNumbered}
-use Rattle.object_lock.proofs.SeatRows.{numbered_on, all_on, mover_done, mover_next, same_but_last}
+use Rattle.object_lock.specs.Fresh.{IsFreshMover, IsLastMover, AreNumbered, EndWithLast}
+use Rattle.object_lock.proofs.SeatRows.{numbered_on, all_on, mover_done, mover_next, same_but_last, ends_on}
 use Rattle.object_lock.proofs.table.ObjectTable.movers.Goals as goal
 
 pub loop-made-preserved : goal.loop-made-preserved
@@ -25,3 +25,8 @@ returns-clause-made g c =
       subst (λ (ys : List (SeatView g.row.S.Denot g.row.S-Cell.Denot)). All (IsFreshMover t) ys) (sym e) (all_on (IsFreshMover t) xs s i.1 i.2.0),
       same_but_last c.args.owner.now c.next_mover.new.last c.in_ok-last.ensures.made.0,
     )
+
+pub returns-clause-last : goal.returns-clause-last
+returns-clause-last g c =
+    subst (λ (ys : List (SeatView g.row.S.Denot g.row.S-Cell.Denot)). EndWithLast (c.next_mover.new.last ∷ ys)) (sym c.in_default-push.ensures.items)
+    (ends_on (c.next_mover.new.last ∷ c.loop-made.movers.items) c.loop-made.last c.loop-made.invariant.2.2)

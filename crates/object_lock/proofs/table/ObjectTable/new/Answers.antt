@@ -7,7 +7,7 @@ use Rattle.object_lock.proofs.AtFirst.{begins_away}
 use Rattle.object_lock.proofs.table.ObjectTable.new.Goals as goal
 
 pub returns-clause-away : goal.returns-clause-away
-returns-clause-away g c = let m = c.in_ok-owners.ensures.made in begins_away (slot_keeps g.S.RawStore.fits g.S.RawStore.content _) (slot_has g.S.RawStore.fits _) g.S.RawStore.honest _ _ _ _ _ m.1 m.3
+returns-clause-away g c = let m = c.in_ok-owners.ensures.made in begins_away (slot_keeps g.S.RawStore.fits g.S.RawStore.content _) (slot_has g.S.RawStore.fits _) g.S.RawStore.honest _ _ _ _ _ _ _ m.1 m.3 m.0 m.2 c.in_ok-owners.ensures.last
 
 pub lay-requires-clause-fresh : goal.lay-requires-clause-fresh
 lay-requires-clause-fresh g c κs within = λ o l.

@@ -1,8 +1,8 @@
 use Rattle.std.proofs.Common.{◌≡◌, ℕ, suc, ◌+◌, ◌-◌, List, [], ◌∷◌, ◌++◌, arith, sym, subst, ap, ◌∙◌}
 use Rattle.std.specs.List.{All}
 use Rattle.object_lock.specs.SeatViews.{SeatView}
-use Rattle.object_lock.specs.Fresh.{IsFreshOwner, AreNumbered}
-use Rattle.object_lock.proofs.SeatRows.{numbered_on, all_on, last_done}
+use Rattle.object_lock.specs.Fresh.{IsFreshOwner, AreNumbered, EndWithLast}
+use Rattle.object_lock.proofs.SeatRows.{numbered_on, all_on, last_done, ends_behind}
 use Rattle.object_lock.proofs.table.ObjectTable.seats.Goals as goal
 
 pub returns-clause-made : goal.returns-clause-made
@@ -16,3 +16,8 @@ returns-clause-made g c =
       subst (λ (q : ℕ). AreNumbered (suc q) c.args.count c.in_ok-movers.movers.items) number m.0,
       m.1,
     )
+
+pub returns-clause-last : goal.returns-clause-last
+returns-clause-last g c =
+    subst (λ (ys : List (SeatView g.row.S.Denot g.row.S-Cell.Denot)). EndWithLast (ys ++ c.in_ok-movers.movers.items)) (sym c.in_default.ensures.items)
+    (ends_behind c.in_ok-owners.owners.items c.movers.new.owner c.in_ok-movers.movers.items c.in_ok-movers.ensures.last)
