@@ -1,9 +1,8 @@
 -- What bringing an object into a frame, and moving one out for it, leaves of its owner's seat.
-use Rattle.std.specs.Prelude.{◌≡◌, ◌≢◌, ℕ, ◌+◌, ◌%◌, ◌<◌, ◌≤◌, Option, Some, None, List, []}
+use Rattle.std.specs.Prelude.{◌≡◌, ℕ, ◌+◌, ◌%◌, ◌<◌, Option, Some, None, List, []}
 use Rattle.pointer_word.specs.Hands.{Hand, claiming, closed, empty_handed, listed, opened, seen, told}
 use Rattle.object_lock.specs.Seats.{View, note, with_hand, with_note}
 use Rattle.object_lock.specs.SeatViews.{SeatView}
-use Rattle.object_lock.specs.Plays.{IsLook}
 
 -- what a seat knows from when it was made: its table's numbers, its own number, how many objects each program has, and its own objects
 abbrev pub seat_of : View → View
@@ -55,10 +54,6 @@ pub record Claims {W C : Type 0} (s t : SeatView W C) (f : ℕ) : Type 0 where
   pub claimed : t.view.hand.claimed ≡ Some f
   pub freed : t.view.hand.freed ≡ None
   pub refusals : t.refusals ≡ s.refusals
-
--- each frame from low to below high was looked at, and was not free then
-abbrev pub AreTaken : Type 0 → ℕ → ℕ → View → Type 0
-AreTaken honest low high v = (f : ℕ) → low ≤ f → f < high → IsLook honest v (λ x. x.frame f ≢ 0)
 
 -- a frame was claimed, or none was, and the same object is brought in still
 abbrev pub ClaimsOr : {W C : Type 0} → SeatView W C → SeatView W C → Option ℕ → Type 0

