@@ -1,5 +1,5 @@
 -- Which programs are admitted to a system of so many frames, objects, evacuators and fetchers.
-use Rattle.std.specs.Prelude.{◌≡◌, ℕ, ◌+◌, ◌<◌, ◌≤◌, List, [], length, Option, Some, None, slice_get}
+use Rattle.std.specs.Prelude.{◌≡◌, ◌⊎◌, ℕ, ◌+◌, ◌<◌, ◌≤◌, List, [], length, Option, Some, None, slice_get}
 use Rattle.code_form.specs.Form.{Image, image_of}
 use Rattle.object_lock.specs.Fresh.{IsWithinLimits}
 use Rattle.scope_verifier.specs.declared.acceptance.Verified.{Verified}
@@ -45,3 +45,7 @@ module _ (programs : List Verified) (frames objects evacuators fetchers : ℕ) w
   IsRefused workers quantum (f.PieceDiffers program) =
       IsWithinLimits (length programs) frames objects evacuators fetchers × IsWithinWork workers quantum × DiffersFirst programs program
   IsRefused workers quantum f.OutOfMemory = ⊥
+
+  -- Why no system of these numbers is made of them: they are not admitted, for this cause; or they are, and memory was wanted
+  abbrev pub IsDenied : ℕ → ℕ → AdmitFault → Type 0
+  IsDenied workers quantum fault = ((fault ≡ f.OutOfMemory) × IsAdmitted × IsWithinWork workers quantum) ⊎ IsRefused workers quantum fault

@@ -1,15 +1,14 @@
 //! The region that admitted programs share.
-ghost use Rattle.object_lock.specs.Fresh.{AreNumbered, IsFreshMover, IsFreshOwner, sizes_of};
+ghost use Rattle.object_lock.specs.Fresh.{AreNumbered, EndWithLast, IsFreshMover, IsFreshOwner, sizes_of};
 ghost use Rattle.object_lock.specs.Kept.{slot_has, slot_keeps};
 ghost use Rattle.object_lock.specs.NewTable.{BeginsAway};
 ghost use Rattle.object_lock.specs.SeatViews.{IsSeat};
-ghost use Rattle.object_moves.specs.Taken.{AreTaken, ClaimsOne, HasOnly};
-ghost use Rattle.region.specs.Admission.{IsAdmitted, IsRefused, IsWithinWork, image_at};
+ghost use Rattle.object_moves.specs.Taken.{ClaimsOne, HasOnly};
+ghost use Rattle.region.specs.Admission.{IsAdmitted, IsDenied, IsWithinWork, image_at};
 ghost use Rattle.world_semantics.specs.Pieces.{piece_of as first_piece};
 ghost use Rattle.region.specs.Finding.{frame_found};
-ghost use Rattle.region.specs.declared.fault.AdmitFault.TheVariants.{OutOfMemory};
 ghost use Rattle.std.specs.List.{All};
-ghost use Rattle.std.specs.Prelude.{◌≡◌, ◌⊎◌, ◌+◌, ◌*◌, ◌/◌, ◌<◌, ◌≤◌, ◌++◌, IfErr, IfOk, None, Some, length, slice_get, suc};
+ghost use Rattle.std.specs.Prelude.{◌≡◌, ◌+◌, ◌*◌, ◌/◌, ◌<◌, ◌≤◌, ◌++◌, IfErr, IfOk, Some, length, slice_get, suc};
 
 use crate::admission::{fits, piece_of};
 use crate::fault::AdmitFault;
@@ -81,15 +80,14 @@ impl<S: RawStore> Region<S> {
         &self.programs[program]
     }
 
-    /// Looks once at each frame, and claims the first that is free for the object that the mover is bringing in. `None` where each frame was looked at,
-    /// and was not free then, or was claimed by another: then the seat is as it was.
+    /// Looks once at each frame, and claims the first that is free for the object that the mover is bringing in. `None` where none was found free, or another
+    /// claimed it first: then the seat is as it was.
     pub fn find_frame(&self, mover: &mut MoverSeat<S>, obj: usize) -> Found
         requires table { IsSeat self.now.table mover.old }
         requires low { obj < self.now.table.sizes.objects }
         requires hands { HasOnly obj mover.old.view }
         ensures table { IsSeat self.now.table mover.new }
         ensures told { ClaimsOne mover.old mover.new (frame_found result) }
-        ensures looked { frame_found result ≡ None → AreTaken S.honest 0 self.now.table.sizes.frames mover.old.view }
     {
         match find_frame(&self.table, mover, obj, 0) {
             Some(frame) => Found::Claimed(frame),
@@ -99,7 +97,7 @@ impl<S: RawStore> Region<S> {
 }
 
 /// Admits programs to a system of these numbers, where `fits` answers that they fit: then frames have as many cells as the pieces of the programs, all objects are away, nothing was put into the store, and the seats
-/// are those of the programs, in their order, and those of the evacuators and then the fetchers. Else the fault is that of `fits`. `OutOfMemory` comes last:
+/// are those of the programs, in their order, and those of the evacuators and then the fetchers: the table has no other seat. Else the fault is that of `fits`. `OutOfMemory` comes last, where they fit:
 /// a growth was refused, or the store could not be reached. After a refusal nothing is kept.
 pub fn admit<S: RawStore, M: Stores<S = S> + Drop>(
     alloc: Global,
@@ -113,8 +111,9 @@ pub fn admit<S: RawStore, M: Stores<S = S> + Drop>(
     ensures numbers { IfOk result (λ t. (t.0.objects ≡ config.objects / length programs.items * length programs.items) × (t.0.fetchers ≡ config.fetchers)) }
     ensures owners { IfOk result (λ t. AreNumbered 1 (length programs.items) t.1.items × All (IsFreshOwner t.0.table (config.objects / length programs.items)) t.1.items) }
     ensures movers { IfOk result (λ t. AreNumbered (suc (length programs.items)) (config.evacuators + config.fetchers) t.2.items × All (IsFreshMover t.0.table) t.2.items) }
+    ensures last { IfOk result (λ t. EndWithLast (t.1.items ++ t.2.items)) }
     ensures away { IfOk result (λ t. BeginsAway (slot_keeps S.fits S.content t.0.table.sizes.cells) (slot_has S.fits t.0.table.sizes.cells) S.honest t.0.table.sizes (t.1.items ++ t.2.items)) }
-    ensures refused { IfErr result (λ fault. (fault ≡ OutOfMemory) ⊎ IsRefused programs.items config.frames config.objects config.evacuators config.fetchers config.workers config.quantum fault) }
+    ensures refused { IfErr result (λ fault. IsDenied programs.items config.frames config.objects config.evacuators config.fetchers config.workers config.quantum fault) }
 {
     fits(&programs, &config)?;
     let count = programs.len() as u32;
