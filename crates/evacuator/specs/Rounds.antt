@@ -1,8 +1,6 @@
 -- What a round of an evacuator tells, and what it leaves of its seat.
-use Rattle.std.specs.Prelude.{◌≡◌, ◌≢◌, ◌⊎◌, ℕ, suc, ◌+◌, ◌%◌, ◌<◌, ◌≤◌, true, false}
-use Rattle.pointer_word.specs.Words.{Here, counted}
-use Rattle.object_lock.specs.Plays.{IsLook}
-use Rattle.object_lock.specs.Seats.{View, with_hand}
+use Rattle.std.specs.Prelude.{◌≡◌, ℕ, ◌+◌, ◌%◌, ◌≤◌}
+use Rattle.object_lock.specs.Seats.{with_hand}
 use Rattle.object_lock.specs.SeatViews.{SeatView}
 use Rattle.object_moves.specs.declared.moved.Moved.{Moved}
 use Rattle.object_moves.specs.declared.moved.Moved.TheVariants as M
@@ -33,12 +31,3 @@ pub record Evacuates {W C : Type 0} (s t : SeatView W C) (r : Round) : Type 0 wh
   pub aborts : t.view.hand.aborts ≡ s.view.hand.aborts + (r.aborted + r.failed)
   pub refusals : t.refusals ≡ (s.refusals + r.failed) % 18446744073709551616
   pub same : t ≡ record s { view = with_hand s.view (record s.view.hand { source = t.view.hand.source; copied = t.view.hand.copied; marks = t.view.hand.marks; commits = t.view.hand.commits; aborts = t.view.hand.aborts; leaves = t.view.hand.leaves }); taken = t.taken; store = t.store; refusals = t.refusals }
-
--- the frame was free at a look, or named an object that was not clean in it without holds at a look behind that, and at a further one was not there otherwise, without
--- holds and in no mover's hands
-abbrev pub IsPassed : Type 0 → View → ℕ → Type 0
-IsPassed honest v f = IsLook honest v (λ x. x.frame f ≡ 0) ⊎ ((o : ℕ) × IsLook honest v (λ x. x.frame f ≡ suc o) × IsLook honest v (λ x. x.word o ≢ counted 0 (Here f true)) × IsLook honest v (λ x. x.word o ≢ counted 0 (Here f false)))
-
--- each of these frames was passed, count of them from the one of this number on, where frame 0 comes behind the last
-abbrev pub Passes : Type 0 → ℕ → ℕ → ℕ → View → Type 0
-Passes honest start count frames v = (i : ℕ) → i < count → IsPassed honest v ((start + i) % frames)

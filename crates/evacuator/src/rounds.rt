@@ -1,6 +1,6 @@
 //! Rounds of an evacuator.
-ghost use Rattle.std.specs.Prelude.{◌≡◌, ◌<◌, ◌≤◌, min};
-ghost use Rattle.evacuator.specs.Rounds.{Evacuates, IsPassed, Passes, moves_of};
+ghost use Rattle.std.specs.Prelude.{◌≡◌, ◌<◌, ◌≤◌};
+ghost use Rattle.evacuator.specs.Rounds.{Evacuates, moves_of};
 ghost use Rattle.object_lock.specs.SeatViews.{IsSeat};
 ghost use Rattle.pointer_word.specs.Asked.{HasNothing};
 
@@ -18,7 +18,7 @@ fn visit<S: RawStore>(table: &ObjectTable<S>, seat: &mut MoverSeat<S>, frame: us
     ensures table { IsSeat table.now seat.new }
     ensures told { Evacuates seat.old seat.new result }
     ensures once { moves_of result ≤ 1 }
-    ensures passed { moves_of result ≡ 0 → (seat.new ≡ seat.old) × IsPassed S.honest seat.old.view frame }
+    ensures still { moves_of result ≡ 0 → seat.new ≡ seat.old }
     ensures sure { S.reliable → result.failed ≡ 0 }
 {
     // For the proof alone: the count of refusals is one of 64 bits.
@@ -52,7 +52,6 @@ pub fn round_from<S: RawStore>(
     ensures told { Evacuates seat.old seat.new result }
     ensures within { moves_of result ≤ budget }
     ensures still { moves_of result ≡ 0 → seat.new ≡ seat.old }
-    ensures passed { moves_of result ≡ 0 → from < region.now.table.sizes.frames → Passes S.honest from (min budget region.now.table.sizes.frames) region.now.table.sizes.frames seat.old.view }
     ensures sure { S.reliable → result.failed ≡ 0 }
 {
     // For the proof alone: the count of refusals is one of 64 bits.
@@ -79,7 +78,6 @@ pub fn round<S: RawStore>(region: &Region<S>, seat: &mut MoverSeat<S>, budget: u
     ensures told { Evacuates seat.old seat.new result }
     ensures within { moves_of result ≤ budget }
     ensures still { moves_of result ≡ 0 → seat.new ≡ seat.old }
-    ensures passed { moves_of result ≡ 0 → Passes S.honest 0 (min budget region.now.table.sizes.frames) region.now.table.sizes.frames seat.old.view }
     ensures sure { S.reliable → result.failed ≡ 0 }
 {
     round_from(region, seat, 0, budget)
