@@ -8,7 +8,6 @@ use Rattle.object_lock.specs.SeatViews.{SeatView}
 use Rattle.object_lock.specs.Seats.{View, with_hand}
 use Rattle.object_lock.specs.Telling.{tried, tried_at}
 use Rattle.object_moves.specs.Moving.{Arrived, hand_arrived}
-use Rattle.object_moves.specs.Taken.{AreTaken}
 use Rattle.pointer_word.specs.Asked.{HasNothing}
 use Rattle.pointer_word.specs.Calls.{Call}
 use Rattle.pointer_word.specs.Hands.{Note, bringing, claiming, retreating}
@@ -32,11 +31,10 @@ module _ {W C : Type 0} (s a b t : SeatView W C) (o : ℕ) (berth : Option (Bert
   abbrev Begins : Type 0
   Begins = a ≡ record s { view = with_hand s.view (bringing s.view.hand o ws); brought = berth }
 
-  pub finds_none : (honest : Type 0) → Begins → b ≡ a → AreTaken honest 0 s.view.sizes.frames a.view → t ≡ record b { view = with_hand b.view (retreating b.view.hand); brought = None }
-      → FindsNone honest o s t
-  finds_none honest begins none taken back =
+  pub finds_none : Begins → b ≡ a → t ≡ record b { view = with_hand b.view (retreating b.view.hand); brought = None } → FindsNone s t
+  finds_none begins none back =
       let after : SeatView W C → SeatView W C = λ x. record x { view = with_hand x.view (retreating x.view.hand); brought = None } in
-      (ws, subst (λ (x : SeatView W C). AreTaken honest 0 s.view.sizes.frames x.view) begins taken, back ∙ ap after (none ∙ begins))
+      (ws, back ∙ ap after (none ∙ begins))
 
   pub brings_in : (f : ℕ) → Begins → b ≡ record a { view = with_hand a.view (claiming a.view.hand f) } → IsUnheld s.view o → Arrived o f b t → t.refusals ≡ b.refusals → BringsIn s t
   brings_in f begins claims unheld arrived same =

@@ -1,14 +1,11 @@
 -- What a fetcher does with a hint, and what it leaves of its seat.
-use Rattle.std.specs.Prelude.{◌≡◌, ◌≢◌, ◌⊎◌, ℕ, ◌+◌, ◌<◌, List, [], None}
+use Rattle.std.specs.Prelude.{◌≡◌, ◌⊎◌, ℕ, ◌+◌, ◌<◌, List, [], None}
 use Rattle.fetcher.specs.declared.served.Served.{Served}
 use Rattle.fetcher.specs.declared.served.Served.TheVariants as S
-use Rattle.object_lock.specs.declared.answers.Begin.TheVariants.{Taken}
-use Rattle.object_lock.specs.Plays.{IsLook}
 use Rattle.object_lock.specs.SeatViews.{SeatView}
-use Rattle.object_lock.specs.Seats.{View, with_hand}
-use Rattle.object_lock.specs.Telling.{tried}
-use Rattle.object_moves.specs.Taken.{AreTaken, Refused}
-use Rattle.pointer_word.specs.Hands.{Hand, bringing}
+use Rattle.object_lock.specs.Seats.{with_hand}
+use Rattle.object_moves.specs.Taken.{Refused}
+use Rattle.pointer_word.specs.Hands.{Hand}
 
 -- the hand of a mover that began an object, was promised these words of its berth, and gave it up
 abbrev pub hand_given_up : Hand → List ℕ → Hand
@@ -22,15 +19,10 @@ hand_released x ws = record x { bringing = None; promised = ws; claimed = None; 
 abbrev pub hand_served : Hand → List ℕ → List (ℕ × ℕ) → Hand
 hand_served x ws ps = record x { bringing = None; promised = ws; claimed = None; filled = ps; begins = x.begins + 1; claims = x.claims + 1; arrivals = x.arrivals + 1 }
 
--- at one moment the object was not in its store cell, or had a hold
-abbrev pub IsNotAway : Type 0 → View → ℕ → Type 0
-IsNotAway honest v o = IsLook honest v (λ x. tried 0 (x.word o) ≢ Taken)
-
 module _ {W C : Type 0} where
-  -- the mover began the object, and gave it up, since each frame was looked at, and was not free then
-  abbrev pub FindsNone : Type 0 → ℕ → SeatView W C → SeatView W C → Type 0
-  FindsNone honest o s t = (ws : List ℕ) × AreTaken honest 0 s.view.sizes.frames (with_hand s.view (bringing s.view.hand o ws))
-      × (t ≡ record s { view = with_hand s.view (hand_given_up s.view.hand ws); brought = None })
+  -- the mover began an object, claimed no frame, and gave the object up
+  abbrev pub FindsNone : SeatView W C → SeatView W C → Type 0
+  FindsNone s t = (ws : List ℕ) × (t ≡ record s { view = with_hand s.view (hand_given_up s.view.hand ws); brought = None })
 
   -- The mover brought an object into a frame: it has arrived once more, and no call was refused
   abbrev pub BringsIn : SeatView W C → SeatView W C → Type 0
@@ -40,16 +32,16 @@ module _ {W C : Type 0} where
   abbrev pub FailsToGet : Type 0 → SeatView W C → SeatView W C → Type 0
   FailsToGet reliable s t = (ws : List ℕ) × (t ≡ record s { view = with_hand s.view (hand_released s.view.hand ws); brought = None; store = t.store; refusals = t.refusals }) × Refused reliable s.refusals t.refusals
 
-  -- what became of a hint that names the object o
-  abbrev pub Serves : Type 0 → Type 0 → ℕ → SeatView W C → SeatView W C → Served → Type 0
-  Serves honest reliable o s t S.Nothing = ⊥
-  Serves honest reliable o s t S.Dropped = (IsNotAway honest s.view o × (t ≡ s)) ⊎ FindsNone honest o s t
-  Serves honest reliable o s t S.Brought = BringsIn s t
-  Serves honest reliable o s t S.Failed = FailsToGet reliable s t
+  -- what became of a hint
+  abbrev pub Serves : Type 0 → SeatView W C → SeatView W C → Served → Type 0
+  Serves reliable s t S.Nothing = ⊥
+  Serves reliable s t S.Dropped = (t ≡ s) ⊎ FindsNone s t
+  Serves reliable s t S.Brought = BringsIn s t
+  Serves reliable s t S.Failed = FailsToGet reliable s t
 
   -- there was no hint, and nothing changed; or a hint was served, which names one of so many objects
-  abbrev pub ServesOne : Type 0 → Type 0 → ℕ → SeatView W C → SeatView W C → Served → Type 0
-  ServesOne honest reliable objects s t S.Nothing = t ≡ s
-  ServesOne honest reliable objects s t S.Dropped = (o : ℕ) × (o < objects) × Serves honest reliable o s t S.Dropped
-  ServesOne honest reliable objects s t S.Brought = (o : ℕ) × (o < objects) × Serves honest reliable o s t S.Brought
-  ServesOne honest reliable objects s t S.Failed = (o : ℕ) × (o < objects) × Serves honest reliable o s t S.Failed
+  abbrev pub ServesOne : Type 0 → ℕ → SeatView W C → SeatView W C → Served → Type 0
+  ServesOne reliable objects s t S.Nothing = t ≡ s
+  ServesOne reliable objects s t S.Dropped = (o : ℕ) × (o < objects) × Serves reliable s t S.Dropped
+  ServesOne reliable objects s t S.Brought = (o : ℕ) × (o < objects) × Serves reliable s t S.Brought
+  ServesOne reliable objects s t S.Failed = (o : ℕ) × (o < objects) × Serves reliable s t S.Failed

@@ -19,7 +19,7 @@ fn serve<S: RawStore>(region: &Region<S>, seat: &mut MoverSeat<S>, obj: usize) -
     requires hands { HasNothing seat.old.view.hand }
     ensures table { IsSeat region.now.table seat.new }
     ensures hands { HasNothing seat.new.view.hand }
-    ensures told { Serves S.honest S.reliable obj seat.old seat.new result }
+    ensures told { Serves S.reliable seat.old seat.new result }
 {
     let table = region.table();
     let Begin::Taken = table.try_begin(seat, obj, 0) else {
@@ -52,7 +52,7 @@ pub fn serve_one<R: Wait, S: RawStore>(
     ensures seat { IsSeat region.now.table seat.new }
     ensures hands { HasNothing seat.new.view.hand }
     ensures pass { pass.new ≡ pass.old }
-    ensures told { ServesOne S.honest S.reliable region.now.objects seat.old seat.new result }
+    ensures told { ServesOne S.reliable region.now.objects seat.old seat.new result }
 {
     // For the proof alone: the programs' objects are objects of the table.
     let _ = region.objects();

@@ -1,14 +1,11 @@
-use Rattle.std.proofs.Common.{inr, refl, subst, sym}
-use Rattle.object_lock.specs.Seats.{Sizes}
-use Rattle.object_moves.specs.Taken.{AreTaken}
+use Rattle.std.proofs.Common.{inr, refl}
 use Rattle.fetcher.proofs.Serving.{brings_in, emptied, finds_none, unheld}
 use Rattle.fetcher.proofs.serve.serve.Goals as goal
 
 pub returns-in_default-find_frame-clause-told : goal.returns-in_default-find_frame-clause-told
 returns-in_default-find_frame-clause-told g c =
     let begun = c.in-Taken.ensures.fetched refl in
-    let looked = subst (λ (z : Sizes). AreTaken g.S.RawStore.honest 0 z.frames c.try_begin.new.mover.view) (sym c.requires.table.1) (c.in_default-find_frame.ensures.looked refl) in
-    inr (finds_none c.args.seat.now c.try_begin.new.mover c.find_frame.new.mover c.retreat.new.mover c.args.obj _ begun.1 g.S.RawStore.honest begun.3 c.in_default-find_frame.ensures.told looked c.retreat.ensures.retreated)
+    inr (finds_none c.args.seat.now c.try_begin.new.mover c.find_frame.new.mover c.retreat.new.mover c.args.obj _ begun.1 begun.3 c.in_default-find_frame.ensures.told c.retreat.ensures.retreated)
 
 pub returns-then-bring_into-clause-told : goal.returns-then-bring_into-clause-told
 returns-then-bring_into-clause-told g c =
