@@ -1,5 +1,5 @@
 -- The parts of a tree as a list.
-use Rattle.std.proofs.Common.{◌≡◌, refl, ap, sym, ◌∙◌, List, [], ◌∷◌, ◌++◌, rules, ℕ, zero, suc, ◌+◌, ◌<◌, ◌≤◌, length, get_or, set, map, drop, replicate, arith}
+use Rattle.std.proofs.Common.{◌≡◌, refl, ap, sym, ◌∙◌, List, [], ◌∷◌, ◌++◌, rules, ℕ, zero, suc, ◌+◌, ◌<◌, ◌≤◌, length, get_or, set, map, take, length-append, replicate, arith}
 use Rattle.std.specs.declared.vec.Vec.{Vec}
 use Rattle.std.specs.declared.alloc.Global.{Global}
 use Rattle.c0_typed.specs.Values as v
@@ -7,8 +7,8 @@ use Rattle.c0_typed.specs.Trees.{Ty}
 use Rattle.c0_typed.specs.Meaning.{default, fields, struct_defaults}
 use Rattle.c0_typed.specs.Views.{struct_of}
 use Rattle.c0_typed.specs.declared.tree.Struct.{Struct}
-use Rattle.std.proofs.Math.Seq.{drop-cons}
-use Rattle.std.proofs.lemmas.List.{map-append}
+use Rattle.std.proofs.Math.Seq.{get_or-append_seam}
+use Rattle.std.proofs.lemmas.List.{get_or_append_left, get_or_past, get_or-map, length-map, take-map}
 use Rattle.c0_meaning.specs.PlainStates.{Texts, tree_of, row_of, trees_of, parts_in_order}
 use Rattle.c0_meaning.specs.declared.value.Value.{Value}
 use Rattle.c0_meaning.specs.declared.heap.Tree.{Tree, Leaf, Row_of-Tree, end_of-Tree, more_of-Tree, items-the_row-Tree, the_lemmas}
@@ -78,17 +78,41 @@ pub fields_are : (structs : List v.Tree) (ts : List Ty) → fields structs ts �
 fields_are structs [] = refl
 fields_are structs (t ∷ ts) = ap (v.Cons (default structs t)) (fields_are structs ts)
 
--- what is left of a list, from an item of it
-pub rest_is : {A : Type 0} (xs : List A) (i : ℕ) (x : A) → i < length xs → x ≡ get_or xs i x → drop i xs ≡ x ∷ drop (i + 1) xs
-rest_is xs i x h e = let k : suc i ≡ i + 1 = omega arith in drop-cons xs i x h ∙ ap (λ y. y ∷ drop (suc i) xs) (sym e) ∙ ap (λ j. x ∷ drop j xs) k
+-- what a struct holds that is defined before
+held_before : (held : List v.Tree) (ss : List (List Ty)) (k : ℕ) (d : v.Tree) → k < length held → get_or (struct_defaults held ss) k d ≡ get_or held k d
+held_before held [] k d h = refl
+held_before held (ts ∷ rest) k d h =
+    let next : List v.Tree = v.Node (fields held ts) ∷ [] in
+    held_before (held ++ next) rest k d (omega (arith, h, length-append held next)) ∙ get_or_append_left held next d k h
 
--- what the next struct holds
-pub next_struct : (texts : Texts) (structs : List Struct) (i : ℕ) (x : Struct) (all after : List Tree) (parts : Vec Tree Global)
-    → i < length structs → x ≡ get_or structs i x → after ≡ all ++ (Node parts ∷ []) → trees_of texts parts.items ≡ fields (map (tree_of texts) all) (struct_of x)
-    → struct_defaults (map (tree_of texts) all) (map struct_of (drop i structs)) ≡ struct_defaults (map (tree_of texts) after) (map struct_of (drop (i + 1) structs))
-next_struct texts structs i x all after parts h is e made =
-    let rest = map struct_of (drop (i + 1) structs) in
-    let held = map (tree_of texts) all in
-    ap (λ xs. struct_defaults held (map struct_of xs)) (rest_is structs i x h is)
-    ∙ ap (λ t. struct_defaults (held ++ (t ∷ [])) rest) (ap v.Node (sym made) ∙ sym (tree_node texts parts))
-    ∙ ap (λ ts. struct_defaults ts rest) (sym (ap (map (tree_of texts)) e ∙ map-append (tree_of texts) all (Node parts ∷ [])))
+-- what the next structs hold: a struct holds its fields over those before it
+next_holds : (held : List v.Tree) (ss : List (List Ty)) (k i : ℕ) (d : v.Tree) (ts : List Ty) → k < length ss → i ≡ length held + k → ts ≡ get_or ss k ts
+    → get_or (struct_defaults held ss) i d ≡ v.Node (fields (struct_defaults held (take k ss)) ts)
+next_holds held [] k i d ts h at is = absurd (let q : ⊥ = omega (arith, h) in q)
+next_holds held (x ∷ rest) zero i d ts h at is =
+    let next : List v.Tree = v.Node (fields held x) ∷ [] in
+    let here : i < length (held ++ next) = omega (arith, at, length-append held next) in
+    let last : i ≡ length held = omega (arith, at) in
+    held_before (held ++ next) rest i d here ∙ ap (λ j. get_or (held ++ next) j d) last ∙ get_or-append_seam held (v.Node (fields held x)) [] d ∙ ap (λ y. v.Node (fields held y)) (sym is)
+next_holds held (x ∷ rest) (suc k) i d ts h at is =
+    let next : List v.Tree = v.Node (fields held x) ∷ [] in
+    next_holds (held ++ next) rest k i d ts (omega (arith, h)) (omega (arith, at, length-append held next)) is
+
+-- there is one for each struct
+defaults_length : (held : List v.Tree) (ss : List (List Ty)) → length (struct_defaults held ss) ≡ length held + length ss
+defaults_length held [] = omega arith
+defaults_length held (ts ∷ rest) =
+    let next : List v.Tree = v.Node (fields held ts) ∷ [] in
+    omega (arith, defaults_length (held ++ next) rest, length-append held next)
+
+-- a struct of the program holds its fields, over the structs before it
+pub struct_holds : (structs : List Struct) (k : ℕ) (x : Struct) → k < length structs → x ≡ get_or structs k x
+    → get_or (struct_defaults [] (map struct_of structs)) k (v.Leaf v.Void) ≡ v.Node (fields (struct_defaults [] (map struct_of (take k structs))) (struct_of x))
+struct_holds structs k x h is =
+    let there : struct_of x ≡ get_or (map struct_of structs) k (struct_of x) = ap struct_of is ∙ sym (get_or-map struct_of structs k x (struct_of x) h) in
+    next_holds [] (map struct_of structs) k k (v.Leaf v.Void) (struct_of x) (omega (arith, h, length-map structs struct_of)) (omega arith) there
+    ∙ ap (λ ss. v.Node (fields (struct_defaults [] ss) (struct_of x))) (take-map struct_of k structs)
+
+-- no other holds anything
+pub struct_past : (structs : List Struct) (k : ℕ) → length structs ≤ k → get_or (struct_defaults [] (map struct_of structs)) k (v.Leaf v.Void) ≡ v.Leaf v.Void
+struct_past structs k h = get_or_past (struct_defaults [] (map struct_of structs)) k (v.Leaf v.Void) (omega (arith, h, defaults_length [] (map struct_of structs), length-map structs struct_of))

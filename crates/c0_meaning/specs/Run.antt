@@ -1,5 +1,5 @@
 -- The plain run over a context, in the words of the meaning.
-use Rattle.std.specs.Prelude.{◌≡◌, ℕ, zero, suc, Bool, List, map, get_or, Option, Some, None, Result, IfOk}
+use Rattle.std.specs.Prelude.{◌≡◌, ℕ, zero, suc, Bool, List, [], map, get_or, Option, Some, None, Result, IfOk}
 use Rattle.std.specs.declared.vec.Vec.{Vec}
 use Rattle.std.specs.declared.alloc.Global.{Global}
 use Rattle.cells.specs.Stops.{Stop, stop_of}
@@ -9,12 +9,12 @@ use Rattle.cells.specs.Outcomes as o
 use Rattle.c0_typed.specs.Values as v
 use Rattle.c0_typed.specs.Trees as t
 use Rattle.c0_typed.specs.Meaning as m
-use Rattle.c0_typed.specs.Views.{texts_of}
+use Rattle.c0_typed.specs.Views.{program_of, texts_of}
 use Rattle.c0_meaning.specs.declared.value.Value.{Value}
 use Rattle.c0_meaning.specs.declared.context.Context.{Context}
 use Rattle.c0_meaning.specs.declared.plain_state.Halt.{Halt}
 use Rattle.c0_meaning.specs.declared.run.Meant.{Meant}
-use Rattle.c0_meaning.specs.PlainStates.{Agrees, Texts, tree_of, value_of}
+use Rattle.c0_meaning.specs.PlainStates.{Agrees, Texts, value_of}
 
 -- what a call of a function comes to
 abbrev pub Calls : Type 0
@@ -30,9 +30,9 @@ calls_over structs checks p (suc d) f args s =
 abbrev pub texts_in : Context → Texts
 texts_in c = texts_of c.program.now
 
--- what fresh memory of its structs holds
+-- what fresh memory of the program's structs holds
 abbrev pub structs_in : Context → List v.Tree
-structs_in c = map (tree_of (texts_in c)) c.structs.now
+structs_in c = m.struct_defaults [] (program_of c.program.now).structs
 
 -- values in order
 abbrev pub values_of : Texts → Vec Value Global → List v.Value

@@ -1,7 +1,7 @@
 //! What allocations hold: parts of trees of values, writes to them, and what fresh memory holds.
 ghost use Rattle.std.specs.Prelude.{◌≡◌, [], map, IfSome};
 ghost use Rattle.c0_typed.specs.Values.{Leaf, copies as copies_of, count, leaf, part_at, parts, with_part_at};
-ghost use Rattle.c0_typed.specs.Meaning.{default, fields as fields_of, struct_defaults};
+ghost use Rattle.c0_typed.specs.Meaning.{default, struct_defaults};
 ghost use Rattle.c0_typed.specs.Views.{struct_of, type_of};
 ghost use Rattle.c0_meaning.specs.PlainStates.{Texts, tree_of, trees_of, value_of};
 
@@ -106,46 +106,23 @@ pub(crate) fn copies(alloc: Global, count: usize, tree: &Tree) -> Option<Vec<Tre
     Some(all)
 }
 
-/// What fresh memory of a type holds, from what the structs hold. None where a growth is refused.
-pub(crate) fn default_tree(alloc: Global, structs: &[Tree], ty: &ValueType) -> Option<Tree>
-    ensures { IfSome result (λ t. (texts : Texts) → tree_of texts t ≡ default (map (tree_of texts) structs.now) (type_of ty.now)) }
+/// What fresh memory of a type holds, over the structs of the program: it is made here, of the structs that the type holds
+/// alone. A struct holds only structs that stand before it. None where a growth is refused.
+pub(crate) fn default_tree(alloc: Global, structs: &[Struct], ty: &ValueType) -> Option<Tree>
+    ensures { IfSome result (λ t. (texts : Texts) → tree_of texts t ≡ default (struct_defaults [] (map struct_of structs.now)) (type_of ty.now)) }
 {
-    match ty {
-        ValueType::Struct(number) => match structs.get(*number as usize) {
-            Some(tree) => copied(alloc, tree),
-            None => Some(Tree::Leaf(Value::Void)),
-        },
-        _ => Some(Tree::Leaf(blank_value(ty))),
-    }
-}
-
-/// What fresh memory of fields holds. None where a growth is refused.
-pub(crate) fn default_fields(
-    alloc: Global,
-    structs: &[Tree],
-    fields: &[ValueType],
-) -> Option<Vec<Tree>>
-    ensures { IfSome result (λ all. (texts : Texts) → trees_of texts all.items ≡ fields_of (map (tree_of texts) structs.now) (map type_of fields.now)) }
-{
+    let ValueType::Struct(number) = ty else {
+        return Some(Tree::Leaf(blank_value(ty)));
+    };
+    let Some(one) = structs.get(*number as usize) else {
+        return Some(Tree::Leaf(Value::Void));
+    };
+    let before = &structs[..*number as usize];
     let mut all = Vec::new(alloc);
-    for ty in fields {
-        let Ok(()) = all.push(default_tree(alloc, structs, ty)?) else {
+    for field in &one.fields {
+        let Ok(()) = all.push(default_tree(alloc, before, field)?) else {
             return None;
         };
     }
-    Some(all)
-}
-
-/// What fresh memory of each struct holds, in their order. None where a growth is refused.
-pub(crate) fn default_structs(alloc: Global, structs: &[Struct]) -> Option<Vec<Tree>>
-    ensures { IfSome result (λ all. (texts : Texts) → map (tree_of texts) all.items ≡ struct_defaults [] (map struct_of structs.now)) }
-{
-    let mut all = Vec::new(alloc);
-    for one in structs {
-        let fields = default_fields(alloc, &all, &one.fields)?;
-        let Ok(()) = all.push(Tree::Node(fields)) else {
-            return None;
-        };
-    }
-    Some(all)
+    Some(Tree::Node(all))
 }

@@ -89,7 +89,7 @@ impl<'p> PlainRun<'p> {
         let count = self.take()?;
         let value = self
             .state
-            .allocate_many(context.alloc, context.structs, ty, count)?;
+            .allocate_many(context.alloc, &context.program.structs, ty, count)?;
         self.give(value)
     }
 
@@ -110,7 +110,9 @@ impl<'p> PlainRun<'p> {
     ) -> Result<(), Halt>
         ensures { AllocatesOne context.now ty.now self.old result self.new }
     {
-        let value = self.state.allocate_one(context.alloc, context.structs, ty)?;
+        let value = self
+            .state
+            .allocate_one(context.alloc, &context.program.structs, ty)?;
         self.give(value)
     }
 }

@@ -1,8 +1,8 @@
 //! What the plain run changes.
 ghost use Rattle.std.specs.Prelude.{◌≡◌, ◌++◌, [], ◌∷◌, map, pos, string_bytes, IfErr, IfOk, IfSome};
 ghost use Rattle.c0_typed.specs.Values.{Number, Void, array_length, as_number, as_ref, as_text, load, store};
-ghost use Rattle.c0_typed.specs.Meaning.{State, allocate as allocate_of, allocate_array, default, element as element_of, holds, local as local_of, pointed as pointed_of, printed as printed_of, set_local as set_local_of, stop};
-ghost use Rattle.c0_typed.specs.Views.{output_of, text_at as text_of, texts_of, type_of};
+ghost use Rattle.c0_typed.specs.Meaning.{State, allocate as allocate_of, allocate_array, default, element as element_of, holds, local as local_of, pointed as pointed_of, printed as printed_of, set_local as set_local_of, stop, struct_defaults};
+ghost use Rattle.c0_typed.specs.Views.{output_of, struct_of, text_at as text_of, texts_of, type_of};
 ghost use Rattle.cells.specs.Outcomes.{Done};
 ghost use Rattle.cells.specs.Stops.{ErrorCalled};
 ghost use Rattle.c0_meaning.specs.declared.plain_state.Halt.TheVariants.{Memory};
@@ -10,7 +10,7 @@ ghost use Rattle.c0_meaning.specs.PlainStates.{Agrees, TakesTurn, Texts, field_o
 
 use crate::heap::{Spot, Tree, copies, default_tree, part, part_count, stored};
 use crate::value::Value;
-use c0_typed::{Output, Typed, ValueType};
+use c0_typed::{Output, Struct, Typed, ValueType};
 use cells::Stop;
 use std::alloc::Global;
 use std::mem;
@@ -169,14 +169,14 @@ impl PlainState {
         Ok(Value::Reference(self.heap.len()))
     }
 
-    /// A fresh pointer to what has a type, from what structs hold at first.
+    /// A fresh pointer to what has a type, over the structs of the program.
     pub(crate) fn allocate_one(
         &mut self,
         alloc: Global,
-        structs: &[Tree],
+        structs: &[Struct],
         ty: &ValueType,
     ) -> Result<Value, Halt>
-        ensures { (texts : Texts) → Agrees (value_of texts) result (allocate_of (default (map (tree_of texts) structs.now) (type_of ty.now)) (state_of texts self.old)) (state_of texts self.new) }
+        ensures { (texts : Texts) → Agrees (value_of texts) result (allocate_of (default (struct_defaults [] (map struct_of structs.now)) (type_of ty.now)) (state_of texts self.old)) (state_of texts self.new) }
     {
         let Some(tree) = default_tree(alloc, structs, ty) else {
             return Err(Halt::Memory);
@@ -184,15 +184,15 @@ impl PlainState {
         self.allocate(tree)
     }
 
-    /// A fresh array of so many elements of a type, from what structs hold at first.
+    /// A fresh array of so many elements of a type, over the structs of the program.
     pub(crate) fn allocate_many(
         &mut self,
         alloc: Global,
-        structs: &[Tree],
+        structs: &[Struct],
         ty: &ValueType,
         count: Value,
     ) -> Result<Value, Halt>
-        ensures { (texts : Texts) → Agrees (value_of texts) result (allocate_array (default (map (tree_of texts) structs.now) (type_of ty.now)) (as_number (value_of texts count)) (state_of texts self.old)) (state_of texts self.new) }
+        ensures { (texts : Texts) → Agrees (value_of texts) result (allocate_array (default (struct_defaults [] (map struct_of structs.now)) (type_of ty.now)) (as_number (value_of texts count)) (state_of texts self.old)) (state_of texts self.new) }
     {
         let Some(count) = count.size() else {
             return Err(Halt::Stopped(Stop::LengthFault));

@@ -5,7 +5,6 @@ ghost use Rattle.c0_typed.specs.Views.{program_of};
 ghost use Rattle.c0_meaning.specs.Run.{Tells, meant_of};
 
 use crate::context::Context;
-use crate::heap::default_structs;
 use crate::pending::PlainRun;
 use crate::plain_state::Halt;
 use crate::value::Value;
@@ -46,13 +45,9 @@ pub fn mean(alloc: Global, program: &Typed, checks: bool, turns: u64) -> Result<
     ensures meant { IfOk result (λ r. meant_of r ≡ mean_of (program_of program.now) checks turns) }
     ensures want { IfErr result (λ w. w ≡ Want.OutOfMemory) }
 {
-    let Some(structs) = default_structs(alloc, &program.structs) else {
-        return Err(Want::OutOfMemory);
-    };
     let context = Context {
         alloc,
         program,
-        structs: &structs,
         checks,
     };
     let mut run = PlainRun::begin(alloc, turns);

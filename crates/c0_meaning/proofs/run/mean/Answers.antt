@@ -1,8 +1,8 @@
-use Rattle.std.proofs.Common.{◌≡◌, [], map, ap, ◌∙◌, refl, sym}
+use Rattle.std.proofs.Common.{[], ap, ◌∙◌, refl, sym}
 use Rattle.c0_typed.specs.Meaning as m
 use Rattle.c0_typed.specs.Meaning.{struct_defaults}
-use Rattle.c0_typed.specs.Views.{program_of, struct_of, texts_of}
-use Rattle.c0_meaning.specs.PlainStates.{state_of, tree_of}
+use Rattle.c0_typed.specs.Views.{program_of, texts_of}
+use Rattle.c0_meaning.specs.PlainStates.{state_of}
 use Rattle.c0_meaning.specs.Run.{calls_over, meant_of}
 use Rattle.c0_meaning.specs.declared.plain_state.PlainState.{PlainState}
 use Rattle.c0_meaning.proofs.Steps.{mean_is, told_along}
@@ -12,12 +12,10 @@ pub returns-clause-meant : goal.returns-clause-meant
 returns-clause-meant c =
     let texts = texts_of c.args.program.now in
     let p = program_of c.args.program.now in
-    let structs = map (tree_of texts) c.deref-2.result.now in
-    let held : structs ≡ struct_defaults [] p.structs =
-    ap (map (tree_of texts)) c.deref-2.ensures.value ∙ c.in-Some.ensures texts ∙ ap (λ ss. struct_defaults [] (map struct_of ss)) c.deref.ensures.value in
+    let structs = struct_defaults [] p.structs in
     let begun = state_of texts c.begin-run.result.state in
     let turned = ap (λ n. m.told (calls_over structs c.args.checks p n p.main [] begun)) c.begin-run.ensures.turns in
-    let whole = turned ∙ mean_is c.args.checks p c.args.turns structs [] begun held refl (c.begin-run.ensures.state texts) in
+    let whole = turned ∙ mean_is c.args.checks p c.args.turns structs [] begun refl refl (c.begin-run.ensures.state texts) in
     let ended = state_of texts c.run_main-came.new.self.state in
     let printed = ap (λ (s : PlainState). s.output.items) (sym c.into_state-state.ensures) in
     let said = c.tell.ensures.told texts _ ended printed (c.run_main-came.ensures c.begin-run.ensures.empty.0 c.begin-run.ensures.empty.1) in

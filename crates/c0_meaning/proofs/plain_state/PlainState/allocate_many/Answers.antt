@@ -1,8 +1,8 @@
-use Rattle.std.proofs.Common.{◌≡◌, ap, ◌∙◌, sym, subst, map, Some, rules}
+use Rattle.std.proofs.Common.{◌≡◌, [], ap, ◌∙◌, sym, subst, map, Some, rules}
 use Rattle.c0_typed.specs.Values.{Node, Tree, copies}
-use Rattle.c0_typed.specs.Meaning.{Outcome, allocate, allocate_array, default}
+use Rattle.c0_typed.specs.Meaning.{Outcome, allocate, allocate_array, default, struct_defaults}
 use Rattle.c0_typed.specs.Values as v
-use Rattle.c0_typed.specs.Views.{type_of}
+use Rattle.c0_typed.specs.Views.{struct_of, type_of}
 use Rattle.c0_meaning.specs.PlainStates.{Agrees, natural, tree_of, value_of, state_of}
 use Rattle.c0_meaning.proofs.Heaps.{is_natural}
 use Rattle.c0_meaning.proofs.Parts.{tree_node}
@@ -13,7 +13,7 @@ returns c = λ texts.
     let n = c.in-Some.count in
     let z = v.as_number (value_of texts c.args.count) in
     let there : Some n ≡ natural z = search rules in
-    let held : Tree = default (map (tree_of texts) c.args.structs.now) (type_of c.args.ty.now) in
+    let held : Tree = default (struct_defaults [] (map struct_of c.args.structs.now)) (type_of c.args.ty.now) in
     let s = state_of texts c.args.self.now in
     let elements = c.in-Some-copies.elements in
     let one : tree_of texts c.in-Some-default_tree.tree ≡ held = c.in-Some-default_tree.ensures texts in
