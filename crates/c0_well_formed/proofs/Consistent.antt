@@ -54,6 +54,10 @@ use Rattle.c0_well_formed.proofs.HoistedNumbers.{few_scopes, hoisted_names}
 use Rattle.c0_well_formed.proofs.HintedNumbers.{hinted_names}
 use Rattle.c0_well_formed.proofs.CellKinds.{Each, IsCellKind, all_sound, each_all, each_append, each_as, kind_good, kind_named, number_named, singles_good, structs_good}
 
+-- the kinds of a function's registers and of its result name one of so many layouts
+abbrev pub NamesKinds : ℕ → f.Function → Type 0
+NamesKinds count g = All (λ x. names_layout count x ≡ true) g.kinds × (is_result_kind count g.result ≡ true)
+
 module _ (structs : List (List Ty)) (singles : List Kind) (texts : List (List ℕ)) (functions : List Function) (main : ℕ) (checks : Bool) where
   abbrev n : ℕ
   n = length structs
@@ -193,6 +197,25 @@ module _ (structs : List (List Ty)) (singles : List Kind) (texts : List (List �
   abbrev code : Function → f.Function
   code h = l.function_code structs singles texts functions main checks h
 
+  -- the kinds of the parts of its expressions
+  abbrev inner_kinds : Function → List Kind
+  inner_kinds h = conditions_kinds (checked checks h.preconditions.items) ++ (body_kinds h.body.items ++ conditions_kinds (checked checks h.postconditions.items))
+
+  kinds_good : (h : Function) → All Named (code h).kinds
+  kinds_good h =
+      let before = conditions_kinds (checked checks h.preconditions.items) in
+      let inside = body_kinds h.body.items in
+      let behind = conditions_kinds (checked checks h.postconditions.items) in
+      let named : Each Named (inner_kinds h) =
+      each_append Named before (inside ++ behind) (conditions_named (checked checks h.preconditions.items))
+      (each_append Named inside behind (body_named h.body.items) (conditions_named (checked checks h.postconditions.items))) in
+      each_all Named (code h).kinds (each_append Named (map kind_at h.parameters.items) _ (locals_named h.parameters.items)
+      (each_append Named (map kind_at h.locals.items) (kind_at h.result ∷ inner_kinds h) (locals_named h.locals.items) (here h.result, named)))
+
+  pub functions_named : (fs : List Function) → Each (NamesKinds count) (map code fs)
+  functions_named [] = tt
+  functions_named (h ∷ rest) = ((kinds_good h, result_good (type_of h.result)), functions_named rest)
+
   function_consistent : (cells : ℕ) (h : Function) → CodeNames (code h).body → Near (whole (code h).body) → IsConsistentFunction count (function_of (prefetched_function cells (hoisted_function (placed_function (code h)))))
   function_consistent cells h names near =
       let placed : scoped.Function = placed_function (code h) in
@@ -201,17 +224,9 @@ module _ (structs : List (List Ty)) (singles : List Kind) (texts : List (List �
       let offsets : List ℕ = offsets_with hoisted.body [] [] in
       let in_range : ℕ → Option ℕ → ℕ → Bool = λ r off disp. nat_lt disp 4294967296 in
       let aims : Near with_scopes.body = hints.keeps_the_places cells in_range offsets hoisted.body (keeps_the_places in_range placed.kinds placed.body near) in
-      let before = conditions_kinds (checked checks h.preconditions.items) in
-      let inside = body_kinds h.body.items in
-      let behind = conditions_kinds (checked checks h.postconditions.items) in
-      let rest = before ++ (inside ++ behind) in
-      let named : Each Named rest =
-      each_append Named before (inside ++ behind) (conditions_named (checked checks h.preconditions.items))
-      (each_append Named inside behind (body_named h.body.items) (conditions_named (checked checks h.postconditions.items))) in
       record {
-        kinds = each_all Named (code h).kinds (each_append Named (map kind_at h.parameters.items) _ (locals_named h.parameters.items)
-            (each_append Named (map kind_at h.locals.items) (kind_at h.result ∷ rest) (locals_named h.locals.items) (here h.result, named)));
-        parameters = each_all (IsCellKind count) _ (first_good h.parameters.items (map kind_at h.locals.items ++ (kind_at h.result ∷ rest)));
+        kinds = kinds_good h;
+        parameters = each_all (IsCellKind count) _ (first_good h.parameters.items (map kind_at h.locals.items ++ (kind_at h.result ∷ inner_kinds h)));
         result = result_good (type_of h.result);
         scopes = few_scopes placed (few (code h).body [] (omega arith));
         numbers = each_all (λ (b : image.Block). All NamesNumbers b.code) (blocks_with (facts_of with_scopes) (blocks with_scopes))
@@ -294,6 +309,14 @@ all_consistent checks cells typed fp few =
     (in_order (λ h. CodeNames (l.function_code structs singles (texts_of typed) typed.functions.items typed.main checks h).body) typed.main typed.functions.items
     (each_function (λ h. CodeNames (l.function_code structs singles (texts_of typed) typed.functions.items typed.main checks h).body) (texts_of typed) typed.functions.items
     (λ i h e. function_names typed singles checks h (fp.functions i (typed_function (texts_of typed) h) e))))))
+
+-- the kinds of structured code
+pub lowered_named : (checks : Bool) (typed : Typed) → Each (NamesKinds (length (lowered (singles_of typed) checks typed).head.layouts)) (lowered (singles_of typed) checks typed).functions
+lowered_named checks typed =
+    let structs = (program_of typed).structs in
+    let singles = singles_of typed in
+    subst (λ i. Each (NamesKinds i) (lowered singles checks typed).functions) (sym (layouts_count structs singles))
+    (functions_named structs singles (texts_of typed) typed.functions.items typed.main checks (with_main_first typed.main typed.functions.items))
 
 pub images_consistent : ImagesAreConsistent
 images_consistent checks cells typed is fp few = record {

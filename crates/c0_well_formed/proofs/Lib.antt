@@ -20,3 +20,4 @@ mod HoistedNumbers
 mod Consistent
 mod Accepted
 mod Ordered
+mod Passes

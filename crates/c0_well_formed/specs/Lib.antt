@@ -1,3 +1,4 @@
 pub mod Images
 pub mod Laws
+pub mod Passes
 pub mod Worked

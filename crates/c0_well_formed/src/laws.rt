@@ -1,6 +1,7 @@
 //! Functions that compute nothing, and whose contracts are the laws.
 
 ghost use Rattle.c0_well_formed.specs.Laws.{ImagesAreConsistent, ImagesAreVerified, ImagesHaveNoFault, IsConsistent, LoweredIsGuarded, LoweredIsWellFormed};
+ghost use Rattle.c0_well_formed.specs.Passes.{PassesAreAccepted};
 ghost use Rattle.c0_well_formed.specs.Worked.{consistent_image, far_aim, far_fact, five_scopes, large_byte, large_character, large_displacement, large_number, missing_scope, offset_as_parameter, offset_in_layout, with_pieces, with_texts, without_layout};
 ghost use Rattle.std.specs.Prelude.{◌^◌, ◌≤◌, ℕ};
 
@@ -33,6 +34,14 @@ pub fn images_are_consistent()
 /// The verifier finds no fault in the image of a well-typed program, where no list of it has 2^32 items.
 pub fn images_are_accepted()
     ensures { ImagesHaveNoFault }
+{
+    verified_is_accepted();
+}
+
+/// The image of scoped code that `place`, `hoist` and `prefetch` give of the structured code of a well-typed program is verified, and the verifier finds no fault
+/// in it, whichever of the last two passes were done behind the first, and in which order.
+pub fn passes_are_accepted()
+    ensures { PassesAreAccepted }
 {
     verified_is_accepted();
 }
