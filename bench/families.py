@@ -55,14 +55,19 @@ def typedefs(stars):
     return text
 
 
-def structs(size):
-    """Each has the one before in it."""
-    rows, length, number = ["struct s0 { int v; };\n"], 0, 1
-    while length < size:
-        rows.append(f"struct s{number} {{ struct s{number - 1} v; }};\n")
-        length += len(rows[-1])
-        number += 1
-    return "".join(rows) + "int main() { return 7; }\n"
+def structs(are_used):
+    """Each has the one before in it; the last is allocated, or none is."""
+
+    def text(size):
+        rows, length, number = ["struct s0 { int v; };\n"], 0, 1
+        while length < size:
+            rows.append(f"struct s{number} {{ struct s{number - 1} v; }};\n")
+            length += len(rows[-1])
+            number += 1
+        last = f"struct s{number - 1}"
+        return "".join(rows) + "int main() { " + (f"{last}* p = alloc({last}); {last}[] a = alloc_array({last}, 2); " if are_used else "") + "return 7; }\n"
+
+    return text
 
 
 FAMILIES = {
@@ -80,7 +85,8 @@ FAMILIES = {
     "names of types": repeated("", "typedef int name#;\n", "int main() { return 7; }\n"),
     "typedefs of typedefs": typedefs(1),
     "typedefs of 190 stars": typedefs(190),
-    "structs in structs": structs,
+    "structs in structs": structs(False),
+    "structs in structs that are used": structs(True),
 }
 
 

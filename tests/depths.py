@@ -86,6 +86,26 @@ def typedefs_of_typedefs(it):
     it.check("check", "a.c0", out="ok\n", memory=512 * MEBIBYTE, seconds=20)
 
 
+def structs(longest):
+    """As many as fit into a text of so many bytes, each of which holds the one before, and the name of the last."""
+    rows, length = ["struct s0{int v;};\n"], 300
+    while length < longest:
+        rows.append(f"struct s{len(rows)}{{struct s{len(rows) - 1} v;}};\n")
+        length += len(rows[-1])
+    return "".join(rows), f"struct s{len(rows) - 1}"
+
+
+def structs_in_structs(it):
+    """The value of a struct is made where it is allocated, and of no other struct than those that it holds."""
+    for longest in (4_000 * 32, MEBIBYTE):
+        declared, last = structs(longest)
+        used = f"int main() {{ {last}* p = alloc({last}); {last}[] a = alloc_array({last}, 2); if (p == NULL) {{ return 8; }} return 7; }}\n"
+        for text in (TEXT, used):
+            it.write("a.c0", declared + text)
+            it.check("mean", "--turns", "1", "a.c0", out="result: 7\n", memory=1_024 * MEBIBYTE, seconds=20)
+            it.check("run", "a.c0", out="result: 7\n", seconds=20)
+
+
 def nests_on_a_small_stack(it):
     it.write("a.c0", "int main() { int x = 7; " + "if (x == 7) { " * 95 + "x = x + 1; " + "}" * 95 + " return x; }\n")
     for command in (["check"], ["run"], ["mean", "--turns", "1"]):
@@ -103,5 +123,6 @@ TESTS = [
     types_of_many_levels,
     a_type_of_many_levels_that_is_used,
     typedefs_of_typedefs,
+    structs_in_structs,
     nests_on_a_small_stack,
 ]

@@ -20,7 +20,7 @@ use std::alloc::Global;
 use std::snapshot::Snapshot;
 use std::thread::{Builder, Promise, Threads};
 
-/// The stack of the thread that runs a program. Calls do not nest on it, but a struct is read by what it holds, and structs may hold one another
+/// The stack of the thread that runs a program. Calls do not nest on it, but a struct is made and read by what it holds, and structs may hold one another
 /// as deeply as a text of 1 MiB tells: some 40,000 of them, of at most 1 KiB each.
 const STACK: usize = 64 * 1024 * 1024;
 
