@@ -101,12 +101,16 @@ Caused reliable before s StoreFailed = Refused reliable before s.refusals ⊎ ((
 abbrev pub SameProgram : State → State → Type 0
 SameProgram s t = (t.image ≡ s.image) × (t.view.low ≡ s.view.low) × (t.view.high ≡ s.view.high) × (seat_of t.view ≡ seat_of s.view)
 
+-- from the one number of completed instructions to the other at most n more were completed
+abbrev pub CompletesUpTo : ℕ → ℕ → ℕ → Type 0
+CompletesUpTo n before after = (before ≤ after) × (after ≤ before + n)
+
 -- A run of at most n instructions from s to t: what it answers is so, and it answers a want for a cause. No call is refused through the session's
 -- port but one for which it wants StoreFailed
 abbrev pub Ran : Type 0 → ℕ → State → State → Run → Type 0
 Ran reliable n s t Running = SameProgram s t × (t.completed ≡ s.completed + n) × IsGoing t × (t.refusals ≡ s.refusals)
-Ran reliable n s t (Stopped x) = SameProgram s t × (t.completed ≤ s.completed + n) × (stop_of t.core ≡ Some (stop_read x)) × (t.refusals ≡ s.refusals)
-Ran reliable n s t (Wanted w) = SameProgram s t × (t.completed ≤ s.completed + n) × (t.want ≡ Some w) × (stop_of t.core ≡ None) × (IsGoing s → Caused reliable s.refusals t w)
+Ran reliable n s t (Stopped x) = SameProgram s t × CompletesUpTo n s.completed t.completed × (stop_of t.core ≡ Some (stop_read x)) × (t.refusals ≡ s.refusals)
+Ran reliable n s t (Wanted w) = SameProgram s t × CompletesUpTo n s.completed t.completed × (t.want ≡ Some w) × (stop_of t.core ≡ None) × (IsGoing s → Caused reliable s.refusals t w)
 
 -- a program that had stopped by an error, for whose text memory is refused: that is answered alone, and nothing is changed
 abbrev pub IsUntold : State → State → Run → Type 0
