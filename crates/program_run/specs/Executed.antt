@@ -13,7 +13,7 @@ use Rattle.code_form.specs.Growth.{may_grow, rest_of}
 use Rattle.code_form.specs.Placed.{next_object, pieces}
 use Rattle.code_form.specs.Touches.{touch_of}
 use Rattle.code_form.specs.declared.touch.Touch.TheVariants.{Allocs}
-use Rattle.session.specs.State.{Caused, IsGoing, State}
+use Rattle.session.specs.State.{Caused, CompletesUpTo, IsGoing, State}
 use Rattle.program_run.specs.declared.run.Finished.{Finished}
 
 -- the next instruction allocates this many cells
@@ -48,11 +48,11 @@ IsOver reliable before t Running = ⊥
 IsOver reliable before t (Stopped x) = stop_of t.core ≡ Some (stop_read x)
 IsOver reliable before t (Wanted w) = (stop_of t.core ≡ None) × Caused reliable before t w
 
--- a session that was going on was run on from s to t: it goes on after n instructions more, or is at its end
+-- a session that was going on was run on from s to t: it goes on after n instructions more, or is at its end after at most so many
 abbrev pub HasRunOn : Type 0 → ℕ → State → State → Run → Type 0
 HasRunOn reliable n s t Running = (t.completed ≡ s.completed + n) × IsGoing t × (t.refusals ≡ s.refusals)
-HasRunOn reliable n s t (Stopped x) = IsOver reliable s.refusals t (Stopped x)
-HasRunOn reliable n s t (Wanted w) = IsOver reliable s.refusals t (Wanted w)
+HasRunOn reliable n s t (Stopped x) = CompletesUpTo n s.completed t.completed × IsOver reliable s.refusals t (Stopped x)
+HasRunOn reliable n s t (Wanted w) = CompletesUpTo n s.completed t.completed × IsOver reliable s.refusals t (Wanted w)
 
 -- What was printed, and how the program ended, over so many objects and a store that is reliable or not, are those of the code's run after the instructions
 -- that were completed, before each of which it had not stopped, and which took no more objects than there are

@@ -4,7 +4,7 @@ use Rattle.cells.specs.declared.ending.Run.{Run}
 use Rattle.cells.specs.declared.ending.Run.TheVariants.{Running, Stopped, Wanted}
 use Rattle.cells.specs.declared.ending.Want.TheVariants.{StoreFailed}
 use Rattle.code_form.specs.Code.{Covered}
-use Rattle.session.specs.State.{IsAt, IsGoing, State}
+use Rattle.session.specs.State.{CompletesUpTo, IsAt, IsGoing, State}
 use Rattle.scope_verifier.specs.declared.acceptance.Verified.{Verified}
 use Rattle.program_run.specs.Executed.{IsOver, refusals_at}
 use Rattle.program_run.specs.declared.run.Turn.{Turn}
@@ -24,11 +24,11 @@ abbrev pub begun : List Verified → ℕ → ℕ → RunView
 begun programs k n = record { programs = programs; number = k; objects = n; completed = 0; refusals = 0; over = false }
 
 -- What became of a program's turn of n instructions: nothing was done; or they were completed, and it goes on, with no call refused; or its run is over, after
--- some number of instructions in all
+-- at most so many more
 abbrev pub HasTurned : ℕ → RunView → RunView → Turn → Type 0
 HasTurned n p q turn.Held = q ≡ p
 HasTurned n p q turn.Ran = q ≡ record p { completed = p.completed + n }
-HasTurned n p q turn.Ended = q ≡ record p { completed = q.completed; refusals = q.refusals; over = true }
+HasTurned n p q turn.Ended = CompletesUpTo n p.completed q.completed × (q ≡ record p { completed = q.completed; refusals = q.refusals; over = true })
 
 -- whether a run that answered this is over
 abbrev pub is_over : Run → Bool
