@@ -1,5 +1,5 @@
 -- How all programs of a region end.
-use Rattle.std.specs.Prelude.{◌≡◌, ℕ, ◌<◌, ◌≤◌, ◌+◌, IfSome, List, Option, Some, None, length, map, slice_index_or, slice_get}
+use Rattle.std.specs.Prelude.{◌≡◌, ℕ, ◌<◌, ◌≤◌, ◌+◌, IfSome, List, Option, Some, None, length, slice_index_or, slice_get}
 use Rattle.std.specs.List.{All, AllZip}
 use Rattle.cells.specs.declared.ending.Ended.{Ended}
 use Rattle.code_form.specs.Form.{image_of}
@@ -67,7 +67,3 @@ AreFinished honest reliable objects = AllZip (λ v e. honest → IsFinishedOver 
 -- the end that is told with a number
 abbrev pub end_of : Finished → Ended
 end_of f = f.end
-
--- Of each program there is such an end with such a number, and these are the ends
-abbrev pub HaveOwnCauses : Type 0 → Type 0 → ℕ → List Verified → List Ended → Type 0
-HaveOwnCauses honest reliable objects programs ends = (all : List Finished) × AreFinished honest reliable objects programs all × (ends ≡ map end_of all)

@@ -1,9 +1,9 @@
 //! The run of all programs of a region.
 ghost use Rattle.std.specs.List.{All};
-ghost use Rattle.std.specs.Prelude.{◌≡◌, ◌⊎◌, ◌+◌, ◌/◌, ◌<◌, ◌≤◌, ℕ, IfErr, IfOk, length};
-ghost use Rattle.executor.specs.Ends.{AreEnds, AreFinished, HaveOwnCauses};
+ghost use Rattle.std.specs.Prelude.{◌≡◌, ◌+◌, ◌/◌, ◌<◌, ◌≤◌, ℕ, IfErr, IfOk, length};
+ghost use Rattle.executor.specs.Ends.{AreEnds, AreFinished};
 ghost use Rattle.object_lock.specs.Fresh.{AreNumbered, IsFreshMover, IsFreshOwner};
-ghost use Rattle.region.specs.Admission.{IsRefused, image_at};
+ghost use Rattle.region.specs.Admission.{IsAdmitted, IsDenied, IsWithinWork, image_at};
 ghost use Rattle.world_semantics.specs.Pieces.{piece_of};
 
 use crate::filing::{all_ends, file_all, no_ends, without_numbers};
@@ -13,7 +13,7 @@ use cells::Ended;
 use fetcher::Hints;
 use object_lock::{MoverSeat, OwnerSeat};
 use program_run::{Finished, Gate};
-use region::{AdmitFault, Region, admit};
+use region::{AdmitFault, Region, admit, fits};
 use remote_store::{Config, RawStore, Stores};
 use scope_verifier::Verified;
 use std::alloc::{AllocError, Global};
@@ -74,7 +74,8 @@ pub fn run_all_counted<
 ) -> Result<Vec<Finished>, AdmitFault>
     requires { M.makes config.stores (piece_of (image_at programs.items) + 3) }
     ensures ends { IfOk result (λ v. AreFinished S.honest S.reliable (config.objects / length programs.items) programs.items v.items) }
-    ensures refused { IfErr result (λ fault. (fault ≡ AdmitFault.OutOfMemory) ⊎ IsRefused programs.items config.frames config.objects config.evacuators config.fetchers config.workers config.quantum fault) }
+    ensures admitted { IfOk result (λ _. IsAdmitted programs.items config.frames config.objects config.evacuators config.fetchers × IsWithinWork config.workers config.quantum) }
+    ensures refused { IfErr result (λ fault. IsDenied programs.items config.frames config.objects config.evacuators config.fetchers config.workers config.quantum fault) }
 {
     let objects = config.objects as usize;
     let evacuators = config.evacuators as usize;
@@ -93,10 +94,9 @@ pub fn run_all_counted<
 /// Runs the programs to their ends over a region of these numbers, by turns on the threads of so many workers, beside evacuators and fetchers on threads of
 /// theirs. A worker takes the program that waits longest, asks the gate once whether it may go, runs it for `quantum` instructions where it may, and puts it
 /// back. The ends stand in the programs' order: over an honest store each is that of the code's run with an equal share of the objects, whatever the others
-/// do, and it is that the program wants the store only where a call was refused through the program's own port. The gate is told of each end and of each turn of
-/// a mover. Movers go on until every program has ended. A worker or a mover whose thread cannot be made is
+/// do. The gate is told of each end and of each turn of a mover. Movers go on until every program has ended. A worker or a mover whose thread cannot be made is
 /// not run; where none can be made the calling thread is the one worker. The faults are those of `admit`; `OutOfMemory` also where a growth for the programs,
-/// the workers, the movers or the queues was refused before any of them ran.
+/// the workers, the movers or the queues was refused before any of them ran, and only where the programs are admitted.
 pub fn run_all<
     S: RawStore + Send,
     M: Stores<S = S> + Drop,
@@ -111,9 +111,11 @@ pub fn run_all<
 ) -> Result<Vec<Ended>, AdmitFault>
     requires { M.makes config.stores (piece_of (image_at programs.items) + 3) }
     ensures ends { IfOk result (λ v. AreEnds S.honest S.reliable (config.objects / length programs.items) programs.items v.items) }
-    ensures own { IfOk result (λ v. HaveOwnCauses S.honest S.reliable (config.objects / length programs.items) programs.items v.items) }
-    ensures refused { IfErr result (λ fault. (fault ≡ AdmitFault.OutOfMemory) ⊎ IsRefused programs.items config.frames config.objects config.evacuators config.fetchers config.workers config.quantum fault) }
+    ensures admitted { IfOk result (λ _. IsAdmitted programs.items config.frames config.objects config.evacuators config.fetchers × IsWithinWork config.workers config.quantum) }
+    ensures refused { IfErr result (λ fault. IsDenied programs.items config.frames config.objects config.evacuators config.fetchers config.workers config.quantum fault) }
 {
+    // Before anything takes memory: what admission refuses is told first.
+    fits(&programs, &config)?;
     let Ok(ends) = Vec::with_capacity(alloc, programs.len()) else {
         return Err(AdmitFault::OutOfMemory);
     };
