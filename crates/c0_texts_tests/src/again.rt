@@ -1,15 +1,23 @@
 //! Images that are written and read again.
 use code_form::Image;
-use image_bytes::encode;
+use image_bytes::{encode, is_encodable};
 use image_reader::decode;
 use scope_verifier::{Verified, verify};
 use std::alloc::Global;
 
+/// The bytes of an image, where the format has some for it.
+fn written(alloc: Global, image: &Image) -> Option<Vec<u8>> {
+    if !is_encodable(image) {
+        return None;
+    }
+    encode(alloc, image).ok()
+}
+
 /// What is read where this image was written, verified. None where it is no such image, or its bytes are others.
 pub(crate) fn read_again(alloc: Global, image: &Image) -> Option<Verified> {
-    let bytes = encode(alloc, image).ok()?;
+    let bytes = written(alloc, image)?;
     let read = decode(alloc, &bytes).ok()?;
-    let again = encode(alloc, &read).ok()?;
+    let again = written(alloc, &read)?;
     if again != bytes {
         return None;
     }

@@ -1,15 +1,25 @@
 -- The codes of files, one after the other.
-use Rattle.std.proofs.Common.{◌≡◌, ◌∙◌, ◌<◌, ◌+◌, arith, ℕ, zero, suc, Bool, Bor, List, [], ◌∷◌, ◌++◌, ap, drop, get_or, inl, inr, length, map, refl, sym, subst, take}
+use Rattle.std.proofs.Common.{◌≡◌, ◌∙◌, ◌<◌, ◌+◌, arith, ℕ, zero, suc, Bool, true, false, Bor, List, [], ◌∷◌, ◌++◌, ap, drop, get_or, inl, inr, length, map, refl, sym, subst, take}
 use Rattle.std.proofs.lemmas.List.{map-append, take_more}
 use Rattle.std.specs.Prelude.{◌⊎◌, Option}
-use Rattle.code_form.specs.Form.{image_of}
+use Rattle.code_form.specs.Form.{Image, image_of}
 use Rattle.command_line.specs.Shell.{Compiling, Replayed}
 use Rattle.scope_verifier.specs.declared.acceptance.Verified.{Verified}
-use Rattle.c0far.specs.FileCode.{AreCodes, HoldsCode}
+use Rattle.image_bytes.specs.Encodable.{IsEncodable}
+use Rattle.c0_image_laws.specs.Laws.{ImagesAreEncodable}
+use Rattle.c0far.specs.FileCode.{AreCodes, HoldsCode, HoldsImage, HoldsText, names_image}
 use Rattle.c0far.specs.FileTexts.{Known}
 use Rattle.c0far.specs.NoCode.{HasNoCode, LacksCode, LacksMemory}
 use Rattle.c0far.specs.Replays.{Replays}
 use Rattle.c0far.specs.Streams.{Held, IsQuiet, Says, Writes, writes}
+
+held_fits : ImagesAreEncodable → (compiling : Compiling) (held : Known) (C : Image) (b : Bool) → elim b as (λ x. Type 0) [ true ↦ HoldsImage held C | false ↦ HoldsText compiling held C ] → IsEncodable C
+held_fits law compiling held C true h = h.is.0
+held_fits law compiling held C false h = law compiling.texts.loops h.text compiling.texts.checks compiling.piece C h.compiled
+
+-- the code of a file can be written: an image that was read, as it was, and that of a text by the law
+pub code_is_encodable : ImagesAreEncodable → (file : List ℕ) (compiling : Compiling) (held : Known) (C : Image) → HoldsCode file compiling held C → IsEncodable C
+code_is_encodable law file compiling held C code = held_fits law compiling held C (names_image file) code
 
 -- one file more
 pub codes_more : (compiling : Compiling) (held : List ℕ → Known) (files : List (List ℕ)) (programs : List Verified) (file : List ℕ) (program : Verified) → AreCodes compiling held files programs

@@ -11,6 +11,7 @@ use crate::code::{code_of, unchecked};
 use crate::files::{FileError, Files};
 use crate::say::{REFUSED, after, say_memory};
 use crate::stream::Stream;
+use c0_image_laws::images_are_encodable;
 use c0_syntax::level::Level;
 use cells::Piece;
 use command_line::words::Compiling;
@@ -72,6 +73,7 @@ pub fn build<F: Files, O: Stream, E: Stream>(
         Ok(verified) => verified,
         Err(status) => return status,
     };
+    images_are_encodable();
     let Ok(bytes) = encode(alloc, verified.image()) else {
         return say_memory(err);
     };

@@ -1,8 +1,9 @@
 -- A small image, and its bytes.
 use Rattle.std.specs.Prelude.{ℕ, pos, List, [], ◌∷◌, Some}
+use Rattle.code_form.specs.declared.form.Kind.{Kind}
 use Rattle.code_form.specs.declared.form.Kind.TheVariants.{Int}
 use Rattle.code_form.specs.declared.form.Operation.TheVariants.{Const}
-use Rattle.code_form.specs.Form.{Simple, Return, Image}
+use Rattle.code_form.specs.Form.{Simple, Return, Instruction, Image}
 
 -- one function without parameters and scopes, which returns 0
 abbrev pub returns_zero : Image
@@ -37,3 +38,23 @@ first_bytes_of_returns_zero =
     ∷ 0 ∷ 0 ∷ 0 ∷ 0 ∷ 2 ∷ 0 ∷ 0 ∷ 0
     ∷ 1 ∷ 0 ∷ 0 ∷ 0 ∷ 0 ∷ 0 ∷ 0 ∷ 0 ∷ 0
     ∷ 98 ∷ 0 ∷ 0 ∷ 0 ∷ 0 ∷ []
+
+-- the same image with a text of one byte
+abbrev pub with_byte : ℕ → Image
+with_byte byte = record returns_zero { head = record { texts = (byte ∷ []) ∷ []; layouts = [] } }
+
+-- ... with a layout of one cell
+abbrev pub with_cell : Kind → Image
+with_cell kind = record returns_zero { head = record { texts = []; layouts = (kind ∷ []) ∷ [] } }
+
+-- ... with another first instruction
+abbrev pub with_first : Instruction → Image
+with_first i = record returns_zero {
+  functions = record {
+    result = Some Int;
+    parameters = 0;
+    kinds = Int ∷ [];
+    scopes = 0;
+    blocks = record { facts = []; code = i ∷ Return 0 ∷ [] } ∷ [];
+  } ∷ [];
+}

@@ -1,6 +1,7 @@
 //! The bytes of an image.
 ghost use Rattle.code_form.specs.Form.{block_of, function_of, image_of, instruction_of};
 ghost use Rattle.image_bytes.specs.Bytes.{block_bytes, fact_bytes, function_bytes, image_bytes, instruction_bytes, kind_bytes, layout_bytes, list_bytes, text_bytes, word};
+ghost use Rattle.image_bytes.specs.Encodable.{IsEncodable, IsImage};
 ghost use Rattle.image_bytes.specs.Parts.{argument_bytes, parts_bytes};
 ghost use Rattle.instruction_table.specs.declared.fault.ImageFault.TheVariants.{OutOfMemory};
 ghost use Rattle.std.specs.List.{flat_map};
@@ -165,9 +166,12 @@ fn encoded(alloc: Global, image: &Image) -> Result<Vec<u8>, AllocError>
     Ok(out)
 }
 
-/// The bytes of an image, in version 2; numbers that the bytes have no room for are written modulo 2^32.
+/// The bytes of an image, in version 2, by which `decode` reads it as it is. The condition is that the format has bytes for it, which `is_encodable` tells: what
+/// is compiled has them, and what was decoded. `Err` is want of memory.
 pub fn encode(alloc: Global, image: &Image) -> Result<Vec<u8>, ImageFault>
-    ensures { MatchResult result (λ v. v.items ≡ image_bytes (image_of image.now)) (λ fault. fault ≡ OutOfMemory) }
+    requires { IsEncodable (image_of image.now) }
+    ensures written { MatchResult result (λ v. v.items ≡ image_bytes (image_of image.now)) (λ fault. fault ≡ OutOfMemory) }
+    ensures image { IfOk result (λ v. IsImage v.items (image_of image.now)) }
 {
     Ok(encoded(alloc, image)?)
 }

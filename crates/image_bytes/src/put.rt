@@ -8,7 +8,7 @@ use instruction_table::Argument;
 use std::alloc::AllocError;
 
 /// What stands for no register.
-const NONE: u32 = 0xffff_ffff;
+pub(crate) const NONE: u32 = 0xffff_ffff;
 
 /// A byte more.
 pub(crate) fn put_byte(out: &mut Vec<u8>, byte: u8) -> Result<(), AllocError>

@@ -2,7 +2,7 @@
 
 use crate::versions::is_written_again;
 use code_form::Image;
-use image_bytes::encode;
+use image_bytes::{encode, is_encodable};
 use image_listing::list;
 use image_reader::decode;
 use instruction_table::ImageFault;
@@ -19,6 +19,9 @@ pub enum Asked {
 
 /// The listing of the image that has these bytes.
 fn listing(alloc: Global, bytes: &[u8], image: &Image) -> Result<String, ImageFault> {
+    if !is_encodable(image) {
+        return Err(ImageFault::BadOperand);
+    }
     let again = encode(alloc, image)?;
     let mut text = list(alloc, image)?;
     if !is_written_again(bytes, &again) {

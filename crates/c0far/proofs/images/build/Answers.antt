@@ -1,9 +1,17 @@
-use Rattle.std.proofs.Common.{List, ℕ, ap, inl, inr, refl, subst, ◌∙◌}
+use Rattle.std.proofs.Common.{List, ℕ, ap, inl, inr, refl, subst, sym, ◌∙◌}
 use Rattle.code_form.specs.Form.{image_of}
 use Rattle.code_form.specs.declared.form.Image.{Image}
 use Rattle.image_bytes.specs.Bytes.{image_bytes}
+use Rattle.image_bytes.specs.Encodable.{IsEncodable}
+use Rattle.command_line.specs.Shell.{compiling_of}
 use Rattle.c0far.specs.FileTexts.{HasText}
+use Rattle.c0far.proofs.Codes.{code_is_encodable}
 use Rattle.c0far.proofs.images.build.Goals as goal
+
+pub encode-requires : goal.encode-requires
+encode-requires g c =
+    subst (λ (i : Image). IsEncodable (image_of i)) (sym c.image.ensures.same)
+    (code_is_encodable c.images_are_encodable.ensures c.args.file.now (compiling_of c.args.compiling) (g.F.Files.holds c.args.files.now c.args.file.now) (image_of c.in-Ok.verified.image) c.in-Ok.ensures.code)
 
 pub returns-in-Err-clause-done : goal.returns-in-Err-clause-done
 returns-in-Err-clause-done g c = inr (c.in-Err.ensures.files c.args.target.now, inl (c.in-Err.ensures.refused _ refl))
@@ -12,7 +20,7 @@ pub returns-in-Ok-write-clause-done : goal.returns-in-Ok-write-clause-done
 returns-in-Ok-write-clause-done g c = inl (record {
   image = image_of c.in-Ok.verified.image;
   code = c.in-Ok.ensures.code;
-  written = subst (λ (bytes : List ℕ). HasText (g.F.Files.holds c.write.new.self c.args.target.now) bytes) (c.deref.ensures.value ∙ (c.in-Ok-encode.ensures ∙ ap (λ (i : Image). image_bytes (image_of i)) c.image.ensures.same)) c.in-Ok-write.ensures.text;
+  written = subst (λ (bytes : List ℕ). HasText (g.F.Files.holds c.write.new.self c.args.target.now) bytes) (c.deref.ensures.value ∙ (c.in-Ok-encode.ensures.written ∙ ap (λ (i : Image). image_bytes (image_of i)) c.image.ensures.same)) c.in-Ok-write.ensures.text;
   status = refl;
   silent = refl;
   quiet = c.in-Ok.ensures.quiet;
