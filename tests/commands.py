@@ -19,6 +19,9 @@ PRINTS = '#use <conio>\nint main() { print("one"); println(" two"); printint(-3)
 PRINTED = "one two\n-3\ntrue\n"
 CONTRACT = "int f(int x) //@requires x > 0;\n{ return x; }\nint main() { return f(0); }\n"
 LEVEL_ONE = "int main() { int i = 0; while (true) { i = i + 1; if (i == 5) { break; } } return i; }\n"
+# ten objects are read and one is written in turn, which is held in the second frame, or in the first one
+HELD_BEHIND = "int main() { int[] a = alloc_array(int, 640); int[] b = alloc_array(int, 1); for (int i = 0; i < 640; i++) { a[i] = i; } for (int i = 0; i < 640; i++) { b[0] = b[0] + a[i]; } return b[0]; }\n"
+HELD_BEFORE = HELD_BEHIND.replace("b[0] + a[i]", "a[i] + b[0]")
 STOPS = (
     ("null", "int main() { int* p = NULL; return *p; }\n", "null fault"),
     ("bounds", "int main() { int[] a = alloc_array(int, 3); return a[3]; }\n", "bounds fault"),
@@ -72,6 +75,10 @@ SCENES = (
         ("run --workers 1 --quantum 1 --evacuators 0 --fetchers 0 a.c0 a.c0", 0, "program 0:\nresult: 7\nprogram 1:\nresult: 7\n", "", ()),
         ("run --frames 1 a.c0", 2, "", "too small: need 2 have 1\n", ()),
         ("run --evacuators 65 a.c0", 2, "", "too many\n", ()),
+    )),
+    ("an object is held while others come and go in the one other frame", {"a.c0": HELD_BEHIND, "b.c0": HELD_BEFORE}, (
+        ("run --frames 2 --evacuators 0 --fetchers 0 a.c0", 0, "result: 204480\n", "", ()),
+        ("run --frames 2 --evacuators 0 --fetchers 0 b.c0", 0, "result: 204480\n", "", ()),
     )),
     ("how programs stop", {f"{name}.c0": text for name, text, _ in STOPS}, tuple(
         (f"{command} {name}.c0", 1, f"{line}\n", "", ()) for name, _, line in STOPS for command in ("run", "mean --turns 9"))),
