@@ -1,5 +1,5 @@
 -- Runs over the memory that is asked for.
-use Rattle.std.proofs.Common.{◌≡◌, ℕ, ◌/◌, List, [], ◌∷◌, Option, Some, None, Result, Ok, Err, length, subst}
+use Rattle.std.proofs.Common.{◌≡◌, ◌⊎◌, inl, inr, ℕ, ◌/◌, List, [], ◌∷◌, Option, Some, None, Result, Ok, Err, length, subst}
 use Rattle.std.specs.List.{AllZip}
 use Rattle.std.specs.Prelude.{IfOk}
 use Rattle.cells.specs.declared.ending.Ended.{Ended}
@@ -11,6 +11,9 @@ use Rattle.code_form.specs.Form.{Image, image_of}
 use Rattle.command_line.specs.Shell.{Memory}
 use Rattle.executor.specs.Ends.{AreEnds}
 use Rattle.program_run.specs.Executed.{EndsAs, IsExecutedOver}
+use Rattle.region.specs.Admission.{IsAdmitted, IsDenied, IsRefused, IsWithinWork}
+use Rattle.region.specs.declared.fault.AdmitFault.{AdmitFault}
+use Rattle.region.specs.declared.fault.AdmitFault.TheVariants as admit
 use Rattle.scope_verifier.specs.declared.acceptance.Verified.{Verified}
 use Rattle.std.specs.declared.vec.Vec.{Vec}
 use Rattle.std.specs.declared.alloc.Global.{Global}
@@ -51,3 +54,18 @@ ran_in_folder honest m folder programs (Err e) is ran = tt
 pub ran_less : {E : Type 0} (h r s : Type 0) (objects : ℕ) (programs : List Verified) (x : Result (Vec Ended Global) E) → (s → r) → IfOk x (λ v. AreEnds h r objects programs v.items) → IfOk x (λ v. AreEnds h s objects programs v.items)
 ran_less h r s objects programs (Ok v) less ran = ends_fewer h r h s objects programs v.items (λ honest. honest) (λ honest. less) ran
 ran_less h r s objects programs (Err e) less ran = tt
+
+-- why programs were not run, where it is not told that those for which memory was wanted are admitted
+pub fault_less : (programs : List Verified) (frames objects evacuators fetchers workers quantum : ℕ) (fault : AdmitFault) → IsDenied programs frames objects evacuators fetchers workers quantum fault
+    → (fault ≡ admit.OutOfMemory) ⊎ IsRefused programs frames objects evacuators fetchers workers quantum fault
+fault_less programs frames objects evacuators fetchers workers quantum fault told = elim told [ inl w ↦ inl w.0 | inr r ↦ inr r ]
+
+-- and where it is known that they are
+pub denied : (programs : List Verified) (frames objects evacuators fetchers workers quantum : ℕ) (fault : AdmitFault) → IsAdmitted programs frames objects evacuators fetchers → IsWithinWork workers quantum
+    → (fault ≡ admit.OutOfMemory) ⊎ IsRefused programs frames objects evacuators fetchers workers quantum fault → IsDenied programs frames objects evacuators fetchers workers quantum fault
+denied programs frames objects evacuators fetchers workers quantum fault admitted work told = elim told [ inl w ↦ inl (w, admitted, work) | inr r ↦ inr r ]
+
+-- what is known whatever is answered
+pub always_told : {A E : Type 0} (r : Result A E) (P : Type 0) → P → IfOk r (λ v. P)
+always_told (Ok v) P p = p
+always_told (Err e) P p = tt

@@ -4,7 +4,7 @@ use Rattle.cells.specs.declared.ending.Ended.{Ended}
 use Rattle.clap.specs.Words.{Text}
 use Rattle.command_line.specs.Shell.{Memory, Started}
 use Rattle.executor.specs.Ends.{AreEnds}
-use Rattle.region.specs.Admission.{IsRefused}
+use Rattle.region.specs.Admission.{IsAdmitted, IsDenied, IsWithinWork}
 use Rattle.region.specs.Faults.{fault_line as admit_line}
 use Rattle.region.specs.declared.fault.AdmitFault.{AdmitFault}
 use Rattle.region.specs.declared.fault.AdmitFault.TheVariants as admit
@@ -37,21 +37,22 @@ SaysFault admit.OutOfMemory err result = Says err (codes "out of memory" ++ newl
 
 -- in what follows folders are honest where h holds, this is asked for these files, and files hold this
 module _ (h : Type 0) (asked : Started) (files : List Text) (held : Text → Known) where
-  -- the codes of the files ran side by side: of each is shown what it printed and how it ended
+  -- the codes of the files are admitted to this memory, and ran side by side: of each is shown what it printed and how it ended
   pub record HasRun (out err : Writes) (result : ℕ) : Type 0 where
     pub programs : List Verified
     pub codes : AreCodes asked.compiling held files programs
+    pub admitted : IsAdmitted programs asked.memory.frames asked.memory.objects asked.evacuators asked.fetchers × IsWithinWork asked.work.workers asked.work.quantum
     pub ends : List Ended
     pub executed : RanOver h asked.memory programs ends
     pub shown : Says out (shown_ends ends) (ends_status ends) result
     pub quiet : IsQuiet err
 
-  -- the programs of the files are not admitted to this memory: it is told why; or memory was wanted
+  -- the programs of the files are not admitted to this memory: it is told why; or they are, and memory was wanted
   pub record IsNotRun (out err : Writes) (result : ℕ) : Type 0 where
     pub programs : List Verified
     pub codes : AreCodes asked.compiling held files programs
     pub fault : AdmitFault
-    pub cause : (fault ≡ admit.OutOfMemory) ⊎ IsRefused programs asked.memory.frames asked.memory.objects asked.evacuators asked.fetchers asked.work.workers asked.work.quantum fault
+    pub cause : IsDenied programs asked.memory.frames asked.memory.objects asked.evacuators asked.fetchers asked.work.workers asked.work.quantum fault
     pub shown : SaysFault fault err result
     pub quiet : IsQuiet out
 

@@ -1,8 +1,8 @@
 //! The command `run`: the codes of files, run side by side over the memory that is asked for.
-ghost use Rattle.std.specs.Prelude.{◌≡◌, ◌⊎◌, ◌/◌, ◌+◌, ℕ, IfErr, IfOk, List, length, map};
+ghost use Rattle.std.specs.Prelude.{◌≡◌, ◌⊎◌, ◌/◌, ◌+◌, ℕ, IfErr, IfOk, List, MatchResult, length, map};
 ghost use Rattle.command_line.specs.Shell.{memory_of, started_of};
 ghost use Rattle.executor.specs.Ends.{AreEnds};
-ghost use Rattle.region.specs.Admission.{IsRefused, image_at};
+ghost use Rattle.region.specs.Admission.{IsAdmitted, IsDenied, IsRefused, IsWithinWork, image_at};
 ghost use Rattle.world_semantics.specs.Pieces.{piece_of as first_piece};
 ghost use Rattle.c0far.specs.Runs.{RanOver, Runs};
 ghost use Rattle.c0far.specs.Streams.{writes};
@@ -15,7 +15,7 @@ use cells::Ended;
 use command_line::words::Run;
 use executor::{OpenGate, run_all};
 use file_store::FileStores;
-use region::{AdmitFault, piece_of};
+use region::{AdmitFault, fits, piece_of};
 use remote_store::{Config, FarHeap, FaultPlan, FaultStores, Stores};
 use scope_verifier::Verified;
 use std::alloc::Global;
@@ -91,6 +91,40 @@ fn run_programs<W: Wait + Threads + Clock + Sync, F: Files>(
     }
 }
 
+/// Whether these programs are admitted to the memory, the movers and the workers that are asked for.
+fn fits_asked(programs: &[Verified], asked: Run<'_>) -> Result<(), AdmitFault>
+    ensures { MatchResult result (λ _. IsAdmitted programs.now asked.entry.memory.frames asked.entry.memory.objects asked.entry.evacuators asked.entry.fetchers × IsWithinWork asked.entry.work.workers asked.entry.work.quantum)
+        (λ fault. IsRefused programs.now asked.entry.memory.frames asked.entry.memory.objects asked.entry.evacuators asked.entry.fetchers asked.entry.work.workers asked.entry.work.quantum fault) }
+{
+    let Run { memory, work, .. } = asked;
+    let config = Config {
+        frames: memory.frames,
+        objects: memory.objects,
+        evacuators: asked.evacuators,
+        fetchers: asked.fetchers,
+        workers: work.workers,
+        quantum: work.quantum,
+        stores: FarHeap::new(piece_of(programs)),
+    };
+    fits(programs, &config)
+}
+
+/// Runs these programs over the memory that is asked for, where they are admitted. What admission refuses is told before anything else is done.
+fn run_asked<W: Wait + Threads + Clock + Sync, F: Files>(
+    alloc: Global,
+    rt: &W,
+    programs: Vec<Verified>,
+    asked: Run<'_>,
+    files: &F,
+) -> Result<Vec<Ended>, AdmitFault>
+    ensures ended { IfOk result (λ v. RanOver F.Place.honest (memory_of asked.entry.memory) programs.items v.items) }
+    ensures admitted { IfOk result (λ v. IsAdmitted programs.items asked.entry.memory.frames asked.entry.memory.objects asked.entry.evacuators asked.entry.fetchers × IsWithinWork asked.entry.work.workers asked.entry.work.quantum) }
+    ensures refused { IfErr result (λ fault. IsDenied programs.items asked.entry.memory.frames asked.entry.memory.objects asked.entry.evacuators asked.entry.fetchers asked.entry.work.workers asked.entry.work.quantum fault) }
+{
+    fits_asked(&programs, asked)?;
+    run_programs(alloc, rt, programs, asked, files)
+}
+
 /// Runs the codes of these files side by side.
 pub fn run<W: Wait + Threads + Clock + Sync, F: Files, O: Stream, E: Stream>(
     alloc: Global,
@@ -108,7 +142,7 @@ pub fn run<W: Wait + Threads + Clock + Sync, F: Files, O: Stream, E: Stream>(
         Ok(programs) => programs,
         Err(status) => return status,
     };
-    match run_programs(alloc, rt, programs, asked, files) {
+    match run_asked(alloc, rt, programs, asked, files) {
         Ok(ends) => say_ends(out, &ends),
         Err(fault) => say_admission(err, fault),
     }
