@@ -115,7 +115,7 @@ fn look_at_words<S: RawStore>(
     took: bool,
     words: &mut [u64],
 ) -> bool {
-    let programs = world.programs() as u32;
+    let programs = u32::try_from(world.programs()).unwrap_or(0);
     let movers = u64::from(programs)
         .wrapping_add(u64::from(setting.evacuators))
         .wrapping_add(u64::from(setting.fetchers));

@@ -222,7 +222,7 @@ fn join(
         if let [at, value, parts @ ..] = numbers {
             let at = *at as usize;
             let held = bytes.get(at).copied().unwrap_or(0);
-            put(bytes, at, *value as u8);
+            put(bytes, at, u8::try_from(*value).unwrap_or(0));
             let forged = joined(alloc, bytes, parts)?;
             put(bytes, at, held);
             try_bytes(alloc, &forged, setting, table)?;

@@ -125,7 +125,7 @@ fn put_seed(
     seed: u64,
 ) -> Result<(), AllocError> {
     let numbers = Numbers {
-        programs: images.len() as u32,
+        programs: u32::try_from(images.len()).unwrap_or(0),
         evacuators: setting.evacuators,
         fetchers: setting.fetchers,
         frames: setting.frames,
