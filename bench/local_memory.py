@@ -159,7 +159,7 @@ def picture(rows):
 
 
 def main():
-    if len(sys.argv) not in (3, 4):
+    if len(sys.argv) not in (3, 4) or not os.path.isdir(sys.argv[2]) or not (len(sys.argv) == 3 or (sys.argv[3].isdigit() and int(sys.argv[3]) > 0)):
         sys.exit(__doc__)
     rows = measured(os.path.abspath(sys.argv[1]), int(sys.argv[3]) if len(sys.argv) == 4 else 5)
     with open(f"{sys.argv[2]}/local_memory.csv", "w", newline="") as file:

@@ -6,6 +6,7 @@ the line says.
 
 import os
 import resource
+import shutil
 import struct
 import subprocess
 
@@ -215,15 +216,16 @@ def calls_that_nest(it):
 
 def movers(it):
     """Whatever their number, the result is the same; where there is an evacuator, and a program leaves it time, objects leave though no frame is wanted."""
-    it.write("a.c0", "int main() { int[] a = alloc_array(int, 3776); for (int i = 0; i < 3776; i++) { a[i] = i; } int s = 0;\n"
-             "for (int k = 0; k < 400000; k++) { s = s + 1; } for (int i = 0; i < 3776; i++) { s += a[i]; } return s; }\n")
-    told = f"result: {400000 + sum(range(3776))}\n"
     for evacuators in range(4):
         for fetchers in range(4):
             left = 0
-            for number in range(10):
+            for number in range(8):
+                pause = 100_000 << number
+                it.write("a.c0", f"int main() {{ int[] a = alloc_array(int, 3776); for (int i = 0; i < 3776; i++) {{ a[i] = i; }} int s = 0;\n"
+                         f"for (int k = 0; k < {pause}; k++) {{ s = s + 1; }} for (int i = 0; i < 3776; i++) {{ s += a[i]; }} return s; }}\n")
                 store = f"store{evacuators}{fetchers}{number}"
                 os.mkdir(it.path(store))
+                told = f"result: {pause + sum(range(3776))}\n"
                 it.check(*f"run --evacuators {evacuators} --fetchers {fetchers} --store {store} a.c0".split(), out=told)
                 left = len(os.listdir(it.path(store)))
                 if left or not evacuators:
@@ -270,6 +272,8 @@ def a_limit_of_the_size_of_files(it):
 
 def a_full_disk(it):
     """A small disk in memory, where one can be had."""
+    if shutil.which("mount") is None:
+        return
     os.mkdir(it.path("disk"))
     mounted = subprocess.run(["mount", "-t", "tmpfs", "-o", "size=16k", "none", it.path("disk")], capture_output=True, check=False).returncode == 0
     if not mounted:
@@ -291,7 +295,7 @@ def a_full_disk(it):
         want(it.read("disk/a.c0i") == held and set(os.listdir(it.path("disk"))) == files, "a full disk was left otherwise")
         it.check("run", "disk/a.c0i", out="result: 7\n")
     finally:
-        subprocess.run(["umount", it.path("disk")], check=False)
+        subprocess.run(["umount", "--lazy", it.path("disk")], check=False)
 
 
 def output_that_nobody_takes(it):

@@ -6,6 +6,7 @@ For what no contract sees: files, folders, the machine's stack, how long a run t
 """
 
 import os
+import subprocess
 import sys
 import tempfile
 
@@ -33,7 +34,7 @@ def main():
                 try:
                     test(Process(program, folder))
                     passed += 1
-                except (Failure, OSError) as why:
+                except (Failure, OSError, subprocess.TimeoutExpired) as why:
                     failed += 1
                     print(f"{script.__name__}, {test.__name__}: {why}")
     print(f"{passed} passed, {failed} failed")

@@ -162,6 +162,8 @@ class Reader:
 
     def read(self, crate, name, definition):
         """All that is read of a definition: its parts, and types of the code."""
+        if not os.path.isfile(f"{ROOT}/crates/{crate}/specs/{name}.antt"):
+            sys.exit(f"there is no crates/{crate}/specs/{name}.antt")
         todo = list(self.file(crate, name).defined[definition])
         if not todo:
             sys.exit(f"crates/{crate}/specs/{name}.antt defines no {definition}")
