@@ -8,6 +8,7 @@ mod Grounds
 mod Growth
 mod Passing
 mod Plain
+mod Planned
 mod Marks
 mod Reading
 mod Stale

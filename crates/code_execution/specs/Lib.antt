@@ -5,5 +5,6 @@ pub mod Hinting
 pub mod Inside
 pub mod Marked
 pub mod Plain
+pub mod Planning
 pub mod Stacks
 pub mod Statuses

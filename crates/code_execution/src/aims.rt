@@ -10,7 +10,7 @@ use code_operations::{Allocations, offset_in, value_in};
 /// What a scope is aimed at: the cell `displacement` cells behind `start`, in the allocation of number `reference`. These were
 /// in `register` and `offset` as the scope was aimed.
 #[derive(Clone, Copy)]
-pub(crate) struct Aim {
+pub struct Aim {
     pub(crate) register: u32,
     pub(crate) offset: Option<u32>,
     pub(crate) displacement: u32,
@@ -80,8 +80,7 @@ fn make_stale(scopes: &mut [Scope], register: u32)
 }
 
 /// Makes each scope from number `first` on stale whose aim is by this register.
-#[cold]
-#[inline(never)]
+#[inline(always)]
 pub(crate) fn make_stale_from(scopes: &mut [Scope], first: usize, register: u32)
     requires { first ≤ length scopes.old }
     ensures own { map scope_of (drop first scopes.new) ≡ map (written register) (map scope_of (drop first scopes.old)) }

@@ -2,6 +2,7 @@
 ghost use Rattle.cells.specs.Stops.{stop_of as stop_read};
 ghost use Rattle.code_execution.specs.Decisions.{decided, growth_touch, is_simple, makes, refuses, uses_scope};
 ghost use Rattle.code_execution.specs.Plain.{ArePassed, EndsPlain, plain_run};
+ghost use Rattle.code_execution.specs.Planning.{Plans, touch_planned};
 ghost use Rattle.code_execution.specs.Statuses.{allocated, core_of, followed};
 ghost use Rattle.code_form.specs.Code.{Frame, Running, Stuck, begins, code, effect, most_scopes, output_of, stop_of, is_blocked as is_blocked_in};
 ghost use Rattle.code_form.specs.declared.allocation.Allocation.{Allocation};
@@ -17,6 +18,7 @@ use crate::calls::Calls;
 use crate::fitting::image_fits;
 use crate::halt::Halt;
 use crate::hinted::Hinted;
+use crate::plan::Plan;
 use cells::Stop;
 use code_form::{Block, Function, Image, Touch};
 use code_operations::{Allocations, Command, are_small, number};
@@ -233,6 +235,33 @@ impl<'a> Execution<'a> {
             }
             _ => None,
         }
+    }
+
+    /// What the next instruction is to do, where it is one that aims, uses or leaves a scope.
+    #[inline(always)]
+    pub fn plan(&self) -> Option<Plan>
+        ensures { MatchOption result (uses_scope (touch_of (effect self.now.image self.now.core)) ≡ false) (λ p. Plans p self.now.image self.now.core
+            × (is_blocked_in self.now.core ≡ false) × IsWithin (most_scopes self.now.image.functions) self.now.core (touch_planned p)) }
+    {
+        match &self.status {
+            Status::Running(calls) => {
+                let decision = calls.decide_in_scope(self.image, &self.allocations, self.fits)?;
+                decision.into_plan(&self.allocations)
+            }
+            _ => None,
+        }
+    }
+
+    /// Does the next instruction, which is planned so; `loaded` is what the cell holds that it loads, if it loads one.
+    #[inline(always)]
+    pub fn carry_out(&mut self, plan: Plan, loaded: u64)
+        requires { Plans plan self.old.image self.old.core }
+        ensures { self.new ≡ record self.old { core = resumed (effect self.old.image self.old.core) self.old.core loaded } }
+    {
+        let Status::Running(calls) = &mut self.status else {
+            return;
+        };
+        calls.carry_out(plan, loaded);
     }
 
     /// Does the next instruction, which is no allocation; `loaded` is what the cell holds that it loads, if it loads one. `Err`

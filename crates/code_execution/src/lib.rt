@@ -10,7 +10,9 @@ mod halt;
 mod hinted;
 mod inside;
 mod places;
+mod plan;
 mod scopes;
 
 pub use execution::Execution;
 pub use hinted::{Hinted, Stretch};
+pub use plan::Plan;

@@ -4,6 +4,9 @@ use Rattle.cells.proofs.Pieces.{piece_some}
 use Rattle.std.specs.Prelude.{◌==◌, Option, Some, None}
 use Rattle.std.proofs.lemmas.Bool.Decides.{eqb_tells}
 use Rattle.std.proofs.lemmas.List.{get_or-set_same, get_or-set_other}
+use Rattle.code_execution.specs.declared.plan.Plan.{Plan}
+use Rattle.code_execution.specs.Planning.{Plans}
+use Rattle.code_form.specs.Form.{Image}
 use Rattle.code_form.specs.Effects.{upd}
 use Rattle.code_form.specs.Code.{Core, allocations_of, effect, held, most_scopes, sizes}
 use Rattle.code_form.specs.Placed.{object_at, pieces}
@@ -62,6 +65,10 @@ safe_with s u holding size low cells waits scopes = record { holding = holding; 
 core_of_changed : (s t u : State) (v : ℕ) → t.image ≡ s.image → t.core ≡ s.core → u ≡ finished t v → u.core ≡ resumed (effect s.image s.core) s.core v
 core_of_changed s t u v image core e =
     ap (λ (x : State). x.core) e ∙ (ap (λ c. resumed (effect t.image c) c v) core ∙ ap (λ i. resumed (effect i s.core) s.core v) image)
+
+-- what was planned is still so where the program stayed
+pub plan_stays : (p : Plan) (s t : State) → t.image ≡ s.image → t.core ≡ s.core → Plans p s.image s.core → Plans p t.image t.core
+plan_stays p s t image core h = subst (λ (C : Image). Plans p C t.core) (sym image) (subst (λ (k : Core). Plans p s.image k) (sym core) h)
 
 touch_same : (s t : State) → t.image ≡ s.image → t.core ≡ s.core → next_touch t ≡ next_touch s
 touch_same s t image core = ap (λ c. Rattle.code_form.specs.Touches.touch_of (effect t.image c)) core ∙ ap (λ i. Rattle.code_form.specs.Touches.touch_of (effect i s.core)) image

@@ -1,14 +1,16 @@
 //! Each kind of instruction, by what it touches.
 ghost use Rattle.code_form.specs.declared.touch.Touch.TheVariants.{Aims, Allocs, Ends, Hints, Leaves, Loads, Plain, Stores};
+ghost use Rattle.code_execution.specs.Planning.{Plans, touch_planned};
 ghost use Rattle.code_form.specs.Growth.{may_grow, rest_of};
 ghost use Rattle.code_form.specs.Placed.{pieces as pieces_of};
-ghost use Rattle.session.specs.Keeping.{Allocated, IsNext, IsSafe, Made, Moves, uses_scope};
+ghost use Rattle.session.specs.Keeping.{Allocated, IsNext, IsSafe, Made, Moves};
 ghost use Rattle.session.specs.State.{next_touch};
 ghost use Rattle.std.specs.Prelude.{◌≡◌, ◌+◌, ◌%◌, ◌<◌, ◌^◌, MatchResult, true};
 
 use crate::program::Program;
 use cells::Want;
-use code_form::{Cell, Touch, effect_laws};
+use code_execution::Plan;
+use code_form::{Cell, effect_laws};
 use remote_store::RawStore;
 use std::alloc::AllocError;
 use std::sync::Wait;
@@ -62,15 +64,16 @@ impl<'a, S: RawStore> Program<'a, S> {
 
     /// False where the store failed.
     #[inline(always)]
-    fn aims<R: Wait>(&mut self, rt: &R, scope: usize, wanted: Option<Cell>) -> bool
+    fn aims<R: Wait>(&mut self, rt: &R, scope: usize, wanted: Option<Cell>, plan: Plan) -> bool
         requires safe { IsSafe self.old }
         requires next { IsNext (Aims scope wanted) self.old }
+        requires plan { Plans plan self.old.image self.old.core }
         requires room { self.old.completed + 1 < 2 ^ 64 }
         ensures { Made S.honest S.reliable (Aims scope wanted) self.old self.new result }
     {
         effect_laws();
         if self.hold_wanted(rt, scope, wanted) {
-            self.finish(0);
+            self.carry_out(plan, 0);
             true
         } else {
             false
@@ -78,22 +81,24 @@ impl<'a, S: RawStore> Program<'a, S> {
     }
 
     #[inline(always)]
-    fn leaves(&mut self, scope: usize)
+    fn leaves(&mut self, scope: usize, plan: Plan)
         requires safe { IsSafe self.old }
         requires next { IsNext (Leaves scope) self.old }
+        requires plan { Plans plan self.old.image self.old.core }
         requires room { self.old.completed + 1 < 2 ^ 64 }
         ensures safe { IsSafe self.new }
         ensures moves { Moves S.honest (Leaves scope) self.old self.new }
     {
         effect_laws();
         self.shut(scope);
-        self.finish(0);
+        self.carry_out(plan, 0);
     }
 
     #[inline(always)]
-    fn loads(&mut self, scope: usize, cell: Cell)
+    fn loads(&mut self, scope: usize, cell: Cell, plan: Plan)
         requires safe { IsSafe self.old }
         requires next { IsNext (Loads scope cell) self.old }
+        requires plan { Plans plan self.old.image self.old.core }
         requires room { self.old.completed + 1 < 2 ^ 64 }
         ensures safe { IsSafe self.new }
         ensures moves { Moves S.honest (Loads scope cell) self.old self.new }
@@ -102,13 +107,14 @@ impl<'a, S: RawStore> Program<'a, S> {
         let hold = self.held(scope);
         let index = self.place(cell);
         let value = self.load_cell(hold, index);
-        self.finish(value);
+        self.carry_out(plan, value);
     }
 
     #[inline(always)]
-    fn stores(&mut self, scope: usize, cell: Cell, value: u64)
+    fn stores(&mut self, scope: usize, cell: Cell, value: u64, plan: Plan)
         requires safe { IsSafe self.old }
         requires next { IsNext (Stores scope cell value) self.old }
+        requires plan { Plans plan self.old.image self.old.core }
         requires room { self.old.completed + 1 < 2 ^ 64 }
         ensures safe { IsSafe self.new }
         ensures moves { Moves S.honest (Stores scope cell value) self.old self.new }
@@ -118,7 +124,7 @@ impl<'a, S: RawStore> Program<'a, S> {
         self.make_writable(scope, hold);
         let index = self.place(cell);
         self.store_cell(hold, index, value);
-        self.finish(0);
+        self.carry_out(plan, 0);
     }
 
     /// Completes an instruction that stops the program.
@@ -154,26 +160,20 @@ impl<'a, S: RawStore> Program<'a, S> {
         }
     }
 
-    /// Completes an instruction that aims, uses or leaves a scope. False where the store failed.
+    /// Completes an instruction that aims, uses or leaves a scope, as it is planned. False where the store failed.
     #[inline(always)]
-    pub(crate) fn make<R: Wait>(&mut self, rt: &R, touch: Touch) -> bool
+    pub(crate) fn make<R: Wait>(&mut self, rt: &R, plan: Plan) -> bool
         requires safe { IsSafe self.old }
-        requires next { IsNext touch self.old }
-        requires uses { uses_scope touch ≡ true }
+        requires next { IsNext (touch_planned plan) self.old }
+        requires plan { Plans plan self.old.image self.old.core }
         requires room { self.old.completed + 1 < 2 ^ 64 }
-        ensures { Made S.honest S.reliable touch self.old self.new result }
+        ensures { Made S.honest S.reliable (touch_planned plan) self.old self.new result }
     {
-        match touch {
-            Touch::Aims(scope, wanted) => return self.aims(rt, scope, wanted),
-            Touch::Loads(scope, cell) => self.loads(scope, cell),
-            Touch::Stores(scope, cell, value) => self.stores(scope, cell, value),
-            Touch::Leaves(scope) => self.leaves(scope),
-            Touch::Hints(_) => unreachable!(),
-            Touch::Plain => unreachable!(),
-            Touch::Allocs(_) => unreachable!(),
-            Touch::Ends => unreachable!(),
-            Touch::Wrong => unreachable!(),
-            Touch::Nothing => unreachable!(),
+        match plan {
+            Plan::Aims { scope, wanted, .. } => return self.aims(rt, scope as usize, wanted, plan),
+            Plan::Loads { scope, cell, .. } => self.loads(scope as usize, cell, plan),
+            Plan::Stores { scope, cell, value } => self.stores(scope as usize, cell, value, plan),
+            Plan::Leaves { scope } => self.leaves(scope as usize, plan),
         }
         true
     }

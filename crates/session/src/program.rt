@@ -1,5 +1,6 @@
 //! A program with what its scopes hold, at one seat of a table: single steps, and those that keep the holds right.
 ghost use Rattle.code_execution.specs.Plain.{ArePassed};
+ghost use Rattle.code_execution.specs.Planning.{Plans, touch_planned};
 ghost use Rattle.code_form.specs.Code.{effect, is_blocked as is_blocked_in, most_scopes, output_of, stop_of};
 ghost use Rattle.code_form.specs.Form.{image_of};
 ghost use Rattle.code_form.specs.Growth.{has_text, may_grow, rest_of};
@@ -18,7 +19,7 @@ use crate::hint_sender::HintSender;
 use crate::hold::Hold;
 use crate::scale::Scale;
 use cells::{Stop, Want};
-use code_execution::{Execution, Hinted};
+use code_execution::{Execution, Hinted, Plan};
 use code_form::{Cell, Image, Touch, heap_laws};
 use object_lock::{ObjectTable, OwnerSeat};
 use object_moves::take;
@@ -166,12 +167,12 @@ impl<'a, S: RawStore> Program<'a, S> {
         self.execution.next()
     }
 
-    /// What the next instruction touches, where it is one that aims, uses or leaves a scope.
+    /// What the next instruction is to do, where it is one that aims, uses or leaves a scope.
     #[inline(always)]
-    pub(crate) fn touch_in_scope(&self) -> Option<Touch>
-        ensures { MatchOption result (uses_scope (next_touch self.now) ≡ false) (λ x. IsNext x self.now) }
+    pub(crate) fn plan(&self) -> Option<Plan>
+        ensures { MatchOption result (uses_scope (next_touch self.now) ≡ false) (λ p. Plans p self.now.image self.now.core × IsNext (touch_planned p) self.now) }
     {
-        self.execution.next_in_scope()
+        self.execution.plan()
     }
 
     /// The end of the program's own objects.
@@ -273,6 +274,17 @@ impl<'a, S: RawStore> Program<'a, S> {
         ensures { self.new ≡ finished self.old loaded }
     {
         self.execution.complete(loaded);
+        self.completed += 1;
+    }
+
+    /// Does what is left of the next instruction, which is planned so.
+    #[inline(always)]
+    pub(crate) fn carry_out(&mut self, plan: Plan, loaded: u64)
+        requires plan { Plans plan self.old.image self.old.core }
+        requires room { self.old.completed + 1 < 2 ^ 64 }
+        ensures { self.new ≡ finished self.old loaded }
+    {
+        self.execution.carry_out(plan, loaded);
         self.completed += 1;
     }
 
