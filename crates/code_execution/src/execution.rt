@@ -222,21 +222,6 @@ impl<'a> Execution<'a> {
         }
     }
 
-    /// What the next instruction touches, where it is one that aims, uses or leaves a scope.
-    #[inline(always)]
-    pub fn next_in_scope(&self) -> Option<Touch>
-        ensures { MatchOption result (uses_scope (touch_of (effect self.now.image self.now.core)) ≡ false) (λ x. (x ≡ touch_of (effect self.now.image self.now.core))
-            × (is_blocked_in self.now.core ≡ false) × IsWithin (most_scopes self.now.image.functions) self.now.core x) }
-    {
-        match &self.status {
-            Status::Running(calls) => {
-                let decision = calls.decide_in_scope(self.image, &self.allocations, self.fits)?;
-                Some(decision.touch(&self.allocations, calls.count()))
-            }
-            _ => None,
-        }
-    }
-
     /// What the next instruction is to do, where it is one that aims, uses or leaves a scope.
     #[inline(always)]
     pub fn plan(&self) -> Option<Plan>
