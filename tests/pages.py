@@ -22,6 +22,10 @@ def crates_are_listed_as_their_sources_name_them(_):
     is_current("tools/edges.py")
 
 
+def the_tables_of_crates_are_those_of_their_sources(_):
+    is_current("tools/crates_table.py")
+
+
 def the_page_of_the_manual_is_that_of_help(_):
     is_current("editors/man_page.py")
 
@@ -29,5 +33,6 @@ def the_page_of_the_manual_is_that_of_help(_):
 TESTS = (
     what_to_read_is_as_the_page_has_it,
     crates_are_listed_as_their_sources_name_them,
+    the_tables_of_crates_are_those_of_their_sources,
     the_page_of_the_manual_is_that_of_help,
 )
