@@ -1,9 +1,9 @@
 #!/usr/bin/env python3
 """crates_table.py [--check]: the tables of crates in docs/ARCHITECTURE.md, a group each, in the order of crates.txt.
 
-With no words it writes them anew; with --check it writes nothing, and fails where the page has others. What a crate is says the first sentence of the comment at
-the head of its src/lib.rt or src/main.rt; which crates it names itself is what tools/edges.py finds. A group is a comment line of crates.txt: its name, and behind
-a colon what it has."""
+With no words it writes them anew; with --check it writes nothing, and fails where the page has others, or where docs/PROMISES.md or docs/DEFINITIONS.md tells of a
+crate under another heading than its group, or in another order. What a crate is says the first sentence of the comment at the head of its src/lib.rt or src/main.rt;
+which crates it names itself is what tools/edges.py finds. A group is a comment line of crates.txt: its name, and behind a colon what it has."""
 
 import os
 import re
@@ -12,9 +12,11 @@ import sys
 import edges
 
 PAGE = "docs/ARCHITECTURE.md"
+GROUPED = ("docs/PROMISES.md", "docs/DEFINITIONS.md")
 BEGIN, END = "<!-- crates_table.py -->", "<!-- end -->"
 HEAD = re.compile(r"//!? ?(.*)")
 SENTENCE = re.compile(r"(.*?)[.](?: |$)")
+TOLD = re.compile(r"(?m)^(?:## (.*)|(?:- )?(\*\*`.*))$")
 
 # What the comment at a crate's head should say, where it says less. A line goes once the comment says it.
 FULLER = {
@@ -99,6 +101,34 @@ def tables():
     return "\n".join(made).rstrip("\n")
 
 
+def told_in(path, headings):
+    """The crates that a page tells of under these headings, each with its heading, in order."""
+    with open(f"{edges.ROOT}/{path}", encoding="utf-8") as it:
+        text = it.read()
+    heading, found = None, []
+    for line in TOLD.finditer(text):
+        heading = line[1] or heading
+        if heading in headings and line[2]:
+            bold = " ".join(re.findall(r"\*\*(.*?)\*\*", line[2]))
+            found += [(heading, crate) for crate in re.findall(r"`(\w+)`", bold)]
+    return found
+
+
+def misplaced():
+    """What GROUPED tell of in another place than crates.txt has it."""
+    lines, _ = edges.listed()
+    order = [(group.capitalize(), crate) for group, _, crates in groups(lines) for crate in crates]
+    for path in GROUPED:
+        told = told_in(path, {heading for heading, _ in order})
+        for it in told:
+            if it not in order:
+                yield f"{path} tells of {it[1]} under {it[0]}, and crates.txt does not"
+        places = [order.index(it) for it in told if it in order]
+        for before, place in zip(places, places[1:]):
+            if place < before:
+                yield f"{path} tells of {order[place][1]} behind {order[before][1]}, and crates.txt before it"
+
+
 def page():
     with open(f"{edges.ROOT}/{PAGE}", encoding="utf-8") as it:
         text = it.read()
@@ -113,8 +143,11 @@ def main():
     if sys.argv[1:] not in ([], ["--check"]):
         sys.exit(__doc__)
     text, made = page()
-    if sys.argv[1:] and text != made:
-        sys.exit(f"the tables of {PAGE} are older ones: run tools/crates_table.py")
+    if sys.argv[1:]:
+        faults = [f"the tables of {PAGE} are older ones: run tools/crates_table.py"] if text != made else []
+        faults += misplaced()
+        print("\n".join(faults), end="\n" if faults else "")
+        sys.exit(1 if faults else 0)
     if text != made:
         with open(f"{edges.ROOT}/{PAGE}", "w", encoding="utf-8") as it:
             it.write(made)
