@@ -40,6 +40,7 @@ FULLER = {
     "image_reader": "`decode`: the image that bytes are, or what is wrong with them first",
     "image_listing": "`list`: a line for each instruction of an image",
     "c0_image": "`compile`: from the bytes of a text to the verified image of its program",
+    "session": "A session: an image run through the lock, at one seat of a table of objects, which hints what it will want soon",
     "executor": "`run_all`: the programs of a region by turns on the threads of a few workers, beside evacuators and fetchers",
     "world_actors": "The actors of a world: what a step of each program and each evacuator does",
     "world_fetchers": "The fetchers of a world: what a step of each does",
@@ -48,6 +49,8 @@ FULLER = {
     "c0far_headline": "As laws: the promise over every list of events, of programs that are admitted, and of the ends that a replay or a run on threads tells",
     "c0_front_tests": "Goes through rows of texts: their tokens, whether they are read or accepted, what is printed of them, their typed trees; and of tables of names",
     "c0_texts_tests": "Runs texts plainly, and compiled, from an image that was written and read again: alone, over a store that fails, or side by side beside movers",
+    "file_store_tests": "Puts and gets over folders in memory and on the disk, and over stores that fail or lie by plan, as its rows say, and prints what came of each",
+    "store_tests": "Runs images again and again over a store of which another call fails or lies each time, and tells whether just the programs ended that met it",
 }
 
 
