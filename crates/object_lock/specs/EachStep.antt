@@ -1,5 +1,5 @@
 -- Every kind of step of the table, as one call of the machine.
-use Rattle.std.specs.Prelude.{◌≡◌, ℕ, suc, ◌+◌, ◌%◌, ◌<◌, true, false, eqb, List, ◌∷◌, Some, None, bit_and}
+use Rattle.std.specs.Prelude.{◌≡◌, ℕ, suc, ◌+◌, ◌%◌, ◌<◌, true, false, eqb, List, ◌∷◌, Some, None, bit_and, length}
 use mathlib.Core.Option as maybe
 use prog.Atomic.{either}
 use Rattle.atomic_table.specs.Table.{Me, rest, step}
@@ -46,7 +46,7 @@ module _ {S : Type 0} (kept : S → ℕ → List ℕ → Type 0) (there : S → 
     -- a mover copies a cell
     pub copies : (z : Sizes) (slots id : ℕ) (me : Me S View) (k o i : ℕ) → k ≡ cell_word me.0.sizes me.0.hand.source i → i < me.0.sizes.cells → me.0.hand.leaving ≡ Some o → Carries kept there honest z slots id me k (λ n. n) (λ x. act x (Copies me.0.number me.0.hand.source (index_at me.0 me.0.hand.source k))) (told_copy honest (step slots k 0 0 maybe.none) me)
     -- a mover tries to commit, after a put that its store cell shows
-    pub commits : (z : Sizes) (slots id : ℕ) (me : Me S View) (o old : ℕ) (b : S) (ws : List ℕ) → me.0.hand.leaving ≡ Some o → me.0.hand.freed ≡ None → me.1 ≡ (o, b) ∷ rest me.1 → kept b o ws → ((i : ℕ) → i < z.cells → seen me.0.hand.copied i ≡ Some (listed ws i)) → old ≡ face (Leaving me.0.hand.source me.0.number true) 0 → Carries kept there honest z slots id me o (λ n. either (eqb n old) 0 n) (λ x. act (act x (Puts me.0.number o (Kept ws))) (Commits me.0.number o me.0.hand.source)) (told_commit honest (step slots o old 0 maybe.none) me)
+    pub commits : (z : Sizes) (slots id : ℕ) (me : Me S View) (o old : ℕ) (b : S) (ws : List ℕ) → me.0.hand.leaving ≡ Some o → me.0.hand.freed ≡ None → me.1 ≡ (o, b) ∷ rest me.1 → kept b o ws → length ws ≡ z.cells → ((i : ℕ) → i < z.cells → seen me.0.hand.copied i ≡ Some (listed ws i)) → old ≡ face (Leaving me.0.hand.source me.0.number true) 0 → Carries kept there honest z slots id me o (λ n. either (eqb n old) 0 n) (λ x. act (act x (Puts me.0.number o (Kept ws))) (Commits me.0.number o me.0.hand.source)) (told_commit honest (step slots o old 0 maybe.none) me)
     -- a mover has a clean object leave
     pub leaves : (z : Sizes) (slots id : ℕ) (me : Me S View) (o f old : ℕ) → o < z.objects → f < z.frames → me.0.hand.freed ≡ None → old ≡ face (Here f true) 0 → Carries kept there honest z slots id me o (λ n. either (eqb n old) 0 n) (λ x. act x (Leaves me.0.number o f)) (told_leave honest (step slots o old 0 maybe.none) me)
     -- a mover aborts
