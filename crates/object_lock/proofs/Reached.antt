@@ -7,17 +7,23 @@ use Rattle.pointer_word.specs.Hands.{Note}
 use Rattle.pointer_word.specs.Machine.{State as Machine, opening}
 use Rattle.pointer_word.specs.Calls.{Call, May, Runs, act}
 use Rattle.pointer_word.proofs.History.{history_is}
+use Rattle.std.proofs.lemmas.List.{append-nil}
+use Rattle.object_lock.specs.Carrying.{RuleOf}
 use Rattle.object_lock.specs.Rule.{IsLed, Rule}
 use Rattle.object_lock.specs.Plays.{IsReached}
 use Rattle.object_lock.specs.Seats.{Sizes, View}
 
-run_on : (h : Type 0) (n : ℕ) (cs : List Call) (s t : Machine) (c : Call) → Runs h n s cs t → May h n t c → Runs h n s (cs ++ c ∷ []) (act t c)
+pub run_on : (h : Type 0) (n : ℕ) (cs : List Call) (s t : Machine) (c : Call) → Runs h n s cs t → May h n t c → Runs h n s (cs ++ c ∷ []) (act t c)
 run_on h n [] s t c r may = (subst (λ (q : Machine). May h n q c) r may, ap (λ (q : Machine). act q c) r)
 run_on h n (d ∷ cs) s t c r may = (r.0, run_on h n cs (act s d) t c r.1 may)
 
 -- one call more
-pub led_on : (h : Type 0) (n : ℕ) (x t : Machine) (c : Call) → IsLed h n x → May h n x c → act x c ≡ t → IsLed h n t
+abbrev pub led_on : (h : Type 0) (n : ℕ) (x t : Machine) (c : Call) → IsLed h n x → May h n x c → act x c ≡ t → IsLed h n t
 led_on h n x t c l may acts = (l.0 ++ c ∷ [], subst (Runs h n opening (l.0 ++ c ∷ [])) acts (run_on h n l.0 opening x c l.1 may))
+
+-- no call more
+pub none_made : {S : Type 0} (kept : S → ℕ → List ℕ → Type 0) (there : S → Type 0) (honest : Type 0) (z : Sizes) (s : State S View) (x : Machine) (cs : List Call) → RuleOf kept there honest z s x cs → RuleOf kept there honest z s x (cs ++ [])
+none_made kept there honest z s x cs q = (q.0, q.1, q.2 ∙ sym (append-nil cs))
 
 -- what the rule says of the list to a seat
 pub reached : {S : Type 0} (kept : S → ℕ → List ℕ → Type 0) (there : S → Type 0) (honest : Type 0) (z : Sizes) (s : State S View) (r : Rule kept there honest z s) (id : ℕ) (v : View) → get_elem? s.views id ≡ some v → IsReached honest v r.machine
