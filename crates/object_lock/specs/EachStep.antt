@@ -6,7 +6,7 @@ use Rattle.atomic_table.specs.Table.{Me, rest, step}
 use Rattle.pointer_word.specs.Words.{Coming, Here, Leaving, face, keep_plain, keep_here, keep_coming, arrival}
 use Rattle.pointer_word.specs.Hands.{or_zero, seen, listed}
 use Rattle.pointer_word.specs.Machine.{Kept}
-use Rattle.pointer_word.specs.Calls.{Opens, Closes, Clears, Stores, Begins, Claims, Fills, Arrives, Unclaims, Retreats, Marks, Copies, Puts, Commits, Aborts, Leaves, Releases, act, Filled}
+use Rattle.pointer_word.specs.Calls.{Opens, Closes, Clears, Stores, Begins, Claims, Fills, Arrives, Unclaims, Retreats, Marks, Copies, Puts, Commits, Aborts, Leaves, Releases, Filled}
 use Rattle.object_lock.specs.Seats.{Sizes, View, Owns, note, frame_word, cell_word}
 use Rattle.object_lock.specs.Plays.{mine, frame_at, index_at, IsCell, told_open, told_close, told_clear, told_load, told_store, told_peek, told_look, told_begin, told_begin_own, told_claim, told_fill, told_arrive, told_arrive_own, told_mark, told_copy, told_commit, told_leave, told_abort, told_retreat, told_unclaim, told_release}
 use Rattle.object_lock.specs.Carrying.{Carries}
