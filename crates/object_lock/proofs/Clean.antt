@@ -1,5 +1,5 @@
 -- A clean object leaves its frame: the step keeps the rule, and what it says of the seat's own view.
-use Rattle.std.proofs.Common.{◌≡◌, ℕ, ◌<◌, ◌≢◌, true, false, ◌&&◌, List, length, get_or, sym, refl, ap, ap₂, ◌∙◌, subst, arith, eqb, eq-eqb}
+use Rattle.std.proofs.Common.{◌≡◌, ℕ, ◌<◌, ◌≢◌, true, false, ◌&&◌, List, length, get_or, sym, refl, ap, ap₂, ◌∙◌, subst, arith, eqb, eq-eqb, [], ◌∷◌, ◌++◌}
 use Rattle.std.specs.Prelude.{None, ◌==◌}
 use mathlib.Core.Option as maybe
 use lib.ListN.{get_elem?}
@@ -33,14 +33,14 @@ leave_misses x m o f (Leaving _ _ _) d = refl
 
 module _ {S : Type 0} (kept : S → ℕ → List ℕ → Type 0) (there : S → Type 0) (honest : Type 0) (z : Sizes) where
   pub leaves_on : (slots id : ℕ) (me : Me S View) (o f old : ℕ) → o < z.objects → f < z.frames → me.0.hand.freed ≡ None → old ≡ face (Here f true) 0
-      → Carries kept there honest z slots id me o (λ n. either (eqb n old) 0 n) (λ x. act x (Leaves me.0.number o f)) (told_leave honest (step slots o old 0 maybe.none) me)
+      → Carries kept there honest z slots id me o (λ n. either (eqb n old) 0 n) (Leaves me.0.number o f ∷ []) (told_leave honest (step slots o old 0 maybe.none) me)
   leaves_on slots id me o f old near inside empty is_old s r wide at bound =
       let v = me.0 in let seat = r.seats id v at in let x = r.machine in let m = v.number in let ok = r.objects o near in let few = ok.few in let p = (x.word o).place in
       let told = told_leave honest (step slots o old 0 maybe.none) me in let word : ℕ = get_or s.words o 0 in
       let num = seat.numbered in let sl = r.slotted in let slot : o < length s.homes = omega arith in let fr = r.framed in
       let empty' : (x.hand m).freed ≡ None = subst (λ (h : Hand). h.freed ≡ None) seat.shows.0 empty in
       let hand : HandIn z (x.hand m) = subst (HandIn z) seat.shows.0 seat.inside in
-      exchanged word old 0 (Goes kept there honest z s o id me (act x (Leaves m o f)) told)
+      exchanged word old 0 (Goes kept there honest z s o id me (act x (Leaves m o f)) (r.led.0 ++ Leaves m o f ∷ []) told)
       (λ hit. let is = is_clean p (x.word o).count f 0 (fits z p r.framed ok.inside) (omega arith) (omega arith) (omega arith) (sym ok.word ∙ hit ∙ is_old) in
       let home = subst (Berthed kept there o (x.far o) (get_elem? s.homes o)) is.0 ok.berthed in
       let y : Hand = leaving (x.hand m) f in let w : Word = counted (x.word o).count Away in let who : ℕ → Holder = upd x.who f (Freer m) in
@@ -61,7 +61,7 @@ module _ {S : Type 0} (kept : S → ℕ → List ℕ → Type 0) (there : S → 
 
   pub leaves : (slots id : ℕ) (me : Me S View) (o f old : ℕ) → o < z.objects → f < z.frames → me.0.hand.freed ≡ None → old ≡ face (Here f true) 0
       → Allows (Rule kept there honest z) slots id me o (λ n. either (eqb n old) 0 n) (told_leave honest (step slots o old 0 maybe.none) me)
-  leaves slots id me o f old near inside empty is_old = allowed kept there honest z slots id me o (λ n. either (eqb n old) 0 n) (λ x. act x (Leaves me.0.number o f)) (told_leave honest (step slots o old 0 maybe.none) me) (leaves_on slots id me o f old near inside empty is_old)
+  leaves slots id me o f old near inside empty is_old = allowed kept there honest z slots id me o (λ n. either (eqb n old) 0 n) (Leaves me.0.number o f ∷ []) (told_leave honest (step slots o old 0 maybe.none) me) (leaves_on slots id me o f old near inside empty is_old)
 
 -- the words of two frames differ
 clean_frames : (g f : ℕ) → face (Here g true) 0 ≡ face (Here f true) 0 → g ≡ f

@@ -9,13 +9,15 @@ use Rattle.pointer_word.specs.Hands.{seen, listed}
 use Rattle.object_lock.specs.Seats.{Sizes, sizes}
 use Rattle.object_lock.proofs.Mover.{commits}
 use Rattle.object_lock.proofs.Exact.{commits_step}
-use Rattle.object_lock.proofs.Stored.{allowed_at}
+use Rattle.object_lock.proofs.Stored.{allowed_at, whole}
 use Rattle.object_lock.proofs.Asks.{asks_commit}
 use Rattle.object_lock.proofs.table.LockWords.commit_word.Goals as goal
 
 pub compare_exchange-requires : goal.compare_exchange-requires
 compare_exchange-requires g c = let sized = c.args.self.now.sized.0 in let near = c.requires.hands.0 in let q = c.requires.copied in let keyed = c.args.self.now.keyed in let same = c.requires.table.1 in
-    (c.requires.table.0, omega arith, allowed_at g.S.RawStore.fits g.S.RawStore.content g.S.RawStore.honest _ _ (same ∙ sym (ap sizes keyed)) _ _ _ _ (λ (m : ℕ). either (eqb m c.args.old) 0 m) (told_commit g.S.RawStore.honest (step c.args.self.now.table.shared.table_id.slots c.args.obj c.args.old 0 none) c.args.seat.now.me) (commits (slot_keeps g.S.RawStore.fits g.S.RawStore.content c.args.seat.now.me.0.sizes.cells) (slot_has g.S.RawStore.fits c.args.seat.now.me.0.sizes.cells) _ _ _ _ _ _ _ q.0 q.1 c.requires.hands.1 c.requires.hands.2.1 q.2 q.3 (subst (λ (y : Sizes). (i : ℕ) → i < y.cells → seen c.args.seat.now.me.0.hand.copied i ≡ Some (listed q.1 i)) (sym same) q.4) c.requires.words))
+    let copied = subst (λ (y : Sizes). (i : ℕ) → i < y.cells → seen c.args.seat.now.me.0.hand.copied i ≡ Some (listed q.1 i)) (sym same) q.4 in
+    let u = whole g.S.RawStore.fits g.S.RawStore.content c.args.seat.now.me.0.sizes.cells q.0 c.args.obj q.1 q.3 in
+    (c.requires.table.0, omega arith, allowed_at g.S.RawStore.fits g.S.RawStore.content g.S.RawStore.honest _ _ (same ∙ sym (ap sizes keyed)) _ _ _ _ (λ (m : ℕ). either (eqb m c.args.old) 0 m) (told_commit g.S.RawStore.honest (step c.args.self.now.table.shared.table_id.slots c.args.obj c.args.old 0 none) c.args.seat.now.me) (commits (slot_keeps g.S.RawStore.fits g.S.RawStore.content c.args.seat.now.me.0.sizes.cells) (slot_has g.S.RawStore.fits c.args.seat.now.me.0.sizes.cells) _ _ _ _ _ _ _ q.0 u.0 c.requires.hands.1 c.requires.hands.2.1 q.2 u.1 u.2 (λ i l. copied i l ∙ ap Some (sym (u.3 i l))) c.requires.words))
 
 pub returns-clause-step : goal.returns-clause-step
 returns-clause-step g c =

@@ -1,0 +1,35 @@
+-- One list of calls leads to the machine of a table.
+use Rattle.std.proofs.Common.{◌≡◌, ℕ, List, [], ◌∷◌, ◌++◌, sym, ap, ◌∙◌, subst}
+use mathlib.Core.Option.{some}
+use lib.ListN.{get_elem?}
+use Rattle.atomic_table.specs.Table.{State}
+use Rattle.pointer_word.specs.Hands.{Note}
+use Rattle.pointer_word.specs.Machine.{State as Machine, opening}
+use Rattle.pointer_word.specs.Calls.{Call, May, Runs, act}
+use Rattle.pointer_word.proofs.History.{history_is}
+use Rattle.std.proofs.lemmas.List.{append-nil}
+use Rattle.object_lock.specs.Carrying.{RuleOf}
+use Rattle.object_lock.specs.Rule.{IsLed, Rule}
+use Rattle.object_lock.specs.Plays.{IsReached}
+use Rattle.object_lock.specs.Seats.{Sizes, View}
+
+pub run_on : (h : Type 0) (n : ℕ) (cs : List Call) (s t : Machine) (c : Call) → Runs h n s cs t → May h n t c → Runs h n s (cs ++ c ∷ []) (act t c)
+run_on h n [] s t c r may = (subst (λ (q : Machine). May h n q c) r may, ap (λ (q : Machine). act q c) r)
+run_on h n (d ∷ cs) s t c r may = (r.0, run_on h n cs (act s d) t c r.1 may)
+
+-- one call more
+abbrev pub led_on : (h : Type 0) (n : ℕ) (x t : Machine) (c : Call) → IsLed h n x → May h n x c → act x c ≡ t → IsLed h n t
+led_on h n x t c l may acts = (l.0 ++ c ∷ [], subst (Runs h n opening (l.0 ++ c ∷ [])) acts (run_on h n l.0 opening x c l.1 may))
+
+-- no call more
+pub none_made : {S : Type 0} (kept : S → ℕ → List ℕ → Type 0) (there : S → Type 0) (honest : Type 0) (z : Sizes) (s : State S View) (x : Machine) (cs : List Call) → RuleOf kept there honest z s x cs → RuleOf kept there honest z s x (cs ++ [])
+none_made kept there honest z s x cs q = (q.0, q.1, q.2 ∙ sym (append-nil cs))
+
+-- what the rule says of the list to a seat
+pub reached : {S : Type 0} (kept : S → ℕ → List ℕ → Type 0) (there : S → Type 0) (honest : Type 0) (z : Sizes) (s : State S View) (r : Rule kept there honest z s) (id : ℕ) (v : View) → get_elem? s.views id ≡ some v → IsReached honest v r.machine
+reached kept there honest z s r id v at =
+    let seat = r.seats id v at in let x = r.machine in record {
+      calls = r.led.0;
+      led = subst (λ (q : Sizes). Runs honest q.cells opening r.led.0 x) (sym seat.sized) r.led.1;
+      own = λ o own. ap (λ (y : Note). y.history) (seat.shows.1 o own) ∙ history_is honest z.cells r.led.0 x r.led.1 o;
+    }
