@@ -15,6 +15,7 @@ use Rattle.object_lock.specs.Rule.{Berthed, Stores, Rule}
 use Rattle.object_lock.specs.SeatViews.{TableView, SeatView}
 use Rattle.object_lock.specs.Fresh.{AreNumbered, EndWithLast, IsFreshOwner, IsFreshMover}
 use Rattle.object_lock.specs.NewTable.{AreEmptyHanded, BeginsAway, NewTable}
+use Rattle.object_lock.proofs.Blank.{blank_cells}
 
 -- a place of the list is in it or behind it
 seat_or : {A : Type 0} (l : List A) (j : ℕ) → ((a : A) × (get_elem? l j ≡ some a)) ⊎ (length l ≤ j)
@@ -111,6 +112,7 @@ module _ {S : Type 0} (kept : S → ℕ → List ℕ → Type 0) (there : S → 
         berths = λ o l. let x = subst (λ (p : Place). Berthed kept there o (r.machine.far o) (get_elem? s.homes o) p) (away o) (r.objects o l).berthed in
             (x.0, x.1, never_kept o x.0 (r.machine.far o) (r.inv.untouched none o).1 x.2);
         frames = λ f l. (r.frames f l).word ∙ free_at r.machine f (r.machine.who f) idle away (r.inv.frame f);
+        cells = λ f i l m. (r.frames f l).cells i m ∙ blank_cells honest z.cells r.led.0 r.machine r.led.1 (λ k. ap (λ (x : Hand). x.claims) (idle k)) f i;
       }
 
   -- so it is of a table that was just made

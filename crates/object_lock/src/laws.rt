@@ -22,7 +22,7 @@ pub fn each_step<S: RawStore>()
 {}
 
 /// While no seat has made a call of a mover, as when the table was made: each object is away, its word is the count of its holds, which is 0 for
-/// an owner that has none, nothing was put into its berth, which is at home, and each frame is free.
+/// an owner that has none, nothing was put into its berth, which is at home, and each frame is free, with 0 in its cells.
 pub fn new_table<S: RawStore>()
     ensures { (n : ℕ) → NewTable (slot_keeps S.fits S.content n) (slot_has S.fits n) S.honest }
 {}
