@@ -10,6 +10,7 @@ use remote_store::RawStore;
 use scope_verifier::verify;
 use std::alloc::{AllocError, Global};
 use std::fmt::Write;
+use std::slice::from_ref;
 use world::{Actor, Choice, Step, World};
 
 /// How many instructions of an image are looked at.
@@ -132,28 +133,17 @@ fn follow<S: RawStore>(
     table.note(alloc, "endless")
 }
 
-/// What becomes of the one of these images, counted.
-fn try_world(
-    alloc: Global,
-    images: &[Image],
-    setting: &Setting<'_>,
-    table: &mut Table,
-) -> Result<(), AllocError> {
-    match open(alloc, images, setting) {
-        Some(mut world) => follow(alloc, &mut world, setting.frames, table),
-        None => table.note(alloc, "no world"),
-    }
-}
-
 /// What becomes of an image that is verified, counted.
 fn try_verified(
     alloc: Global,
-    image: Image,
+    image: &Image,
     setting: &Setting<'_>,
     table: &mut Table,
 ) -> Result<(), AllocError> {
-    let images = [image];
-    try_world(alloc, &images, setting, table)
+    match open(alloc, from_ref(image), setting) {
+        Some(mut world) => follow(alloc, &mut world, setting.frames, table),
+        None => table.note(alloc, "no world"),
+    }
 }
 
 /// What becomes of an image that was read, counted: it is verified, and run.
@@ -164,7 +154,7 @@ fn try_image(
     table: &mut Table,
 ) -> Result<(), AllocError> {
     match verify(alloc, image) {
-        Ok(verified) => try_verified(alloc, verified.into_image(), setting, table),
+        Ok(verified) => try_verified(alloc, &verified.into_image(), setting, table),
         Err(fault) => {
             let name = format!(in alloc; "{fault}")?;
             table.note(alloc, &name)

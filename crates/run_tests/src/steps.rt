@@ -111,22 +111,41 @@ fn more(lines: &[Repeated<'_>]) -> u32 {
     more
 }
 
-/// What is told of a row, for each number in which its line comes. Where one differs from the first, that is told too.
+/// Tells where one of these numbers differs from the first, of which this is told.
+fn put_other(
+    alloc: Global,
+    first: &mut String,
+    images: &[Image],
+    setting: &Setting<'_>,
+) -> Result<(), AllocError> {
+    for more in 1..=more(&setting.lines) {
+        let other = tell_images(alloc, images, setting, more)?;
+        if other != *first {
+            return write!(first, "and with {more} more:\n{other}");
+        }
+    }
+    Ok(())
+}
+
+/// What is told of these images, for each number in which a line comes. Where one differs from the first, that is told too.
+fn tell_numbers(
+    alloc: Global,
+    images: &[Image],
+    setting: &Setting<'_>,
+) -> Result<String, AllocError> {
+    let mut first = tell_images(alloc, images, setting, 0)?;
+    put_other(alloc, &mut first, images, setting)?;
+    Ok(first)
+}
+
+/// What is told of a row.
 pub(crate) fn tell(
     alloc: Global,
     shelf: &Shelf,
     setting: &Setting<'_>,
 ) -> Result<String, AllocError> {
-    let Some(images) = setting.images(alloc, shelf)? else {
-        return String::from_str(alloc, "no such image");
-    };
-    let mut first = tell_images(alloc, &images, setting, 0)?;
-    for more in 1..=more(&setting.lines) {
-        let other = tell_images(alloc, &images, setting, more)?;
-        if other != first {
-            write!(first, "and with {more} more:\n{other}")?;
-            return Ok(first);
-        }
+    match setting.images(alloc, shelf)? {
+        Some(images) => tell_numbers(alloc, &images, setting),
+        None => String::from_str(alloc, "no such image"),
     }
-    Ok(first)
 }
