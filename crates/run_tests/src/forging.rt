@@ -217,13 +217,24 @@ fn change(
     Ok(())
 }
 
+/// Puts the bytes from this place to before that one behind others.
+fn put_part(
+    forged: &mut Vec<u8>,
+    bytes: &[u8],
+    start: usize,
+    end: usize,
+) -> Result<(), AllocError> {
+    match bytes.get(start..end) {
+        Some(part) => forged.extend_from_slice(part),
+        None => Ok(()),
+    }
+}
+
 /// Puts the parts of the bytes that these numbers say, each from its first to before its last, one behind another.
 fn put_parts(forged: &mut Vec<u8>, bytes: &[u8], numbers: &[u64]) -> Result<(), AllocError> {
     for part in numbers.chunks_exact(2) {
-        if let [start, end] = part
-            && let Some(part) = bytes.get(*start as usize..*end as usize)
-        {
-            forged.extend_from_slice(part)?;
+        if let [start, end] = part {
+            put_part(forged, bytes, *start as usize, *end as usize)?;
         }
     }
     Ok(())

@@ -190,20 +190,22 @@ fn rows_of(rt: &HostRuntime, name: &str) -> io::Result<Vec<Row>> {
 }
 
 /// Goes through the rows of the file of this name. Whether none is shown.
-fn go_through_file<O: Write>(
-    rt: &HostRuntime,
+fn go_through_file<R: Wait, O: Write>(
+    rt: &R,
+    host: &HostRuntime,
     kind: Kind,
     name: &str,
     shelf: &mut Shelf,
     out: &mut O,
 ) -> io::Result<bool> {
-    let rows = rows_of(rt, name)?;
-    go_through(rt, rt.alloc(), kind, name, &rows, shelf, out)
+    let rows = rows_of(host, name)?;
+    go_through(rt, host.alloc(), kind, name, &rows, shelf, out)
 }
 
 /// Goes through the rows of all files that the words name. The status.
-fn go_through_all<O: Write>(
-    rt: &HostRuntime,
+fn go_through_all<R: Wait, O: Write>(
+    rt: &R,
+    host: &HostRuntime,
     words: &[String],
     shelf: &mut Shelf,
     out: &mut O,
@@ -215,7 +217,7 @@ fn go_through_all<O: Write>(
         match Kind::of(word) {
             Some(other) => kind = other,
             None => {
-                if !go_through_file(rt, kind, word, shelf, out)? {
+                if !go_through_file(rt, host, kind, word, shelf, out)? {
                     status = 1;
                 }
             }
@@ -228,6 +230,6 @@ fn main(rt: HostRuntime) -> io::Result<ExitCode> {
     let words: Vec<String> = env::args(&rt)?.collect(rt.alloc())?;
     let mut out = io::writer(&rt);
     let mut shelf = Shelf::new(rt.alloc());
-    let status = go_through_all(&rt, &words, &mut shelf, &mut out)?;
+    let status = go_through_all(&rt, &rt, &words, &mut shelf, &mut out)?;
     Ok(ExitCode::from(status))
 }

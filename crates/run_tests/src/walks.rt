@@ -107,25 +107,26 @@ fn take_letter<S: RawStore>(
     None
 }
 
-/// Takes the letters of the list, of which the last may be one that is behind it, and goes on to a list that is as long as it may be. Whether it is a new one.
+/// Takes the letters of a list of which so many are known, the last of them or one behind it, and goes on as long as the list may be, with 0 behind its end. How many are taken.
 fn go_along<S: RawStore>(
     alloc: Global,
     world: &mut World<'_, S>,
     setting: &Setting<'_>,
-    walk: &mut Walk<'_>,
-) -> bool {
-    let known = walk.length;
-    walk.length = 0;
-    for letter in &mut walk.path {
-        let looks = walk.length.saturating_add(1) >= known;
-        let Some(taken) = take_letter(alloc, world, setting, *letter, looks, &mut walk.seen) else {
-            *letter = 0;
-            return walk.length >= known;
-        };
-        *letter = taken;
-        walk.length = walk.length.saturating_add(1);
+    path: &mut [u32],
+    known: usize,
+    seen: &mut Seen,
+) -> usize {
+    let mut length = 0usize;
+    for letter in path {
+        let looks = length.saturating_add(1) >= known;
+        let taken = take_letter(alloc, world, setting, *letter, looks, seen);
+        *letter = taken.unwrap_or(0);
+        if taken.is_none() {
+            return length;
+        }
+        length = length.saturating_add(1);
     }
-    true
+    length
 }
 
 /// Tries each line of the rest. Whether one is enabled.
@@ -156,26 +157,21 @@ fn finish<S: RawStore>(
     }
 }
 
-/// One walk in a fresh world: the lines before all others, the list as far as it goes, and the rest.
+/// One walk in a fresh world: the lines before all others, the list as far as it goes, and the rest, unless the list is one that was taken before, but for its last letter.
 fn go<S: RawStore>(
     alloc: Global,
     world: &mut World<'_, S>,
     setting: &Setting<'_>,
     walk: &mut Walk<'_>,
 ) {
-    let is_first = walk.length == 0;
-    begin(
-        alloc,
-        world,
-        setting,
-        &walk.before,
-        is_first,
-        &mut walk.seen,
-    );
-    if go_along(alloc, world, setting, walk) {
-        finish(alloc, world, setting, &mut walk.seen);
+    let known = walk.length;
+    let seen = &mut walk.seen;
+    begin(alloc, world, setting, &walk.before, known == 0, seen);
+    walk.length = go_along(alloc, world, setting, &mut walk.path, known, seen);
+    if walk.length >= known {
+        finish(alloc, world, setting, seen);
         walk.walks = walk.walks.wrapping_add(1);
-        if walk.seen.running == 0 {
+        if seen.running == 0 {
             walk.ended = walk.ended.wrapping_add(1);
         }
     }
