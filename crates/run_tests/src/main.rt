@@ -23,8 +23,8 @@
 //!   own within 1,000 instructions. `forged AT VALUE A B ..` puts a byte at a place, and then five parts of the bytes one behind another, each from `A` to before `B`;
 //!   a row without such a line has each byte changed to each other value;
 //! - `walk`: steps of a world. First come lines, each behind how often it comes; in place of that number may stand `A..B`, and the row holds for each of these numbers.
-//!   Behind them comes each list of `lists` letters in turn. `letter N LINE` is a line of letter `N`, which is the first of its lines that is enabled. Then the lines of
-//!   `rest LINE` are tried in turn, until none of them is enabled. `stored P K O I V`: program `P` has stored `V` in cell `I` of object `O` when it has completed `K`
+//!   Behind them comes each list of `lists` letters in turn. `letter N LINE` is a line of letter `N`, which is the first of its lines that is enabled; the letters stand in
+//!   order. Then the lines of `rest LINE` are tried in turn, until none of them is enabled. What is no line is never enabled. `stored P K O I V`: program `P` has stored `V` in cell `I` of object `O` when it has completed `K`
 //!   instructions. `result V`: whoever stops has this result. In each state all that can be seen of the machine is looked at: see `clauses`.
 //!
 //! A row names its `image`, or each of its images, and its numbers: `frames`, `objects`, `evacuators`, `fetchers`. `fails at N` has the call of this number of the
