@@ -10,6 +10,7 @@ use remote_store::RawStore;
 use scope_verifier::verify;
 use std::alloc::{AllocError, Global};
 use std::fmt::Write;
+use std::slice::from_ref;
 use world::{Actor, Choice, Step, World};
 
 /// How many instructions of an image are looked at.
@@ -35,13 +36,14 @@ struct Table {
 
 impl Table {
     /// One image more of this sort.
-    fn note(&mut self, name: String) -> Result<(), AllocError> {
+    fn note(&mut self, alloc: Global, name: &str) -> Result<(), AllocError> {
         for sort in &mut self.sorts {
-            if sort.name == name {
+            if sort.name.as_str() == name {
                 sort.count = sort.count.wrapping_add(1);
                 return Ok(());
             }
         }
+        let name = String::from_str(alloc, name)?;
         self.sorts.push(Sort { name, count: 1 })?;
         Ok(())
     }
@@ -49,29 +51,39 @@ impl Table {
     /// One run more, which ended so, or was long enough.
     fn note_end(&mut self, alloc: Global, ended: &Ended) -> Result<(), AllocError> {
         self.completed = self.completed.wrapping_add(ended.completed);
-        let name = match &ended.run {
+        match &ended.run {
             Run::Stopped(Stop::Ended(result)) => {
                 self.results = self.results.wrapping_add(i64::from(*result));
-                String::from_str(alloc, "result")?
+                self.note(alloc, "result")
             }
-            Run::Stopped(Stop::ErrorCalled(_)) => String::from_str(alloc, "error")?,
-            run => format!(in alloc; "{run}")?,
-        };
-        self.note(name)
+            Run::Stopped(Stop::ErrorCalled(_)) => self.note(alloc, "error"),
+            run => {
+                let name = format!(in alloc; "{run}")?;
+                self.note(alloc, &name)
+            }
+        }
+    }
+
+    /// Whether a run goes no further, or has completed enough. It is counted then.
+    fn note_if_at_end(&mut self, alloc: Global, ended: &Ended) -> Result<bool, AllocError> {
+        if let Run::Running = ended.run
+            && ended.completed < MOST_COMPLETED
+        {
+            return Ok(false);
+        }
+        self.note_end(alloc, ended)?;
+        Ok(true)
     }
 
     /// A line for each sort, and the sums.
-    fn tell(&self, alloc: Global) -> Result<String, AllocError> {
-        let mut told = String::new(alloc);
+    fn put(&self, told: &mut String) -> Result<(), AllocError> {
         for sort in &self.sorts {
             let name = sort.name.as_str();
             let count = sort.count;
             writeln!(told, "{name}: {count}")?;
         }
-        let results = self.results;
-        let completed = self.completed;
-        writeln!(told, "results come to {results}, {completed} completed")?;
-        Ok(told)
+        let (results, completed) = (self.results, self.completed);
+        writeln!(told, "results come to {results}, {completed} completed")
     }
 }
 
@@ -100,13 +112,7 @@ fn is_at_end<S: RawStore>(
         return Ok(true);
     }
     let ended = world.ended(alloc, 0)?;
-    if let Run::Running = ended.run
-        && ended.completed < MOST_COMPLETED
-    {
-        return Ok(false);
-    }
-    table.note_end(alloc, &ended)?;
-    Ok(true)
+    table.note_if_at_end(alloc, &ended)
 }
 
 /// Runs the program until it has ended or completed enough, and counts what became of it.
@@ -121,10 +127,23 @@ fn follow<S: RawStore>(
             return Ok(());
         }
         if !goes_on(world, frames) {
-            return table.note(String::from_str(alloc, "stuck")?);
+            return table.note(alloc, "stuck");
         }
     }
-    table.note(String::from_str(alloc, "endless")?)
+    table.note(alloc, "endless")
+}
+
+/// What becomes of an image that is verified, counted.
+fn try_verified(
+    alloc: Global,
+    image: &Image,
+    setting: &Setting<'_>,
+    table: &mut Table,
+) -> Result<(), AllocError> {
+    match open(alloc, from_ref(image), setting) {
+        Some(mut world) => follow(alloc, &mut world, setting.frames, table),
+        None => table.note(alloc, "no world"),
+    }
 }
 
 /// What becomes of an image that was read, counted: it is verified, and run.
@@ -134,15 +153,12 @@ fn try_image(
     setting: &Setting<'_>,
     table: &mut Table,
 ) -> Result<(), AllocError> {
-    let verified = match verify(alloc, image) {
-        Ok(verified) => verified,
-        Err(fault) => return table.note(format!(in alloc; "{fault}")?),
-    };
-    let mut images = Vec::new(alloc);
-    images.push(verified.into_image())?;
-    match open(alloc, &images, setting) {
-        Some(mut world) => follow(alloc, &mut world, setting.frames, table),
-        None => table.note(String::from_str(alloc, "no world")?),
+    match verify(alloc, image) {
+        Ok(verified) => try_verified(alloc, &verified.into_image(), setting, table),
+        Err(fault) => {
+            let name = format!(in alloc; "{fault}")?;
+            table.note(alloc, &name)
+        }
     }
 }
 
@@ -155,7 +171,10 @@ fn try_bytes(
 ) -> Result<(), AllocError> {
     match decode(alloc, bytes) {
         Ok(image) => try_image(alloc, image, setting, table),
-        Err(fault) => table.note(format!(in alloc; "{fault}")?),
+        Err(fault) => {
+            let name = format!(in alloc; "{fault}")?;
+            table.note(alloc, &name)
+        }
     }
 }
 
@@ -198,59 +217,117 @@ fn change(
     Ok(())
 }
 
-/// The parts of the bytes that these numbers say, each from its first to before its last, one behind another.
-fn joined(alloc: Global, bytes: &[u8], numbers: &[u64]) -> Result<Vec<u8>, AllocError> {
-    let mut forged = Vec::new(alloc);
-    for part in numbers.chunks_exact(2) {
-        if let [start, end] = part
-            && let Some(part) = bytes.get(*start as usize..*end as usize)
-        {
-            forged.extend_from_slice(part)?;
-        }
+/// Puts the bytes from this place to before that one behind others.
+fn put_part(
+    forged: &mut Vec<u8>,
+    bytes: &[u8],
+    start: usize,
+    end: usize,
+) -> Result<(), AllocError> {
+    match bytes.get(start..end) {
+        Some(part) => forged.extend_from_slice(part),
+        None => Ok(()),
     }
-    Ok(forged)
 }
 
-/// Puts a byte at a place, and joins parts, as each twelve of the setting's numbers say.
+/// Puts the parts of the bytes that these numbers say, each from its first to before its last, one behind another.
+fn put_parts(forged: &mut Vec<u8>, bytes: &[u8], numbers: &[u64]) -> Result<(), AllocError> {
+    for part in numbers.chunks_exact(2) {
+        if let [start, end] = part {
+            put_part(forged, bytes, *start as usize, *end as usize)?;
+        }
+    }
+    Ok(())
+}
+
+/// What becomes of the image that these numbers say, counted: a byte is put at a place, and parts are joined.
+fn try_joined(
+    alloc: Global,
+    bytes: &mut [u8],
+    forged: &mut Vec<u8>,
+    numbers: &[u64],
+    setting: &Setting<'_>,
+    table: &mut Table,
+) -> Result<(), AllocError> {
+    let [at, value, parts @ ..] = numbers else {
+        return Ok(());
+    };
+    let at = *at as usize;
+    let held = bytes.get(at).copied().unwrap_or(0);
+    put(bytes, at, u8::try_from(*value).unwrap_or(0));
+    forged.clear();
+    put_parts(forged, bytes, parts)?;
+    put(bytes, at, held);
+    try_bytes(alloc, forged, setting, table)
+}
+
+/// The same of each twelve of the setting's numbers.
 fn join(
     alloc: Global,
     bytes: &mut [u8],
     setting: &Setting<'_>,
     table: &mut Table,
 ) -> Result<(), AllocError> {
+    let mut forged = Vec::new(alloc);
     for numbers in setting.numbers.chunks_exact(12) {
-        if let [at, value, parts @ ..] = numbers {
-            let at = *at as usize;
-            let held = bytes.get(at).copied().unwrap_or(0);
-            put(bytes, at, u8::try_from(*value).unwrap_or(0));
-            let forged = joined(alloc, bytes, parts)?;
-            put(bytes, at, held);
-            try_bytes(alloc, &forged, setting, table)?;
-        }
+        try_joined(alloc, bytes, &mut forged, numbers, setting, table)?;
     }
     Ok(())
 }
 
-/// What becomes of the images that are forged of the one that a row names, counted: as its numbers say, or, where there are none, with each byte changed to each
-/// other value.
-pub(crate) fn tell(
+/// What becomes of the images that are forged of these bytes, counted: as the setting's numbers say, or, where there are none, with each byte changed to each other value.
+fn forge(
     alloc: Global,
-    shelf: &Shelf,
+    bytes: &mut [u8],
     setting: &Setting<'_>,
-) -> Result<String, AllocError> {
-    let Some(bytes) = setting.bytes(shelf) else {
-        return String::from_str(alloc, "no such image");
-    };
-    let mut bytes = bytes.to_vec(alloc)?;
+    table: &mut Table,
+) -> Result<(), AllocError> {
+    if setting.numbers.is_empty() {
+        change(alloc, bytes, setting, table)
+    } else {
+        join(alloc, bytes, setting, table)
+    }
+}
+
+/// The same, told.
+fn tell_bytes(
+    alloc: Global,
+    bytes: &mut [u8],
+    setting: &Setting<'_>,
+    told: &mut String,
+) -> Result<(), AllocError> {
     let mut table = Table {
         sorts: Vec::new(alloc),
         results: 0,
         completed: 0,
     };
-    if setting.numbers.is_empty() {
-        change(alloc, &mut bytes, setting, &mut table)?;
-    } else {
-        join(alloc, &mut bytes, setting, &mut table)?;
+    forge(alloc, bytes, setting, &mut table)?;
+    table.put(told)
+}
+
+/// The same of the image that a row names.
+fn put_forged(
+    alloc: Global,
+    shelf: &Shelf,
+    setting: &Setting<'_>,
+    told: &mut String,
+) -> Result<(), AllocError> {
+    match setting.bytes(shelf) {
+        Some(bytes) => {
+            let mut bytes = bytes.to_vec(alloc)?;
+            tell_bytes(alloc, &mut bytes, setting, told)
+        }
+        None => told.push_str("no such image"),
     }
-    table.tell(alloc)
+}
+
+/// What becomes of the images that are forged of the one that a row names.
+pub(crate) fn tell(
+    alloc: Global,
+    shelf: &Shelf,
+    setting: &Setting<'_>,
+) -> Result<String, AllocError> {
+    let mut told = String::new(alloc);
+    put_forged(alloc, shelf, setting, &mut told)?;
+    Ok(told)
 }

@@ -22,9 +22,9 @@ fn listing(alloc: Global, bytes: &[u8], image: &Image) -> Result<String, ImageFa
     if !is_encodable(image) {
         return Err(ImageFault::BadOperand);
     }
-    let again = encode(alloc, image)?;
+    let is_same = is_written_again(bytes, &encode(alloc, image)?);
     let mut text = list(alloc, image)?;
-    if !is_written_again(bytes, &again) {
+    if !is_same {
         text.push_str("other bytes\n")?;
     }
     Ok(text)

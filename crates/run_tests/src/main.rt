@@ -23,8 +23,8 @@
 //!   own within 1,000 instructions. `forged AT VALUE A B ..` puts a byte at a place, and then five parts of the bytes one behind another, each from `A` to before `B`;
 //!   a row without such a line has each byte changed to each other value;
 //! - `walk`: steps of a world. First come lines, each behind how often it comes; in place of that number may stand `A..B`, and the row holds for each of these numbers.
-//!   Behind them comes each list of `lists` letters in turn. `letter N LINE` is a line of letter `N`, which is the first of its lines that is enabled. Then the lines of
-//!   `rest LINE` are tried in turn, until none of them is enabled. `stored P K O I V`: program `P` has stored `V` in cell `I` of object `O` when it has completed `K`
+//!   Behind them comes each list of `lists` letters in turn. `letter N LINE` is a line of letter `N`, which is the first of its lines that is enabled; the letters stand in
+//!   order. Then the lines of `rest LINE` are tried in turn, until none of them is enabled. What is no line is never enabled. `stored P K O I V`: program `P` has stored `V` in cell `I` of object `O` when it has completed `K`
 //!   instructions. `result V`: whoever stops has this result. In each state all that can be seen of the machine is looked at: see `clauses`.
 //!
 //! A row names its `image`, or each of its images, and its numbers: `frames`, `objects`, `evacuators`, `fetchers`. `fails at N` has the call of this number of the
@@ -100,6 +100,27 @@ impl Kind {
     }
 }
 
+/// What is told of a run of this setting.
+fn tell_setting<R: Wait>(
+    rt: &R,
+    alloc: Global,
+    asked: Asked,
+    setting: &Setting<'_>,
+    shelf: &Shelf,
+) -> Result<String, AllocError> {
+    match asked {
+        Asked::Touches => touches::tell(alloc, shelf, setting),
+        Asked::Session => sessions::tell(rt, alloc, shelf, setting),
+        Asked::Schedule => schedules::tell(alloc, shelf, setting),
+        Asked::Steps => steps::tell(alloc, shelf, setting),
+        Asked::Random => random::tell(alloc, shelf, setting),
+        Asked::Admission => admissions::tell(alloc, shelf, setting),
+        Asked::Rounds => rounds::tell(rt, alloc, shelf, setting),
+        Asked::Forge => forging::tell(alloc, shelf, setting),
+        Asked::Walk => walks::tell(alloc, shelf, setting),
+    }
+}
+
 /// What is told of a run.
 fn tell_run<R: Wait>(
     rt: &R,
@@ -108,19 +129,9 @@ fn tell_run<R: Wait>(
     given: &[u8],
     shelf: &Shelf,
 ) -> Result<String, AllocError> {
-    let Some(setting) = Setting::of(alloc, given)? else {
-        return String::from_str(alloc, "a line that says nothing");
-    };
-    match asked {
-        Asked::Touches => touches::tell(alloc, shelf, &setting),
-        Asked::Session => sessions::tell(rt, alloc, shelf, &setting),
-        Asked::Schedule => schedules::tell(alloc, shelf, &setting),
-        Asked::Steps => steps::tell(alloc, shelf, &setting),
-        Asked::Random => random::tell(alloc, shelf, &setting),
-        Asked::Admission => admissions::tell(alloc, shelf, &setting),
-        Asked::Rounds => rounds::tell(rt, alloc, shelf, &setting),
-        Asked::Forge => forging::tell(alloc, shelf, &setting),
-        Asked::Walk => walks::tell(alloc, shelf, &setting),
+    match Setting::of(alloc, given)? {
+        Some(setting) => tell_setting(rt, alloc, asked, &setting, shelf),
+        None => String::from_str(alloc, "a line that says nothing"),
     }
 }
 
@@ -139,22 +150,36 @@ fn tell<R: Wait>(
     }
 }
 
-/// Shows the rows of which something else is told than what is wanted. Whether there is none.
+/// Shows the row if something else is told of it than what is wanted. Whether it is not shown.
+fn go_on<R: Wait, O: Write>(
+    rt: &R,
+    alloc: Global,
+    kind: Kind,
+    row: &Row,
+    shelf: &mut Shelf,
+    out: &mut O,
+) -> io::Result<bool> {
+    let told = tell(rt, alloc, kind, row, shelf)?;
+    let told = told.as_bytes();
+    compare(row, told.strip_suffix(b"\n").unwrap_or(told), out)
+}
+
+/// Shows the rows of which something else is told than what is wanted, and how many rows there are. Whether none is shown.
 fn go_through<R: Wait, O: Write>(
     rt: &R,
     alloc: Global,
     kind: Kind,
+    name: &str,
     rows: &[Row],
     shelf: &mut Shelf,
     out: &mut O,
 ) -> io::Result<bool> {
     let mut all = true;
     for row in rows {
-        let told = tell(rt, alloc, kind, row, shelf)?;
-        let told = told.as_bytes();
-        let told = told.strip_suffix(b"\n").unwrap_or(told);
-        all = compare(row, told, out)? && all;
+        all = go_on(rt, alloc, kind, row, shelf, out)? && all;
     }
+    let count = rows.len();
+    writeln!(out, "{name}: {count} rows")?;
     Ok(all)
 }
 
@@ -164,23 +189,47 @@ fn rows_of(rt: &HostRuntime, name: &str) -> io::Result<Vec<Row>> {
     Ok(rows(rt.alloc(), &text)?)
 }
 
+/// Goes through the rows of the file of this name. Whether none is shown.
+fn go_through_file<R: Wait, O: Write>(
+    rt: &R,
+    host: &HostRuntime,
+    kind: Kind,
+    name: &str,
+    shelf: &mut Shelf,
+    out: &mut O,
+) -> io::Result<bool> {
+    let rows = rows_of(host, name)?;
+    go_through(rt, host.alloc(), kind, name, &rows, shelf, out)
+}
+
+/// Goes through the rows of all files that the words name. The status.
+fn go_through_all<R: Wait, O: Write>(
+    rt: &R,
+    host: &HostRuntime,
+    words: &[String],
+    shelf: &mut Shelf,
+    out: &mut O,
+) -> io::Result<u8> {
+    let mut kind = Kind::Images;
+    let mut status = 0;
+    for word in words.iter().skip(1) {
+        let word = word.as_str();
+        match Kind::of(word) {
+            Some(other) => kind = other,
+            None => {
+                if !go_through_file(rt, host, kind, word, shelf, out)? {
+                    status = 1;
+                }
+            }
+        }
+    }
+    Ok(status)
+}
+
 fn main(rt: HostRuntime) -> io::Result<ExitCode> {
     let words: Vec<String> = env::args(&rt)?.collect(rt.alloc())?;
     let mut out = io::writer(&rt);
     let mut shelf = Shelf::new(rt.alloc());
-    let mut kind = Kind::Images;
-    let mut status = 0;
-    for word in words.iter().skip(1) {
-        if let Some(other) = Kind::of(word.as_str()) {
-            kind = other;
-            continue;
-        }
-        let rows = rows_of(&rt, word.as_str())?;
-        if !go_through(&rt, rt.alloc(), kind, &rows, &mut shelf, &mut out)? {
-            status = 1;
-        }
-        let count = rows.len();
-        writeln!(out, "{word}: {count} rows")?;
-    }
+    let status = go_through_all(&rt, &rt, &words, &mut shelf, &mut out)?;
     Ok(ExitCode::from(status))
 }

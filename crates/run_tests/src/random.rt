@@ -137,19 +137,39 @@ fn put_seed(
     }
 }
 
+/// For each seed of the setting the ends of the programs of these images.
+fn put_seeds(
+    alloc: Global,
+    text: &mut String,
+    images: &[Image],
+    setting: &Setting<'_>,
+) -> Result<(), AllocError> {
+    for seed in &setting.numbers {
+        writeln!(text, "seed {seed}")?;
+        put_seed(alloc, text, images, setting, *seed)?;
+    }
+    Ok(())
+}
+
+/// The same, told.
+fn tell_seeds(
+    alloc: Global,
+    images: &[Image],
+    setting: &Setting<'_>,
+) -> Result<String, AllocError> {
+    let mut told = String::new(alloc);
+    put_seeds(alloc, &mut told, images, setting)?;
+    Ok(told)
+}
+
 /// What is told of a row: for each of its seeds the ends of its programs.
 pub(crate) fn tell(
     alloc: Global,
     shelf: &Shelf,
     setting: &Setting<'_>,
 ) -> Result<String, AllocError> {
-    let Some(images) = setting.images(alloc, shelf)? else {
-        return String::from_str(alloc, "no such image");
-    };
-    let mut told = String::new(alloc);
-    for seed in &setting.numbers {
-        writeln!(told, "seed {seed}")?;
-        put_seed(alloc, &mut told, &images, setting, *seed)?;
+    match setting.images(alloc, shelf)? {
+        Some(images) => tell_seeds(alloc, &images, setting),
+        None => String::from_str(alloc, "no such image"),
     }
-    Ok(told)
 }

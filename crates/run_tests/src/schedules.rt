@@ -1,6 +1,6 @@
 //! Schedules, replayed.
 
-use crate::setting::{Setting, size_of};
+use crate::setting::{Repeated, Setting, size_of};
 use crate::shelf::Shelf;
 use crate::touches::put_output;
 use cells::Ended;
@@ -8,15 +8,27 @@ use std::alloc::{AllocError, Global};
 use std::fmt::Write;
 use world::replay;
 
-/// The lines of a row, each as often as it comes.
-fn schedule(alloc: Global, setting: &Setting<'_>) -> Result<String, AllocError> {
-    let mut text = String::new(alloc);
-    for repeated in &setting.lines {
-        for _ in 0..repeated.least {
-            text.push_str(repeated.line)?;
-            text.push('\n')?;
-        }
+/// A line, as often as it comes.
+fn put_line(text: &mut String, repeated: &Repeated<'_>) -> Result<(), AllocError> {
+    for _ in 0..repeated.often {
+        text.push_str(repeated.line)?;
+        text.push('\n')?;
     }
+    Ok(())
+}
+
+/// The lines of a row.
+fn put_lines(text: &mut String, lines: &[Repeated<'_>]) -> Result<(), AllocError> {
+    for line in lines {
+        put_line(text, line)?;
+    }
+    Ok(())
+}
+
+/// The same, as a text.
+fn schedule(alloc: Global, lines: &[Repeated<'_>]) -> Result<String, AllocError> {
+    let mut text = String::new(alloc);
+    put_lines(&mut text, lines)?;
     Ok(text)
 }
 
@@ -29,19 +41,26 @@ pub(crate) fn put_ended(text: &mut String, number: usize, ended: &Ended) -> Resu
 }
 
 /// The ends of programs.
+fn put_ends(text: &mut String, ends: &[Ended]) -> Result<(), AllocError> {
+    for (number, ended) in ends.iter().enumerate() {
+        put_ended(text, number, ended)?;
+    }
+    Ok(())
+}
+
+/// The same, told.
 fn tell_ends(alloc: Global, ends: &[Ended]) -> Result<String, AllocError> {
     let mut told = String::new(alloc);
-    for (number, ended) in ends.iter().enumerate() {
-        put_ended(&mut told, number, ended)?;
-    }
+    put_ends(&mut told, ends)?;
     Ok(told)
 }
 
-/// What is told of a row.
-pub(crate) fn tell(
+/// What is told of this schedule of a row.
+fn tell_schedule(
     alloc: Global,
     shelf: &Shelf,
     setting: &Setting<'_>,
+    schedule: &[u8],
 ) -> Result<String, AllocError> {
     let Some(images) = setting.images(alloc, shelf)? else {
         return String::from_str(alloc, "no such image");
@@ -55,9 +74,18 @@ pub(crate) fn tell(
     let Some(config) = setting.config(alloc, piece) else {
         return String::from_str(alloc, "numbers out of range");
     };
-    let schedule = schedule(alloc, setting)?;
-    match replay(alloc, images, &config, schedule.as_bytes()) {
+    match replay(alloc, images, &config, schedule) {
         Ok(report) => tell_ends(alloc, &report.ended),
         Err(refused) => format!(in alloc; "{refused}"),
     }
+}
+
+/// What is told of a row.
+pub(crate) fn tell(
+    alloc: Global,
+    shelf: &Shelf,
+    setting: &Setting<'_>,
+) -> Result<String, AllocError> {
+    let schedule = schedule(alloc, &setting.lines)?;
+    tell_schedule(alloc, shelf, setting, schedule.as_bytes())
 }

@@ -96,16 +96,13 @@ fn tell_image<R: Wait>(
     }
 }
 
-/// What is told of a row.
-pub(crate) fn tell<R: Wait>(
+/// What is told of the first of these images.
+fn tell_images<R: Wait>(
     rt: &R,
     alloc: Global,
-    shelf: &Shelf,
+    images: &[Image],
     setting: &Setting<'_>,
 ) -> Result<String, AllocError> {
-    let Some(images) = setting.images(alloc, shelf)? else {
-        return String::from_str(alloc, "no such image");
-    };
     let Some(image) = images.first() else {
         return String::from_str(alloc, "no image");
     };
@@ -113,4 +110,17 @@ pub(crate) fn tell<R: Wait>(
         return String::from_str(alloc, "more than four scopes");
     }
     tell_image(rt, alloc, image, setting)
+}
+
+/// What is told of a row.
+pub(crate) fn tell<R: Wait>(
+    rt: &R,
+    alloc: Global,
+    shelf: &Shelf,
+    setting: &Setting<'_>,
+) -> Result<String, AllocError> {
+    match setting.images(alloc, shelf)? {
+        Some(images) => tell_images(rt, alloc, &images, setting),
+        None => String::from_str(alloc, "no such image"),
+    }
 }

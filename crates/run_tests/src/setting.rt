@@ -9,15 +9,29 @@ use crate::shelf::Shelf;
 use cells::Piece;
 use code_form::Image;
 use remote_store::{Config, FarHeap, FaultPlan, FaultStores};
+use schedule_lines::line::read_line;
 use std::alloc::{AllocError, Global};
 use std::str::from_utf8;
+use world::{Actor, Choice};
 
-/// A line of a schedule, and the least and the greatest number of how often it comes.
+/// A line of a schedule, with its event if it is one, the least and the greatest number of how often it comes, and how often it does.
 #[derive(Clone, Copy)]
 pub struct Repeated<'a> {
     pub(crate) least: u32,
     pub(crate) most: u32,
+    pub(crate) often: u32,
     pub(crate) line: &'a str,
+    pub(crate) event: Option<(Actor, Choice)>,
+}
+
+/// What a cell of an object holds behind so many instructions of a program.
+#[derive(Clone, Copy)]
+pub struct Stored {
+    pub(crate) program: usize,
+    pub(crate) behind: u64,
+    pub(crate) object: u32,
+    pub(crate) index: usize,
+    pub(crate) value: u64,
 }
 
 /// What a row says of its run.
@@ -36,6 +50,7 @@ pub struct Setting<'a> {
     pub(crate) length: u32,
     pub(crate) result: u32,
     pub(crate) numbers: Vec<u64>,
+    pub(crate) stored: Vec<Stored>,
     pub(crate) lines: Vec<Repeated<'a>>,
     /// Lines of letters, whose least number is the letter's, and the lines that are tried behind all others.
     pub(crate) letters: Vec<Repeated<'a>>,
@@ -81,31 +96,58 @@ fn plan(words: &str) -> Option<FaultPlan> {
     }
 }
 
-/// A line that comes so often, where the word is a number or two.
-fn line_of<'a>(word: &str, line: &'a str) -> Option<Repeated<'a>> {
-    let (least, most) = match word.split_once("..") {
-        Some((least, most)) => (least, most),
-        None => (word, word),
-    };
-    Some(Repeated {
-        least: least.parse().ok()?,
-        most: most.parse().ok()?,
-        line,
-    })
+/// The event of a line, if it is one.
+fn event_of(alloc: Global, line: &str) -> Result<Option<(Actor, Choice)>, AllocError> {
+    let whole = format!(in alloc; "{line}\n")?;
+    match read_line(whole.as_bytes()) {
+        Some((actor, choice, _)) => Ok(Some((actor, choice))),
+        None => Ok(None),
+    }
+}
+
+/// The numbers that this word is: one twice, or two.
+fn bounds_of(word: &str) -> Option<(u32, u32)> {
+    match word.split_once("..") {
+        Some((least, most)) => Some((least.parse().ok()?, most.parse().ok()?)),
+        None => {
+            let often = word.parse().ok()?;
+            Some((often, often))
+        }
+    }
 }
 
 /// A line more, where the word is a number or two. Whether it is.
 fn put_line<'a>(
+    alloc: Global,
     lines: &mut Vec<Repeated<'a>>,
     word: &str,
     line: &'a str,
 ) -> Result<bool, AllocError> {
-    match line_of(word, line) {
-        Some(repeated) => {
-            lines.push(repeated)?;
-            Ok(true)
-        }
-        None => Ok(false),
+    let Some((least, most)) = bounds_of(word) else {
+        return Ok(false);
+    };
+    let event = event_of(alloc, line)?;
+    lines.push(Repeated {
+        least,
+        most,
+        often: least,
+        line,
+        event,
+    })?;
+    Ok(true)
+}
+
+/// What is stored as these five numbers say.
+fn stored_of(numbers: &[u64]) -> Option<Stored> {
+    match numbers {
+        [program, behind, object, index, value] => Some(Stored {
+            program: *program as usize,
+            behind: *behind,
+            object: u32::try_from(*object).ok()?,
+            index: *index as usize,
+            value: *value,
+        }),
+        _ => None,
     }
 }
 
@@ -126,6 +168,7 @@ impl<'a> Setting<'a> {
             length: 0,
             result: 0,
             numbers: Vec::new(alloc),
+            stored: Vec::new(alloc),
             lines: Vec::new(alloc),
             letters: Vec::new(alloc),
             rest: Vec::new(alloc),
@@ -143,8 +186,23 @@ impl<'a> Setting<'a> {
         Ok(true)
     }
 
+    /// What a program stored. Whether these words are the five numbers of it.
+    fn add_stored(&mut self, words: &str) -> Result<bool, AllocError> {
+        self.numbers.clear();
+        if !self.add_numbers(words)? {
+            return Ok(false);
+        }
+        match stored_of(&self.numbers) {
+            Some(stored) => {
+                self.stored.push(stored)?;
+                Ok(true)
+            }
+            None => Ok(false),
+        }
+    }
+
     /// What this line says more. Whether it says something.
-    fn add(&mut self, line: &'a str) -> Result<bool, AllocError> {
+    fn add(&mut self, alloc: Global, line: &'a str) -> Result<bool, AllocError> {
         let (word, rest) = line.split_once(' ').unwrap_or((line, ""));
         match word {
             "image" => {
@@ -159,7 +217,8 @@ impl<'a> Setting<'a> {
             "quantum" => Ok(set(&mut self.quantum, rest)),
             "lists" => Ok(set(&mut self.length, rest)),
             "result" => Ok(set(&mut self.result, rest)),
-            "loads" | "runs" | "seeds" | "budgets" | "stored" | "forged" => self.add_numbers(rest),
+            "loads" | "runs" | "seeds" | "budgets" | "forged" => self.add_numbers(rest),
+            "stored" => self.add_stored(rest),
             "held" => {
                 self.held = true;
                 Ok(true)
@@ -175,27 +234,36 @@ impl<'a> Setting<'a> {
                 }
                 None => Ok(false),
             },
-            "rest" => put_line(&mut self.rest, "1", rest),
+            "rest" => put_line(alloc, &mut self.rest, "1", rest),
             "letter" => {
                 let (number, line) = rest.split_once(' ').unwrap_or((rest, ""));
-                put_line(&mut self.letters, number, line)
+                put_line(alloc, &mut self.letters, number, line)
             }
-            _ => put_line(&mut self.lines, word, rest),
+            _ => put_line(alloc, &mut self.lines, word, rest),
         }
+    }
+
+    /// What the lines of this text say more. Whether each says something.
+    fn add_all(&mut self, alloc: Global, text: &'a [u8]) -> Result<bool, AllocError> {
+        for line in text.split(|byte| *byte == b'\n') {
+            let Ok(line) = from_utf8(line) else {
+                return Ok(false);
+            };
+            if !self.add(alloc, line)? {
+                return Ok(false);
+            }
+        }
+        Ok(true)
     }
 
     /// What the lines of this text say. None where one of them says nothing.
     pub(crate) fn of(alloc: Global, text: &'a [u8]) -> Result<Option<Setting<'a>>, AllocError> {
         let mut setting = Setting::new(alloc);
-        for line in text.split(|byte| *byte == b'\n') {
-            let Ok(line) = from_utf8(line) else {
-                return Ok(None);
-            };
-            if !setting.add(line)? {
-                return Ok(None);
-            }
+        if setting.add_all(alloc, text)? {
+            Ok(Some(setting))
+        } else {
+            Ok(None)
         }
-        Ok(Some(setting))
     }
 
     /// The bytes of the first image that it names, if that is there.

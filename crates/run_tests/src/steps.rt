@@ -6,7 +6,6 @@ use crate::setting::{Repeated, Setting};
 use crate::shelf::Shelf;
 use code_form::Image;
 use remote_store::RawStore;
-use schedule_lines::line::read_line;
 use std::alloc::{AllocError, Global};
 use std::fmt::Write;
 use world::{Actor, Choice, Step, World};
@@ -34,16 +33,15 @@ fn put_object<S: RawStore>(text: &mut String, world: &World<'_, S>) -> Result<()
 
 /// Takes the steps of a line, and tells where object 0 is then.
 fn put_line<S: RawStore>(
-    alloc: Global,
     text: &mut String,
     world: &mut World<'_, S>,
-    line: &str,
-    count: u32,
+    line: &Repeated<'_>,
+    more: u32,
 ) -> Result<(), AllocError> {
-    let whole = format!(in alloc; "{line}\n")?;
-    let Some((actor, choice, _)) = read_line(whole.as_bytes()) else {
+    let Some((actor, choice)) = line.event else {
         return text.push_str("no line\n");
     };
+    let count = line.least.saturating_add(more).min(line.most);
     let taken = take(world, actor, choice, count);
     if taken < count {
         write!(text, "{taken} taken, ")?;
@@ -64,20 +62,32 @@ pub(crate) fn put_ends<S: RawStore>(
 }
 
 /// Takes the steps of these lines, of which each comes so many more times than its least: where object 0 is before and behind each, and how the programs end.
-fn tell_steps<S: RawStore>(
+fn put_steps<S: RawStore>(
     alloc: Global,
+    text: &mut String,
     world: &mut World<'_, S>,
     lines: &[Repeated<'_>],
     more: u32,
-) -> Result<String, AllocError> {
-    let mut told = String::new(alloc);
-    put_object(&mut told, world)?;
-    for repeated in lines {
-        let count = repeated.least.saturating_add(more).min(repeated.most);
-        put_line(alloc, &mut told, world, repeated.line, count)?;
+) -> Result<(), AllocError> {
+    put_object(text, world)?;
+    for line in lines {
+        put_line(text, world, line, more)?;
     }
-    put_ends(alloc, &mut told, world)?;
-    Ok(told)
+    put_ends(alloc, text, world)
+}
+
+/// The same in a world of these images.
+fn put_images(
+    alloc: Global,
+    text: &mut String,
+    images: &[Image],
+    setting: &Setting<'_>,
+    more: u32,
+) -> Result<(), AllocError> {
+    match open(alloc, images, setting) {
+        Some(mut world) => put_steps(alloc, text, &mut world, &setting.lines, more),
+        None => text.push_str("no world"),
+    }
 }
 
 /// What is told of these images where a line that comes in several numbers comes in its least and so many more.
@@ -87,10 +97,9 @@ fn tell_images(
     setting: &Setting<'_>,
     more: u32,
 ) -> Result<String, AllocError> {
-    match open(alloc, images, setting) {
-        Some(mut world) => tell_steps(alloc, &mut world, &setting.lines, more),
-        None => String::from_str(alloc, "no world"),
-    }
+    let mut told = String::new(alloc);
+    put_images(alloc, &mut told, images, setting, more)?;
+    Ok(told)
 }
 
 /// How many numbers the line comes in, but for one.
@@ -102,22 +111,41 @@ fn more(lines: &[Repeated<'_>]) -> u32 {
     more
 }
 
-/// What is told of a row, for each number in which its line comes. Where one differs from the first, that is told too.
+/// Tells where one of these numbers differs from the first, of which this is told.
+fn put_other(
+    alloc: Global,
+    first: &mut String,
+    images: &[Image],
+    setting: &Setting<'_>,
+) -> Result<(), AllocError> {
+    for more in 1..=more(&setting.lines) {
+        let other = tell_images(alloc, images, setting, more)?;
+        if other != *first {
+            return write!(first, "and with {more} more:\n{other}");
+        }
+    }
+    Ok(())
+}
+
+/// What is told of these images, for each number in which a line comes. Where one differs from the first, that is told too.
+fn tell_numbers(
+    alloc: Global,
+    images: &[Image],
+    setting: &Setting<'_>,
+) -> Result<String, AllocError> {
+    let mut first = tell_images(alloc, images, setting, 0)?;
+    put_other(alloc, &mut first, images, setting)?;
+    Ok(first)
+}
+
+/// What is told of a row.
 pub(crate) fn tell(
     alloc: Global,
     shelf: &Shelf,
     setting: &Setting<'_>,
 ) -> Result<String, AllocError> {
-    let Some(images) = setting.images(alloc, shelf)? else {
-        return String::from_str(alloc, "no such image");
-    };
-    let mut first = tell_images(alloc, &images, setting, 0)?;
-    for more in 1..=more(&setting.lines) {
-        let other = tell_images(alloc, &images, setting, more)?;
-        if other != first {
-            write!(first, "and with {more} more:\n{other}")?;
-            return Ok(first);
-        }
+    match setting.images(alloc, shelf)? {
+        Some(images) => tell_numbers(alloc, &images, setting),
+        None => String::from_str(alloc, "no such image"),
     }
-    Ok(first)
 }

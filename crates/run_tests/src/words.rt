@@ -77,7 +77,7 @@ fn is_movers(old: u64, new: u64, mover: u64, owns: bool) -> bool {
     begins || retreats || arrives || is_movers_here(old, new, hand)
 }
 
-/// Whether the actor that is this mover, and owns the object or does not, may make this change of its word: it makes none, or a lawful one.
+/// Whether the actor that is this mover, and owns the object or does not, may make this change of its word.
 pub(crate) fn is_lawful(old: u64, new: u64, mover: u64, owns: bool) -> bool {
-    old == new || owns && is_owners(old, new) || is_movers(old, new, mover, owns)
+    owns && is_owners(old, new) || is_movers(old, new, mover, owns)
 }
