@@ -17,7 +17,7 @@ use Rattle.command_line.specs.Help.{asks_version, behind, help_text, version_tex
 use Rattle.command_line.specs.Shell.{Check, Command, Compiling, Mean, Names, Replay, Run, Texts}
 use Rattle.command_line.specs.Shell as shell
 use Rattle.c0far.specs.Statuses.{ended_status}
-use Rattle.c0far.specs.Streams.{IsQuiet, Says, Writes}
+use Rattle.streams.specs.Streams.{IsQuiet, Says, Writes}
 
 -- the program of the file's text keeps the static rules of this level
 pub record HasPassed (loops : Bool) (held : Known) (out err : Writes) (result : ℕ) : Type 0 where

@@ -8,4 +8,3 @@ pub mod Replays
 pub mod Runs
 pub mod Shown
 pub mod Statuses
-pub mod Streams

@@ -11,7 +11,7 @@ mod replacing;
 mod replays;
 mod runs;
 pub mod say;
-pub mod stream;
 
 pub use command_line::{line, words};
 pub use laws::replays_never_fail;
+pub use streams as stream;

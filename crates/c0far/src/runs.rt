@@ -5,12 +5,11 @@ ghost use Rattle.executor.specs.Ends.{AreEnds};
 ghost use Rattle.region.specs.Admission.{IsAdmitted, IsDenied, IsRefused, IsWithinWork, image_at};
 ghost use Rattle.world_semantics.specs.Pieces.{piece_of as first_piece};
 ghost use Rattle.c0far.specs.Runs.{RanOver, Runs};
-ghost use Rattle.c0far.specs.Streams.{writes};
+ghost use Rattle.streams.specs.Streams.{writes};
 
 use crate::code::codes_of;
 use crate::files::Files;
 use crate::say::{say_admission, say_ends};
-use crate::stream::Stream;
 use cells::Ended;
 use command_line::words::Run;
 use executor::{OpenGate, run_all};
@@ -22,6 +21,7 @@ use std::alloc::Global;
 use std::sync::Wait;
 use std::thread::Threads;
 use std::time::Clock;
+use streams::Stream;
 
 /// Runs these programs over these stores.
 fn run_with<W: Wait + Threads + Clock + Sync, M: Stores + Drop>(

@@ -9,14 +9,14 @@ ghost use Rattle.c0far.specs.Runs.{SaysFault};
 ghost use Rattle.c0far.specs.Shown.{StandsAt, ends_status, is_open, newline, shown_end, shown_ends, shown_fault, shown_from, shown_program};
 ghost use Rattle.c0far.specs.Statuses.{run_status};
 ghost use Rattle.c0far.specs.FileTexts.{HasText, Known};
-ghost use Rattle.c0far.specs.Streams.{IsQuiet, IsWritten, Says, Writes, writes};
+ghost use Rattle.streams.specs.Streams.{IsQuiet, IsWritten, Says, Writes, writes};
 
-use crate::stream::{Failed, Stream};
 use c0_source::fault::Fault;
 use c0_source::position::{Position, line_column};
 use c0_syntax::level::Level;
 use cells::{Ended, Run, Stop};
 use region::AdmitFault;
+use streams::{Failed, Stream};
 
 /// Some program has stopped otherwise than by a result.
 pub const STOPPED: u8 = 1;
