@@ -10,6 +10,7 @@ ghost use Rattle.streams.specs.Streams.{Says, writes};
 use crate::code::{code_of, is_image_name, unchecked};
 use crate::files::{FileError, Files};
 use crate::images::{build, list};
+use crate::lives::run_live;
 use crate::plain::{Bound, mean};
 use crate::replays::replay;
 use crate::runs::run;
@@ -180,6 +181,7 @@ pub fn drive<W: Wait + Threads + Clock + Sync, F: Files, O: Stream, E: Stream>(
                 files: names,
             },
         ) => run(alloc, rt, asked, &names, files, out, err),
+        Ok(Line::Live { asked, file }) => run_live(alloc, rt, asked, file, files, out, err),
         Err(Usage::Refused) => answer(out, err, words),
         Err(Usage::OutOfMemory) => say_memory(err),
     }

@@ -6,6 +6,7 @@ pub mod drive;
 pub mod files;
 mod images;
 mod laws;
+mod lives;
 mod plain;
 mod replacing;
 mod replays;
@@ -13,5 +14,5 @@ mod runs;
 pub mod say;
 
 pub use command_line::{line, words};
-pub use laws::replays_never_fail;
+pub use laws::{live_shows_the_same, replays_never_fail};
 pub use streams as stream;

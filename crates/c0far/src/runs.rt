@@ -92,7 +92,7 @@ fn run_programs<W: Wait + Threads + Clock + Sync, F: Files>(
 }
 
 /// Whether these programs are admitted to the memory, the movers and the workers that are asked for.
-fn fits_asked(programs: &[Verified], asked: Run<'_>) -> Result<(), AdmitFault>
+pub(crate) fn fits_asked(programs: &[Verified], asked: Run<'_>) -> Result<(), AdmitFault>
     ensures { MatchResult result (λ _. IsAdmitted programs.now asked.entry.memory.frames asked.entry.memory.objects asked.entry.evacuators asked.entry.fetchers × IsWithinWork asked.entry.work.workers asked.entry.work.quantum)
         (λ fault. IsRefused programs.now asked.entry.memory.frames asked.entry.memory.objects asked.entry.evacuators asked.entry.fetchers asked.entry.work.workers asked.entry.work.quantum fault) }
 {
