@@ -106,7 +106,7 @@ same_shown out e printed result whole written sound status =
 
 pub shows_the_same : LiveShowsTheSame
 shows_the_same h asked file held out err result honest ran = elim ran.shown [
-  inl s ↦ inl (record {
+  | inl s ↦ inl (record {
     programs = ran.programs;
     codes = ran.codes;
     admitted = ran.admitted;

@@ -38,6 +38,6 @@ grown add grows reliable n s t r from to told =
     let less : s.completed ≤ t.completed = completed_more reliable n s t r told in
     let many : t.completed ≡ s.completed + k = omega arith in
     let reached : t.core ≡ (steps (code C) k z).0 =
-        to.core ∙ ap (λ (D : Image). (code_run (code D) t.completed).0) image ∙ ap (λ m. (code_run (code C) m).0) many ∙ ap (λ (w : Core × Heap). w.0) (add (code C) s.completed k ((code C).start, λ _ _. 0)) in
+    to.core ∙ ap (λ (D : Image). (code_run (code D) t.completed).0) image ∙ ap (λ m. (code_run (code C) m).0) many ∙ ap (λ (w : Core × Heap). w.0) (add (code C) s.completed k ((code C).start, λ _ _. 0)) in
     subst (λ (c : Core). IsPrefix (output_of s.core) (output_of c)) (sym reached)
     (subst (λ (c : Core). IsPrefix (output_of c) (output_of (steps (code C) k z).0)) (sym from.core) (grows C k z))
