@@ -7,8 +7,10 @@ the line says.
 import os
 import resource
 import shutil
+import signal
 import struct
 import subprocess
+import threading
 
 from process import want
 
@@ -18,6 +20,8 @@ SEVEN = "int main() { return 7; }\n"
 UNKNOWN = "int main() { return x; }\n"
 PRINTS = '#use <conio>\nint main() { print("one"); println(" two"); printint(-3); printchar(\'\\n\'); printbool(true); println(""); return 0; }\n'
 PRINTED = "one two\n-3\ntrue\n"
+ENDLESS = '#use <conio>\nint main() { int i = 0; while (true) { printint(i); println(""); i = i + 1; } return 0; }\n'
+SILENT = '#use <conio>\nint main() { println("begun"); while (true) { } return 0; }\n'
 CONTRACT = "int f(int x) //@requires x > 0;\n{ return x; }\nint main() { return f(0); }\n"
 LEVEL_ONE = "int main() { int i = 0; while (true) { i = i + 1; if (i == 5) { break; } } return i; }\n"
 # ten objects are read and one is written in turn, which is held in the second frame, or in the first one
@@ -76,6 +80,15 @@ SCENES = (
         ("run --workers 1 --quantum 1 --evacuators 0 --fetchers 0 a.c0 a.c0", 0, "program 0:\nresult: 7\nprogram 1:\nresult: 7\n", "", ()),
         ("run --frames 1 a.c0", 2, "", "too small: need 2 have 1\n", ()),
         ("run --evacuators 65 a.c0", 2, "", "too many\n", ()),
+    )),
+    ("runs whose output comes as it is printed", {"a.c0": SEVEN, "p.c0": PRINTS, "c.c0": CONTRACT, "s/file": "kept"}, (
+        ("run --live a.c0", 0, "result: 7\n", "", ()),
+        ("run --live p.c0", 0, PRINTED + "result: 0\n", "", ()),
+        ("run --live --quantum 1 p.c0", 0, PRINTED + "result: 0\n", "", ()),
+        ("run --live -d c.c0", 1, "assertion failed\n", "", ()),
+        ("run --live --frames 1 a.c0", 2, "", "too small: need 2 have 1\n", ()),
+        ("build -o p.c0i p.c0", 0, "", "", ("p.c0i",)),
+        ("run --live --store s p.c0i", 0, PRINTED + "result: 0\n", "", ()),
     )),
     ("an object is held while others come and go in the one other frame", {"a.c0": HELD_BEHIND, "b.c0": HELD_BEFORE}, (
         ("run --frames 2 --evacuators 0 --fetchers 0 a.c0", 0, "result: 204480\n", "", ()),
@@ -300,10 +313,41 @@ def a_full_disk(it):
 
 def output_that_nobody_takes(it):
     it.write("p.c0", PRINTS)
-    for words in ("run p.c0", "mean --turns 9 p.c0", "check p.c0", "list p.c0"):
+    it.write("endless.c0", ENDLESS)
+    for words in ("run p.c0", "run --live p.c0", "run --live endless.c0", "mean --turns 9 p.c0", "check p.c0", "list p.c0"):
         with open("/dev/full", "wb") as full:
             ran = subprocess.run([it.program, *words.split()], cwd=it.folder, stdout=full, stderr=subprocess.PIPE, stdin=subprocess.DEVNULL, timeout=60, check=False)
         want(ran.returncode == 2, f"{words} gave {ran.returncode}, {ran.stderr}")
+
+
+def read_while_it_runs(it, words, lines):
+    """Reads these lines of a program that never ends, and interrupts it then; what it wrote besides."""
+    ran = subprocess.Popen([it.program, *words.split()], cwd=it.folder, stdout=subprocess.PIPE, stderr=subprocess.PIPE, stdin=subprocess.DEVNULL)
+    with ran:
+        watch = threading.Timer(60, ran.kill)
+        watch.start()
+        try:
+            read = [ran.stdout.readline() for _ in lines]
+            want(read == lines, f"{words} wrote {read[:3]} ..")
+            want(ran.poll() is None, f"{words} has ended")
+            ran.send_signal(signal.SIGINT)
+            rest, err = ran.communicate()
+        finally:
+            watch.cancel()
+            ran.kill()
+    want((ran.returncode, err) == (-signal.SIGINT, b""), f"{words} gave {ran.returncode}, {err}")
+    return rest
+
+
+def lines_of_a_program_without_an_end(it):
+    """They are there while it runs, and an interrupt leaves them."""
+    it.write("silent.c0", SILENT)
+    it.write("endless.c0", ENDLESS)
+    want(read_while_it_runs(it, "run --live silent.c0", [b"begun\n"]) == b"", "silent.c0 wrote more")
+    for words in ("run --live endless.c0", "run --live --quantum 1 endless.c0"):
+        rest = read_while_it_runs(it, words, [f"{number}\n".encode() for number in range(100)])
+        whole = "".join(f"{number}\n" for number in range(100, 100 + len(rest))).encode()
+        want(whole.startswith(rest), f"{words} wrote {rest[:40]} ..")
 
 
 TESTS = [
@@ -317,4 +361,5 @@ TESTS = [
     a_limit_of_the_size_of_files,
     a_full_disk,
     output_that_nobody_takes,
+    lines_of_a_program_without_an_end,
 ]

@@ -322,6 +322,10 @@ def running(file, name, checks=False):
     return Row(f"run {file}", ("run", *flags(checks), *room(name), file), (name,), checks, shows=True)
 
 
+def lived(file, name):
+    return Row(f"run --live {file}", ("run", "--live", *room(name), file), (name,), shows=True)
+
+
 def replayed(file, name, checks=False):
     """Some lines, enough for the end of all but the list."""
     lines = "13 p0; p0 claim 0; 83 p0; p0 claim 1; 65 p0" if name == "list" else f"{LINES[name][checks]} p0"
@@ -338,7 +342,7 @@ def compiled():
 def run():
     """The commands that run compiled texts."""
     both = [row(f"{name}.c0", name, checks) for name in ROWS for checks in (False, True) for row in (running, replayed)]
-    return both + [running(f"{name}.c0", name) for name in OTHERS]
+    return both + [running(f"{name}.c0", name) for name in OTHERS] + [lived(f"{name}.c0", name) for name in (*ROWS, *OTHERS)]
 
 
 def images():

@@ -3,7 +3,7 @@ use Rattle.std.proofs.Common.{◌≡◌, ℕ, Bool, true, false, List, subst}
 use Rattle.clap.specs.Words.{Text}
 use Rattle.command_line.specs.Help.{asks_version, behind, help_text, version_text}
 use Rattle.c0far.specs.Driven.{Answers}
-use Rattle.c0far.specs.Streams.{IsQuiet, Says, Writes}
+use Rattle.streams.specs.Streams.{IsQuiet, Says, Writes}
 
 -- what is told of the words, where it is so whether they ask for it
 abbrev told : List Text → Writes → Writes → ℕ → Bool → Type 0

@@ -11,7 +11,7 @@ use Rattle.c0far.specs.FileCode.{AreCodes, HoldsCode, HoldsImage, HoldsText, nam
 use Rattle.c0far.specs.FileTexts.{Known}
 use Rattle.c0far.specs.NoCode.{HasNoCode, LacksCode, LacksMemory}
 use Rattle.c0far.specs.Replays.{Replays}
-use Rattle.c0far.specs.Streams.{Held, IsQuiet, Says, Writes, writes}
+use Rattle.streams.specs.Streams.{Held, IsQuiet, Says, Writes, writes}
 
 held_fits : ImagesAreEncodable → (compiling : Compiling) (held : Known) (C : Image) (b : Bool) → elim b as (λ x. Type 0) [ true ↦ HoldsImage held C | false ↦ HoldsText compiling held C ] → IsEncodable C
 held_fits law compiling held C true h = h.is.0

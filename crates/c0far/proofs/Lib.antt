@@ -1,5 +1,6 @@
 pub mod Answered
 pub mod Codes
+pub mod Lived
 pub mod Memory
 pub mod Moved
 pub mod NoCode

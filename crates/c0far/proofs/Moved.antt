@@ -3,7 +3,7 @@ use Rattle.std.proofs.Common.{◌≡◌, ◌≢◌, ◌∙◌, ℕ, List, subst}
 use Rattle.command_line.specs.Shell.{Compiling}
 use Rattle.c0far.specs.Driven.{Builds, KeepsFiles, WritesOnly}
 use Rattle.c0far.specs.FileTexts.{Known}
-use Rattle.c0far.specs.Streams.{Writes}
+use Rattle.streams.specs.Streams.{Writes}
 
 pub built_at : (held now : List ℕ → Known) (f g : List ℕ) (c d : Compiling) (t u : List ℕ) (out err : Writes) (result : ℕ) → f ≡ g → c ≡ d → t ≡ u
     → Builds f c t (held f) (held t) (now t) out err result → Builds g d u (held g) (held u) (now u) out err result

@@ -5,7 +5,7 @@ use Rattle.c0far.specs.Driven.{Checks, ChecksImage, ChecksText}
 use Rattle.c0far.specs.NoCode.{HasFailed, HasNoCode, IsUnfit, LacksMemory}
 use Rattle.c0far.specs.FileCode.{names_image}
 use Rattle.c0far.specs.FileTexts.{Known}
-use Rattle.c0far.specs.Streams.{Writes}
+use Rattle.streams.specs.Streams.{Writes}
 
 -- a text that is refused has no code
 pub no_text : (loops : Bool) (file : List ℕ) (held : Known) (out err : Writes) (status : ℕ) → false ≡ names_image file → HasFailed loops file held out err status ⊎ LacksMemory out err status → HasNoCode loops file held out err status

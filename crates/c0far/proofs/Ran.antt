@@ -27,7 +27,7 @@ ends_less r s objects C c (Wanted OutOfMemory) less h = h
 ends_less r s objects C c (Wanted StoreFailed) less h = (h.0, λ reliable. h.1 (less reliable))
 
 -- a store that is reliable in fewer cases
-executed_less : (r s : Type 0) (objects : ℕ) (C : Image) (e : Ended) → (s → r) → IsExecutedOver r objects C e → IsExecutedOver s objects C e
+pub executed_less : (r s : Type 0) (objects : ℕ) (C : Image) (e : Ended) → (s → r) → IsExecutedOver r objects C e → IsExecutedOver s objects C e
 executed_less r s objects C e less h = record { going = h.going; few = h.few; output = h.output; ends = ends_less r s objects C _ e.run less h.ends }
 
 -- a store that is honest and reliable in fewer cases

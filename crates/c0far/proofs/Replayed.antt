@@ -8,7 +8,7 @@ use Rattle.world_semantics.specs.Worlds.{Event, Follows, Sizes, World, start}
 use Rattle.c0far.specs.FileTexts.{Known}
 use Rattle.c0far.specs.Replays.{Replays, ReplaysOver}
 use Rattle.c0far.specs.Runs.{IsHonestIn}
-use Rattle.c0far.specs.Streams.{Writes}
+use Rattle.streams.specs.Streams.{Writes}
 
 -- in what follows the store is honest in fewer cases, and reliable in fewer
 module _ (h i r s : Type 0) (honest : i → h) (reliable : s → r) where

@@ -9,15 +9,16 @@ use Rattle.image_bytes.specs.Bytes.{image_bytes}
 use Rattle.image_listing.specs.Listing.{listing}
 use Rattle.c0far.specs.FileCode.{HoldsCode, names_image, unchecked}
 use Rattle.c0far.specs.FileTexts.{HasText, Known}
+use Rattle.c0far.specs.Lives.{RunsLive}
 use Rattle.c0far.specs.NoCode.{HasFailed, HasNoCode, IsUnread, LacksMemory}
 use Rattle.c0far.specs.Replays.{Replays}
 use Rattle.c0far.specs.Runs.{Runs}
 use Rattle.c0far.specs.Shown.{newline, shown_meaning}
 use Rattle.command_line.specs.Help.{asks_version, behind, help_text, version_text}
-use Rattle.command_line.specs.Shell.{Check, Command, Compiling, Mean, Names, Replay, Run, Texts}
+use Rattle.command_line.specs.Shell.{Check, Command, Compiling, Live, Mean, Names, Replay, Run, Texts}
 use Rattle.command_line.specs.Shell as shell
 use Rattle.c0far.specs.Statuses.{ended_status}
-use Rattle.c0far.specs.Streams.{IsQuiet, Says, Writes}
+use Rattle.streams.specs.Streams.{IsQuiet, Says, Writes}
 
 -- the program of the file's text keeps the static rules of this level
 pub record HasPassed (loops : Bool) (held : Known) (out err : Writes) (result : ℕ) : Type 0 where
@@ -110,6 +111,7 @@ Does honest held now (shell.Lists loops piece file) out err result = Lists loops
 Does honest held now (Mean texts turns file) out err result = Means file texts turns (held file) out err result × KeepsFiles held now
 Does honest held now (Replay asked files) out err result = Replays honest asked files held out err result × KeepsFiles held now
 Does honest held now (Run asked files) out err result = Runs honest asked files held out err result × KeepsFiles held now
+Does honest held now (Live asked file) out err result = RunsLive honest asked file held out err result × KeepsFiles held now
 
 -- the number of this version is told where the words ask for it; of others it is told what is refused, and a page of help is shown
 abbrev pub Answers : List Text → Writes → Writes → ℕ → Type 0

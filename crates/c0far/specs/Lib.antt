@@ -1,6 +1,7 @@
 pub mod Driven
 pub mod FileCode
 pub mod FileTexts
+pub mod Lives
 pub mod MeantLines
 pub mod MemTexts
 pub mod NoCode
@@ -8,4 +9,3 @@ pub mod Replays
 pub mod Runs
 pub mod Shown
 pub mod Statuses
-pub mod Streams

@@ -19,7 +19,7 @@ use Rattle.command_line.specs.Shell.{Compiling}
 use Rattle.c0far.specs.FileCode.{AreCodes, names_image}
 use Rattle.c0far.specs.FileTexts.{HasText, IsMissing, Known}
 use Rattle.c0far.specs.Shown.{StandsAt, newline, shown_fault}
-use Rattle.c0far.specs.Streams.{IsQuiet, Says, Writes}
+use Rattle.streams.specs.Streams.{IsQuiet, Says, Writes}
 
 -- the file was not read
 pub record IsUnread (file : Text) (held : Known) (out err : Writes) (result : ℕ) : Type 0 where

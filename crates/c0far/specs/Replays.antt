@@ -18,7 +18,7 @@ use Rattle.c0far.specs.FileTexts.{HasText, Known}
 use Rattle.c0far.specs.NoCode.{IsUnread, LacksCode, LacksMemory}
 use Rattle.c0far.specs.Runs.{IsHonestIn, IsReliableIn, SaysFault}
 use Rattle.c0far.specs.Shown.{ends_status, newline, shown_ends}
-use Rattle.c0far.specs.Streams.{IsQuiet, Says, Writes}
+use Rattle.streams.specs.Streams.{IsQuiet, Says, Writes}
 
 -- in what follows the store is honest where h holds and never fails where r holds, this is asked for these files, and files hold this
 module _ (h r : Type 0) (asked : Replayed) (files : List Text) (held : Text → Known) where

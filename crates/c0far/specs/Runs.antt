@@ -13,7 +13,7 @@ use Rattle.c0far.specs.FileCode.{AreCodes}
 use Rattle.c0far.specs.FileTexts.{Known}
 use Rattle.c0far.specs.NoCode.{LacksCode, LacksMemory}
 use Rattle.c0far.specs.Shown.{ends_status, newline, shown_ends}
-use Rattle.c0far.specs.Streams.{IsQuiet, Says, Writes}
+use Rattle.streams.specs.Streams.{IsQuiet, Says, Writes}
 
 -- the store, in memory or in this folder, is honest: one in memory always is, one in files where folders are
 abbrev pub IsHonestIn : Type 0 → Option Text → Type 0

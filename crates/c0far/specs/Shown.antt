@@ -23,9 +23,13 @@ is_open_at (Some byte) = not (byte == 10)
 abbrev pub is_open : List ℕ → Bool
 is_open bytes = is_open_at (slice_get bytes (length bytes - 1))
 
+-- behind what a program printed: its last line is finished, and then comes the line of its end
+abbrev pub shown_rest : Ended → List ℕ
+shown_rest e = cond (is_open e.output.items) newline [] ++ (run_line e.run ++ newline)
+
 -- what a program printed, with its last line finished, and then the line of its end
 abbrev pub shown_end : Ended → List ℕ
-shown_end e = e.output.items ++ (cond (is_open e.output.items) newline [] ++ (run_line e.run ++ newline))
+shown_end e = e.output.items ++ shown_rest e
 
 -- the end of program number k, of several
 abbrev pub shown_program : ℕ → Ended → List ℕ

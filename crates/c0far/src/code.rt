@@ -10,14 +10,13 @@ ghost use Rattle.c0far.specs.NoCode.{HasFailed, HasNoCode, IsUnfit, LacksCode, L
 ghost use Rattle.c0far.specs.Shown.{newline};
 ghost use Rattle.c0far.specs.FileCode.{AreCodes, HoldsCode, names_image, unchecked as unchecked_code};
 ghost use Rattle.c0far.specs.FileTexts.{HasText, IsMissing, Known};
-ghost use Rattle.c0far.specs.Streams.{IsQuiet, Says, Writes, writes};
+ghost use Rattle.streams.specs.Streams.{IsQuiet, Says, Writes, writes};
 ghost use Rattle.command_line.specs.Shell.{compiling_of};
 ghost use Rattle.instruction_table.specs.FaultNumbers.{fault_line as image_line};
 ghost use Rattle.scope_verifier_laws.specs.FaultNumbers.{fault_line as verify_line};
 
 use crate::files::{FileError, Files};
 use crate::say::{REFUSED, after, say_memory, say_refused, say_unread};
-use crate::stream::Stream;
 use c0_image::compile;
 use c0_source::fault::FaultKind;
 use c0_syntax::level::Level;
@@ -28,6 +27,7 @@ use instruction_table::ImageFault;
 use scope_verifier::{Verified, verify};
 use scope_verifier_laws::VerifyFault;
 use std::alloc::Global;
+use streams::Stream;
 
 /// Code of texts at this level, with no contracts checked, for pieces of this size.
 pub fn unchecked(level: Level, piece: Piece) -> Compiling

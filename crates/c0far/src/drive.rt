@@ -5,16 +5,16 @@ ghost use Rattle.command_line.specs.Help.{help_text, version_text};
 ghost use Rattle.c0far.specs.Driven.{Answers, Checks, ChecksImage, ChecksText, IsDriven};
 ghost use Rattle.c0far.specs.FileTexts.{HasText, Known};
 ghost use Rattle.c0far.specs.Shown.{newline};
-ghost use Rattle.c0far.specs.Streams.{Says, writes};
+ghost use Rattle.streams.specs.Streams.{Says, writes};
 
 use crate::code::{code_of, is_image_name, unchecked};
 use crate::files::{FileError, Files};
 use crate::images::{build, list};
+use crate::lives::run_live;
 use crate::plain::{Bound, mean};
 use crate::replays::replay;
 use crate::runs::run;
 use crate::say::{REFUSED, after, say_memory, say_refused, say_unread};
-use crate::stream::Stream;
 use c0_front::check_text;
 use c0_source::fault::FaultKind;
 use c0_syntax::level::Level;
@@ -26,6 +26,7 @@ use std::alloc::Global;
 use std::sync::Wait;
 use std::thread::Threads;
 use std::time::Clock;
+use streams::Stream;
 
 /// Says that a text keeps the static rules.
 fn say_ok<O: Stream>(out: &mut O) -> u8
@@ -180,6 +181,7 @@ pub fn drive<W: Wait + Threads + Clock + Sync, F: Files, O: Stream, E: Stream>(
                 files: names,
             },
         ) => run(alloc, rt, asked, &names, files, out, err),
+        Ok(Line::Live { asked, file }) => run_live(alloc, rt, asked, file, files, out, err),
         Err(Usage::Refused) => answer(out, err, words),
         Err(Usage::OutOfMemory) => say_memory(err),
     }

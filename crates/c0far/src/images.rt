@@ -5,12 +5,11 @@ ghost use Rattle.cells.specs.Pieces.{cells_in};
 ghost use Rattle.command_line.specs.Shell.{compiling_of};
 ghost use Rattle.c0far.specs.Driven.{Builds, Lists, WritesOnly};
 ghost use Rattle.c0far.specs.Shown.{newline};
-ghost use Rattle.c0far.specs.Streams.{Says, writes};
+ghost use Rattle.streams.specs.Streams.{Says, writes};
 
 use crate::code::{code_of, unchecked};
 use crate::files::{FileError, Files};
 use crate::say::{REFUSED, after, say_memory};
-use crate::stream::Stream;
 use c0_image_laws::images_are_encodable;
 use c0_syntax::level::Level;
 use cells::Piece;
@@ -18,6 +17,7 @@ use command_line::words::Compiling;
 use image_bytes::encode;
 use image_listing::list as list_image;
 use std::alloc::Global;
+use streams::Stream;
 
 /// Says the lines of an image.
 fn say_code<O: Stream>(out: &mut O, code: &String) -> u8

@@ -1,4 +1,5 @@
 //! What holds of all that the commands show.
+ghost use Rattle.c0far.specs.Lives.{LiveShowsTheSame};
 ghost use Rattle.c0far.specs.Replays.{ReplaysNeverFail};
 
 use schedule_replay::never_fails;
@@ -9,3 +10,8 @@ pub fn replays_never_fail()
 {
     never_fails();
 }
+
+/// Over an honest store `run --live` shows just what `run` shows.
+pub fn live_shows_the_same()
+    ensures { LiveShowsTheSame }
+{}

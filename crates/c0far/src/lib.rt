@@ -6,12 +6,13 @@ pub mod drive;
 pub mod files;
 mod images;
 mod laws;
+mod lives;
 mod plain;
 mod replacing;
 mod replays;
 mod runs;
 pub mod say;
-pub mod stream;
 
 pub use command_line::{line, words};
-pub use laws::replays_never_fail;
+pub use laws::{live_shows_the_same, replays_never_fail};
+pub use streams as stream;

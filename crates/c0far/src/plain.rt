@@ -6,11 +6,10 @@ ghost use Rattle.c0far.specs.Driven.{Means};
 ghost use Rattle.c0far.specs.Shown.{shown_meaning};
 ghost use Rattle.c0far.specs.FileTexts.{HasText, Known};
 ghost use Rattle.c0far.specs.Statuses.{ended_status};
-ghost use Rattle.c0far.specs.Streams.{Says, writes};
+ghost use Rattle.streams.specs.Streams.{Says, writes};
 
 use crate::files::{FileError, Files};
 use crate::say::{REFUSED, STOPPED, after, say_memory, say_refused, say_unread, write_output};
-use crate::stream::Stream;
 use c0_meaning::Meant;
 use c0_plain::mean_text;
 use c0_source::fault::FaultKind;
@@ -18,6 +17,7 @@ use cells::Stop;
 use command_line::words::Texts;
 use std::alloc::Global;
 use std::thread::Threads;
+use streams::Stream;
 
 /// How a program's text is taken, and how far it is run.
 #[derive(Clone, Copy, Debug, PartialEq, Eq)]

@@ -7,12 +7,11 @@ ghost use Rattle.c0far.specs.FileTexts.{HasText, Known};
 ghost use Rattle.c0far.specs.FileCode.{AreCodes};
 ghost use Rattle.c0far.specs.Replays.{Admits, Replays, ReplaysLines, ReplaysOver};
 ghost use Rattle.c0far.specs.Shown.{newline};
-ghost use Rattle.c0far.specs.Streams.{Says, writes};
+ghost use Rattle.streams.specs.Streams.{Says, writes};
 
 use crate::code::codes_of;
 use crate::files::{FileError, Files};
 use crate::say::{REFUSED, after, say_admission, say_ends, say_memory, say_unread};
-use crate::stream::Stream;
 use command_line::words::Replay;
 use file_store::FileStores;
 use region::{fits, piece_of};
@@ -20,6 +19,7 @@ use remote_store::{Config, FarHeap, FaultPlan, FaultStores, Stores};
 use schedule_replay::replay_admitted;
 use scope_verifier::Verified;
 use std::alloc::Global;
+use streams::Stream;
 use world::Refused;
 
 /// Says which line of the schedule is refused.

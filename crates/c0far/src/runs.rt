@@ -5,12 +5,11 @@ ghost use Rattle.executor.specs.Ends.{AreEnds};
 ghost use Rattle.region.specs.Admission.{IsAdmitted, IsDenied, IsRefused, IsWithinWork, image_at};
 ghost use Rattle.world_semantics.specs.Pieces.{piece_of as first_piece};
 ghost use Rattle.c0far.specs.Runs.{RanOver, Runs};
-ghost use Rattle.c0far.specs.Streams.{writes};
+ghost use Rattle.streams.specs.Streams.{writes};
 
 use crate::code::codes_of;
 use crate::files::Files;
 use crate::say::{say_admission, say_ends};
-use crate::stream::Stream;
 use cells::Ended;
 use command_line::words::Run;
 use executor::{OpenGate, run_all};
@@ -22,6 +21,7 @@ use std::alloc::Global;
 use std::sync::Wait;
 use std::thread::Threads;
 use std::time::Clock;
+use streams::Stream;
 
 /// Runs these programs over these stores.
 fn run_with<W: Wait + Threads + Clock + Sync, M: Stores + Drop>(
@@ -92,7 +92,7 @@ fn run_programs<W: Wait + Threads + Clock + Sync, F: Files>(
 }
 
 /// Whether these programs are admitted to the memory, the movers and the workers that are asked for.
-fn fits_asked(programs: &[Verified], asked: Run<'_>) -> Result<(), AdmitFault>
+pub(crate) fn fits_asked(programs: &[Verified], asked: Run<'_>) -> Result<(), AdmitFault>
     ensures { MatchResult result (λ _. IsAdmitted programs.now asked.entry.memory.frames asked.entry.memory.objects asked.entry.evacuators asked.entry.fetchers × IsWithinWork asked.entry.work.workers asked.entry.work.quantum)
         (λ fault. IsRefused programs.now asked.entry.memory.frames asked.entry.memory.objects asked.entry.evacuators asked.entry.fetchers asked.entry.work.workers asked.entry.work.quantum fault) }
 {

@@ -6,17 +6,17 @@ ghost use Rattle.c0_syntax.specs.Levels.{has_loops};
 ghost use Rattle.c0_typed.specs.Trees as y;
 ghost use Rattle.c0far.specs.NoCode.{HasFailed};
 ghost use Rattle.c0far.specs.Runs.{SaysFault};
-ghost use Rattle.c0far.specs.Shown.{StandsAt, ends_status, is_open, newline, shown_end, shown_ends, shown_fault, shown_from, shown_program};
+ghost use Rattle.c0far.specs.Shown.{StandsAt, ends_status, is_open, newline, shown_end, shown_ends, shown_fault, shown_from, shown_program, shown_rest};
 ghost use Rattle.c0far.specs.Statuses.{run_status};
 ghost use Rattle.c0far.specs.FileTexts.{HasText, Known};
-ghost use Rattle.c0far.specs.Streams.{IsQuiet, IsWritten, Says, Writes, writes};
+ghost use Rattle.streams.specs.Streams.{IsQuiet, IsWritten, Says, Writes, writes};
 
-use crate::stream::{Failed, Stream};
 use c0_source::fault::Fault;
 use c0_source::position::{Position, line_column};
 use c0_syntax::level::Level;
 use cells::{Ended, Run, Stop};
 use region::AdmitFault;
+use streams::{Failed, Stream};
 
 /// Some program has stopped otherwise than by a result.
 pub const STOPPED: u8 = 1;
@@ -95,15 +95,22 @@ fn ends_open(bytes: &[u8]) -> bool
     }
 }
 
+/// Finishes the last line of what was written.
+fn finish_line<O: Stream>(out: &mut O, output: &[u8]) -> Result<(), Failed>
+    ensures { IsWritten (writes O.contents O.failures out.old out.new) (cond (is_open output.now) newline []) result }
+{
+    if !ends_open(output) {
+        return Ok(());
+    }
+    writeln!(out)
+}
+
 /// Writes what a program printed, with its last line finished.
 pub fn write_output<O: Stream>(out: &mut O, output: &[u8]) -> Result<(), Failed>
     ensures { IsWritten (writes O.contents O.failures out.old out.new) (output.now ++ cond (is_open output.now) newline []) result }
 {
     out.write_all(output)?;
-    if !ends_open(output) {
-        return Ok(());
-    }
-    writeln!(out)
+    finish_line(out, output)
 }
 
 /// Says why programs are not admitted.
@@ -148,7 +155,16 @@ fn write_end<O: Stream>(out: &mut O, ended: &Ended) -> Result<(), Failed>
     writeln!(out, "{run}")
 }
 
-/// Writes the same of a program of several, behind its number.
+/// Writes how a program ended whose output was written: a newline stands in front where the output doesn't end in one.
+fn write_rest<O: Stream>(out: &mut O, ended: &Ended) -> Result<(), Failed>
+    ensures { IsWritten (writes O.contents O.failures out.old out.new) (shown_rest ended.now) result }
+{
+    finish_line(out, &ended.output)?;
+    let run = &ended.run;
+    writeln!(out, "{run}")
+}
+
+/// Writes what a program of several printed and how it ended, behind its number.
 fn write_program<O: Stream>(out: &mut O, number: u64, ended: &Ended) -> Result<(), Failed>
     ensures { IsWritten (writes O.contents O.failures out.old out.new) (shown_program number ended.now) result }
 {
@@ -194,4 +210,12 @@ pub fn say_ends<O: Stream>(out: &mut O, ends: &[Ended]) -> u8
 {
     let status = status_of_all(ends);
     after(write_ends(out, ends), status)
+}
+
+/// Says how a program ended whose output was written.
+pub fn say_rest<O: Stream>(out: &mut O, ended: &Ended) -> u8
+    ensures { Says (writes O.contents O.failures out.old out.new) (shown_rest ended.now) (run_status ended.now.run) result }
+{
+    let status = status_of(&ended.run);
+    after(write_rest(out, ended), status)
 }

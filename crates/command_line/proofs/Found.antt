@@ -1,5 +1,5 @@
 -- What clap found, read as the words' meaning.
-use Rattle.std.proofs.Common.{◌≡◌, ◌∙◌, Bool, true, false, List, [], ◌∷◌, Option, Some, None, map, find, refl, sym, ap, ap₂, subst, inl, inr, ◌||◌, ℕ}
+use Rattle.std.proofs.Common.{◌≡◌, ◌∙◌, Bool, true, false, List, [], ◌∷◌, Option, Some, None, map, find, cond, refl, sym, ap, ap₂, subst, inl, inr, ◌||◌, ℕ}
 use Rattle.std.specs.Prelude.{Box, IfErr, IfOk, MatchResult, Result, Ok, Err, codes, option_map, option_and_then, slice_get}
 use Rattle.std.specs.Option.{option_map_or}
 use Rattle.std.specs.Box.{box_value}
@@ -18,7 +18,7 @@ use Rattle.clap.specs.declared.parser.matches.SubCommand.{SubCommand}
 use Rattle.command_line.specs.declared.words.Line.{Line}
 use Rattle.command_line.specs.declared.words.Usage.{Usage}
 use Rattle.command_line.specs.declared.words.Usage.TheVariants as usage
-use Rattle.command_line.specs.Shell.{Build, Command, Compiling, Lists, Names, command_of, Mean, Memory, Replay, Replayed, Run, build_command, command_in, compiling_in, has_checks, Started, Texts, level_in, list_command, mean_command, memory_in, named_command, number_in, number_or, piece_in, replay_command, replayed_in, run_command, shell, short_option, started_in, texts_in, Work, work_in}
+use Rattle.command_line.specs.Shell.{Build, Command, Compiling, Lists, Names, command_of, Mean, Memory, Replay, Replayed, Run, build_command, command_in, compiling_in, has_checks, has_flag, Started, Texts, level_in, list_command, live_command, live_of, mean_command, memory_in, named_command, number_in, number_or, piece_in, replay_command, replayed_in, run_command, shell, short_option, started_in, texts_in, whole_command, Work, work_in}
 use Rattle.clap.specs.declared.parser.matches.Found.{Found}
 use Rattle.clap.specs.declared.parser.matches.MatchedArg.{MatchedArg}
 
@@ -43,9 +43,9 @@ value_is id (e ∷ es) = go (bytes_eq e.0.now id) refl (value_is id es)
 pub first_is : (f : Found) (id : Text) → first_of id (rows_of f) ≡ first_value f id
 first_is f id = value_is id f.entries.items
 
--- what was found of the flag tells whether contracts are checked
-pub checks_are : (f : Found) (o : Option Text) → o ≡ first_value f (codes "checks") → option_map_or (λ text. bytes_eq text (codes "true")) o false ≡ has_checks (rows_of f)
-checks_are f o e = ap (λ (o : Option Text). option_map_or (λ text. bytes_eq text (codes "true")) o false) (e ∙ sym (first_is f (codes "checks")))
+-- what was found of a flag tells whether it is given
+pub flag_is : (f : Found) (name : Text) (o : Option Text) → o ≡ first_value f name → option_map_or (λ text. bytes_eq text (codes "true")) o false ≡ has_flag name (rows_of f)
+flag_is f name o e = ap (λ (o : Option Text). option_map_or (λ text. bytes_eq text (codes "true")) o false) (e ∙ sym (first_is f name))
 
 -- how texts are taken
 abbrev pub taken : (loops checks : Bool) → Texts
@@ -183,11 +183,22 @@ replay_is f asked o of_asked told =
 
 -- what was found of the files tells the run of them
 pub run_of_files : (f : Found) (asked : Started) (o : Option (List Text)) → Some asked ≡ started_in (rows_of f) → o ≡ all_of (codes "file") (rows_of f)
-    → option_map (λ files. Run asked files) o ≡ run_command (rows_of f)
+    → option_map (λ files. Run asked files) o ≡ whole_command (rows_of f)
 run_of_files f asked o of_asked told =
     let files : Option (List Text) = all_of (codes "file") (rows_of f) in
     ap (option_map (λ fs. Run asked fs)) told
     ∙ ap (option_and_then (λ a. option_map (λ fs. Run a fs) files)) of_asked
+
+-- what was found of the files tells the run of the one among them
+pub live_is : (f : Found) (asked : Started) (o : Option (List Text)) → Some asked ≡ started_in (rows_of f) → o ≡ option_map raw_values (matched_of f (codes "file")) → option_and_then (live_of asked) o ≡ live_command (rows_of f)
+live_is f asked o of_asked told =
+    let files : Option (List Text) = all_of (codes "file") (rows_of f) in
+    ap (option_and_then (live_of asked)) (told ∙ sym (all_are f (codes "file")))
+    ∙ ap (option_and_then (λ a. option_and_then (live_of a) files)) of_asked
+
+-- a run is of the one sort or the other
+pub run_sort : (rows : List Row) (b : Bool) → b ≡ has_flag (codes "live") rows → cond b (live_command rows) (whole_command rows) ≡ run_command rows
+run_sort rows b e = ap (λ (x : Bool). cond x (live_command rows) (whole_command rows)) e
 
 -- a pair by its parts
 pair_is : (o : Option (Text × List Row)) (n : Text) (rows : List Row) → Some n ≡ option_map (λ (p : Text × List Row). p.0) o → Some rows ≡ option_map (λ (p : Text × List Row). p.1) o → o ≡ Some (n, rows)

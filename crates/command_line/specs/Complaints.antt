@@ -54,6 +54,10 @@ no_file name = codes "c0far: " ++ (name ++ (codes " wants a FILE" ++ newline))
 abbrev pub other_words : Text → Text
 other_words name = codes "c0far: other words are wanted behind " ++ (name ++ newline)
 
+-- the run whose output is written as it comes takes one file
+abbrev pub one_live : Text
+one_live = codes "c0far: --live takes one FILE" ++ newline
+
 -- a complaint as code has it
 abbrev pub complaint_text : Complaint → Text
 complaint_text c.Help = []
@@ -68,3 +72,4 @@ complaint_text (c.OneMore name word) = one_more name.now word.now
 complaint_text (c.Lacks name choice) = lacks name.now choice
 complaint_text (c.NoFile name) = no_file name.now
 complaint_text (c.OtherWords name) = other_words name.now
+complaint_text c.OneLive = one_live

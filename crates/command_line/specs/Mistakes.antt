@@ -2,12 +2,13 @@
 use Rattle.std.specs.Prelude.{◌==◌, Bool, true, false, not, ◌&&◌, ◌||◌, List, [], ◌∷◌, length, Option, Some, None, codes, cond}
 use Rattle.std.specs.Str.{bytes_eq}
 use Rattle.clap.specs.Words.{Text}
-use Rattle.command_line.specs.Complaints.{complaint_text, lacks, no_file, no_option, no_value, one_more, other_value, other_words, twice}
+use Rattle.command_line.specs.Complaints.{complaint_text, lacks, no_file, no_option, no_value, one_live, one_more, other_value, other_words, twice}
 use Rattle.command_line.specs.Options.{accepts, attached_value, begins, has_choice, is_single, name_text, named, required_in, takes_value, word_name}
 use Rattle.command_line.specs.declared.mistakes.Place.{Place}
 use Rattle.command_line.specs.declared.mistakes.Step.{Step as CodeStep}
 use Rattle.command_line.specs.declared.mistakes.Step.TheVariants as s
 use Rattle.command_line.specs.declared.options.Choice.{Choice}
+use Rattle.command_line.specs.declared.options.Choice.TheVariants as o
 
 -- what a word comes to: it is wrong, which is told so, or one is there behind it
 pub data Step : Type 0 where
@@ -21,7 +22,7 @@ step_of (s.Goes place) = Goes place
 
 -- in front of all words
 abbrev pub start : Place
-start = record { waiting = None; has_file = false; is_trailing = false }
+start = record { waiting = None; has_file = false; has_more = false; is_live = false; is_trailing = false }
 
 -- the word is an option, with or without its value
 abbrev pub is_option_word : Text → Bool
@@ -34,7 +35,7 @@ is_among choice (w ∷ ws) = bytes_eq (word_name w) (name_text choice) || is_amo
 
 -- a word that is a file
 abbrev pub file_step : Text → Place → Text → Step
-file_step name place word = cond (place.has_file && is_single name) (Tells (one_more name word)) (Goes (record place { has_file = true }))
+file_step name place word = cond (place.has_file && is_single name) (Tells (one_more name word)) (Goes (record place { has_file = true; has_more = place.has_file }))
 
 -- what is told of an option with a value that it does not take
 abbrev pub refused_value : Choice → Text → Text
@@ -45,9 +46,14 @@ abbrev pub value_step : Place → Choice → Text → Step
 value_step place choice word =
     cond (not (is_option_word word) && accepts choice word) (Goes (record place { waiting = None })) (Tells (refused_value choice word))
 
+-- where one is behind an option that has no value
+abbrev pub flagged : Place → Choice → Place
+flagged place o.Live = record place { is_live = true }
+flagged place _ = place
+
 -- an option with this value in its word
 abbrev pub attached_step : Place → Choice → Option Text → Step
-attached_step place choice None = cond (takes_value choice) (Goes (record place { waiting = Some choice })) (Goes place)
+attached_step place choice None = cond (takes_value choice) (Goes (record place { waiting = Some choice })) (Goes (flagged place choice))
 attached_step place choice (Some value) = cond (accepts choice value) (Goes place) (Tells (refused_value choice value))
 
 -- a word that is an option of the command, with the words behind it
@@ -79,27 +85,27 @@ waited_step name place word behind (Some choice) = value_step place choice word
 abbrev pub word_step : Text → Place → Text → List Text → Step
 word_step name place word behind = waited_step name place word behind place.waiting
 
--- a file is missing, or else what is wrong is not known
-abbrev pub unfiled : Text → Bool → Text
-unfiled name has_file = cond has_file (other_words name) (no_file name)
+-- a file is missing, or there are several where one is wanted, or else what is wrong is not known
+abbrev pub unfiled : Text → Place → Text
+unfiled name place = cond (not place.has_file) (no_file name) (cond (place.is_live && place.has_more) one_live (other_words name))
 
 -- what is missing behind the name of a command that wants this option, or none
-abbrev pub lacking : Text → List Text → Bool → Option Choice → Text
-lacking name words has_file None = unfiled name has_file
-lacking name words has_file (Some choice) = cond (is_among choice words) (unfiled name has_file) (lacks name choice)
+abbrev pub lacking : Text → List Text → Place → Option Choice → Text
+lacking name words place None = unfiled name place
+lacking name words place (Some choice) = cond (is_among choice words) (unfiled name place) (lacks name choice)
 
 -- what is missing behind a command's name, where no word is wrong
-abbrev pub missing : Text → List Text → Bool → Text
-missing name words has_file = lacking name words has_file (required_in name)
+abbrev pub missing : Text → List Text → Place → Text
+missing name words place = lacking name words place (required_in name)
 
 -- what is wrong where no word is, and this option waits for its value, or none
-abbrev pub left_over : Text → List Text → Bool → Option Choice → Text
-left_over name words has_file None = missing name words has_file
-left_over name words has_file (Some choice) = no_value choice
+abbrev pub left_over : Text → List Text → Place → Option Choice → Text
+left_over name words place None = missing name words place
+left_over name words place (Some choice) = no_value choice
 
 -- what is wrong where no word is
 abbrev pub ending : Text → List Text → Place → Text
-ending name words place = left_over name words place.has_file place.waiting
+ending name words place = left_over name words place place.waiting
 
 -- what a step tells, or else what comes behind it
 abbrev pub after : Step → (Place → Text) → Text

@@ -1,5 +1,5 @@
 -- The command line: what clap is told of it, and what words mean.
-use Rattle.std.specs.Prelude.{◌≡◌, ℕ, ◌^◌, ◌==◌, nat_lt, Bool, true, false, ◌&&◌, List, [], length, map, Option, Some, None, codes, cond, option_and_then, option_map, slice_get}
+use Rattle.std.specs.Prelude.{◌≡◌, ℕ, ◌^◌, ◌==◌, nat_lt, Bool, true, false, ◌&&◌, List, [], ◌∷◌, length, map, Option, Some, None, codes, cond, option_and_then, option_map, slice_get}
 use Rattle.std.specs.Char.{digit_value}
 use Rattle.std.specs.List.{list_all}
 use Rattle.std.specs.Option.{option_map_or}
@@ -27,6 +27,10 @@ file_rule = record (new_rule (codes "file")) { required = true; action = Some Se
 -- -d
 abbrev pub checks_rule : Rule
 checks_rule = record (new_rule (codes "checks")) { short = Some 100; action = Some SetTrue }
+
+-- --live
+abbrev pub live_rule : Rule
+live_rule = record (new_rule (codes "live")) { long = Some (codes "live"); action = Some SetTrue }
 
 -- --turns N
 abbrev pub turns_rule : Rule
@@ -85,10 +89,11 @@ list_shape = (with_rule (with_rule (of_texts (codes "list")) (option_rule (codes
 abbrev pub mean_shape : Shape
 mean_shape = (with_rule (with_rule (of_checked_texts (codes "mean")) turns_rule) file_rule).top
 
--- run [--level L] [-d] [--piece C] [--frames F] [--objects N] [--store DIR] [--fail-from K] [--evacuators E] [--fetchers Q] [--workers W] [--quantum N] FILE...
+-- run [--level L] [-d] [--piece C] [--frames F] [--objects N] [--store DIR] [--fail-from K] [--evacuators E] [--fetchers Q] [--workers W] [--quantum N]
+-- [--live] FILE...
 abbrev pub run_shape : Shape
 run_shape =
-    (with_rule (with_work (with_rule (with_rule (with_memory (of_code (codes "run"))) (option_rule (codes "evacuators"))) (option_rule (codes "fetchers")))) files_rule).top
+    (with_rule (with_rule (with_work (with_rule (with_rule (with_memory (of_code (codes "run"))) (option_rule (codes "evacuators"))) (option_rule (codes "fetchers")))) live_rule) files_rule).top
 
 -- replay [--level L] [-d] [--piece C] [--frames F] [--objects N] [--store DIR] [--fail-from K] [--evacuators E] [--fetchers Q] [--workers W]
 -- [--quantum N] --schedule S FILE...
@@ -149,7 +154,8 @@ pub record Replayed : Type 0 where
   pub schedule : Text
 
 -- a command, with its file, and with how texts are taken, and code is made of them; `check` and `list` check no contracts, and are told the level alone,
--- `list` the size of pieces too; `build` with the file that it writes, `mean` with its turns; `replay` and `run` with one file or more
+-- `list` the size of pieces too; `build` with the file that it writes, `mean` with its turns; `replay` and `run` with one file or more, and the run whose output is
+-- written as it comes with one
 pub data Command : Type 0 where
   Build : Compiling → (out file : Text) → Command
   Check : (loops : Bool) → Text → Command
@@ -157,6 +163,7 @@ pub data Command : Type 0 where
   Mean : Texts → ℕ → Text → Command
   Replay : Replayed → List Text → Command
   Run : Started → List Text → Command
+  Live : Started → Text → Command
 
 -- these are digits, one or more, and their number has at most 64 bits
 abbrev pub is_number : Text → Bool
@@ -183,9 +190,13 @@ number_or read default (Some text) = read text
 abbrev pub short_option : Text → ℕ → List Row → Option ℕ
 short_option name default rows = number_or short_number_in default (first_of name rows)
 
+-- whether the option of this name, which has no value, is among the rows
+abbrev pub has_flag : Text → List Row → Bool
+has_flag name rows = option_map_or (λ text. bytes_eq text (codes "true")) (first_of name rows) false
+
 -- whether contracts are checked
 abbrev pub has_checks : List Row → Bool
-has_checks rows = option_map_or (λ text. bytes_eq text (codes "true")) (first_of (codes "checks") rows) false
+has_checks rows = has_flag (codes "checks") rows
 
 -- level 0 is the language without `break` and `continue`, level 1 that with them, and there is no other
 abbrev pub level_of : ℕ → Option Bool
@@ -235,9 +246,23 @@ started_in rows =
     option_and_then (λ c. option_and_then (λ m. option_and_then (λ e. option_and_then (λ q. option_map (λ w. record { compiling = c; memory = m; evacuators = e; fetchers = q; work = w })
     (work_in rows)) (short_option (codes "fetchers") 1 rows)) (short_option (codes "evacuators") 1 rows)) (memory_in rows)) (compiling_in rows)
 
--- the run of the files of the rows
+-- the run of the files of the rows, whose output is written when all have ended
+abbrev pub whole_command : List Row → Option Command
+whole_command rows = option_and_then (λ asked. option_map (λ files. Run asked files) (all_of (codes "file") rows)) (started_in rows)
+
+-- the run of one file, whose output is written as it comes; there is none of several
+abbrev pub live_of : Started → List Text → Option Command
+live_of asked [] = None
+live_of asked (f ∷ []) = Some (Live asked f)
+live_of asked (f ∷ g ∷ fs) = None
+
+-- ... of the one file of the rows
+abbrev pub live_command : List Row → Option Command
+live_command rows = option_and_then (λ asked. option_and_then (live_of asked) (all_of (codes "file") rows)) (started_in rows)
+
+-- the run of the rows
 abbrev pub run_command : List Row → Option Command
-run_command rows = option_and_then (λ asked. option_map (λ files. Run asked files) (all_of (codes "file") rows)) (started_in rows)
+run_command rows = cond (has_flag (codes "live") rows) (live_command rows) (whole_command rows)
 
 -- how the rows say that programs are replayed: with one evacuator and one fetcher where they tell no other number
 abbrev pub replayed_in : List Row → Option Replayed
@@ -296,6 +321,7 @@ command_of (line.List level piece file) = Lists (has_loops level) (cells_in piec
 command_of (line.Mean texts turns file) = Mean (texts_of texts) turns file.now
 command_of (line.Replay asked files) = Replay (replayed_of asked) (map (λ f. f.now) files.items)
 command_of (line.Run asked files) = Run (started_of asked) (map (λ f. f.now) files.items)
+command_of (line.Live asked file) = Live (started_of asked) file.now
 
 -- clap finds no fault in the words, and they are this command, as it reads them
 abbrev pub Names : List Text → Command → Type 0

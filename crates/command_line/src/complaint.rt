@@ -29,6 +29,8 @@ pub enum Complaint<'a> {
     NoFile(&'a str),
     /// The command of this name wants other words.
     OtherWords(&'a str),
+    /// A run whose output is written as it comes takes one file, and there are more.
+    OneLive,
 }
 
 impl fmt::Display for Complaint<'_> {
@@ -75,6 +77,7 @@ impl fmt::Display for Complaint<'_> {
             Complaint::OtherWords(name) => {
                 writeln!(f, "c0far: other words are wanted behind {name}")
             },
+            Complaint::OneLive => writeln!(f, "c0far: --live takes one FILE"),
         }
     }
 }

@@ -3,7 +3,7 @@ ghost use Rattle.std.specs.Prelude.{◌≡◌, ◌≢◌, [], codes, false, IfEr
 ghost use Rattle.clap.specs.Words.{all_of, app_of, first_of, found_of, kind_of, rows_of, rule_of, subcommand_rows_of};
 ghost use Rattle.c0_syntax.specs.Levels.{has_loops};
 ghost use Rattle.cells.specs.Pieces.{cells_in};
-ghost use Rattle.command_line.specs.Shell.{Check, Command as Asked, IsLocal, Names, build_command, build_shape, check_shape, command_in, command_of, compiling_in, compiling_of, has_checks, is_signed, level_in, list_command, list_shape, mean_command, mean_shape, memory_in, memory_of, named_command, number_in, number_or, of_checked_texts as checked_texts_app, of_code as code_app, of_texts as texts_app, option_rule, piece_in, replay_command, replay_shape, replayed_in, replayed_of, run_command, run_shape, shell, short_number_in, short_option, started_in, started_of, texts_in, texts_of, with_memory, with_work, work_in, work_of};
+ghost use Rattle.command_line.specs.Shell.{Check, Command as Asked, IsLocal, Names, build_command, build_shape, check_shape, command_in, command_of, compiling_in, compiling_of, has_checks, has_flag, is_signed, level_in, list_command, list_shape, live_command, live_of as live_run, live_rule, mean_command, mean_shape, memory_in, memory_of, named_command, number_in, number_or, of_checked_texts as checked_texts_app, of_code as code_app, of_texts as texts_app, option_rule, piece_in, replay_command, replay_shape, replayed_in, replayed_of, run_command, run_shape, shell, short_number_in, short_option, started_in, started_of, texts_in, texts_of, whole_command, with_memory, with_work, work_in, work_of};
 
 use crate::words::{Compiling, Line, Memory, Replay, Run, Texts, Usage, Work};
 use c0_syntax::level::Level;
@@ -123,6 +123,16 @@ fn with_workers<'a>(alloc: Global, command: Command<'a>) -> Result<Command<'a>, 
         .arg(option(alloc, "quantum"))
 }
 
+/// The option that has what a program prints written as it comes.
+fn live<'a>(alloc: Global) -> Arg<'a>
+    ensures rule { rule_of result ≡ live_rule }
+    ensures own { result.global ≡ false }
+{
+    Arg::new(alloc, "live")
+        .long("live")
+        .action(ArgAction::SetTrue)
+}
+
 /// The run, with its options and its files.
 fn run<'a>(alloc: Global) -> Result<Command<'a>, AllocError>
     ensures shape { IfOk result (λ c. app_of c ≡ record { top = run_shape; subs = [] }) }
@@ -138,6 +148,7 @@ fn run<'a>(alloc: Global) -> Result<Command<'a>, AllocError>
             .arg(option(alloc, "evacuators"))?
             .arg(option(alloc, "fetchers"))?,
     )?
+    .arg(live(alloc))?
     .arg(files)
 }
 
@@ -272,14 +283,21 @@ fn memory<'a>(matches: &ArgMatches<'a>) -> Option<Memory<'a>>
     })
 }
 
+/// Whether the option of this name, which has no value, is given.
+fn flag(matches: &ArgMatches<'_>, name: &str) -> bool
+    ensures { result ≡ has_flag name.now (rows_of (found_of matches.now)) }
+{
+    match matches.get_str(name) {
+        Some(text) => text == "true",
+        None => false,
+    }
+}
+
 /// Whether contracts are to be checked.
 fn checks(matches: &ArgMatches<'_>) -> bool
     ensures { result ≡ has_checks (rows_of (found_of matches.now)) }
 {
-    match matches.get_str("checks") {
-        Some(text) => text == "true",
-        None => false,
-    }
+    flag(matches, "checks")
 }
 
 /// How texts are taken, by the options that clap found.
@@ -437,10 +455,10 @@ fn files_of<'a>(alloc: Global, matches: &ArgMatches<'a>) -> Result<Vec<&'a str>,
     }
 }
 
-/// The run of the files that clap found. `Refused` where a number is none, `OutOfMemory` where a growth was refused.
-fn runs<'a>(alloc: Global, matches: &ArgMatches<'a>) -> Result<Line<'a>, Usage>
-    ensures { MatchResult result (λ l. Some (command_of l) ≡ run_command (rows_of (found_of matches.now)))
-        (λ u. u ≡ Usage.Refused → None ≡ run_command (rows_of (found_of matches.now))) }
+/// The run of the files that clap found, whose output is written when all have ended. `Refused` where a number is none, `OutOfMemory` where a growth was refused.
+fn runs_whole<'a>(alloc: Global, matches: &ArgMatches<'a>) -> Result<Line<'a>, Usage>
+    ensures { MatchResult result (λ l. Some (command_of l) ≡ whole_command (rows_of (found_of matches.now)))
+        (λ u. u ≡ Usage.Refused → None ≡ whole_command (rows_of (found_of matches.now))) }
 {
     let Some(asked) = started(matches) else {
         return Err(Usage::Refused);
@@ -448,6 +466,43 @@ fn runs<'a>(alloc: Global, matches: &ArgMatches<'a>) -> Result<Line<'a>, Usage>
     match files_of(alloc, matches) {
         Ok(files) => Ok(Line::Run { asked, files }),
         Err(usage) => Err(usage),
+    }
+}
+
+/// The run of the one file among these, whose output is written as it comes.
+fn live_of<'a>(asked: Run<'a>, files: &[&'a str]) -> Option<Line<'a>>
+    ensures { option_map command_of result ≡ live_run (started_of asked.entry) (map (λ f. f.now) files.now) }
+{
+    match files {
+        [file] => Some(Line::Live { asked, file }),
+        [] | [_, _, ..] => None,
+    }
+}
+
+/// The run of the one file that clap found, whose output is written as it comes.
+fn runs_live<'a>(matches: &ArgMatches<'a>) -> Option<Line<'a>>
+    ensures { option_map command_of result ≡ live_command (rows_of (found_of matches.now)) }
+{
+    let Some(asked) = started(matches) else {
+        return None;
+    };
+    let Some(files) = matches.get_strs("file") else {
+        return None;
+    };
+    live_of(asked, files)
+}
+
+/// The run that clap found. `Refused` where a number is none, or one file is wanted and there are several, `OutOfMemory` where a growth was refused.
+fn runs<'a>(alloc: Global, matches: &ArgMatches<'a>) -> Result<Line<'a>, Usage>
+    ensures { MatchResult result (λ l. Some (command_of l) ≡ run_command (rows_of (found_of matches.now)))
+        (λ u. u ≡ Usage.Refused → None ≡ run_command (rows_of (found_of matches.now))) }
+{
+    if !flag(matches, "live") {
+        return runs_whole(alloc, matches);
+    }
+    match runs_live(matches) {
+        Some(line) => Ok(line),
+        None => Err(Usage::Refused),
     }
 }
 

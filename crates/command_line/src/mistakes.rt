@@ -1,7 +1,7 @@
 //! What is wrong with the words behind a command's name: the first thing from the left.
 ghost use Rattle.std.specs.Prelude.{◌≡◌, map, option_map};
 ghost use Rattle.command_line.specs.Complaints.{complaint_text};
-ghost use Rattle.command_line.specs.Mistakes.{attached_step, ending as ended, file_step, is_among, is_option_word, known_step, missing as missed, mistake as mistaken, option_step, plain_step, refused_value, start, step_of, value_step, word_step};
+ghost use Rattle.command_line.specs.Mistakes.{attached_step, ending as ended, file_step, flagged as flagged_place, is_among, is_option_word, known_step, missing as missed, mistake as mistaken, option_step, plain_step, refused_value, start, step_of, unfiled as unfiled_text, value_step, word_step};
 
 use crate::complaint::Complaint;
 use crate::options::{
@@ -9,11 +9,14 @@ use crate::options::{
     value_in,
 };
 
-/// Where one is among the words: the option that waits for its value, whether a file was named, and whether all further words are files.
+/// Where one is among the words: the option that waits for its value, whether a file was named, and more than one, whether `--live` was, and whether all further
+/// words are files.
 #[derive(Clone, Copy, Debug, PartialEq, Eq)]
 pub struct Place {
     pub waiting: Option<Choice>,
     pub has_file: bool,
+    pub has_more: bool,
+    pub is_live: bool,
     pub is_trailing: bool,
 }
 
@@ -56,6 +59,7 @@ fn file<'a>(name: &'a str, place: Place, word: &'a str) -> Step<'a>
     }
     Step::Goes(Place {
         has_file: true,
+        has_more: place.has_file,
         ..place
     })
 }
@@ -84,6 +88,20 @@ fn value<'a>(place: Place, choice: Choice, word: &'a str) -> Step<'a>
     Step::Tells(refused(choice, word))
 }
 
+/// Where one is behind an option that has no value.
+fn flagged(place: Place, choice: Choice) -> Place
+    ensures { result ≡ flagged_place place choice }
+{
+    if matches!(choice, Choice::Live) {
+        Place {
+            is_live: true,
+            ..place
+        }
+    } else {
+        place
+    }
+}
+
 /// An option with this value in its word.
 fn attached<'a>(place: Place, choice: Choice, value: Option<&'a str>) -> Step<'a>
     ensures { step_of result ≡ attached_step place choice (option_map (λ v. v.now) value.entry) }
@@ -103,7 +121,7 @@ fn attached<'a>(place: Place, choice: Choice, value: Option<&'a str>) -> Step<'a
                     ..place
                 })
             } else {
-                Step::Goes(place)
+                Step::Goes(flagged(place, choice))
             }
         }
     }
@@ -165,20 +183,30 @@ fn read<'a>(name: &'a str, place: Place, word: &'a str, behind: &[&str]) -> Step
     }
 }
 
+/// What is wrong with the files behind a command's name, or else with words of which it is not known.
+fn unfiled<'a>(name: &'a str, place: Place) -> Complaint<'a>
+    ensures { complaint_text result ≡ unfiled_text name.now place }
+{
+    if !place.has_file {
+        return Complaint::NoFile(name);
+    }
+    if place.is_live && place.has_more {
+        Complaint::OneLive
+    } else {
+        Complaint::OtherWords(name)
+    }
+}
+
 /// What is missing behind a command's name, where no word is wrong.
-fn missing<'a>(name: &'a str, words: &[&str], has_file: bool) -> Complaint<'a>
-    ensures { complaint_text result ≡ missed name.now (map (λ w. w.now) words.now) has_file }
+fn missing<'a>(name: &'a str, words: &[&str], place: Place) -> Complaint<'a>
+    ensures { complaint_text result ≡ missed name.now (map (λ w. w.now) words.now) place }
 {
     if let Some(choice) = required(name) {
         if !has_option(choice, words) {
             return Complaint::Lacks(name, choice);
         }
     }
-    if has_file {
-        Complaint::OtherWords(name)
-    } else {
-        Complaint::NoFile(name)
-    }
+    unfiled(name, place)
 }
 
 /// What is wrong where no word is.
@@ -187,7 +215,7 @@ fn ending<'a>(name: &'a str, words: &[&str], place: Place) -> Complaint<'a>
 {
     match place.waiting {
         Some(choice) => Complaint::NoValue(choice),
-        None => missing(name, words, place.has_file),
+        None => missing(name, words, place),
     }
 }
 
@@ -199,6 +227,8 @@ pub(crate) fn mistake<'a>(name: &'a str, words: &[&'a str]) -> Complaint<'a>
     let mut place = Place {
         waiting: None,
         has_file: false,
+        has_more: false,
+        is_live: false,
         is_trailing: false,
     };
     while let [word, behind @ ..] = rest {

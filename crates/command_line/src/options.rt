@@ -23,6 +23,7 @@ pub enum Choice {
     Workers,
     Quantum,
     Schedule,
+    Live,
 }
 
 /// The option of this name.
@@ -44,6 +45,7 @@ pub(crate) fn named(name: &str) -> Option<Choice>
         "--workers" => Some(Choice::Workers),
         "--quantum" => Some(Choice::Quantum),
         "--schedule" => Some(Choice::Schedule),
+        "--live" => Some(Choice::Live),
         _ => None,
     }
 }
@@ -67,6 +69,7 @@ pub(crate) fn name_of(choice: Choice) -> &'static str
         Choice::Workers => "--workers",
         Choice::Quantum => "--quantum",
         Choice::Schedule => "--schedule",
+        Choice::Live => "--live",
     }
 }
 
@@ -75,7 +78,7 @@ pub(crate) fn wanted(choice: Choice) -> &'static str
     ensures { result.now ≡ wanted_text choice }
 {
     match choice {
-        Choice::Checks => "no value",
+        Choice::Checks | Choice::Live => "no value",
         Choice::Level => "0 or 1",
         Choice::Piece => "16, 32, 64, 128 or 256",
         Choice::Out | Choice::Schedule => "a file",
@@ -94,7 +97,7 @@ pub(crate) fn wanted(choice: Choice) -> &'static str
 pub(crate) fn takes_value(choice: Choice) -> bool
     ensures { result ≡ takes choice }
 {
-    !matches!(choice, Choice::Checks)
+    !matches!(choice, Choice::Checks | Choice::Live)
 }
 
 /// Whether the text tells a level of the language.
@@ -122,7 +125,7 @@ pub(crate) fn accepts(choice: Choice, text: &str) -> bool
     ensures { result ≡ accepted choice text.now }
 {
     match choice {
-        Choice::Checks => false,
+        Choice::Checks | Choice::Live => false,
         Choice::Level => is_level(text),
         Choice::Piece => is_piece(text),
         Choice::Out | Choice::Schedule | Choice::Store => true,
@@ -161,6 +164,7 @@ pub(crate) fn has(name: &str, choice: Choice) -> bool
         Choice::Out => name == "build",
         Choice::Turns => name == "mean",
         Choice::Schedule => name == "replay",
+        Choice::Live => name == "run",
         Choice::Frames
         | Choice::Objects
         | Choice::Store

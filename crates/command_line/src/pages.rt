@@ -142,6 +142,10 @@ options:
   --workers W     W threads run the programs (4), at least 1 and at most 64
   --quantum N     a thread runs N instructions of a program at once (1000), at
                   least 1 and at most 1,000,000
+  --live          writes what the program prints as it comes, turn by turn, and
+                  not when it has ended; for one FILE. It runs on one thread,
+                  and no worker, evacuator or fetcher does, though --frames has
+                  to suffice for these, too
 
 status: 0 where each ended with a result; 1 where one stopped otherwise; 2 where
   a text or an image is refused, or cannot be read, or there are too few frames
@@ -159,7 +163,7 @@ that the file S lists, one a line, for programs that share local memory and its
 movers. Then it prints of each program its output and how it ended, as run does,
 or `running`; where there are several, behind a line `program K:`.
 
-options, besides those of run (`c0far help run`):
+options, besides those of run but for --live (`c0far help run`):
   --schedule S    the steps; it has no default
   --workers W     not used, but within the limits of run (4)
   --quantum N     not used, but within the limits of run (1000)

@@ -92,6 +92,11 @@ pub enum Line<'a> {
         asked: Run<'a>,
         files: Vec<&'a str>,
     },
+    /// Runs the program of this file, an image or a text, and writes what it prints as it comes.
+    Live {
+        asked: Run<'a>,
+        file: &'a str,
+    },
 }
 
 /// Why the words are no command.

@@ -12,11 +12,11 @@ use Rattle.executor.specs.Ends.{AreDone, IsDone, Works}
 use Rattle.executor.specs.declared.workers.Done.{Done}
 
 -- a task that was run and goes on is the same task
-pub still_task : (r : Roster) (p q : RunView) (n : ℕ) → IsTask r p → q ≡ record p { completed = p.completed + n } → IsTask r q
+pub still_task : (r : Roster) (p q : RunView) (n : ℕ) → IsTask r p → q ≡ record p { completed = p.completed + n; printed = q.printed } → IsTask r q
 still_task r p q n t is = subst (IsTask r) (sym is) (record { of = t.of; named = t.named; going = t.going })
 
 -- the end of a task whose run is over is that of its program
-pub ended_task : (honest reliable : Type 0) (r : Roster) (p q : RunView) (k : ℕ) (e : Finished) → IsTask r p → q ≡ record p { completed = q.completed; refusals = q.refusals; over = true } → k ≡ q.number
+pub ended_task : (honest reliable : Type 0) (r : Roster) (p q : RunView) (k : ℕ) (e : Finished) → IsTask r p → q ≡ record p { completed = q.completed; refusals = q.refusals; printed = q.printed; over = true } → k ≡ q.number
     → (honest → IsFinishedOver reliable q.objects (image_at q.programs q.number) e) → IsDone honest reliable r (record { number = k; end = e })
 ended_task honest reliable r p q k e t is same told =
     let of : roster_of q ≡ r = ap roster_of is ∙ t.of in

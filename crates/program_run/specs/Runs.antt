@@ -1,5 +1,5 @@
 -- A program that is run to its end.
-use Rattle.std.specs.Prelude.{◌≡◌, ◌≢◌, ℕ, ◌+◌, ◌≤◌, Bool, true, false, List}
+use Rattle.std.specs.Prelude.{◌≡◌, ◌≢◌, ℕ, ◌+◌, ◌≤◌, Bool, true, false, List, []}
 use Rattle.cells.specs.declared.ending.Run.{Run}
 use Rattle.cells.specs.declared.ending.Run.TheVariants.{Running, Stopped, Wanted}
 use Rattle.cells.specs.declared.ending.Want.TheVariants.{StoreFailed}
@@ -10,25 +10,26 @@ use Rattle.program_run.specs.Executed.{IsOver, refusals_at}
 use Rattle.program_run.specs.declared.run.Turn.{Turn}
 use Rattle.program_run.specs.declared.run.Turn.TheVariants as turn
 
--- a program that is run: the programs of its region, its number, how many objects it has, how many instructions it completed, how many calls were refused through its own port, and whether its run is over
+-- a program that is run: the programs of its region, its number, how many objects it has, how many instructions it completed, how many calls were refused through its own port, what it printed, and whether its run is over
 pub record RunView : Type 0 where
   pub programs : List Verified
   pub number : ℕ
   pub objects : ℕ
   pub completed : ℕ
   pub refusals : ℕ
+  pub printed : List ℕ
   pub over : Bool
 
 -- the program of this number with so many objects, at its beginning
 abbrev pub begun : List Verified → ℕ → ℕ → RunView
-begun programs k n = record { programs = programs; number = k; objects = n; completed = 0; refusals = 0; over = false }
+begun programs k n = record { programs = programs; number = k; objects = n; completed = 0; refusals = 0; printed = []; over = false }
 
 -- What became of a program's turn of n instructions: nothing was done; or they were completed, and it goes on, with no call refused; or its run is over, after
--- at most so many more
+-- at most so many more. What it printed then is told by itself
 abbrev pub HasTurned : ℕ → RunView → RunView → Turn → Type 0
 HasTurned n p q turn.Held = q ≡ p
-HasTurned n p q turn.Ran = q ≡ record p { completed = p.completed + n }
-HasTurned n p q turn.Ended = CompletesUpTo n p.completed q.completed × (q ≡ record p { completed = q.completed; refusals = q.refusals; over = true })
+HasTurned n p q turn.Ran = q ≡ record p { completed = p.completed + n; printed = q.printed }
+HasTurned n p q turn.Ended = CompletesUpTo n p.completed q.completed × (q ≡ record p { completed = q.completed; refusals = q.refusals; printed = q.printed; over = true })
 
 -- whether a run that answered this is over
 abbrev pub is_over : Run → Bool

@@ -2,7 +2,8 @@
 ghost use Rattle.std.specs.Prelude.{◌≡◌, ◌≢◌, ◌+◌, ◌-◌, ◌<◌, ◌≤◌, ◌^◌, IfErr, IfOk, length, true};
 ghost use Rattle.cells.specs.declared.ending.Run.TheVariants.{Wanted};
 ghost use Rattle.cells.specs.declared.ending.Want.TheVariants.{OutOfMemory, StoreFailed};
-ghost use Rattle.code_form.specs.Code.{Covered};
+ghost use Rattle.cells.specs.Outcomes.{IsPrefix};
+ghost use Rattle.code_form.specs.Code.{Covered, output_of};
 ghost use Rattle.object_lock.specs.Fresh.{IsFresh};
 ghost use Rattle.program_run.specs.Executed.{HasRunOn, IsFinishedOver, refusals_at};
 ghost use Rattle.program_run.specs.Runs.{HasTurned, begun};
@@ -11,6 +12,7 @@ ghost use Rattle.session.specs.State.{IsAt, IsGoing, SameProgram};
 
 use crate::gate::Gate;
 use cells::{Ended, Run, Want};
+use code_form::run_laws;
 use hint_queue::{HintPass, Hints};
 use object_lock::OwnerSeat;
 use region::Region;
@@ -40,7 +42,9 @@ fn run_on<S: RawStore, W: Wait>(rt: &W, session: &mut Session<'_, S>, quantum: u
     ensures told { HasRunOn S.reliable quantum session.old session.new result }
     ensures covered { S.honest → S.reliable → Covered session.old.image → result ≢ Wanted StoreFailed }
     ensures own { S.honest → Covered session.old.image → session.old.refusals ≡ 0 → session.new.refusals ≡ refusals_at result }
+    ensures grows { S.honest → IsAt session.old → IsPrefix (output_of session.old.core) (output_of session.new.core) }
 {
+    run_laws();
     session.run(rt, quantum)
 }
 
@@ -52,7 +56,7 @@ pub struct Finished {
 }
 
 /// A program of a region that is run to its end at its seat. A contract sees the region's programs, the number of this one, how many objects it has, how many
-/// instructions it completed, how many calls were refused through its own port, and whether its run is over.
+/// instructions it completed, how many calls were refused through its own port, what it printed, and whether its run is over.
 #[derive(Drop)]
 pub struct ProgramRun<'a, S: RawStore> {
     region: &'a Region<S>,
@@ -62,13 +66,14 @@ pub struct ProgramRun<'a, S: RawStore> {
 }
 
 impl<'a, S: RawStore> Model for ProgramRun<'a, S> {
+    ghost use Rattle.code_form.specs.Code.{output_of};
     ghost use Rattle.program_run.specs.Runs.{IsOnRun, RunView, is_over};
     ghost use Rattle.region.specs.Admission.{image_at};
     ghost use Rattle.std.specs.Prelude.{◌≡◌, ◌-◌, ◌<◌, length};
 
     ghost Value = { RunView };
 
-    ghost view = { λ p. record { programs = p.region.now.programs; number = p.number; objects = p.session.view.high - p.session.view.low; completed = p.session.completed; refusals = p.session.refusals; over = is_over p.run } };
+    ghost view = { λ p. record { programs = p.region.now.programs; number = p.number; objects = p.session.view.high - p.session.view.low; completed = p.session.completed; refusals = p.session.refusals; printed = output_of p.session.core; over = is_over p.run } };
 
     ghost invariant = { λ p.
         IsOnRun S.honest S.reliable p.session p.run
@@ -116,10 +121,19 @@ impl<'a, S: RawStore> ProgramRun<'a, S> {
         self.number
     }
 
+    /// What it has printed.
+    pub fn output(&self) -> &[u8]
+        ensures { result.now ≡ self.now.printed }
+    {
+        self.session.output()
+    }
+
     /// Asks the gate once whether the program may go, and where it may, runs it for `quantum` instructions, unless it stops or wants something: then the gate is
-    /// told so, once. It may wait. A program whose run is over stays as it is, and the gate is not asked; nor is it where 2^64 instructions would be completed.
+    /// told so, once. It may wait. A program whose run is over stays as it is, and the gate is not asked; nor is it where 2^64 instructions would be completed. What it had
+    /// printed before begins what it has printed then.
     pub fn turn<G: Gate, W: Wait>(&mut self, rt: &W, gate: &G, quantum: u64) -> Turn
-        ensures { HasTurned quantum self.old self.new result }
+        ensures turned { HasTurned quantum self.old self.new result }
+        ensures grows { S.honest → IsPrefix self.old.printed self.new.printed }
     {
         let Run::Running = self.run else {
             return Turn::Ended;
@@ -143,6 +157,8 @@ impl<'a, S: RawStore> ProgramRun<'a, S> {
         requires over { self.over ≡ true }
         ensures end { S.honest → IsFinishedOver S.reliable self.entry.objects (image_at self.entry.programs self.entry.number) result }
         ensures refusals { result.refusals ≡ self.entry.refusals }
+        ensures printed { result.end.output.items ≡ self.entry.printed }
+        ensures completed { result.end.completed ≡ self.entry.completed }
     {
         let ProgramRun { session, run, .. } = self;
         let completed = session.completed();

@@ -1,7 +1,7 @@
 use Rattle.std.proofs.Common.{◌≡◌, ℕ, List, map, take}
 use Rattle.command_line.specs.Shell.{compiling_of}
 use Rattle.c0far.specs.FileCode.{AreCodes}
-use Rattle.c0far.specs.Streams.{IsQuiet, writes}
+use Rattle.streams.specs.Streams.{IsQuiet, writes}
 use Rattle.c0far.proofs.code.codes_of.Given as goal
 
 -- files hold what they held, nothing was said, and the codes are those of the files so far

@@ -3,7 +3,7 @@ use Rattle.code_form.specs.Form.{image_of}
 use Rattle.command_line.specs.Shell.{Compiling}
 use Rattle.c0far.specs.FileCode.{HoldsCode}
 use Rattle.c0far.specs.NoCode.{HasNoCode}
-use Rattle.c0far.specs.Streams.{writes}
+use Rattle.streams.specs.Streams.{writes}
 use Rattle.c0far.proofs.drive.check_image.Goals as goal
 
 pub returns-in-Err-clause-done : goal.returns-in-Err-clause-done

@@ -7,7 +7,7 @@ use Rattle.command_line.specs.declared.words.Usage.{Usage}
 use Rattle.command_line.specs.declared.words.Usage.TheVariants.{Refused, OutOfMemory}
 use Rattle.c0far.proofs.Moved.{built_at, only_at}
 use Rattle.c0far.specs.Replays.{Replays}
-use Rattle.c0far.specs.Streams.{writes}
+use Rattle.streams.specs.Streams.{writes}
 use Rattle.c0far.proofs.drive.drive.Goals as goal
 
 pub returns-in-Err-Refused : goal.returns-in-Err-Refused

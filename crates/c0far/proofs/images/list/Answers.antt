@@ -5,7 +5,7 @@ use Rattle.image_listing.specs.Listing.{listing}
 use Rattle.command_line.specs.Shell.{Compiling}
 use Rattle.c0far.specs.FileCode.{HoldsCode}
 use Rattle.c0far.specs.NoCode.{HasNoCode}
-use Rattle.c0far.specs.Streams.{Says, writes}
+use Rattle.streams.specs.Streams.{Says, writes}
 use Rattle.c0far.proofs.images.list.Goals as goal
 
 pub returns-in-Err-clause-done : goal.returns-in-Err-clause-done

@@ -3,7 +3,7 @@ use Rattle.cells.specs.declared.ending.Ended.{Ended}
 use Rattle.c0far.proofs.Codes.{after_quiet}
 use Rattle.c0far.specs.Runs.{SaysFault}
 use Rattle.c0far.specs.Shown.{ends_status, shown_ends}
-use Rattle.c0far.specs.Streams.{Says, Writes, writes}
+use Rattle.streams.specs.Streams.{Says, Writes, writes}
 use Rattle.c0far.proofs.runs.run.Goals as goal
 
 pub returns-in-Err-clause-done : goal.returns-in-Err-clause-done

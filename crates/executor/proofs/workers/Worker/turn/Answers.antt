@@ -19,7 +19,7 @@ invariant_of-self-in-Ran g c =
     let most = vec_capacity c.self.inside.done in
     let was : c.self.inside.kept ≡ Some c.in-Some.task = search rules in
     let w : Works h r q p (Some c.in-Some.task) items long most = subst (λ k. Works h r q p k items long most) was c.self.invariant in
-    let ran : c.turn.new.self ≡ record c.in-Some.task { completed = c.in-Some.task.completed + c.args.quantum } = search rules in
+    let ran : c.turn.new.self ≡ record c.in-Some.task { completed = c.in-Some.task.completed + c.args.quantum; printed = c.turn.new.self.printed } = search rules in
     let put : MatchOption c.put-in-Ran.result (after.in_hand + 1 ≡ p.in_hand) (λ b. (b ≡ c.turn.new.self) × (after ≡ p)) = search rules in
     works_put h r q p after c.in-Some.task c.turn.new.self c.put-in-Ran.result items long most w c.put-in-Ran.ensures.queue put (still_task q.roster c.in-Some.task c.turn.new.self c.args.quantum w.task ran)
 
@@ -34,7 +34,7 @@ invariant_of-self-in-Ended g c =
     let most = vec_capacity c.self.inside.done in
     let was : c.self.inside.kept ≡ Some c.in-Some.task = search rules in
     let w : Works h r q p (Some c.in-Some.task) items long most = subst (λ k. Works h r q p k items long most) was c.self.invariant in
-    let ended : c.turn.new.self ≡ record c.in-Some.task { completed = c.turn.new.self.completed; refusals = c.turn.new.self.refusals; over = true } = search rules in
+    let ended : c.turn.new.self ≡ record c.in-Some.task { completed = c.turn.new.self.completed; refusals = c.turn.new.self.refusals; printed = c.turn.new.self.printed; over = true } = search rules in
     let end = ended_task h r q.roster c.in-Some.task c.turn.new.self c.number.result c.into_finished.result w.task ended c.number.ensures.number c.into_finished.ensures.end in
     let none : c.take.new.self ≡ None = search rules in
     let more = c.push_reserved.ensures.len in

@@ -1,0 +1,43 @@
+use Rattle.std.proofs.Common.{inl, inr, refl, subst}
+use Rattle.command_line.specs.Shell.{compiling_of, memory_of}
+use Rattle.c0far.proofs.Codes.{after_quiet}
+use Rattle.c0far.proofs.Lived.{one_code, shown_live}
+use Rattle.c0far.specs.Runs.{SaysFault}
+use Rattle.streams.specs.Streams.{Writes}
+use Rattle.c0far.proofs.lives.run_live.Goals as goal
+
+pub live_asked-requires : goal.live_asked-requires
+live_asked-requires g c = one_code (compiling_of c.args.asked.compiling) (g.F.Files.holds c.args.files.now) c.args.name.now c.in-Ok.programs.items c.in-Ok.ensures.codes
+
+pub returns-in-Err-clause-done : goal.returns-in-Err-clause-done
+returns-in-Err-clause-done g c = inr (inr (c.in-Err.ensures.refused _ refl))
+
+pub returns-in-Ok-live_asked-clause-done : goal.returns-in-Ok-live_asked-clause-done
+returns-in-Ok-live_asked-clause-done g c = inl (record {
+  programs = c.in-Ok.programs.items;
+  codes = c.in-Ok.ensures.codes;
+  admitted = c.in-Ok-live_asked.ensures.admitted;
+  shown = shown_live g.O.Stream.contents g.O.Stream.failures g.F.Place.Folder.honest (memory_of c.args.asked.memory) c.in-Ok.programs.items c.args.out.now c.live_asked.new.out c.say_rest.new.out c.in-Ok-live_asked.ended c.say_rest.result
+      c.in-Ok-live_asked.ensures.ended c.say_rest.ensures;
+  quiet = c.in-Ok.ensures.quiet;
+})
+
+pub returns-in-Err-NotRun-clause-done : goal.returns-in-Err-NotRun-clause-done
+returns-in-Err-NotRun-clause-done g c = inr (inl (record {
+  programs = c.in-Ok.programs.items;
+  codes = c.in-Ok.ensures.codes;
+  fault = c.in-Err-NotRun.fault;
+  cause = c.in-Err-NotRun.ensures.left.0;
+  shown = subst (λ (w : Writes). SaysFault c.in-Err-NotRun.fault w c.say_admission.result)
+      (after_quiet g.E.Stream.contents g.E.Stream.failures c.args.err.now c.codes_of.new.err c.say_admission.new.err c.in-Ok.ensures.quiet) c.say_admission.ensures;
+  quiet = c.in-Err-NotRun.ensures.left.1;
+}))
+
+pub returns-in-Err-Unwritten-clause-done : goal.returns-in-Err-Unwritten-clause-done
+returns-in-Err-Unwritten-clause-done g c = inl (record {
+  programs = c.in-Ok.programs.items;
+  codes = c.in-Ok.ensures.codes;
+  admitted = (c.in-Err-Unwritten.ensures.left.0, c.in-Err-Unwritten.ensures.left.1);
+  shown = inr (refl, c.in-Err-Unwritten.ensures.left.2);
+  quiet = c.in-Ok.ensures.quiet;
+})

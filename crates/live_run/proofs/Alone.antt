@@ -1,0 +1,41 @@
+-- The one program of its region.
+use Rattle.std.proofs.Common.{◌≡◌, ◌∙◌, ◌+◌, ◌-◌, ◌/◌, ◌++◌, ◌∷◌, ℕ, suc, List, [], Result, Ok, Err, ap, ap₂, arith, length, subst}
+use Rattle.std.proofs.Math.Nat.{div-one}
+use Rattle.std.specs.List.{All}
+use Rattle.std.specs.Prelude.{IfOk}
+use Rattle.cells.specs.declared.ending.Ended.{Ended}
+use Rattle.code_form.specs.Form.{Image}
+use Rattle.object_lock.specs.Fresh.{AreNumbered, IsFreshOwner}
+use Rattle.object_lock.specs.SeatViews.{SeatView, TableView}
+use Rattle.region.specs.Admission.{image_at}
+use Rattle.scope_verifier.specs.declared.acceptance.Verified.{Verified}
+use Rattle.streams.specs.Streams.{Writes}
+use Rattle.live_run.specs.Lives.{EndsLive}
+use Rattle.live_run.specs.declared.live.LiveError.{LiveError}
+
+-- what holds of all holds of the last
+all_last : {X : Type 0} (P : X → Type 0) (before : List X) (x : X) → All P (before ++ x ∷ []) → P x
+all_last P [] x all = all 0 x (omega arith)
+all_last P (d ∷ ds) x all = all_last P ds x (λ k e low. all (suc k) e (omega arith))
+
+-- the number of the one seat
+number_of_one : {W C : Type 0} (before : List (SeatView W C)) (s : SeatView W C) → AreNumbered 1 1 (before ++ s ∷ []) → s.view.number ≡ 1
+number_of_one [] s are = cc
+number_of_one (r ∷ []) s are = absurd (let no : ⊥ = cc are in no)
+number_of_one (r ∷ (x ∷ xs)) s are = absurd (let no : ⊥ = cc are in no)
+
+-- the one seat is that of the first program
+pub seat_alone : {W C : Type 0} (t : TableView) (n share : ℕ) (seats before : List (SeatView W C)) (s : SeatView W C) → n ≡ 1 → seats ≡ before ++ s ∷ [] → AreNumbered 1 n seats → All (IsFreshOwner t share) seats
+    → (s.view.number ≡ 1) × IsFreshOwner t share s
+seat_alone t n share seats before s one items numbered own =
+    (number_of_one before s (subst (AreNumbered 1 1) items (subst (λ m. AreNumbered 1 m seats) one numbered)), all_last (IsFreshOwner t share) before s (subst (All (IsFreshOwner t share)) items own))
+
+-- its share is all objects, and its image that of the one program
+pub ends_alone : (honest reliable : Type 0) (objects : ℕ) (programs now : List Verified) (number low high : ℕ) (w : Writes) (r : Result Ended LiveError) → length programs ≡ 1 → now ≡ programs → number ≡ 1
+    → high ≡ low + objects / length programs → IfOk r (λ e. EndsLive honest reliable (high - low) (image_at now (number - 1)) w e) → IfOk r (λ e. EndsLive honest reliable objects (image_at programs 0) w e)
+ends_alone honest reliable objects programs now number low high w (Ok e) one same first end ends =
+    let share : high - low ≡ objects / length programs = omega arith in
+    let all : high - low ≡ objects = share ∙ ap (λ n. objects / n) one ∙ div-one objects in
+    let image : image_at now (number - 1) ≡ image_at programs 0 = ap₂ image_at same (ap (λ n. n - 1) first) in
+    subst (λ (C : Image). EndsLive honest reliable objects C w e) image (subst (λ m. EndsLive honest reliable m (image_at now (number - 1)) w e) all ends)
+ends_alone honest reliable objects programs now number low high w (Err e) one same first end ends = tt
