@@ -8,7 +8,7 @@ use Rattle.c0_rules.proofs.Programs.{DefinedThere, defined_there}
 use Rattle.c0_rules.proofs.Rules.{some_has}
 use Rattle.c0_rules.specs.Programs.{beginning, function_names_of, main_name, typed_declarations}
 use Rattle.c0_rules.specs.Types.{is_among}
-use Rattle.c0_types.proofs.programs.check.Goals as goal
+use Rattle.c0_types.proofs.programs.checked.Goals as goal
 
 pub check_whole-requires : goal.check_whole-requires
 check_whole-requires c = λ defined.
