@@ -2,6 +2,7 @@
 
 ghost use Rattle.std.specs.Prelude.{◌≡◌, ◌⊎◌, IfErr, IfOk, MatchResult};
 ghost use Rattle.c0_source.specs.declared.fault.FaultKind.TheVariants.{OutOfMemory};
+ghost use Rattle.c0_source.specs.FaultNumbers.{memory_fault};
 ghost use Rattle.c0_syntax.specs.Levels.{has_loops};
 ghost use Rattle.c0_syntax.specs.Trees as s;
 ghost use Rattle.c0_syntax.specs.Views.{program_of as tree_of};
@@ -25,6 +26,8 @@ pub fn read_text(alloc: Global, text: &[u8], level: Level) -> Result<Program, Fa
     // Each part of the program begins where the first of its tokens does, and ends where the last one does.
     ensures read { IfOk result (λ p. IsPlacedTextOf (has_loops level) text.now p) }
     ensures refused { IfErr result (λ f. (f.kind ≡ OutOfMemory) ⊎ IsUnreadText (has_loops level) text.now f) }
+    // Want of memory is told with an empty span, at the beginning of the text.
+    ensures place { IfErr result (λ f. f.kind ≡ OutOfMemory → f ≡ memory_fault) }
     // A text of a program is read as it, and as no other, unless memory runs out.
     ensures every { (p : s.Program) → IsTextOf (has_loops level) text.now p → MatchResult result (λ q. tree_of q ≡ p) (λ f. f.kind ≡ OutOfMemory) }
 {
@@ -38,6 +41,8 @@ pub fn read_text(alloc: Global, text: &[u8], level: Level) -> Result<Program, Fa
 pub fn check_text(alloc: Global, text: &[u8], level: Level) -> Result<Typed, Fault>
     ensures typed { IfOk result (λ p. IsTypedAs (has_loops level) text.now (typed_of p)) }
     ensures refused { IfErr result (λ f. (f.kind ≡ OutOfMemory) ⊎ IsRefusedText (has_loops level) text.now f) }
+    // Want of memory is told with an empty span, at the beginning of the text.
+    ensures place { IfErr result (λ f. f.kind ≡ OutOfMemory → f ≡ memory_fault) }
     // A text of a well-typed program is accepted, with its one typed tree, unless memory runs out.
     ensures every { (p : y.Program) → IsTypedAs (has_loops level) text.now p → MatchResult result (λ q. typed_of q ≡ p) (λ f. f.kind ≡ OutOfMemory) }
 {

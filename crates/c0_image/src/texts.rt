@@ -2,6 +2,7 @@
 ghost use Rattle.std.specs.Prelude.{◌≡◌, ◌⊎◌, IfErr, IfOk, MatchResult, None, OnOk};
 ghost use Rattle.cells.specs.Pieces.{cells_in};
 ghost use Rattle.c0_source.specs.declared.fault.FaultKind.TheVariants.{OutOfMemory};
+ghost use Rattle.c0_source.specs.FaultNumbers.{memory_fault};
 ghost use Rattle.c0_syntax.specs.Levels.{has_loops};
 ghost use Rattle.c0_typed.specs.Trees as y;
 ghost use Rattle.code_form.specs.Code.{Covered};
@@ -54,6 +55,8 @@ pub fn compile(
 ) -> Result<Verified, Fault>
     ensures compiled { IfOk result (λ v. IsCompiled (has_loops level) text.now checks (cells_in piece) (image_of v.image)) }
     ensures refused { IfErr result (λ f. (f.kind ≡ OutOfMemory) ⊎ IsRefusedText (has_loops level) text.now f) }
+    // Want of memory is told with an empty span, at the beginning of the text.
+    ensures place { IfErr result (λ f. f.kind ≡ OutOfMemory → f ≡ memory_fault) }
     // A text of a well-typed program is compiled to code that does what it means, unless memory runs out.
     ensures every { (p : y.Program) → IsTypedAs (has_loops level) text.now p → MatchResult result (λ v. Behaves p checks (image_of v.image)) (λ f. f.kind ≡ OutOfMemory) }
 {

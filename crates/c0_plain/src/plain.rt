@@ -2,6 +2,7 @@
 
 ghost use Rattle.std.specs.Prelude.{◌≡◌, ◌⊎◌, ℕ, Bool, IfErr, IfOk, MatchResult};
 ghost use Rattle.c0_source.specs.declared.fault.FaultKind.TheVariants.{OutOfMemory};
+ghost use Rattle.c0_source.specs.FaultNumbers.{memory_fault};
 ghost use Rattle.c0_syntax.specs.Levels.{has_loops};
 ghost use Rattle.c0_typed.specs.Meaning.{mean as mean_of};
 ghost use Rattle.c0_typed.specs.Trees as y;
@@ -72,6 +73,8 @@ pub fn mean_text<R: Threads>(
 ) -> Result<Meant, Fault>
     ensures meant { IfOk result (λ m. (p : y.Program) × IsTypedAs (has_loops level) text.now p × (meant_of m ≡ mean_of p checks turns)) }
     ensures refused { IfErr result (λ f. (f.kind ≡ OutOfMemory) ⊎ IsRefusedText (has_loops level) text.now f) }
+    // Want of memory is told with an empty span, at the beginning of the text.
+    ensures place { IfErr result (λ f. f.kind ≡ OutOfMemory → f ≡ memory_fault) }
     // A text of a well-typed program is run as that program, and as no other, unless memory runs out.
     ensures every { (p : y.Program) → IsTypedAs (has_loops level) text.now p → MatchResult result (λ m. meant_of m ≡ mean_of p checks turns) (λ f. f.kind ≡ OutOfMemory) }
 {

@@ -1,5 +1,5 @@
 -- Two looks at a part of a text, of whose faults the first is told.
-use Rattle.std.proofs.Common.{◌≡◌, ◌⊎◌, inl, inr, refl, sym, ap, ◌∙◌, subst, Bool, true, false, Option, Some, None, Result, Ok, Err}
+use Rattle.std.proofs.Common.{◌≡◌, ◌⊎◌, inl, inr, refl, sym, ap, ◌∙◌, subst, Bool, true, false, Option, None, Result, Ok, Err}
 use Rattle.std.specs.Prelude.{◌&&◌, IfErr, MatchResult, is_ok}
 use Rattle.c0_source.specs.declared.fault.Fault.{Fault}
 use Rattle.c0_source.specs.declared.fault.FaultKind.TheVariants as k

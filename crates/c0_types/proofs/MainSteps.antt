@@ -1,13 +1,13 @@
 -- Where `main` is defined, and what is told of it.
-use Rattle.std.proofs.Common.{◌≡◌, ◌⊎◌, inl, inr, ℕ, ◌+◌, ◌<◌, List, [], ◌∷◌, drop, get_or, length, map, refl, sym, ap, ◌∙◌, subst, Bool, true, false, Option, Some, None}
+use Rattle.std.proofs.Common.{◌≡◌, inl, inr, ℕ, ◌+◌, ◌<◌, List, [], ◌∷◌, drop, get_or, length, map, refl, sym, ap, ◌∙◌, subst, Bool, true, false}
 use Rattle.std.specs.Prelude.{◌||◌, bytes_eq}
 use Rattle.c0_source.specs.declared.fault.Fault.{Fault}
 use Rattle.c0_syntax.specs.Trees as s
 use Rattle.c0_syntax.specs.Views.{declaration_of}
 use Rattle.c0_syntax.specs.declared.program.Declaration.{Declaration}
 use Rattle.c0_rules.specs.FaultPrograms.{MainAmong, MainDefined}
-use Rattle.c0_rules.specs.Programs.{function_defined, function_names_of, main_name}
-use Rattle.c0_rules.specs.Types.{Name, is_among}
+use Rattle.c0_rules.specs.Programs.{function_names_of, main_name}
+use Rattle.c0_rules.specs.Types.{is_among}
 use Rattle.c0_types.proofs.HeaderLists.{first_left}
 
 -- whether one of these declarations defines `main`

@@ -1,9 +1,10 @@
 // The static rules of a whole program.
 
-ghost use Rattle.std.specs.Prelude.{◌≡◌, ◌⊎◌, ◌&&◌, [], ◌∷◌, IfErr, IfOk, IfSome, is_some, map, true};
+ghost use Rattle.std.specs.Prelude.{◌≡◌, ◌≢◌, ◌⊎◌, ◌&&◌, [], ◌∷◌, IfErr, IfOk, IfSome, is_some, map, true};
 ghost use Rattle.std.specs.List.{list_all};
 ghost use Rattle.c0_source.specs.declared.fault.Fault as g;
 ghost use Rattle.c0_source.specs.declared.fault.FaultKind.TheVariants.{BadMain as MainIsBad, OutOfMemory};
+ghost use Rattle.c0_source.specs.FaultNumbers.{memory_fault};
 ghost use Rattle.c0_syntax.specs.Views.{declaration_of, program_of as tree_of};
 ghost use Rattle.c0_typed.specs.Views.{program_of as typed_of};
 ghost use Rattle.c0_types.specs.DeclareViews.{Accepts, elaboration_of};
@@ -109,6 +110,33 @@ fn check_whole(environment: &Environment, program: &Program) -> Result<(), Fault
     check_texts(&program.declarations)
 }
 
+// The typed tree of a program that keeps all static rules, or what is told of one that breaks some.
+fn checked(alloc: Global, program: &Program) -> Result<Typed, Fault>
+    ensures answers { Answers typed_of result (typed_program (tree_of program.now)) }
+    ensures cause { IfErr result (λ f. (f.kind ≡ OutOfMemory) ⊎ FaultAt program.now f) }
+{
+    let Whole { elaborated, texts } = declared(alloc, &program.declarations)?;
+    check_whole(&elaborated.environment, program)?;
+    Ok(Typed {
+        main: elaborated.environment.function_names.number("main") as usize,
+        structs: elaborated.structs,
+        functions: elaborated.functions,
+        texts: texts.into_names(),
+    })
+}
+
+// What is told at the end: want of memory has no place, wherever the rules met it, and every other fault is told as it is. The calls
+// below need not say which place want of memory has.
+fn told(fault: Fault) -> Fault
+    ensures { ((fault.kind ≡ OutOfMemory) × (result ≡ memory_fault)) ⊎ ((fault.kind ≢ OutOfMemory) × (result ≡ fault)) }
+{
+    if fault.kind == FaultKind::OutOfMemory {
+        Fault::out_of_memory()
+    } else {
+        fault
+    }
+}
+
 /// The typed tree of a program that keeps all static rules. Else the fault is the first in the order of the text, but that names that a
 /// path has not assigned and paths without a `return` are told behind the types of their function, and `main`, calls without a definition
 /// and texts behind all declarations; or memory runs out.
@@ -117,13 +145,11 @@ pub fn check(alloc: Global, program: Program) -> Result<Typed, Fault>
     ensures answers { Answers typed_of result (typed_program (tree_of program)) }
     // What is told has its cause at its place.
     ensures cause { IfErr result (λ f. (f.kind ≡ OutOfMemory) ⊎ FaultAt program f) }
+    // Want of memory is told with an empty span, at the beginning of the text.
+    ensures place { IfErr result (λ f. f.kind ≡ OutOfMemory → f ≡ memory_fault) }
 {
-    let Whole { elaborated, texts } = declared(alloc, &program.declarations)?;
-    check_whole(&elaborated.environment, &program)?;
-    Ok(Typed {
-        main: elaborated.environment.function_names.number("main") as usize,
-        structs: elaborated.structs,
-        functions: elaborated.functions,
-        texts: texts.into_names(),
-    })
+    match checked(alloc, &program) {
+        Ok(typed) => Ok(typed),
+        Err(fault) => Err(told(fault)),
+    }
 }
