@@ -104,7 +104,7 @@ same_shown : (out : Writes) (e : Ended) (printed : List ℕ) (result : ℕ) → 
 same_shown out e printed result whole written sound status =
     inl (status ∙ sym (max-zero (run_status e.run)), subst (λ (l : List ℕ). Appends out.before.contents out.after.contents (l ++ shown_rest e)) whole written, sound)
 
-pub shows_the_same : LiveShowsTheSame
+pub shows_the_same : (h : Type 0) → LiveShowsTheSame h
 shows_the_same h asked file held out err result honest ran = elim ran.shown [
   | inl s ↦ inl (record {
     programs = ran.programs;

@@ -59,6 +59,6 @@ module _ (h : Type 0) (asked : Started) (file : Text) (held : Text → Known) wh
       HasRunLive out err result ⊎ (IsNotRun h asked (file ∷ []) held out err result ⊎ (LacksCode asked.compiling held (file ∷ []) out err result ⊎ LacksMemory out err result))
 
 -- over an honest store `run --live` shows just what `run` shows of the file, with the same status, where no write fails
-abbrev pub LiveShowsTheSame : Type 0
-LiveShowsTheSame = (h : Type 0) (asked : Started) (file : Text) (held : Text → Known) (out err : Writes) (result : ℕ) → IsHonestIn h asked.memory.store → HasRunLive h asked file held out err result
+abbrev pub LiveShowsTheSame : Type 0 → Type 0
+LiveShowsTheSame h = (asked : Started) (file : Text) (held : Text → Known) (out err : Writes) (result : ℕ) → IsHonestIn h asked.memory.store → HasRunLive h asked file held out err result
     → HasRun h asked (file ∷ []) held out err result ⊎ ((result ≡ 2) × OneFailed out)

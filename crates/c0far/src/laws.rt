@@ -2,6 +2,7 @@
 ghost use Rattle.c0far.specs.Lives.{LiveShowsTheSame};
 ghost use Rattle.c0far.specs.Replays.{ReplaysNeverFail};
 
+use crate::files::Files;
 use schedule_replay::never_fails;
 
 /// Where no folder is named and no call of the store is to fail, `replay` shows of no program that the store failed.
@@ -12,6 +13,6 @@ pub fn replays_never_fail()
 }
 
 /// Over an honest store `run --live` shows just what `run` shows.
-pub fn live_shows_the_same()
-    ensures { LiveShowsTheSame }
+pub fn live_shows_the_same<F: Files>()
+    ensures { LiveShowsTheSame F.Place.honest }
 {}

@@ -15,5 +15,5 @@ returns-in-Ok-clause-ended g c =
     lived_in_folder g.F.Place.Folder.honest (memory_of c.args.asked.memory) c.in-Some.name.now c.args.programs.items (writes g.O.Stream.contents g.O.Stream.failures c.args.out.now c.live_over-in-Ok.new.out) c.live_over-in-Ok.result
     c.requires (ap (option_map (λ s. s.now)) c.in-Some.is) c.live_over-in-Ok.ensures.ended
 
-pub live_over-requires-clause-makes-in-Ok-after_bounds : goal.live_over-requires-clause-makes-in-Ok-after_bounds
-live_over-requires-clause-makes-in-Ok-after_bounds g c κs within = has_room c.args.programs.items
+pub live_over-requires-in-Ok-clause-makes : goal.live_over-requires-in-Ok-clause-makes
+live_over-requires-in-Ok-clause-makes g c κs within = has_room c.args.programs.items

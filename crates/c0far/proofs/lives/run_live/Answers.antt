@@ -1,13 +1,15 @@
 use Rattle.std.proofs.Common.{inl, inr, refl, subst}
 use Rattle.command_line.specs.Shell.{compiling_of, memory_of}
+use Rattle.live_run.specs.Lives.{IsNotShown}
+use Rattle.live_run.specs.declared.live.LiveError.{LiveError}
 use Rattle.c0far.proofs.Codes.{after_quiet}
 use Rattle.c0far.proofs.Lived.{one_code, shown_live}
 use Rattle.c0far.specs.Runs.{SaysFault}
-use Rattle.streams.specs.Streams.{Writes}
+use Rattle.streams.specs.Streams.{Writes, writes}
 use Rattle.c0far.proofs.lives.run_live.Goals as goal
 
-pub live_asked-requires : goal.live_asked-requires
-live_asked-requires g c = one_code (compiling_of c.args.asked.compiling) (g.F.Files.holds c.args.files.now) c.args.name.now c.in-Ok.programs.items c.in-Ok.ensures.codes
+pub live_asked-requires-after_bounds : goal.live_asked-requires-after_bounds
+live_asked-requires-after_bounds g c κs within = one_code (compiling_of c.args.asked.compiling) (g.F.Files.holds c.args.files.now) c.args.name.now c.in-Ok.programs.items c.in-Ok.ensures.codes
 
 pub returns-in-Err-clause-done : goal.returns-in-Err-clause-done
 returns-in-Err-clause-done g c = inr (inr (c.in-Err.ensures.refused _ refl))
@@ -23,21 +25,29 @@ returns-in-Ok-live_asked-clause-done g c = inl (record {
 })
 
 pub returns-in-Err-NotRun-clause-done : goal.returns-in-Err-NotRun-clause-done
-returns-in-Err-NotRun-clause-done g c = inr (inl (record {
-  programs = c.in-Ok.programs.items;
-  codes = c.in-Ok.ensures.codes;
-  fault = c.in-Err-NotRun.fault;
-  cause = c.in-Err-NotRun.ensures.left.0;
-  shown = subst (λ (w : Writes). SaysFault c.in-Err-NotRun.fault w c.say_admission.result)
-      (after_quiet g.E.Stream.contents g.E.Stream.failures c.args.err.now c.codes_of.new.err c.say_admission.new.err c.in-Ok.ensures.quiet) c.say_admission.ensures;
-  quiet = c.in-Err-NotRun.ensures.left.1;
-}))
+returns-in-Err-NotRun-clause-done g c =
+    let a = c.args.asked in
+    let out = writes g.O.Stream.contents g.O.Stream.failures c.args.out.now c.live_asked.new.out in
+    let left = subst (λ (e : LiveError). IsNotShown c.in-Ok.programs.items a.memory.frames a.memory.objects a.evacuators a.fetchers a.work.workers a.work.quantum out e) c.in-Err-NotRun.field-0-is c.in-Err-NotRun.ensures.left in
+    inr (inl (record {
+      programs = c.in-Ok.programs.items;
+      codes = c.in-Ok.ensures.codes;
+      fault = c.in-Err-NotRun.fault;
+      cause = left.0;
+      shown = subst (λ (w : Writes). SaysFault c.in-Err-NotRun.fault w c.say_admission.result)
+          (after_quiet g.E.Stream.contents g.E.Stream.failures c.args.err.now c.codes_of.new.err c.say_admission.new.err c.in-Ok.ensures.quiet) c.say_admission.ensures;
+      quiet = left.1;
+    }))
 
 pub returns-in-Err-Unwritten-clause-done : goal.returns-in-Err-Unwritten-clause-done
-returns-in-Err-Unwritten-clause-done g c = inl (record {
-  programs = c.in-Ok.programs.items;
-  codes = c.in-Ok.ensures.codes;
-  admitted = (c.in-Err-Unwritten.ensures.left.0, c.in-Err-Unwritten.ensures.left.1);
-  shown = inr (refl, c.in-Err-Unwritten.ensures.left.2);
-  quiet = c.in-Ok.ensures.quiet;
-})
+returns-in-Err-Unwritten-clause-done g c =
+    let a = c.args.asked in
+    let out = writes g.O.Stream.contents g.O.Stream.failures c.args.out.now c.live_asked.new.out in
+    let left = subst (λ (e : LiveError). IsNotShown c.in-Ok.programs.items a.memory.frames a.memory.objects a.evacuators a.fetchers a.work.workers a.work.quantum out e) c.in-Err-Unwritten.field-0-is c.in-Err-Unwritten.ensures.left in
+    inl (record {
+      programs = c.in-Ok.programs.items;
+      codes = c.in-Ok.ensures.codes;
+      admitted = (left.0, left.1);
+      shown = inr (refl, left.2);
+      quiet = c.in-Ok.ensures.quiet;
+    })
