@@ -320,9 +320,14 @@ def output_that_nobody_takes(it):
         want(ran.returncode == 2, f"{words} gave {ran.returncode}, {ran.stderr}")
 
 
+def may_be_interrupted():
+    """A shell has the programs that it starts in the background ignore interrupts, and so would those that they start."""
+    signal.signal(signal.SIGINT, signal.SIG_DFL)
+
+
 def read_while_it_runs(it, words, lines):
     """Reads these lines of a program that never ends, and interrupts it then; what it wrote besides."""
-    ran = subprocess.Popen([it.program, *words.split()], cwd=it.folder, stdout=subprocess.PIPE, stderr=subprocess.PIPE, stdin=subprocess.DEVNULL)
+    ran = subprocess.Popen([it.program, *words.split()], cwd=it.folder, stdout=subprocess.PIPE, stderr=subprocess.PIPE, stdin=subprocess.DEVNULL, preexec_fn=may_be_interrupted)
     with ran:
         watch = threading.Timer(60, ran.kill)
         watch.start()
