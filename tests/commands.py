@@ -326,8 +326,8 @@ def may_be_interrupted():
 
 
 def read_while_it_runs(it, words, lines):
-    """Reads these lines of a program that never ends, and interrupts it then; what it wrote besides."""
-    ran = subprocess.Popen([it.program, *words.split()], cwd=it.folder, stdout=subprocess.PIPE, stderr=subprocess.PIPE, stdin=subprocess.DEVNULL, preexec_fn=may_be_interrupted)
+    """Reads these lines of a program that never ends, and not a byte more, and interrupts it then; what it wrote besides."""
+    ran = subprocess.Popen([it.program, *words.split()], cwd=it.folder, stdout=subprocess.PIPE, stderr=subprocess.PIPE, stdin=subprocess.DEVNULL, bufsize=0, preexec_fn=may_be_interrupted)
     with ran:
         watch = threading.Timer(60, ran.kill)
         watch.start()
