@@ -1,4 +1,4 @@
-// What a text is the text of, and the fault of the first stage that refuses it.
+//! What a text is the text of, and the fault of the first stage that refuses it.
 
 ghost use Rattle.std.specs.Prelude.{◌≡◌, ◌⊎◌, IfErr, IfOk, MatchResult};
 ghost use Rattle.c0_source.specs.declared.fault.FaultKind.TheVariants.{OutOfMemory};

@@ -1,4 +1,4 @@
-// What holds of all tokens: each function computes nothing, and its contract is the law.
+//! What holds of all tokens: each function computes nothing, and its contract is the law.
 
 ghost use Rattle.c0_grammar_laws.specs.Laws.{FaultsAreCaused, FaultsAreFirst, LexedAreTokens, LimitsAreThese, NamesAreTooMany, NoneIsShallow, OneProgram, ReadsExactly, SyntaxExcludes};
 ghost use Rattle.c0_grammar_laws.specs.WorkedTokens.{ConditionOnLastLevel, IfOnLastLevel, StatementBelow};

@@ -1,4 +1,4 @@
-// Why no tree is read.
+//! Why no tree is read.
 
 ghost use Rattle.std.specs.Prelude.{◌≡◌};
 

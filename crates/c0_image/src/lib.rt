@@ -1,4 +1,4 @@
-//! From a text to the image of its program.
+//! `compile`: from the bytes of a text to the verified image of its program.
 #![tactic(auto)]
 
 mod laws;

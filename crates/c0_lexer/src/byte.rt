@@ -1,4 +1,4 @@
-// Classes of bytes.
+//! Classes of bytes.
 
 ghost use Rattle.std.specs.Prelude.{◌≡◌, ◌&&◌, slice_index};
 ghost use Rattle.c0_source.specs.Bytes as spec;

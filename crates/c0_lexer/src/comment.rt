@@ -1,4 +1,4 @@
-// Comments, the openings of annotations, `/` and `/=`.
+//! Comments, the openings of annotations, `/` and `/=`.
 
 ghost use Rattle.std.specs.Prelude.{◌≡◌, ◌<◌, ◌≤◌, length, slice_index, IfSome};
 ghost use Rattle.std.specs.List.{prefix_len};

@@ -1,4 +1,4 @@
-// From a text to its tokens.
+//! From a text to its tokens.
 
 ghost use Rattle.std.specs.Prelude.{◌≡◌, ◌++◌, ◌∷◌, ◌<◌, ◌≤◌, List, [], length, map, IfOk, IfErr, OnOk};
 ghost use Rattle.c0_source.specs.Spelling.{AreSlices, Lexeme, Rise, Spells, opening_by, kind_of_piece, add_lexeme, end_at, ending};

@@ -1,4 +1,4 @@
-// From the text of a program to its tokens.
+//! `lex`: from the text of a program to its tokens.
 #![tactic(auto)]
 
 mod byte;

@@ -1,4 +1,4 @@
-// Texts, characters and `#use`.
+//! Texts, characters and `#use`.
 
 ghost use Rattle.std.specs.Prelude.{◌≡◌, ◌+◌, ◌^◌, ◌<◌, ◌≤◌, length, slice_index, false, IfSome};
 ghost use Rattle.c0_lexer.specs.Ends.{text_end, name_end, use_end};

@@ -1,4 +1,4 @@
-// The longest piece at the front of a text.
+//! The longest piece at the front of a text.
 
 use c0_source::kind::Piece;
 

@@ -1,4 +1,4 @@
-// Numbers.
+//! Numbers.
 
 ghost use Rattle.std.specs.Prelude.{◌≡◌, ◌<◌, length, slice_index, true, false};
 ghost use Rattle.c0_source.specs.Bytes as spec;

@@ -1,4 +1,4 @@
-// The longest piece at the front of a text.
+//! The longest piece at the front of a text.
 
 ghost use Rattle.std.specs.Prelude.{◌≡◌, ◌<◌, ◌==◌, if◌then◌else◌, length, slice_index};
 ghost use Rattle.c0_source.specs.Spelling.{after, kind_of_piece, newline_of};

@@ -1,4 +1,4 @@
-// Tables of texts: keywords and signs.
+//! Tables of texts: keywords and signs.
 
 ghost use Rattle.std.specs.Prelude.{◌≡◌, map};
 ghost use Rattle.c0_source.specs.Spelling.{lookup};

@@ -1,4 +1,4 @@
-// Tokens.
+//! Tokens.
 
 use c0_source::kind::Kind;
 

@@ -1,4 +1,4 @@
-// Keywords and names.
+//! Keywords and names.
 
 ghost use Rattle.std.specs.Prelude.{◌≡◌, ◌<◌, ◌≤◌, length, slice_index, true, false};
 ghost use Rattle.std.specs.List.{prefix_len};

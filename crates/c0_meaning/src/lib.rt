@@ -1,4 +1,4 @@
-//! The plain run of typed programs: their bounded meaning, computed over trees and a heap of values that never moves.
+//! `mean`: the plain run of typed programs, which is their bounded meaning, on stacks of its own and over a heap of values that never moves.
 #![tactic(auto)]
 
 mod calls;

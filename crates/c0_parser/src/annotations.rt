@@ -1,6 +1,6 @@
-// Annotations.
-// A tree held where reading may fail is boxed before, or dropped there by a call: a drop that `?` makes is proved
-// variant by variant.
+//! Annotations.
+//! A tree held where reading may fail is boxed before, or dropped there by a call: a drop that `?` makes is proved
+//! variant by variant.
 
 ghost use Rattle.std.specs.Prelude.{length, map, suc, IfOk};
 ghost use Rattle.c0_syntax.specs.Views.{annotation_of, spec_of};

@@ -1,4 +1,4 @@
-// Declarations and programs.
+//! Declarations and programs.
 
 ghost use Rattle.std.specs.Prelude.{◌≡◌, ℕ, Bool, List, length, map, suc, None, IfOk};
 ghost use Rattle.c0_source.specs.declared.kind.Kind.TheVariants as k;

@@ -1,4 +1,4 @@
-//! From the tokens of a text to its tree.
+//! `parse`: from the tokens of a text to its tree, by declarations and statements.
 #![tactic(auto)]
 
 mod annotations;

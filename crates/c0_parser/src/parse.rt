@@ -1,4 +1,4 @@
-// From the tokens of a text to its program.
+//! From the tokens of a text to its program.
 
 ghost use Rattle.std.specs.Prelude.{◌≡◌, ◌≢◌, ◌-◌, ◌≤◌, length, map, take, IfErr, IfOk};
 ghost use Rattle.c0_source.specs.declared.fault.FaultKind.TheVariants as f;

@@ -1,6 +1,6 @@
-// Statements.
-// A tree held where reading may fail is boxed before, or dropped there by a call: a drop that `?` makes is proved
-// variant by variant.
+//! Statements.
+//! A tree held where reading may fail is boxed before, or dropped there by a call: a drop that `?` makes is proved
+//! variant by variant.
 
 ghost use Rattle.std.specs.Prelude.{◌≡◌, ℕ, box_value, option_map, IfOk};
 ghost use Rattle.c0_source.specs.declared.kind.Kind.TheVariants as k;

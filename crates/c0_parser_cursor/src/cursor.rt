@@ -1,4 +1,4 @@
-// Tokens that are still to be read.
+//! Tokens that are still to be read.
 
 ghost use Rattle.std.specs.Prelude.{◌≡◌, ◌<◌, false, drop, length, map, option_map, All, IfErr, IfOk, MatchResult};
 ghost use Rattle.c0_source.specs.declared.kind.Kind.TheVariants as k;

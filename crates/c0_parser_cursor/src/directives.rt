@@ -1,4 +1,4 @@
-// What a `#use` names.
+//! What a `#use` names.
 
 ghost use Rattle.std.specs.Prelude.{◌≡◌, ◌&&◌, [], not, true, IfOk, option_map};
 ghost use Rattle.std.specs.String.{string_bytes};

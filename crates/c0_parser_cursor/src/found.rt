@@ -1,4 +1,4 @@
-// What is read.
+//! What is read.
 
 use c0_syntax::value_type::ValueType;
 

@@ -1,4 +1,4 @@
-// The letters of names and the values of texts.
+//! The letters of names and the values of texts.
 
 ghost use Rattle.std.specs.Prelude.{◌≡◌, ◌<◌, ◌++◌, ◌∷◌, [], false, drop, All, IfOk, IfSome, option_map};
 ghost use Rattle.std.specs.String.{string_bytes};

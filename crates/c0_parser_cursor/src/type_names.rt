@@ -1,4 +1,4 @@
-// The names of types.
+//! The names of types.
 
 ghost use Rattle.std.specs.Prelude.{◌≡◌, [], ◌∷◌, IfOk};
 ghost use Rattle.c0_syntax.specs.Expressions.{is_type_name};

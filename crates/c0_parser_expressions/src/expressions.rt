@@ -1,6 +1,6 @@
-// Expressions.
-// A tree held where reading may fail is boxed before, or dropped there by a call: a drop that `?` makes is proved
-// variant by variant.
+//! Expressions.
+//! A tree held where reading may fail is boxed before, or dropped there by a call: a drop that `?` makes is proved
+//! variant by variant.
 
 ghost use Rattle.std.specs.Prelude.{◌≡◌, ◌-◌, ◌<◌, ◌≤◌, length, Some, None, Ok, IfOk, suc};
 ghost use Rattle.c0_source.specs.declared.kind.Kind.TheVariants as k;

@@ -1,5 +1,5 @@
-// The shapes of trees, and the places in them. Which texts are read, with which fault they are refused, and what is printed of them is tested by the
-// rows of c0_front_tests.
+//! The shapes of trees, and the places in them. Which texts are read, with which fault they are refused, and what is printed of them is tested by the
+//! rows of c0_front_tests.
 
 use c0_grammar_laws::laws::lexed_are_tokens;
 use c0_lexer::lex::lex;

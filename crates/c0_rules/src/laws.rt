@@ -1,4 +1,4 @@
-// What holds of the static rules: each function computes nothing, and its contract is the law.
+//! What holds of the static rules: each function computes nothing, and its contract is the law.
 
 ghost use Rattle.c0_rules.specs.Laws.{ElaboratedFits};
 ghost use Rattle.c0_rules.specs.WorkedPairs.{AreAccepted, AreRefused, AreTold};

@@ -1,4 +1,4 @@
-//! What holds of the static rules and of the causes of faults, for every program: it is refused exactly where there is one.
+//! As laws: a program is refused exactly where a fault has its cause; what the third part of a `for` sees; where `break` and `continue` stand.
 #![tactic(auto)]
 
 mod laws;

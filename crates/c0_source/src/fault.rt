@@ -1,4 +1,4 @@
-// What can be wrong with a program, and where.
+//! What can be wrong with a program, and where.
 
 ghost use Rattle.std.specs.Prelude.{◌≡◌, ◌<◌, Some};
 ghost use Rattle.c0_source.specs.FaultLines.{fault_line, name_of_kind};

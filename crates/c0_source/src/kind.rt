@@ -1,4 +1,4 @@
-// What a token can be.
+//! What a token can be.
 
 /// An operator between two operands.
 #[derive(Clone, Copy, Debug, PartialEq, Eq)]

@@ -1,4 +1,4 @@
-// What holds of all texts, and what small texts are: each function computes nothing, and its contract is the law.
+//! What holds of all texts, and what small texts are: each function computes nothing, and its contract is the law.
 
 ghost use Rattle.c0_source.specs.Laws.{OneSpelling, FaultExcludes, OneFault, EachTextIsTold, TokensRise, BlankEnds};
 ghost use Rattle.c0_source.specs.WorkedTexts.{WorkedSpellings, WorkedFaults};

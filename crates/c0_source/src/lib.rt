@@ -1,4 +1,4 @@
-// The source text of a program: its bytes, the faults of a compilation, and which texts are which tokens.
+//! The source text of a program: its bytes, the faults of a compilation, and which texts are which tokens.
 #![tactic(auto)]
 
 pub mod fault;

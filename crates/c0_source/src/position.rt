@@ -1,4 +1,4 @@
-// Lines and columns of a text.
+//! Lines and columns of a text.
 
 ghost use Rattle.std.specs.Prelude.{◌≡◌, ℕ, ◌+◌, ◌-◌, ◌==◌, count_by, length, min, take};
 ghost use Rattle.c0_source.specs.Lines.{BeginsLine};

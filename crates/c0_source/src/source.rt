@@ -1,4 +1,4 @@
-// The text of a program.
+//! The text of a program.
 
 ghost use Rattle.std.specs.Prelude.{◌≡◌, MatchResult};
 ghost use Rattle.c0_source.specs.SourceTexts.{IsRefused, IsSourceText};

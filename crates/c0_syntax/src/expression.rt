@@ -1,4 +1,4 @@
-// Expressions.
+//! Expressions.
 
 use crate::name::Name;
 use crate::operator::PrefixOperator;

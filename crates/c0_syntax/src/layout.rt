@@ -1,4 +1,4 @@
-// Laying out a program: its tokens in order, each with the gap before it.
+//! Laying out a program: its tokens in order, each with the gap before it.
 
 ghost use Rattle.std.specs.Prelude.{◌≡◌, [], ◌∷◌, ◌++◌, map, IfOk};
 ghost use Rattle.c0_source.specs.Terminals.{Word, Sign};

@@ -1,4 +1,4 @@
-// How much of the language there is.
+//! How much of the language there is.
 
 /// Which statements are in the language.
 #[derive(Clone, Copy, Debug, PartialEq, Eq)]

@@ -1,4 +1,4 @@
-// Programs as trees: what they are, which tokens they read from, and how they are printed.
+//! Programs as trees: what they are, which tokens they read from, and how they are printed.
 #![tactic(auto)]
 
 pub mod expression;

@@ -1,4 +1,4 @@
-// Tokens that are to be written, with what stands between them.
+//! Tokens that are to be written, with what stands between them.
 
 use c0_source::kind::Kind;
 

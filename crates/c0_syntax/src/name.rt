@@ -1,4 +1,4 @@
-// Names.
+//! Names.
 
 use c0_source::fault::Span;
 

@@ -1,4 +1,4 @@
-// Operators on one operand.
+//! Operators on one operand.
 
 /// An operator before its operand.
 #[derive(Clone, Copy, Debug, PartialEq, Eq)]

@@ -1,4 +1,4 @@
-// Printing a program.
+//! Printing a program.
 
 ghost use Rattle.std.specs.Prelude.{◌≡◌, IfOk, MatchResult};
 ghost use Rattle.std.specs.String.{string_bytes};

@@ -1,4 +1,4 @@
-// Declarations and programs.
+//! Declarations and programs.
 
 use crate::name::Name;
 use crate::statement::{Annotation, Statement};

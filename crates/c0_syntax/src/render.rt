@@ -1,4 +1,4 @@
-// The text of tokens with the gaps between them.
+//! The text of tokens with the gaps between them.
 
 ghost use Rattle.std.specs.Prelude.{◌≡◌, ◌++◌, map, true, IfOk};
 ghost use Rattle.std.specs.String.{string_bytes};

@@ -1,4 +1,4 @@
-// How each token is written.
+//! How each token is written.
 
 ghost use Rattle.std.specs.Prelude.{◌≡◌, ◌++◌, IfOk};
 ghost use Rattle.std.specs.String.{string_bytes};

@@ -1,4 +1,4 @@
-// Annotations and statements.
+//! Annotations and statements.
 
 use crate::expression::Expression;
 use crate::name::Name;

@@ -1,4 +1,4 @@
-// Types.
+//! Types.
 
 use crate::name::Name;
 use c0_source::fault::Span;

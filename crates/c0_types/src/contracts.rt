@@ -1,4 +1,4 @@
-// The contract of a function.
+//! The contract of a function.
 
 ghost use Rattle.std.specs.Prelude.{◌≡◌, ◌⊎◌, ◌≤◌, Err, IfErr, MatchResult, Ok, is_ok, map, true};
 ghost use Rattle.c0_source.specs.declared.fault.FaultKind.TheVariants.{OutOfMemory};

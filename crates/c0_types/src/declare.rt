@@ -1,4 +1,4 @@
-// The static rules of declarations, one after the other.
+//! The static rules of declarations, one after the other.
 
 ghost use Rattle.std.specs.Prelude.{◌≡◌, ◌⊎◌, List, [], false, true, IfErr, IfOk, OnOk, map, option_map};
 ghost use Rattle.c0_source.specs.declared.fault.FaultKind.TheVariants.{OutOfMemory};

@@ -1,4 +1,4 @@
-// The static rules of structs, and of the library in use.
+//! The static rules of structs, and of the library in use.
 
 ghost use Rattle.std.specs.Prelude.{◌≡◌, ◌⊎◌, ◌&&◌, nat_le, not, IfErr, IfOk, Some, map};
 ghost use Rattle.c0_source.specs.declared.fault.FaultKind.TheVariants.{BadUse, OutOfMemory};

@@ -1,4 +1,4 @@
-// The static rules of a function's header: its types, its names, and what was declared of its name before.
+//! The static rules of a function's header: its types, its names, and what was declared of its name before.
 
 ghost use Rattle.std.specs.Prelude.{◌≡◌, ◌≤◌, ◌⊎◌, ◌&&◌, ◌||◌, [], Err, IfErr, IfOk, OnOk, Some, false, is_ok, is_some, map, not, true};
 ghost use Rattle.c0_source.specs.declared.fault.FaultKind.TheVariants.{OutOfMemory};

@@ -1,4 +1,4 @@
-//! The static rules of a whole program: its declarations in order, and the typed program of those that are well typed.
+//! `check`: the static rules of a whole program, its contracts and declarations in order, and the typed program of those that are well typed.
 #![tactic(auto)]
 
 mod contracts;

@@ -1,4 +1,4 @@
-// The static rules of a whole program.
+//! The static rules of a whole program.
 
 ghost use Rattle.std.specs.Prelude.{◌≡◌, ◌≢◌, ◌⊎◌, ◌&&◌, [], ◌∷◌, IfErr, IfOk, IfSome, is_some, map, true};
 ghost use Rattle.std.specs.List.{list_all};

@@ -1,6 +1,6 @@
-// The static rules of expressions.
-// A typed operand held where the next may be refused is dropped there by a call: a drop that `?` makes is proved variant by
-// variant.
+//! The static rules of expressions.
+//! A typed operand held where the next may be refused is dropped there by a call: a drop that `?` makes is proved variant by
+//! variant.
 
 mod forms;
 mod names;

@@ -1,4 +1,4 @@
-// What the static rules give of an expression, and where it stands.
+//! What the static rules give of an expression, and where it stands.
 
 use c0_typed::{Expression, Place as TypedPlace};
 use c0_types_tables::environment::Environment;

@@ -1,4 +1,4 @@
-// Which locals are assigned on each path of a function, and whether each path ends in `return` or `error`.
+//! Which locals are assigned on each path of a function, and whether each path ends in `return` or `error`.
 
 ghost use Rattle.std.specs.Prelude.{◌≡◌, IfOk};
 ghost use Rattle.c0_syntax.specs.Views.{name_of};

@@ -1,4 +1,4 @@
-// What a program names: which variables, functions and texts may not stand where they do.
+//! What a program names: which variables, functions and texts may not stand where they do.
 
 ghost use Rattle.std.specs.Prelude.{◌≡◌, ◌⊎◌, ◌++◌, IfErr, true, is_ok, is_some, map, not, option_map};
 ghost use Rattle.std.specs.List.{Any, list_all, list_any};

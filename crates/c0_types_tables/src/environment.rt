@@ -1,4 +1,4 @@
-// What is declared before a place in a program.
+//! What is declared before a place in a program.
 
 ghost use Rattle.std.specs.Prelude.{◌≡◌, IfOk, is_some};
 ghost use Rattle.c0_typed.specs.Views.{type_of};

@@ -1,4 +1,4 @@
-// Names in order, each found by its number.
+//! Names in order, each found by its number.
 
 ghost use Rattle.std.specs.Prelude.{◌≡◌, ◌<◌, [], ◌∷◌, ◌++◌, IfSome, OnOk, map, string_bytes};
 ghost use Rattle.c0_types_tables.specs.Numbered.{place_in};

@@ -1,4 +1,4 @@
-// Types in which no name of a typedef is left.
+//! Types in which no name of a typedef is left.
 
 ghost use Rattle.std.specs.Prelude.{◌≡◌, IfOk, option_map};
 ghost use Rattle.c0_rules.specs.Types.{base_type, is_small, same_type};

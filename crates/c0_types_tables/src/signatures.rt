@@ -1,4 +1,4 @@
-// The functions that are declared.
+//! The functions that are declared.
 
 ghost use Rattle.std.specs.Prelude.{◌≡◌, OnOk, map, option_map, string_bytes};
 ghost use Rattle.c0_rules.specs.Programs.{same_signature};

@@ -1,4 +1,4 @@
-// The structs that are defined.
+//! The structs that are defined.
 
 ghost use Rattle.std.specs.Prelude.{◌≡◌, OnOk, option_map, string_bytes};
 ghost use Rattle.c0_rules.specs.Types.{cells_of, no_names, with_name};

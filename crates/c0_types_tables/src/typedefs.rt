@@ -1,4 +1,4 @@
-// The names of typedefs, and types with them replaced.
+//! The names of typedefs, and types with them replaced.
 
 ghost use Rattle.std.specs.Prelude.{◌≡◌, ◌⊎◌, IfErr, OnOk, option_map};
 ghost use Rattle.c0_source.specs.declared.fault.FaultKind.TheVariants.{OutOfMemory};

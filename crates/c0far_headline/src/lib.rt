@@ -1,4 +1,4 @@
-//! What is proved of each program beside whatever others.
+//! As laws: the promise over every list of events, of programs that are admitted, and of the ends that a replay or a run on threads tells.
 #![tactic(auto)]
 
 ghost use Rattle.c0far_headline.specs.Admitted.{AdmittedHeadline, ReplayedHeadline};

@@ -1,4 +1,4 @@
-//! The execution of an image up to its heap.
+//! Calls with their registers and scopes, and the execution of an image up to its heap.
 #![tactic(auto)]
 
 mod aims;

@@ -1,4 +1,4 @@
-//! Images from scoped code.
+//! `generate`: the image of scoped code, which does what the code means.
 #![tactic(auto)]
 
 mod asked;

@@ -28,10 +28,10 @@ start = record { waiting = None; has_file = false; has_more = false; is_live = f
 abbrev pub is_option_word : Text → Bool
 is_option_word word = begins word (codes "-") && not (bytes_eq word (codes "-"))
 
--- the option is among the words
+-- the option is among the words, in front of the end of options
 abbrev pub is_among : Choice → List Text → Bool
 is_among choice [] = false
-is_among choice (w ∷ ws) = bytes_eq (word_name w) (name_text choice) || is_among choice ws
+is_among choice (w ∷ ws) = cond (bytes_eq w (codes "--")) false (bytes_eq (word_name w) (name_text choice) || is_among choice ws)
 
 -- a word that is a file
 abbrev pub file_step : Text → Place → Text → Step

@@ -36,12 +36,15 @@ fn is_option(word: &str) -> bool
     begins(word, "-") && word != "-"
 }
 
-/// Whether the option is among the words.
+/// Whether the option is among the words, in front of the end of options.
 fn has_option(choice: Choice, words: &[&str]) -> bool
     ensures { result ≡ is_among choice (map (λ w. w.now) words.now) }
 {
     let mut rest = words;
     while let [word, behind @ ..] = rest {
+        if *word == "--" {
+            return false;
+        }
         if name_in(word) == name_of(choice) {
             return true;
         }

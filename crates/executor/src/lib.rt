@@ -1,4 +1,4 @@
-//! The running system: the programs of a region by turns on the threads of a few workers, beside evacuators and fetchers.
+//! `run_all`: the programs of a region by turns on the threads of a few workers, beside evacuators and fetchers.
 #![tactic(auto)]
 
 mod all;

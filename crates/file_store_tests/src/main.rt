@@ -1,4 +1,5 @@
-//! Goes through the files of rows that the words name, and prints each row and what came of it.
+//! Puts and gets over folders in memory and on the disk, and over stores that fail or lie by plan, as its rows say, and prints what came of each. It goes
+//! through the files of rows that the words name.
 //!
 //! A row that begins with `=` begins a test, over two ways to one new folder:
 //! - `= port memory` and `= port missing`: puts and gets of an object's cells, over a folder in memory that is there, or is not;

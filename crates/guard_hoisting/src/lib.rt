@@ -1,6 +1,7 @@
-//! Guards out of loops. A loop that makes no call, no return and no allocation has its scopes opened before it and left behind it, and none is left in
-//! its body: a pointer that the loop does not assign, and of which it reaches one cell alone, is aimed before the loop, and its check stays in the body;
-//! any other register, as that of an array, has a scope that is aimed at each load and store, and keeps its piece until another is wanted.
+//! `hoist`: scopes of loops opened before them and left behind them, with which code means the same. A loop that makes no call, no return and no
+//! allocation has its scopes opened before it and left behind it, and none is left in its body: a pointer that the loop does not assign, and of which it
+//! reaches one cell alone, is aimed before the loop, and its check stays in the body; any other register, as that of an array, has a scope that is aimed
+//! at each load and store, and keeps its piece until another is wanted.
 //!
 //! Which loops are served: the outermost of those that reach cells through at most four registers; each of these has a scope. Where a loop reaches
 //! cells through more, the loops in it are served in its place, each for itself. Where it has none in it, the three registers that it uses most have a

@@ -1,4 +1,4 @@
-//! The bytes of an image.
+//! `encode`: the bytes of an image; `is_encodable`: whether it has any; and which bytes are those of which image.
 #![tactic(auto)]
 
 mod encodable;

@@ -1,4 +1,4 @@
-//! Listings of images.
+//! `list`: a line for each instruction of an image.
 #![tactic(auto)]
 
 mod laws;

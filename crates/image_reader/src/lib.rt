@@ -1,4 +1,4 @@
-//! Images from bytes.
+//! `decode`: the image that bytes are, or what is wrong with them first.
 #![tactic(auto)]
 
 mod decoding;

@@ -1,5 +1,4 @@
-//! The table of the instructions: what each is called, its code, and what its operands are. And what can be wrong with the
-//! bytes of an image.
+//! The table of the instructions: what each is called, its code, and what its operands are; and what can be wrong with the bytes of an image.
 #![tactic(auto)]
 
 mod fault;

@@ -1,4 +1,4 @@
-//! Structured code of typed programs.
+//! `lower`: the structured code of a typed program, which means the same.
 #![tactic(auto)]
 
 mod exits;

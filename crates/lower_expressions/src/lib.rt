@@ -1,4 +1,4 @@
-//! The structured code of expressions and places.
+//! The structured code of expressions, places and conditions.
 #![tactic(auto)]
 
 pub mod building;

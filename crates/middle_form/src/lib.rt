@@ -1,4 +1,4 @@
-//! The middle form: what it is and what it means.
+//! Structured code between typed trees and images, without scopes and with them: its bounded meanings, and the discipline of scopes.
 #![tactic(auto)]
 
 mod form;

@@ -1,4 +1,4 @@
-//! Schedules replayed by programs that are admitted.
+//! `replay_admitted`: what programs that are admitted come to by a schedule.
 #![tactic(auto)]
 
 mod laws;

@@ -1,4 +1,4 @@
-//! Scopes for the loads and stores of structured code.
+//! `place`: scopes for the loads and stores of structured code, with which it means the same.
 #![tactic(auto)]
 
 mod laws;

@@ -1,4 +1,4 @@
-//! Programs that run over far memory: each a session at one seat of a table of objects.
+//! A session: an image run through the lock, at one seat of a table of objects, which hints what it will want soon.
 #![tactic(auto)]
 
 mod hint_sender;

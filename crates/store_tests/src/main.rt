@@ -1,5 +1,6 @@
-//! Goes through the files of rows that the words name. Each row runs an image again and again over a store of which one call fails or lies, another one in each
-//! run, until none is met; it is printed with what came of it.
+//! Runs images again and again over a store of which another call fails or lies each time, and tells whether just the programs ended that met it. It goes
+//! through the files of rows that the words name. Each row runs an image again and again over a store of which one call fails or lies, another one in
+//! each run, until none is met; it is printed with what came of it.
 //!
 //! A row is `IMAGE STORE PROGRAMS MOVERS PLAN STEP LEAST`:
 //! - `IMAGE` is the file of an image, whose code runs `PROGRAMS` times side by side, with six frames and 1,100 objects each;

@@ -1,4 +1,4 @@
-//! A world of programs and movers, one event at a time, and schedules replayed.
+//! A world of programs and movers in code, one event at a time, and `replay` of a schedule.
 #![tactic(auto)]
 
 mod ends;

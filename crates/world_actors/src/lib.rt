@@ -1,4 +1,4 @@
-//! The actors of a world: what each program and each evacuator does in its turn.
+//! The actors of a world: what a step of each program and each evacuator does.
 #![tactic(auto)]
 
 mod bring;

@@ -1,4 +1,4 @@
-//! The fetchers of a world: what each does in its turn.
+//! The fetchers of a world: what a step of each does.
 #![tactic(auto)]
 
 mod fetch;

@@ -1,4 +1,4 @@
-// Types.
+//! Types.
 
 ghost use Rattle.std.specs.Prelude.{◌≡◌, ◌<◌, ◌≤◌, Ok, IfOk};
 ghost use Rattle.c0_syntax.specs.Views.{type_of};

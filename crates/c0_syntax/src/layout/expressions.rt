@@ -1,4 +1,4 @@
-// Laying out expressions.
+//! Laying out expressions.
 
 ghost use Rattle.std.specs.Prelude.{◌≡◌, true, [], ◌∷◌, ◌++◌, IfOk};
 ghost use Rattle.c0_source.specs.declared.kind.Kind.TheVariants as k;

@@ -1,4 +1,4 @@
-// Where what stands in a statement begins, and how far it is indented.
+//! Where what stands in a statement begins, and how far it is indented.
 
 ghost use Rattle.std.specs.Prelude.{◌≡◌, map};
 ghost use Rattle.c0_syntax.specs.Layouts as l;

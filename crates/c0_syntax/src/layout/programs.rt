@@ -1,4 +1,4 @@
-// Laying out declarations and programs.
+//! Laying out declarations and programs.
 
 ghost use Rattle.std.specs.Prelude.{◌≡◌, true, ◌∷◌, ◌++◌, map, IfOk};
 ghost use Rattle.c0_syntax.specs.declared.mark.Gap.TheVariants as g;

@@ -1,4 +1,4 @@
-// Laying out annotations and statements.
+//! Laying out annotations and statements.
 
 ghost use Rattle.std.specs.Prelude.{◌≡◌, [], ◌∷◌, ◌++◌, map, option_map, IfOk};
 ghost use Rattle.c0_source.specs.Terminals.{Sign};

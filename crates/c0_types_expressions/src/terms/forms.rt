@@ -1,6 +1,6 @@
-// Forms of expressions, of operands that have been typed.
-// A tree or a type that is held where a step may fail is boxed before, or dropped there by a call: a drop that `?` makes is
-// proved variant by variant.
+//! Forms of expressions, of operands that have been typed.
+//! A tree or a type that is held where a step may fail is boxed before, or dropped there by a call: a drop that `?` makes is
+//! proved variant by variant.
 
 ghost use Rattle.std.specs.Prelude.{◌≡◌, ◌⊎◌, None, Some, IfErr, IfOk};
 ghost use Rattle.c0_source.specs.declared.fault.FaultKind.TheVariants.{OutOfMemory, TypeMismatch, UnknownName};

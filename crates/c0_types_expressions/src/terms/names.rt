@@ -1,4 +1,4 @@
-// What names and constants stand for.
+//! What names and constants stand for.
 
 ghost use Rattle.std.specs.Prelude.{◌≡◌, ◌⊎◌, None, Some, false, true, nat_lt, pos, IfErr, IfOk, map, option_map};
 ghost use Rattle.cells.specs.Numbers.{wrap32};

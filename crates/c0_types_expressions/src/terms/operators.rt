@@ -1,4 +1,4 @@
-// What each operator works on.
+//! What each operator works on.
 
 ghost use Rattle.std.specs.Prelude.{◌≡◌};
 ghost use Rattle.c0_typed.specs.Views.{relation_of};

@@ -1,6 +1,6 @@
-// Steps to places of the heap, and what stands there.
-// A tree or a type that is held where a step may fail is boxed before, or dropped there by a call: a drop that `?` makes is
-// proved variant by variant.
+//! Steps to places of the heap, and what stands there.
+//! A tree or a type that is held where a step may fail is boxed before, or dropped there by a call: a drop that `?` makes is
+//! proved variant by variant.
 
 ghost use Rattle.std.specs.Prelude.{◌≡◌, ◌⊎◌, None, Some, false, true, IfErr, IfOk, IfSome};
 ghost use Rattle.c0_source.specs.declared.fault.FaultKind.TheVariants.{NotSmall, NullDereference, OutOfMemory, StructNotComplete, TypeMismatch, UnknownField};

@@ -1,4 +1,4 @@
-// Types of typed trees once more, and NULL with the type that is wanted.
+//! Types of typed trees once more, and NULL with the type that is wanted.
 
 ghost use Rattle.std.specs.Prelude.{◌≡◌, IfOk, List};
 ghost use Rattle.c0_typed.specs.Views.{exp_of, type_of};

@@ -1,6 +1,6 @@
-// The steps from what operands are to what they are together.
-// A tree or a type that is held where a step may fail is boxed before, or dropped there by a call: a drop that `?` makes is
-// proved variant by variant.
+//! The steps from what operands are to what they are together.
+//! A tree or a type that is held where a step may fail is boxed before, or dropped there by a call: a drop that `?` makes is
+//! proved variant by variant.
 
 ghost use Rattle.std.specs.Prelude.{◌≡◌, ◌≢◌, ◌⊎◌, List, None, Some, false, true, IfErr, IfOk};
 ghost use Rattle.c0_source.specs.declared.fault.FaultKind.TheVariants.{OutOfMemory, TypeMismatch};

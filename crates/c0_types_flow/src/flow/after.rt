@@ -1,4 +1,4 @@
-// What is assigned behind each statement, whatever it reads.
+//! What is assigned behind each statement, whatever it reads.
 
 ghost use Rattle.std.specs.Prelude.{◌≡◌, IfOk, option_map};
 ghost use Rattle.c0_syntax.specs.Views.{expression_of, simple_of, statement_of, statements_of};

@@ -1,4 +1,4 @@
-// The variables that statements assign to.
+//! The variables that statements assign to.
 
 ghost use Rattle.std.specs.Prelude.{◌≡◌, option_map};
 ghost use Rattle.c0_syntax.specs.Views.{expression_of, name_of, simple_of, statement_of, statements_of};

@@ -1,4 +1,4 @@
-// Lists of names. None is changed: many flows of a function share the names, and each has a list of its own.
+//! Lists of names. None is changed: many flows of a function share the names, and each has a list of its own.
 
 ghost use Rattle.std.specs.Prelude.{◌≡◌, ◌∷◌, ◌||◌, IfOk, bytes_eq, filter, is_some, not, true};
 ghost use Rattle.c0_types_flow.specs.FlowViews.{letters_of};

@@ -1,4 +1,4 @@
-// The rules that look at what a function assigns: to parameters that its `ensures` read, and on all paths once its types are right.
+//! The rules that look at what a function assigns: to parameters that its `ensures` read, and on all paths once its types are right.
 
 ghost use Rattle.std.specs.Prelude.{◌≡◌, ◌⊎◌, ◌&&◌, [], ◌∷◌, IfErr, MatchResult, false, is_ok, map, not, true};
 ghost use Rattle.c0_source.specs.declared.fault.FaultKind.TheVariants.{BadContract, OutOfMemory};

@@ -1,4 +1,4 @@
-// What is assigned behind each statement, and reads of locals that may not be assigned.
+//! What is assigned behind each statement, and reads of locals that may not be assigned.
 
 ghost use Rattle.std.specs.Prelude.{◌≡◌, ◌⊎◌, IfErr, MatchResult, Some, false, is_ok, map, option_map, true};
 ghost use Rattle.c0_source.specs.declared.fault.FaultKind.TheVariants.{OutOfMemory};

@@ -1,4 +1,4 @@
-// The texts that a program writes.
+//! The texts that a program writes.
 
 ghost use Rattle.std.specs.Prelude.{◌≡◌, [], ◌∷◌, ◌++◌, IfOk, filter_map, map, option_map, string_bytes};
 ghost use Rattle.c0_syntax.specs.Views.{annotation_of, declaration_of, expression_of, expressions_of, simple_of, spec_of, statement_of, statements_of};

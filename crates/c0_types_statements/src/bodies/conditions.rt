@@ -1,4 +1,4 @@
-// The conditions of specs.
+//! The conditions of specs.
 
 ghost use Rattle.std.specs.Prelude.{◌≡◌, ◌⊎◌, Bool, false, IfErr, map};
 ghost use Rattle.c0_source.specs.declared.fault.FaultKind.TheVariants as k;

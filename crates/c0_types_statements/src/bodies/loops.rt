@@ -1,4 +1,4 @@
-// The parts of loops beside their bodies.
+//! The parts of loops beside their bodies.
 
 ghost use Rattle.std.specs.Prelude.{◌≡◌, ◌⊎◌, List, Err, IfErr, IfOk, IsOkAnd, MatchResult, None, Ok, box_value, is_err, map, option_map};
 ghost use Rattle.c0_source.specs.declared.fault.FaultKind.TheVariants.{OutOfMemory};

@@ -1,6 +1,6 @@
-// Statements with others in them.
-// A tree held where a step may fail is boxed before, or dropped there by a call: a drop that `?` makes is proved
-// variant by variant.
+//! Statements with others in them.
+//! A tree held where a step may fail is boxed before, or dropped there by a call: a drop that `?` makes is proved
+//! variant by variant.
 
 ghost use Rattle.std.specs.Prelude.{◌≡◌, ◌⊎◌, List, Err, IfErr, IfOk, IsOkAnd, MatchResult, false, true, box_value, is_err, map, option_map};
 ghost use Rattle.c0_source.specs.declared.fault.FaultKind.TheVariants.{NotInLoop, OutOfMemory};

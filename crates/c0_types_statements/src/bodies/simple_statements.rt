@@ -1,5 +1,5 @@
-// Simple statements.
-// A tree held where a step fails is dropped there by a call: a drop that `?` makes is proved variant by variant.
+//! Simple statements.
+//! A tree held where a step fails is dropped there by a call: a drop that `?` makes is proved variant by variant.
 
 ghost use Rattle.std.specs.Prelude.{◌≡◌, ◌⊎◌, IfErr, List, Some, false, is_ok, not, option_map};
 ghost use Rattle.cells.specs.declared.int32.Int32Op.{Int32Op};
