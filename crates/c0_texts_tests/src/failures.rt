@@ -1,13 +1,10 @@
 //! Texts that are run over 10 objects and 4 frames, once for each call of the store, which fails in that run alone.
-ghost use Rattle.code_form.specs.Code.{Covered};
-ghost use Rattle.code_form.specs.Form.{image_of};
-
 use c0_image::compile;
 use c0_syntax::level::Level;
 use cells::{Piece, Run, Want};
-use code_form::Image;
 use object_lock::ObjectTable;
 use remote_store::{Config, FarHeap, FaultPlan, FaultStore, FaultStores};
+use scope_verifier::Verified;
 use session::Session;
 use std::alloc::Global;
 use std::io;
@@ -22,10 +19,9 @@ const LEAST_CALLS: u64 = 8;
 const LIMIT: u64 = 10_000;
 
 /// What the image answers where the store fails by this plan, and what it answers when it is asked again. None where memory ran out.
-fn ran<R: Wait>(alloc: Global, rt: &R, image: &Image, plan: FaultPlan) -> Option<(Run, Run)>
-    requires { Covered (image_of image.now) }
-{
-    let Ok(stores) = FaultStores::new(alloc, FarHeap::new(image.piece), plan) else {
+fn ran<R: Wait>(alloc: Global, rt: &R, verified: &Verified, plan: FaultPlan) -> Option<(Run, Run)> {
+    let piece = verified.image().piece;
+    let Ok(stores) = FaultStores::new(alloc, FarHeap::new(piece), plan) else {
         return None;
     };
     let config = Config {
@@ -38,17 +34,14 @@ fn ran<R: Wait>(alloc: Global, rt: &R, image: &Image, plan: FaultPlan) -> Option
         stores,
     };
     let Ok((table, mut owners, _movers)) = ObjectTable::<FaultStore<FarHeap>>::new(
-        alloc,
-        1,
-        &config,
-        image.piece,
+        alloc, 1, &config, piece,
     ) else {
         return None;
     };
     let Some(seat) = owners.pop() else {
         return None;
     };
-    let Ok(mut session) = Session::over(alloc, &table, image, seat) else {
+    let Ok(mut session) = Session::over(alloc, &table, verified, seat) else {
         return None;
     };
     let first = session.run(rt, LIMIT);
@@ -59,11 +52,9 @@ fn ran<R: Wait>(alloc: Global, rt: &R, image: &Image, plan: FaultPlan) -> Option
 }
 
 /// The first call that no run makes, and how the program ends where all calls succeed. None where a run did otherwise.
-fn each_call_fails<R: Wait>(alloc: Global, rt: &R, image: &Image) -> Option<(u64, Run)>
-    requires { Covered (image_of image.now) }
-{
+fn each_call_fails<R: Wait>(alloc: Global, rt: &R, verified: &Verified) -> Option<(u64, Run)> {
     for number in 1..MOST_CALLS {
-        let Some((first, second)) = ran(alloc, rt, image, FaultPlan::Only(number)) else {
+        let Some((first, second)) = ran(alloc, rt, verified, FaultPlan::Only(number)) else {
             return None;
         };
         if first != second {
@@ -86,14 +77,14 @@ pub(crate) fn fail_each_call<R: Wait, O: Write>(
     text: &[u8],
     out: &mut O,
 ) -> io::Result<bool> {
-    let image = match compile(alloc, text, false, Level::C0, Piece::Cells64) {
-        Ok(verified) => verified.into_image(),
+    let verified = match compile(alloc, text, false, Level::C0, Piece::Cells64) {
+        Ok(verified) => verified,
         Err(fault) => {
             writeln!(out, "{name}: {fault}")?;
             return Ok(false);
         }
     };
-    match each_call_fails(alloc, rt, &image) {
+    match each_call_fails(alloc, rt, &verified) {
         Some((calls, run)) => {
             writeln!(out, "{name}: {run}")?;
             Ok(calls >= LEAST_CALLS)

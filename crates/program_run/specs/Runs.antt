@@ -3,7 +3,6 @@ use Rattle.std.specs.Prelude.{◌≡◌, ◌≢◌, ℕ, ◌+◌, ◌≤◌, Boo
 use Rattle.cells.specs.declared.ending.Run.{Run}
 use Rattle.cells.specs.declared.ending.Run.TheVariants.{Running, Stopped, Wanted}
 use Rattle.cells.specs.declared.ending.Want.TheVariants.{StoreFailed}
-use Rattle.code_form.specs.Code.{Covered}
 use Rattle.session.specs.State.{CompletesUpTo, IsAt, IsGoing, State}
 use Rattle.scope_verifier.specs.declared.acceptance.Verified.{Verified}
 use Rattle.program_run.specs.Executed.{IsOver, refusals_at}
@@ -49,7 +48,6 @@ pub record IsOnRun (honest reliable : Type 0) (s : State) (r : Run) : Type 0 whe
   pub at : honest → IsAt s
   pub cells : s.view.sizes.cells ≡ s.image.piece
   pub share : s.view.low ≤ s.view.high
-  pub covered : Covered s.image
   pub come : HasCome reliable s r
   pub own : honest → s.refusals ≡ refusals_at r
   pub sure : honest → reliable → r ≢ Wanted StoreFailed

@@ -3,7 +3,7 @@ ghost use Rattle.std.specs.Prelude.{◌≡◌, ◌≢◌, ◌+◌, ◌-◌, ◌<
 ghost use Rattle.cells.specs.declared.ending.Run.TheVariants.{Wanted};
 ghost use Rattle.cells.specs.declared.ending.Want.TheVariants.{OutOfMemory, StoreFailed};
 ghost use Rattle.cells.specs.Outcomes.{IsPrefix};
-ghost use Rattle.code_form.specs.Code.{Covered, output_of};
+ghost use Rattle.code_form.specs.Code.{output_of};
 ghost use Rattle.object_lock.specs.Fresh.{IsFresh};
 ghost use Rattle.program_run.specs.Executed.{HasRunOn, IsFinishedOver, refusals_at};
 ghost use Rattle.program_run.specs.Runs.{HasTurned, begun};
@@ -40,8 +40,8 @@ fn run_on<S: RawStore, W: Wait>(rt: &W, session: &mut Session<'_, S>, quantum: u
     ensures at { S.honest → IsAt session.new }
     ensures same { SameProgram session.old session.new }
     ensures told { HasRunOn S.reliable quantum session.old session.new result }
-    ensures covered { S.honest → S.reliable → Covered session.old.image → result ≢ Wanted StoreFailed }
-    ensures own { S.honest → Covered session.old.image → session.old.refusals ≡ 0 → session.new.refusals ≡ refusals_at result }
+    ensures sure { S.honest → S.reliable → result ≢ Wanted StoreFailed }
+    ensures own { S.honest → session.old.refusals ≡ 0 → session.new.refusals ≡ refusals_at result }
     ensures grows { S.honest → IsAt session.old → IsPrefix (output_of session.old.core) (output_of session.new.core) }
 {
     run_laws();

@@ -1,30 +1,18 @@
 //! Runs over far memory.
-ghost use Rattle.code_form.specs.Code.{most_scopes};
-ghost use Rattle.code_form.specs.Form.{function_of, image_of};
 ghost use Rattle.object_lock.specs.Fresh.{IsFresh};
-ghost use Rattle.std.specs.Prelude.{◌≡◌, ◌≤◌, map};
+ghost use Rattle.std.specs.Prelude.{◌≤◌};
 
 use crate::setting::Setting;
 use crate::shelf::Shelf;
 use crate::touches::put_output;
-use code_form::{Function, Image};
+use code_form::Image;
 use object_lock::{ObjectTable, OwnerSeat};
 use remote_store::{FarHeap, FaultStore, RawStore};
+use scope_verifier::{Verified, verify};
 use session::Session;
 use std::alloc::{AllocError, Global};
 use std::fmt::Write;
 use std::sync::Wait;
-
-/// The greatest number of scopes of these functions.
-fn greatest_scopes(functions: &[Function]) -> u8
-    ensures { result ≡ most_scopes (map function_of functions.now) }
-{
-    let mut scopes = 0;
-    for function in functions {
-        scopes = scopes.max(function.scopes);
-    }
-    scopes
-}
 
 /// Runs the session on, for so many instructions at most, and tells what it answers.
 fn put_run<R: Wait, S: RawStore>(
@@ -61,15 +49,14 @@ fn tell_seat<R: Wait, S: RawStore>(
     rt: &R,
     alloc: Global,
     table: &ObjectTable<S>,
-    image: &Image,
+    verified: &Verified,
     seat: OwnerSeat<S>,
     limits: &[u64],
 ) -> Result<String, AllocError>
     requires fresh { IsFresh table.now seat }
     requires own { seat.view.low ≤ seat.view.high }
-    requires image { most_scopes (image_of image.now).functions ≤ 4 }
 {
-    match Session::over(alloc, table, image, seat) {
+    match Session::over(alloc, table, verified, seat) {
         Ok(mut session) => tell_runs(rt, alloc, &mut session, limits),
         Err(_) => Err(AllocError),
     }
@@ -79,37 +66,36 @@ fn tell_seat<R: Wait, S: RawStore>(
 fn tell_image<R: Wait>(
     rt: &R,
     alloc: Global,
-    image: &Image,
+    verified: &Verified,
     setting: &Setting<'_>,
-) -> Result<String, AllocError>
-    requires image { most_scopes (image_of image.now).functions ≤ 4 }
-{
-    let Some(config) = setting.config(alloc, image.piece) else {
+) -> Result<String, AllocError> {
+    let piece = verified.image().piece;
+    let Some(config) = setting.config(alloc, piece) else {
         return String::from_str(alloc, "numbers out of range");
     };
-    match ObjectTable::<FaultStore<FarHeap>>::new(alloc, 1, &config, image.piece) {
+    match ObjectTable::<FaultStore<FarHeap>>::new(alloc, 1, &config, piece) {
         Ok((table, mut owners, _movers)) => match owners.pop() {
-            Some(seat) => tell_seat(rt, alloc, &table, image, seat, &setting.numbers),
+            Some(seat) => tell_seat(rt, alloc, &table, verified, seat, &setting.numbers),
             None => Err(AllocError),
         },
         Err(_) => Err(AllocError),
     }
 }
 
-/// What is told of the first of these images.
+/// What is told of the last of these images, or the first thing that is wrong with it.
 fn tell_images<R: Wait>(
     rt: &R,
     alloc: Global,
-    images: &[Image],
+    mut images: Vec<Image>,
     setting: &Setting<'_>,
 ) -> Result<String, AllocError> {
-    let Some(image) = images.first() else {
+    let Some(image) = images.pop() else {
         return String::from_str(alloc, "no image");
     };
-    if greatest_scopes(&image.functions) > 4 {
-        return String::from_str(alloc, "more than four scopes");
+    match verify(alloc, image) {
+        Ok(verified) => tell_image(rt, alloc, &verified, setting),
+        Err(fault) => format!(in alloc; "{fault}"),
     }
-    tell_image(rt, alloc, image, setting)
 }
 
 /// What is told of a row.
@@ -120,7 +106,7 @@ pub(crate) fn tell<R: Wait>(
     setting: &Setting<'_>,
 ) -> Result<String, AllocError> {
     match setting.images(alloc, shelf)? {
-        Some(images) => tell_images(rt, alloc, &images, setting),
+        Some(images) => tell_images(rt, alloc, images, setting),
         None => String::from_str(alloc, "no such image"),
     }
 }

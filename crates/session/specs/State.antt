@@ -91,7 +91,7 @@ HasRoom s _ = Unit {0}
 
 -- Why a want is answered, where so many calls had been refused before. NoObjects: the pieces of the allocation that is next don't fit in
 -- what is left of the share. OutOfMemory: memory was refused to an instruction for which it may have to grow, and an allocation's pieces would fit. StoreFailed: one call was refused through the session's own port;
--- or none was, and the code is halted
+-- or none was, and the code is halted, which is never so over an honest store
 abbrev pub Caused : Type 0 → ℕ → State → Want → Type 0
 Caused reliable before s NoObjects = (s.refusals ≡ before) × ((n : ℕ) × (next_touch s ≡ touch.Allocs n) × (s.view.high < next_object s.view.sizes.cells s.view.low (cells_in s) + pieces s.view.sizes.cells n))
 Caused reliable before s OutOfMemory = (s.refusals ≡ before) × (may_grow (next_touch s) (rest_of s.core) ≡ true) × HasRoom s (next_touch s)

@@ -2,7 +2,7 @@
 ghost use Rattle.cells.specs.declared.ending.Run.TheVariants.{Wanted};
 ghost use Rattle.cells.specs.declared.ending.Want.TheVariants.{OutOfMemory, StoreFailed};
 ghost use Rattle.cells.specs.Stops.{Stop};
-ghost use Rattle.code_form.specs.Code.{Covered, most_scopes, output_of, stop_of};
+ghost use Rattle.code_form.specs.Code.{output_of, stop_of};
 ghost use Rattle.code_form.specs.Form.{image_of};
 ghost use Rattle.session.specs.Keeping.{IsSession};
 ghost use Rattle.session.specs.State.{AllShut, IsAt, IsGoing, IsUntold, Ran, ScopesHold, State, begin};
@@ -14,17 +14,18 @@ ghost use Rattle.std.specs.Prelude.{◌≡◌, ◌≢◌, ◌⊎◌, ◌+◌, �
 use crate::hint_sender::HintSender;
 use crate::program::Program;
 use cells::{Run, Want};
-use code_form::{Image, effect_laws, heap_laws, run_laws};
+use code_form::{effect_laws, heap_laws, run_laws};
 use hint_queue::{HintPass, Hints};
 use object_lock::{ObjectTable, OwnerSeat};
 use region::Region;
 use remote_store::RawStore;
+use scope_verifier::Verified;
 use scope_verifier_laws::accepted_is_verified;
 use std::alloc::Global;
 use std::marker::Model;
 use std::sync::Wait;
 
-/// A program that runs at one seat of a table. A contract sees where it is: its image, the state of its program, what its scopes
+/// The program of a verified image that runs at one seat of a table. A contract sees where it is: its image, the state of its program, what its scopes
 /// hold, what its seat knows, how many instructions it completed, and what it wants, if it wants anything.
 #[derive(Drop)]
 pub struct Session<'a, S: RawStore> {
@@ -32,7 +33,7 @@ pub struct Session<'a, S: RawStore> {
 }
 
 impl<'a, S: RawStore> Model for Session<'a, S> {
-    ghost use Rattle.code_form.specs.Growth.{has_text};
+    ghost use Rattle.code_form.specs.Code.{Covered};
     ghost use Rattle.session.specs.Keeping.{IsSession};
     ghost use Rattle.session.specs.State.{State};
 
@@ -40,7 +41,7 @@ impl<'a, S: RawStore> Model for Session<'a, S> {
 
     ghost view = { λ s. s.program };
 
-    ghost invariant = { λ s. IsSession S.honest s.program };
+    ghost invariant = { λ s. IsSession S.honest s.program × Covered s.program.image };
 }
 
 impl<'a, S: RawStore> Session<'a, S> {
@@ -59,7 +60,6 @@ impl<'a, S: RawStore> Session<'a, S> {
         requires pass { pass ≡ hints.now }
         ensures begins { MatchResult result (λ s. s ≡ begin (image_at region.now.programs (seat.view.number - 1)) seat.view seat.refusals) (λ want. want ≡ OutOfMemory) }
         ensures at { IfOk result (λ s. S.honest → IsAt s) }
-        ensures covered { IfOk result (λ s. Covered s.image) }
     {
         accepted_is_verified();
         let image = region.image(seat.number() as usize - 1).image();
@@ -70,21 +70,21 @@ impl<'a, S: RawStore> Session<'a, S> {
         }
     }
 
-    /// The image's program at its beginning, at a seat as the table gave it out, where nobody serves hints. The only want is `OutOfMemory`, where memory
-    /// is refused.
+    /// The verified image's program at its beginning, at a seat as the table gave it out, where nobody serves hints. The only want is `OutOfMemory`, where
+    /// memory is refused.
     pub fn over(
         alloc: Global,
         table: &'a ObjectTable<S>,
-        image: &'a Image,
+        verified: &'a Verified,
         seat: OwnerSeat<S>,
     ) -> Result<Session<'a, S>, Want>
         requires fresh { IsFresh table.now seat }
         requires own { seat.view.low ≤ seat.view.high }
-        requires scopes { most_scopes (image_of image.now).functions ≤ 4 }
-        ensures begins { MatchResult result (λ s. s ≡ begin (image_of image.now) seat.view seat.refusals) (λ want. want ≡ OutOfMemory) }
+        ensures begins { MatchResult result (λ s. s ≡ begin (image_of verified.now.image) seat.view seat.refusals) (λ want. want ≡ OutOfMemory) }
         ensures at { IfOk result (λ s. S.honest → IsAt s) }
     {
-        match Program::new(alloc, table, image, seat, None) {
+        accepted_is_verified();
+        match Program::new(alloc, table, verified.image(), seat, None) {
             Ok(program) => Ok(Session { program }),
             Err(_) => Err(Want::OutOfMemory),
         }
@@ -95,9 +95,9 @@ impl<'a, S: RawStore> Session<'a, S> {
     /// this call alone answers `OutOfMemory`. Where its frames are full it moves objects out by itself.
     ///
     /// `NoObjects`: the pieces of the allocation that is next don't fit in what is left of the program's share. `OutOfMemory`: memory
-    /// was refused to an allocation, to output, to a call, or for the text of an error. `StoreFailed`: a call was refused through the session's own port; or the code is stuck, or an
-    /// allocation or a return finds a scope open, which is never so where the store is honest and the image covered. Then
-    /// the session has given back what it had in hand, and every scope is shut.
+    /// was refused to an allocation, to output, to a call, or for the text of an error. `StoreFailed`: a call was refused through the session's own port; or
+    /// the store is not honest, and the code is stuck, or an allocation or a return finds a scope open. Then the session has given back what it had in hand, and
+    /// every scope is shut.
     pub fn run<R: Wait>(&mut self, rt: &R, limit: u64) -> Run
         requires { self.old.completed + limit < 2 ^ 64 }
         ensures at { S.honest → IsAt self.new }
@@ -106,7 +106,7 @@ impl<'a, S: RawStore> Session<'a, S> {
         ensures shut { (x : Stop) → stop_of self.new.core ≡ Some x → AllShut self.new }
         ensures failed { self.new.want ≡ Some StoreFailed → AllShut self.new }
         ensures quiet { IsQuiet self.new.view }
-        ensures covered { S.honest → Covered self.old.image → IsGoing self.old → result ≡ Wanted StoreFailed → Refused S.reliable self.old.refusals self.new.refusals }
+        ensures refused { S.honest → IsGoing self.old → result ≡ Wanted StoreFailed → Refused S.reliable self.old.refusals self.new.refusals }
         ensures ended { (IsGoing self.old → ⊥) → self.new ≡ self.old }
     {
         effect_laws();

@@ -5,4 +5,7 @@ use Rattle.session.proofs.Opening.{fresh_run}
 use Rattle.session.proofs.session.Session.over.Goals as goal
 
 pub invariant_of-result : goal.invariant_of-result
-invariant_of-result g c = subst (IsSession g.S.RawStore.honest) (sym c.in-Ok.ensures) (fresh_run g.S.RawStore.honest c.args.table.now c.args.seat (image_of c.args.image.now) c.requires.fresh c.requires.own c.requires.scopes)
+invariant_of-result g c =
+    let image = image_of c.image-image.result.now in
+    let few = (c.accepted_is_verified.ensures.verified image c.image-image.ensures.accepted).few in
+    subst (IsSession g.S.RawStore.honest) (sym c.in-Ok.ensures) (fresh_run g.S.RawStore.honest c.args.table.now c.args.seat image c.requires.fresh c.requires.own few)
