@@ -4,6 +4,7 @@
 mod aims;
 mod call;
 mod calls;
+mod completing;
 mod execution;
 mod fitting;
 mod halt;
@@ -11,6 +12,7 @@ mod hinted;
 mod inside;
 mod places;
 mod plan;
+mod registers;
 mod scopes;
 
 pub use execution::Execution;
