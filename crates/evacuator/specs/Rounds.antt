@@ -21,7 +21,7 @@ abbrev pub both : Round → Round → Round
 both a b = record { left = a.left + b.left; aborted = a.aborted + b.aborted; failed = a.failed + b.failed }
 
 -- A round of these counts: by the seat's view each object that left is a commit or left clean, each other one an abort, and all but those that left clean are marks; a
--- call was refused through the port, modulo 2^64, for each that failed. Nothing else of the seat changed but which frame was marked last, what was copied of it, the berth that
+-- call was refused through the port, modulo 2^64, for each that failed. Nothing else of the seat changed but its past, which frame was marked last, what was copied of it, the berth that
 -- was taken, and its way to the store
 pub record Evacuates {W C : Type 0} (s t : SeatView W C) (r : Round) : Type 0 where
   pub all : t.view.hand.marks + t.view.hand.leaves ≡ s.view.hand.marks + s.view.hand.leaves + moves_of r
@@ -30,4 +30,4 @@ pub record Evacuates {W C : Type 0} (s t : SeatView W C) (r : Round) : Type 0 wh
   pub commits : s.view.hand.commits ≤ t.view.hand.commits
   pub aborts : t.view.hand.aborts ≡ s.view.hand.aborts + (r.aborted + r.failed)
   pub refusals : t.refusals ≡ (s.refusals + r.failed) % 18446744073709551616
-  pub same : t ≡ record s { view = with_hand s.view (record s.view.hand { source = t.view.hand.source; copied = t.view.hand.copied; marks = t.view.hand.marks; commits = t.view.hand.commits; aborts = t.view.hand.aborts; leaves = t.view.hand.leaves }); taken = t.taken; store = t.store; refusals = t.refusals }
+  pub same : t ≡ record s { view = with_hand s.view (record s.view.hand { source = t.view.hand.source; copied = t.view.hand.copied; marks = t.view.hand.marks; commits = t.view.hand.commits; aborts = t.view.hand.aborts; leaves = t.view.hand.leaves; past = t.view.hand.past }); taken = t.taken; store = t.store; refusals = t.refusals }

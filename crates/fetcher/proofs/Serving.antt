@@ -31,19 +31,19 @@ module _ {W C : Type 0} (s a b t : SeatView W C) (o : ℕ) (berth : Option (Bert
   abbrev Begins : Type 0
   Begins = a ≡ record s { view = with_hand s.view (bringing s.view.hand o ws); brought = berth }
 
-  pub finds_none : Begins → b ≡ a → t ≡ record b { view = with_hand b.view (retreating b.view.hand); brought = None } → FindsNone s t
+  pub finds_none : Begins → b ≡ a → t ≡ record b { view = with_hand b.view (retreating b.view.hand); brought = None } → FindsNone o s t
   finds_none begins none back =
       let after : SeatView W C → SeatView W C = λ x. record x { view = with_hand x.view (retreating x.view.hand); brought = None } in
       (ws, back ∙ ap after (none ∙ begins))
 
-  pub brings_in : (f : ℕ) → Begins → b ≡ record a { view = with_hand a.view (claiming a.view.hand f) } → IsUnheld s.view o → Arrived o f b t → t.refusals ≡ b.refusals → BringsIn s t
+  pub brings_in : (f : ℕ) → Begins → b ≡ record a { view = with_hand a.view (claiming a.view.hand f) } → IsUnheld s.view o → Arrived o f b t → t.refusals ≡ b.refusals → BringsIn o s t
   brings_in f begins claims unheld arrived same =
       let claimed : SeatView W C → SeatView W C = λ x. record x { view = with_hand x.view (claiming x.view.hand f) } in
       let after : SeatView W C → SeatView W C = λ x. record x { view = with_hand x.view (hand_arrived x.view.hand t.view.hand.filled); brought = None; store = t.store; refusals = t.refusals } in
       let both : b ≡ claimed (record s { view = with_hand s.view (bringing s.view.hand o ws); brought = berth }) = claims ∙ ap claimed begins in
       let free : IsUnheld b.view o = subst (λ (x : SeatView W C). IsUnheld x.view o) (sym both) unheld in
-      (ws, t.view.hand.filled, arrived.1 free ∙ ap after both, same ∙ ap (λ (x : SeatView W C). x.refusals) both)
+      (f, ws, t.view.hand.filled, arrived.1 free ∙ ap after both, same ∙ ap (λ (x : SeatView W C). x.refusals) both)
 
 -- what is brought in leaves nothing in hand
-pub emptied : {W C : Type 0} (s t : SeatView W C) → HasNothing s.view.hand → BringsIn s t → HasNothing t.view.hand
-emptied {W} {C} s t empty h = subst (λ (x : SeatView W C). HasNothing x.view.hand) (sym h.2) (refl, empty.1, (refl, empty.2.1))
+pub emptied : {W C : Type 0} (o : ℕ) (s t : SeatView W C) → HasNothing s.view.hand → BringsIn o s t → HasNothing t.view.hand
+emptied {W} {C} o s t empty h = subst (λ (x : SeatView W C). HasNothing x.view.hand) (sym h.3) (refl, empty.1, (refl, empty.2.1))

@@ -1,47 +1,48 @@
 -- What a fetcher does with a hint, and what it leaves of its seat.
-use Rattle.std.specs.Prelude.{◌≡◌, ◌⊎◌, ℕ, ◌+◌, ◌<◌, List, [], None}
+use Rattle.std.specs.Prelude.{◌≡◌, ◌⊎◌, ℕ, ◌<◌, List, None}
 use Rattle.fetcher.specs.declared.served.Served.{Served}
 use Rattle.fetcher.specs.declared.served.Served.TheVariants as S
 use Rattle.object_lock.specs.SeatViews.{SeatView}
 use Rattle.object_lock.specs.Seats.{with_hand}
+use Rattle.object_moves.specs.Moving.{hand_arrived}
 use Rattle.object_moves.specs.Taken.{Refused}
-use Rattle.pointer_word.specs.Hands.{Hand}
+use Rattle.pointer_word.specs.Hands.{Hand, bringing, claiming, retreating, unclaiming}
 
--- the hand of a mover that began an object, was promised these words of its berth, and gave it up
-abbrev pub hand_given_up : Hand → List ℕ → Hand
-hand_given_up x ws = record x { bringing = None; promised = ws; begins = x.begins + 1 }
+-- the hand of a mover that began the object o, was promised these words of its berth, and gave it up
+abbrev pub hand_given_up : Hand → ℕ → List ℕ → Hand
+hand_given_up x o ws = retreating (bringing x o ws)
 
--- the hand of one that claimed a frame for the object besides, and gave up both
-abbrev pub hand_released : Hand → List ℕ → Hand
-hand_released x ws = record x { bringing = None; promised = ws; claimed = None; filled = []; begins = x.begins + 1; claims = x.claims + 1 }
+-- the hand of one that claimed the frame f for the object besides, and gave up both
+abbrev pub hand_released : Hand → ℕ → ℕ → List ℕ → Hand
+hand_released x o f ws = retreating (unclaiming (claiming (bringing x o ws) f))
 
 -- the hand of one that filled these cells of the frame, and arrived
-abbrev pub hand_served : Hand → List ℕ → List (ℕ × ℕ) → Hand
-hand_served x ws ps = record x { bringing = None; promised = ws; claimed = None; filled = ps; begins = x.begins + 1; claims = x.claims + 1; arrivals = x.arrivals + 1 }
+abbrev pub hand_served : Hand → ℕ → ℕ → List ℕ → List (ℕ × ℕ) → Hand
+hand_served x o f ws ps = hand_arrived (claiming (bringing x o ws) f) ps
 
 module _ {W C : Type 0} where
-  -- the mover began an object, claimed no frame, and gave the object up
-  abbrev pub FindsNone : SeatView W C → SeatView W C → Type 0
-  FindsNone s t = (ws : List ℕ) × (t ≡ record s { view = with_hand s.view (hand_given_up s.view.hand ws); brought = None })
+  -- the mover began the object o, claimed no frame, and gave the object up
+  abbrev pub FindsNone : ℕ → SeatView W C → SeatView W C → Type 0
+  FindsNone o s t = (ws : List ℕ) × (t ≡ record s { view = with_hand s.view (hand_given_up s.view.hand o ws); brought = None })
 
-  -- The mover brought an object into a frame: it has arrived once more, and no call was refused
-  abbrev pub BringsIn : SeatView W C → SeatView W C → Type 0
-  BringsIn s t = (ws : List ℕ) × (ps : List (ℕ × ℕ)) × (t ≡ record s { view = with_hand s.view (hand_served s.view.hand ws ps); brought = None; store = t.store; refusals = t.refusals }) × (t.refusals ≡ s.refusals)
+  -- The mover brought the object o into a frame: it has arrived once more, and no call was refused
+  abbrev pub BringsIn : ℕ → SeatView W C → SeatView W C → Type 0
+  BringsIn o s t = (f : ℕ) × (ws : List ℕ) × (ps : List (ℕ × ℕ)) × (t ≡ record s { view = with_hand s.view (hand_served s.view.hand o f ws ps); brought = None; store = t.store; refusals = t.refusals }) × (t.refusals ≡ s.refusals)
 
-  -- The mover gave up an object and a frame, since the store refused a get: one call more was refused, and it has not arrived
-  abbrev pub FailsToGet : Type 0 → SeatView W C → SeatView W C → Type 0
-  FailsToGet reliable s t = (ws : List ℕ) × (t ≡ record s { view = with_hand s.view (hand_released s.view.hand ws); brought = None; store = t.store; refusals = t.refusals }) × Refused reliable s.refusals t.refusals
+  -- The mover gave up the object o and a frame, since the store refused a get: one call more was refused, and it has not arrived
+  abbrev pub FailsToGet : Type 0 → ℕ → SeatView W C → SeatView W C → Type 0
+  FailsToGet reliable o s t = (f : ℕ) × (ws : List ℕ) × (t ≡ record s { view = with_hand s.view (hand_released s.view.hand o f ws); brought = None; store = t.store; refusals = t.refusals }) × Refused reliable s.refusals t.refusals
 
-  -- what became of a hint
-  abbrev pub Serves : Type 0 → SeatView W C → SeatView W C → Served → Type 0
-  Serves reliable s t S.Nothing = ⊥
-  Serves reliable s t S.Dropped = (t ≡ s) ⊎ FindsNone s t
-  Serves reliable s t S.Brought = BringsIn s t
-  Serves reliable s t S.Failed = FailsToGet reliable s t
+  -- what became of a hint of the object o
+  abbrev pub Serves : Type 0 → ℕ → SeatView W C → SeatView W C → Served → Type 0
+  Serves reliable o s t S.Nothing = ⊥
+  Serves reliable o s t S.Dropped = (t ≡ s) ⊎ FindsNone o s t
+  Serves reliable o s t S.Brought = BringsIn o s t
+  Serves reliable o s t S.Failed = FailsToGet reliable o s t
 
   -- there was no hint, and nothing changed; or a hint was served, which names one of so many objects
   abbrev pub ServesOne : Type 0 → ℕ → SeatView W C → SeatView W C → Served → Type 0
   ServesOne reliable objects s t S.Nothing = t ≡ s
-  ServesOne reliable objects s t S.Dropped = (o : ℕ) × (o < objects) × Serves reliable s t S.Dropped
-  ServesOne reliable objects s t S.Brought = (o : ℕ) × (o < objects) × Serves reliable s t S.Brought
-  ServesOne reliable objects s t S.Failed = (o : ℕ) × (o < objects) × Serves reliable s t S.Failed
+  ServesOne reliable objects s t S.Dropped = (o : ℕ) × (o < objects) × Serves reliable o s t S.Dropped
+  ServesOne reliable objects s t S.Brought = (o : ℕ) × (o < objects) × Serves reliable o s t S.Brought
+  ServesOne reliable objects s t S.Failed = (o : ℕ) × (o < objects) × Serves reliable o s t S.Failed

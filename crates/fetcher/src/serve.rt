@@ -19,7 +19,7 @@ fn serve<S: RawStore>(region: &Region<S>, seat: &mut MoverSeat<S>, obj: usize) -
     requires hands { HasNothing seat.old.view.hand }
     ensures table { IsSeat region.now.table seat.new }
     ensures hands { HasNothing seat.new.view.hand }
-    ensures told { Serves S.reliable seat.old seat.new result }
+    ensures told { Serves S.reliable obj seat.old seat.new result }
 {
     let table = region.table();
     let Begin::Taken = table.try_begin(seat, obj, 0) else {

@@ -3,10 +3,11 @@ use Rattle.std.proofs.Common.{◌≡◌, ℕ, List, [], ◌∷◌, ◌++◌, sym
 use mathlib.Core.Option.{some}
 use lib.ListN.{get_elem?}
 use Rattle.atomic_table.specs.Table.{State}
-use Rattle.pointer_word.specs.Hands.{Note}
+use Rattle.pointer_word.specs.Hands.{Hand, Note}
 use Rattle.pointer_word.specs.Machine.{State as Machine, opening}
 use Rattle.pointer_word.specs.Calls.{Call, May, Runs, act}
 use Rattle.pointer_word.proofs.History.{history_is}
+use Rattle.pointer_word.proofs.Pasts.{moves_are, uses_are}
 use Rattle.std.proofs.lemmas.List.{append-nil}
 use Rattle.object_lock.specs.Carrying.{RuleOf}
 use Rattle.object_lock.specs.Rule.{IsLed, Rule}
@@ -32,4 +33,6 @@ reached kept there honest z s r id v at =
       calls = r.led.0;
       led = subst (λ (q : Sizes). Runs honest q.cells opening r.led.0 x) (sym seat.sized) r.led.1;
       own = λ o own. ap (λ (y : Note). y.history) (seat.shows.1 o own) ∙ history_is honest z.cells r.led.0 x r.led.1 o;
+      uses = λ o own. ap (λ (y : Note). y.past) (seat.shows.1 o own) ∙ uses_are honest z.cells r.led.0 x r.led.1 o;
+      moves = ap (λ (y : Hand). y.past) seat.shows.0 ∙ moves_are honest z.cells r.led.0 x r.led.1 v.number;
     }

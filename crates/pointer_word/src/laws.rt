@@ -6,6 +6,7 @@ ghost use Rattle.pointer_word.specs.Machine.{State, Kept, opening, latest};
 ghost use Rattle.pointer_word.specs.Sound.{Inv, IsSafe};
 ghost use Rattle.pointer_word.specs.Calls.{Call, May, Runs, act, Filled, Copied, IsLawful, stored};
 ghost use Rattle.pointer_word.specs.Asked.{Asked};
+ghost use Rattle.pointer_word.specs.Pasts.{moves, uses};
 ghost use Rattle.pointer_word.specs.Ordered.{IsFilled, IsCopied};
 ghost use Rattle.pointer_word.specs.Legal.{legal, Agrees};
 ghost use Rattle.pointer_word.specs.Rows.{words_after, start, clean_start, written_meanwhile, moved_out_and_in, left_clean, written_clean};
@@ -13,8 +14,8 @@ ghost use Rattle.pointer_word.specs.Rows.{words_after, start, clean_start, writt
 use crate::word::{KEEP_COMING, KEEP_HERE, KEEP_PLAIN};
 
 /// Whatever calls whichever seats make in whichever order: each keeps the machine sound and makes exactly its change, each state
-/// that is reached is safe, over a store that is honest and over one that isn't, and an object's history is the list of
-/// what was stored in it. What an owner finds in the frame where its object is, is the latest store.
+/// that is reached is safe, over a store that is honest and over one that isn't. An object's history is the list of what was stored in it, its past what its owner
+/// did with it, and the past of a mover's hand what it did, in the order of the calls. What an owner finds in the frame where its object is, is the latest store.
 pub fn every_run()
     ensures keeps { (n : ℕ) (s : State) (c : Call) → May (Unit {0}) n s c → Inv (Unit {0}) n s → Inv (Unit {0}) n (act s c) }
     ensures sound { (n : ℕ) (calls : List Call) (t : State) → Runs (Unit {0}) n opening calls t → IsSafe (Unit {0}) n t }
@@ -22,6 +23,8 @@ pub fn every_run()
     ensures lawful { (n : ℕ) (s : State) (c : Call) → May (Unit {0}) n s c → Inv (Unit {0}) n s → IsLawful s c }
     ensures lawful_unsound { (n : ℕ) (s : State) (c : Call) → May ⊥ n s c → Inv ⊥ n s → IsLawful s c }
     ensures history { (n : ℕ) (calls : List Call) (t : State) → Runs (Unit {0}) n opening calls t → (o : ℕ) → (t.note o).history ≡ stored o calls }
+    ensures uses { (n : ℕ) (calls : List Call) (t : State) → Runs (Unit {0}) n opening calls t → (o : ℕ) → (t.note o).past ≡ uses o calls }
+    ensures moves { (n : ℕ) (calls : List Call) (t : State) → Runs (Unit {0}) n opening calls t → (m : ℕ) → (t.hand m).past ≡ moves m opening calls }
     ensures load { (n : ℕ) (s : State) (o f i : ℕ) → (s.note o).frame ≡ Some f → i < n → Inv (Unit {0}) n s → s.cell f i ≡ latest s o i }
 {}
 

@@ -16,6 +16,6 @@ returns-then-bring_into-clause-told g c =
 pub returns-then-bring_into-clause-hands : goal.returns-then-bring_into-clause-hands
 returns-then-bring_into-clause-hands g c =
     let begun = c.in-Taken.ensures.fetched refl in
-    emptied c.args.seat.now c.bring_into.new.mover c.requires.hands
+    emptied c.args.obj c.args.seat.now c.bring_into.new.mover c.requires.hands
     (brings_in c.args.seat.now c.try_begin.new.mover c.find_frame.new.mover c.bring_into.new.mover c.args.obj _ begun.1 c.in-Claimed.frame begun.3 c.in-Claimed.ensures.told.1
     (unheld g.S.RawStore.honest _ _ _ _ c.in-Taken.ensures.step) c.if-bring_into.ensures.told.0 c.if-bring_into.ensures.told.1)
