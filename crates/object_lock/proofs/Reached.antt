@@ -11,7 +11,8 @@ use Rattle.pointer_word.proofs.Pasts.{moves_are, uses_are}
 use Rattle.std.proofs.lemmas.List.{append-nil}
 use Rattle.object_lock.specs.Carrying.{RuleOf}
 use Rattle.object_lock.specs.Rule.{IsLed, Rule}
-use Rattle.object_lock.specs.Plays.{IsReached}
+use Rattle.object_lock.specs.OneList.{OneList}
+use Rattle.object_lock.specs.Plays.{IsPart, IsReached}
 use Rattle.object_lock.specs.Seats.{Sizes, View}
 
 pub run_on : (h : Type 0) (n : ℕ) (cs : List Call) (s t : Machine) (c : Call) → Runs h n s cs t → May h n t c → Runs h n s (cs ++ c ∷ []) (act t c)
@@ -26,13 +27,23 @@ led_on h n x t c l may acts = (l.0 ++ c ∷ [], subst (Runs h n opening (l.0 ++ 
 pub none_made : {S : Type 0} (kept : S → ℕ → List ℕ → Type 0) (there : S → Type 0) (honest : Type 0) (z : Sizes) (s : State S View) (x : Machine) (cs : List Call) → RuleOf kept there honest z s x cs → RuleOf kept there honest z s x (cs ++ [])
 none_made kept there honest z s x cs q = (q.0, q.1, q.2 ∙ sym (append-nil cs))
 
--- what the rule says of the list to a seat
-pub reached : {S : Type 0} (kept : S → ℕ → List ℕ → Type 0) (there : S → Type 0) (honest : Type 0) (z : Sizes) (s : State S View) (r : Rule kept there honest z s) (id : ℕ) (v : View) → get_elem? s.views id ≡ some v → IsReached honest v r.machine
-reached kept there honest z s r id v at =
+-- what a seat did is its part of the list
+part_of : {S : Type 0} (kept : S → ℕ → List ℕ → Type 0) (there : S → Type 0) (honest : Type 0) (z : Sizes) (s : State S View) (r : Rule kept there honest z s) (id : ℕ) (v : View) → get_elem? s.views id ≡ some v → IsPart v r.led.0
+part_of kept there honest z s r id v at =
     let seat = r.seats id v at in let x = r.machine in record {
-      calls = r.led.0;
-      led = subst (λ (q : Sizes). Runs honest q.cells opening r.led.0 x) (sym seat.sized) r.led.1;
-      own = λ o own. ap (λ (y : Note). y.history) (seat.shows.1 o own) ∙ history_is honest z.cells r.led.0 x r.led.1 o;
+      stores = λ o own. ap (λ (y : Note). y.history) (seat.shows.1 o own) ∙ history_is honest z.cells r.led.0 x r.led.1 o;
       uses = λ o own. ap (λ (y : Note). y.past) (seat.shows.1 o own) ∙ uses_are honest z.cells r.led.0 x r.led.1 o;
       moves = ap (λ (y : Hand). y.past) seat.shows.0 ∙ moves_are honest z.cells r.led.0 x r.led.1 v.number;
     }
+
+-- what the rule says of the list to a seat
+pub reached : {S : Type 0} (kept : S → ℕ → List ℕ → Type 0) (there : S → Type 0) (honest : Type 0) (z : Sizes) (s : State S View) (r : Rule kept there honest z s) (id : ℕ) (v : View) → get_elem? s.views id ≡ some v → IsReached honest v r.machine
+reached kept there honest z s r id v at = record {
+  calls = r.led.0;
+  led = subst (λ (q : Sizes). Runs honest q.cells opening r.led.0 r.machine) (sym (r.seats id v at).sized) r.led.1;
+  part = part_of kept there honest z s r id v at;
+}
+
+-- what it says to all of them
+pub all_parts : {S : Type 0} (kept : S → ℕ → List ℕ → Type 0) (there : S → Type 0) (honest : Type 0) → OneList kept there honest
+all_parts kept there honest z s r = record { machine = r.machine; calls = r.led.0; led = r.led.1; parts = λ id v at. part_of kept there honest z s r id v at; words = λ o near. (r.objects o near).word }

@@ -5,6 +5,7 @@ ghost use Rattle.object_lock.specs.Kept.{slot_keeps, slot_has};
 ghost use Rattle.object_lock.specs.Seats.{View, note, with_note};
 ghost use Rattle.object_lock.specs.EachStep.{EachStep};
 ghost use Rattle.object_lock.specs.NewTable.{NewTable};
+ghost use Rattle.object_lock.specs.OneList.{OneList};
 
 use remote_store::RawStore;
 
@@ -19,6 +20,12 @@ pub fn changed_note()
 /// the machine that the call leaves.
 pub fn each_step<S: RawStore>()
     ensures { (n : ℕ) → EachStep (slot_keeps S.fits S.content n) (slot_has S.fits n) S.honest }
+{}
+
+/// There is one machine, which the table's words show, and one list of calls that led to it: what each seat of the table did, on whichever thread, is its part of
+/// this list, in order.
+pub fn one_list<S: RawStore>()
+    ensures { (n : ℕ) → OneList (slot_keeps S.fits S.content n) (slot_has S.fits n) S.honest }
 {}
 
 /// While no seat has made a call of a mover, as when the table was made: each object is away, its word is the count of its holds, which is 0 for

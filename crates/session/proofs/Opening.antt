@@ -97,6 +97,7 @@ opened_run honest C v n f few =
           fresh = λ o i l m. ap (λ (n : Note). latest_of n.history i) (f.notes o);
           new = λ r x l. refl;
         };
+        stored = λ o. ap (λ (n : Note). n.history) (f.notes o);
       };
     }
 

@@ -1,9 +1,9 @@
 -- Each kind of instruction keeps the scopes' holds as its program's scopes have them.
-use Rattle.std.proofs.Common.{◌≡◌, ◌≢◌, inl, inr, ℕ, ◌+◌, ◌%◌, ◌<◌, ◌≤◌, Bool, true, false, cond, [], ◌∷◌, ◌++◌, length, refl, sym, ap, ◌∙◌, subst, arith}
+use Rattle.std.proofs.Common.{◌≡◌, ◌≢◌, inl, inr, ℕ, ◌+◌, ◌%◌, ◌<◌, ◌≤◌, Bool, true, false, cond, List, [], ◌∷◌, ◌++◌, length, refl, sym, ap, ◌∙◌, subst, arith}
 use Rattle.cells.proofs.Pieces.{piece_some}
 use Rattle.std.specs.Prelude.{◌==◌, Option, Some, None}
 use Rattle.std.proofs.lemmas.Bool.Decides.{eqb_tells}
-use Rattle.std.proofs.lemmas.List.{get_or-set_same, get_or-set_other}
+use Rattle.std.proofs.lemmas.List.{append-nil, get_or-set_same, get_or-set_other}
 use Rattle.code_execution.specs.declared.plan.Plan.{Plan}
 use Rattle.code_execution.specs.Planning.{Plans}
 use Rattle.code_form.specs.Form.{Image}
@@ -268,17 +268,17 @@ same_latest : (v w : View) → ((o : ℕ) → (note w o).history ≡ (note v o).
 same_latest v w h o i = ap (λ ps. latest_of ps i) (h o)
 
 pub moves_plain : (honest : Type 0) (s u : State) → u ≡ finished s 0 → Moves honest touch.Plain s u
-moves_plain honest s u e = subst (λ (y : State). Moves honest touch.Plain s y) (sym e) (record { image = refl; want = refl; refusals = refl; value = 0; core = refl; loads = λ _. tt; stores = λ o i. refl; low = refl; high = refl; seat = refl; completed = refl })
+moves_plain honest s u e = subst (λ (y : State). Moves honest touch.Plain s y) (sym e) (record { image = refl; want = refl; refusals = refl; value = 0; core = refl; loads = λ _. tt; stores = λ o i. refl; added = λ o. sym (append-nil (note s.view o).history); low = refl; high = refl; seat = refl; completed = refl })
 
 pub moves_hinted : (honest : Type 0) (s u : State) (w : Option Cell) → u ≡ finished s 0 → Moves honest (touch.Hints w) s u
-moves_hinted honest s u w e = subst (λ (y : State). Moves honest (touch.Hints w) s y) (sym e) (record { image = refl; want = refl; refusals = refl; value = 0; core = refl; loads = λ _. tt; stores = λ o i. refl; low = refl; high = refl; seat = refl; completed = refl })
+moves_hinted honest s u w e = subst (λ (y : State). Moves honest (touch.Hints w) s y) (sym e) (record { image = refl; want = refl; refusals = refl; value = 0; core = refl; loads = λ _. tt; stores = λ o i. refl; added = λ o. sym (append-nil (note s.view o).history); low = refl; high = refl; seat = refl; completed = refl })
 
 pub moves_loaded : (honest : Type 0) → Laws → (s u : State) (k : ℕ) (a : Cell) (v i : ℕ) (h : Hold) → IsSafe s → IsNext (touch.Loads k a) s → hold_at s.holds k ≡ Some h → i ≡ a.index % s.view.sizes.cells
     → (honest → v ≡ latest_in s.view h.object i) → u ≡ finished s v → Moves honest (touch.Loads k a) s u
 moves_loaded honest laws s u k a v i h safe next e p got f =
     let o = object_is s k a h safe (loads_cell laws s k a safe next) e in
     subst (λ (y : State). Moves honest (touch.Loads k a) s y) (sym f)
-    (record { image = refl; want = refl; refusals = refl; value = v; core = refl; loads = λ q. got q ∙ (ap (λ z. latest_in s.view z i) o ∙ ap (latest_in s.view (object_of s a)) p); stores = λ o i. refl; low = refl; high = refl; seat = refl; completed = refl })
+    (record { image = refl; want = refl; refusals = refl; value = v; core = refl; loads = λ q. got q ∙ (ap (λ z. latest_in s.view z i) o ∙ ap (latest_in s.view (object_of s a)) p); stores = λ o i. refl; added = λ o. sym (append-nil (note s.view o).history); low = refl; high = refl; seat = refl; completed = refl })
 
 module _ (honest : Type 0) (s t u : State) (k : ℕ) (ch : Changes k s t) (e : u ≡ finished t 0) where
   pub moves_aimed : (w : Option Cell) → Moves honest (touch.Aims k w) s u
@@ -290,6 +290,7 @@ module _ (honest : Type 0) (s t u : State) (k : ℕ) (ch : Changes k s t) (e : u
     core = core_of_changed s t u 0 ch.image ch.core e;
     loads = λ _. tt;
     stores = λ o i. ap (λ (y : State). latest_in y.view o i) e ∙ same_latest s.view t.view ch.stored o i;
+    added = λ o. ap (λ (y : State). (note y.view o).history) e ∙ (ch.stored o ∙ sym (append-nil (note s.view o).history));
     low = ap (λ (y : State). y.view.low) e ∙ ch.low;
     high = ap (λ (y : State). y.view.high) e ∙ ch.high;
     seat = ap (λ (y : State). seat_of y.view) e ∙ ch.seat;
@@ -305,6 +306,7 @@ module _ (honest : Type 0) (s t u : State) (k : ℕ) (ch : Changes k s t) (e : u
     core = core_of_changed s t u 0 ch.image ch.core e;
     loads = λ _. tt;
     stores = λ o i. ap (λ (y : State). latest_in y.view o i) e ∙ same_latest s.view t.view ch.stored o i;
+    added = λ o. ap (λ (y : State). (note y.view o).history) e ∙ (ch.stored o ∙ sym (append-nil (note s.view o).history));
     low = ap (λ (y : State). y.view.low) e ∙ ch.low;
     high = ap (λ (y : State). y.view.high) e ∙ ch.high;
     seat = ap (λ (y : State). seat_of y.view) e ∙ ch.seat;
@@ -320,6 +322,7 @@ moves_ended honest s t u ch e = record {
   core = core_of_changed s t u 0 ch.image ch.core e;
   loads = λ _. tt;
   stores = λ o i. ap (λ (y : State). latest_in y.view o i) e ∙ same_latest s.view t.view ch.stored o i;
+  added = λ o. ap (λ (y : State). (note y.view o).history) e ∙ (ch.stored o ∙ sym (append-nil (note s.view o).history));
   low = ap (λ (y : State). y.view.low) e ∙ ch.low;
   high = ap (λ (y : State). y.view.high) e ∙ ch.high;
   seat = ap (λ (y : State). seat_of y.view) e ∙ ch.seat;
@@ -327,7 +330,7 @@ moves_ended honest s t u ch e = record {
 }
 
 pub moves_extended : (honest : Type 0) (s u : State) (n : ℕ) → u ≡ extended s n → Moves honest (touch.Allocs n) s u
-moves_extended honest s u n e = subst (λ (y : State). Moves honest (touch.Allocs n) s y) (sym e) (record { image = refl; want = refl; refusals = refl; value = 0; core = refl; loads = λ _. tt; stores = λ o i. refl; low = refl; high = refl; seat = refl; completed = refl })
+moves_extended honest s u n e = subst (λ (y : State). Moves honest (touch.Allocs n) s y) (sym e) (record { image = refl; want = refl; refusals = refl; value = 0; core = refl; loads = λ _. tt; stores = λ o i. refl; added = λ o. sym (append-nil (note s.view o).history); low = refl; high = refl; seat = refl; completed = refl })
 
 -- the latest stores, with one more
 latest_added : (v : View) (o x n : ℕ) → o < length v.notes → (p i : ℕ)
@@ -349,6 +352,19 @@ latest_added v o x n l p i =
           | inl q ↦ ap (λ z. latest_of ((note v o).history ++ (x, n) ∷ []) z) q.1 ∙ (ap or_zero (seen_here (note v o).history x n) ∙ sym (ap (λ (b : Bool). cond b n (latest_in v o i)) q.0))
           | inr q ↦ ap or_zero (seen_else (note v o).history x i n q.1) ∙ sym (ap (λ (b : Bool). cond b n (latest_in v o i)) q.0)
         ]
+
+-- what was stored in each object, with one store more
+history_added : (v : View) (o x n : ℕ) → o < length v.notes → (p : ℕ) → (note (with_note v o (added (note v o) x n)) p).history ≡ (note v p).history ++ cond (p == o) ((x, n) ∷ []) []
+history_added v o x n l p =
+    elim (eqb_tells p o) [
+      | inl q ↦
+          let new : (note (with_note v o (added (note v o) x n)) p).history ≡ (note v o).history ++ (x, n) ∷ [] =
+          ap (λ z. (note (with_note v o (added (note v o) x n)) z).history) q.1 ∙ ap (λ (y : Note). y.history) (get_or-set_same v.notes o (added (note v o) x n) blank l) in
+          new ∙ (ap (λ z. (note v z).history ++ (x, n) ∷ []) (sym q.1) ∙ ap (λ (b : Bool). (note v p).history ++ cond b ((x, n) ∷ []) []) (sym q.0))
+      | inr q ↦
+          let old : (note (with_note v o (added (note v o) x n)) p).history ≡ (note v p).history = ap (λ (y : Note). y.history) (get_or-set_other v.notes o p (added (note v o) x n) blank q.1) in
+          old ∙ (sym (append-nil (note v p).history) ∙ ap (λ (b : Bool). (note v p).history ++ cond b ((x, n) ∷ []) []) (sym q.0))
+    ]
 
 upd_same : (f g : ℕ → ℕ → ℕ) (o x n : ℕ) → ((p i : ℕ) → f p i ≡ g p i) → (p i : ℕ) → upd f o (upd (f o) x n) p i ≡ upd g o (upd (g o) x n) p i
 upd_same f g o x n h p i =
@@ -376,6 +392,10 @@ moves_stored honest laws s t v u k a n i h safe next e ok ch w at d f =
           ap (λ (y : State). latest_in y.view q j) f ∙ (ap (λ (y : State). latest_in y.view q j) d ∙ (latest_added t.view h.object i n here q j ∙
           (upd_same (latest_in t.view) (latest_in s.view) h.object i n (same_latest s.view t.view ch.stored) q j ∙
           (ap (λ z. upd (latest_in s.view) z (upd (latest_in s.view z) i n) q j) o ∙ ap (λ z. upd (latest_in s.view) (object_of s a) (upd (latest_in s.view (object_of s a)) z n) q j) p))));
+      added = λ q.
+          ap (λ (y : State). (note y.view q).history) f ∙ (ap (λ (y : State). (note y.view q).history) d ∙ (history_added t.view h.object i n here q ∙
+          (ap (λ (l : List (ℕ × ℕ)). l ++ cond (q == h.object) ((i, n) ∷ []) []) (ch.stored q) ∙
+          (ap (λ z. (note s.view q).history ++ cond (q == z) ((i, n) ∷ []) []) o ∙ ap (λ z. (note s.view q).history ++ cond (q == object_of s a) ((z, n) ∷ []) []) p))));
       low = ap (λ (y : State). y.view.low) f ∙ (ap (λ (y : State). y.view.low) d ∙ ch.low);
       high = ap (λ (y : State). y.view.high) f ∙ (ap (λ (y : State). y.view.high) d ∙ ch.high);
       seat = ap (λ (y : State). seat_of y.view) f ∙ (ap (λ (y : State). seat_of y.view) d ∙ ch.seat);

@@ -1,5 +1,5 @@
 -- What a session keeps true between its steps, and what each step leaves.
-use Rattle.std.specs.Prelude.{◌≡◌, ◌≢◌, ℕ, suc, ◌+◌, ◌%◌, ◌<◌, ◌≤◌, ◌==◌, Bool, true, false, cond, List, [], ◌∷◌, length, Option, Some, None, slice_set}
+use Rattle.std.specs.Prelude.{◌≡◌, ◌≢◌, ℕ, suc, ◌+◌, ◌%◌, ◌<◌, ◌≤◌, ◌==◌, Bool, true, false, cond, List, [], ◌∷◌, ◌++◌, length, Option, Some, None, slice_set}
 use Rattle.cells.specs.declared.ending.Want.{Want}
 use Rattle.cells.specs.declared.ending.Want.TheVariants.{OutOfMemory, NoObjects, StoreFailed}
 use Rattle.cells.specs.declared.ending.Run.{Run}
@@ -19,7 +19,7 @@ use Rattle.pointer_word.specs.Hands.{added, blank, closed, writable}
 use Rattle.object_lock.specs.Seats.{Owns, View, note, with_note}
 use Rattle.session.specs.declared.hold.Hold.{Hold}
 use Rattle.object_moves.specs.Taken.{GivesUp, IsQuiet, Refused, Takes, seat_of}
-use Rattle.session.specs.State.{AllShut, Caused, IsAt, IsGoing, SameProgram, ScopesHold, State, cells_in, hold_at, latest_in, next_touch, object_of}
+use Rattle.session.specs.State.{AllShut, Caused, IsAt, IsGoing, SameProgram, ScopesHold, State, cells_in, hold_at, latest_in, next_touch, object_of, stores_of}
 
 -- allocations in pieces of `size` cells, the newest first, take their objects one behind the other, from low on; next is the object behind them
 abbrev pub IsPlaced : ℕ → ℕ → List ℕ → List ℕ → ℕ → Type 0
@@ -107,6 +107,7 @@ pub record Moves (honest : Type 0) (x : Touch) (s t : State) : Type 0 where
   pub core : t.core ≡ resumed (effect s.image s.core) s.core value
   pub loads : honest → Loads x s value
   pub stores : Stores x s t
+  pub added : (o : ℕ) → (note t.view o).history ≡ (note s.view o).history ++ stores_of s.view.sizes.cells s.view.low (cells_in s) o x
   pub low : t.view.low ≡ s.view.low
   pub high : t.view.high ≡ s.view.high
   pub seat : seat_of t.view ≡ seat_of s.view

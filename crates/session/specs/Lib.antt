@@ -1,3 +1,4 @@
 pub mod Keeping
 pub mod State
 pub mod Stepping
+pub mod Following

@@ -1,5 +1,5 @@
 -- What a session is to its caller, and where its code run is.
-use Rattle.std.specs.Prelude.{◌≡◌, ◌⊎◌, ℕ, ◌+◌, ◌<◌, ◌≤◌, true, List, [], Option, Some, None, slice_index_or, replicate}
+use Rattle.std.specs.Prelude.{◌≡◌, ◌⊎◌, ℕ, zero, suc, ◌+◌, ◌%◌, ◌<◌, ◌≤◌, ◌==◌, true, cond, List, [], ◌∷◌, ◌++◌, Option, Some, None, slice_index_or, replicate}
 use Rattle.cells.specs.declared.ending.Want.{Want}
 use Rattle.cells.specs.declared.ending.Want.TheVariants.{OutOfMemory, NoObjects, StoreFailed}
 use Rattle.cells.specs.declared.ending.Run.{Run}
@@ -41,6 +41,17 @@ cells_in s = sizes (allocations_of s.core)
 abbrev pub latest_in : View → ℕ → ℕ → ℕ
 latest_in v o i = latest_of (note v o).history i
 
+-- what an instruction that touches this stores in the object o, each with its place there: of a program in pieces of so many cells, whose objects begin at low, and whose
+-- allocations have these numbers of cells
+abbrev pub stores_of : ℕ → ℕ → List ℕ → ℕ → Touch → List (ℕ × ℕ)
+stores_of size low cells o (touch.Stores k a v) = cond (o == object_at size low cells a.reference a.index) ((a.index % size, v) ∷ []) []
+stores_of size low cells o _ = []
+
+-- what the first n instructions of an image's run store in it, in their order
+abbrev pub stores_in : ℕ → Image → ℕ → ℕ → ℕ → List (ℕ × ℕ)
+stores_in size C low zero o = []
+stores_in size C low (suc n) o = stores_in size C low n o ++ stores_of size low (sizes (allocations_of (code_run (code C) n).0)) o (touch_of (effect C (code_run (code C) n).0))
+
 -- the object of a cell
 abbrev pub object_of : State → Cell → ℕ
 object_of s a = object_at s.view.sizes.cells s.view.low (cells_in s) a.reference a.index
@@ -68,13 +79,14 @@ Matches s (Some a) (Some h) = h.object ≡ object_of s a
 abbrev pub ScopesHold : State → Type 0
 ScopesHold s = (k : ℕ) → Matches s (cell_option (held s.core k)) (hold_at s.holds k)
 
--- The session's program is where the run of its code is, its objects fit in its share, and its cells are the latest stores. Before each instruction
--- that it completed the code had not stopped
+-- The session's program is where the run of its code is, its objects fit in its share, and its cells are the latest stores. What was stored in each object is what the
+-- instructions of that run stored that it completed, in their order. Before each of these the code had not stopped
 pub record IsAt (s : State) : Type 0 where
   pub core : s.core ≡ (code_run (code s.image) s.completed).0
   pub going : (n : ℕ) → n < s.completed → stop_of (code_run (code s.image) n).0 ≡ None
   pub fits : next_object s.view.sizes.cells s.view.low (cells_in s) ≤ s.view.high
   pub heap : SameHeap s.view.sizes.cells s.view.low s.view.high (cells_in s) (latest_in s.view) (code_run (code s.image) s.completed).1
+  pub stored : (o : ℕ) → (note s.view o).history ≡ stores_in s.view.sizes.cells s.image s.view.low s.completed o
 
 -- the program has not stopped, and wants nothing
 abbrev pub IsGoing : State → Type 0

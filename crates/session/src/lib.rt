@@ -4,10 +4,12 @@
 mod hint_sender;
 mod hold;
 mod kinds;
+mod laws;
 mod program;
 mod run;
 mod scale;
 mod session;
 
 pub use hold::Hold;
+pub use laws::stores_are_its_codes;
 pub use session::Session;

@@ -1,7 +1,7 @@
 use Rattle.std.proofs.Common.{◌≡◌, ◌∙◌, inl, inr, refl, subst, sym, true}
 use Rattle.cells.specs.declared.ending.Run.TheVariants.{Wanted}
 use Rattle.cells.specs.declared.ending.Want.TheVariants.{OutOfMemory, StoreFailed}
-use Rattle.code_form.specs.Code.{Covered, stop_of}
+use Rattle.code_form.specs.Code.{stop_of}
 use Rattle.code_form.specs.Growth.{has_text}
 use Rattle.session.specs.State.{IsGoing, Ran, State}
 use Rattle.object_moves.specs.Taken.{Refused}
@@ -11,19 +11,19 @@ use Rattle.session.proofs.Running.{HeapLaws}
 use Rattle.session.proofs.session.Session.run.Goals as goal
 use Rattle.session.proofs.session.Session.run.Goals.{in-Ok, in-Err}
 
-pub returns-clause-covered : goal.returns-clause-covered
-returns-clause-covered g c =
+pub returns-clause-refused : goal.returns-clause-refused
+returns-clause-refused g c =
     let laws : Laws = record { tidy = c.effect_laws.ensures.tidy; tracked = c.effect_laws.ensures.tracked; waits = c.effect_laws.ensures.waits; ends = c.effect_laws.ensures.ends } in
     let heaps : HeapLaws = record { stored = c.heap_laws.ensures.stored; allocated = c.heap_laws.ensures.allocated; next = c.run_laws.ensures.next } in
     let m = c.self.inside.program in
     let rel = g.S.RawStore.reliable in
     elim c.match-run.branch [
-      | in-Ok w ↦ λ q cover going e.
+      | in-Ok w ↦ λ q going e.
           let told : Ran rel c.args.limit m c.run.new.self (Wanted StoreFailed) = subst (λ r. Ran rel c.args.limit m c.run.new.self r) (sym w.result-is ∙ e) w.in-Ok.ensures.told in
           subst (λ (s : State). Refused rel s.refusals c.run.new.self.refusals) c.self.view_is
           (never_failed g.S.RawStore.honest rel laws heaps c.args.limit m _ (Wanted StoreFailed) c.run.ensures.session told q
-          (subst (λ (s : State). Covered s.image) (sym c.self.view_is) cover) (subst IsGoing (sym c.self.view_is) going) refl)
-      | in-Err w ↦ λ q cover going e. absurd (let clash : Wanted OutOfMemory ≡ Wanted StoreFailed = sym w.result-is ∙ e in cc clash)
+          c.self.invariant.1 (subst IsGoing (sym c.self.view_is) going) refl)
+      | in-Err w ↦ λ q going e. absurd (let clash : Wanted OutOfMemory ≡ Wanted StoreFailed = sym w.result-is ∙ e in cc clash)
     ]
 
 pub returns-clause-shut : goal.returns-clause-shut
