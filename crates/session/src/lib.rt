@@ -1,15 +1,15 @@
 //! A session: an image run through the lock, at one seat of a table of objects, which hints what it will want soon.
 #![tactic(auto)]
 
+mod following;
 mod hint_sender;
 mod hold;
 mod kinds;
-mod laws;
 mod program;
 mod run;
 mod scale;
 mod session;
 
+pub use following::stores_are_its_codes;
 pub use hold::Hold;
-pub use laws::stores_are_its_codes;
 pub use session::Session;

@@ -10,8 +10,7 @@ pub invariant_of-result : goal.invariant_of-result
 invariant_of-result g c =
     let image = image_of c.image-image.result.now in
     let few = (c.accepted_is_verified.ensures.verified image c.image-image.ensures.accepted).few in
-    let cover = c.accepted_is_verified.ensures.covered image c.image-image.ensures.accepted in
-    (
+    let cover = c.accepted_is_verified.ensures.covered image c.image-image.ensures.accepted in (
       subst (IsSession g.S.RawStore.honest) (sym c.in-Ok.ensures) (fresh_run g.S.RawStore.honest c.args.region.now.table c.args.seat image c.requires.fresh c.requires.own few),
       subst (λ (s : State). Covered s.image) (sym c.in-Ok.ensures) cover,
     )

@@ -8,10 +8,9 @@ use Rattle.session.proofs.session.Session.over.Goals as goal
 
 pub invariant_of-result : goal.invariant_of-result
 invariant_of-result g c =
-    let image = image_of c.image-image.result.now in
-    let few = (c.accepted_is_verified.ensures.verified image c.image-image.ensures.accepted).few in
-    let cover = c.accepted_is_verified.ensures.covered image c.image-image.ensures.accepted in
-    (
+    let image = image_of c.image.result.now in
+    let few = (c.accepted_is_verified.ensures.verified image c.image.ensures.accepted).few in
+    let cover = c.accepted_is_verified.ensures.covered image c.image.ensures.accepted in (
       subst (IsSession g.S.RawStore.honest) (sym c.in-Ok.ensures) (fresh_run g.S.RawStore.honest c.args.table.now c.args.seat image c.requires.fresh c.requires.own few),
       subst (λ (s : State). Covered s.image) (sym c.in-Ok.ensures) cover,
     )
