@@ -1,6 +1,7 @@
 //! A session: an image run through the lock, at one seat of a table of objects, which hints what it will want soon.
 #![tactic(auto)]
 
+mod counts;
 mod hint_sender;
 mod hold;
 mod kinds;
@@ -9,5 +10,6 @@ mod run;
 mod scale;
 mod session;
 
+pub use counts::Counts;
 pub use hold::Hold;
 pub use session::Session;
