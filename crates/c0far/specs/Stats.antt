@@ -20,9 +20,13 @@ shown_moves f = codes ", opened " ++ (decimal f.counts.opened ++ (codes ", broug
 abbrev pub shown_calls : Finished → List ℕ
 shown_calls f = codes ", calls " ++ (decimal f.counts.calls ++ (codes ", failed " ++ (decimal f.refusals ++ (codes ", hints " ++ (decimal f.counts.hints ++ (codes ", dropped " ++ (decimal f.counts.dropped ++ newline)))))))
 
+-- what it did beside its instructions
+abbrev pub shown_others : Finished → List ℕ
+shown_others f = shown_moves f ++ shown_calls f
+
 -- the line of program number k
 abbrev pub program_line : ℕ → Finished → List ℕ
-program_line k f = shown_work k f ++ (shown_moves f ++ shown_calls f)
+program_line k f = shown_work k f ++ shown_others f
 
 -- the lines of several, from number k on
 abbrev pub program_lines : ℕ → List Finished → List ℕ

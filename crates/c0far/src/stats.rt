@@ -1,6 +1,6 @@
 //! The table of what was counted, which is told on the standard error where it is asked for.
 ghost use Rattle.std.specs.Prelude.{◌+◌, ◌<◌, ◌^◌, length};
-ghost use Rattle.c0far.specs.Stats.{TellsStats, evacuator_line, fetcher_line, mover_lines, program_line, program_lines, shown_calls, shown_moves, shown_work, stats_text};
+ghost use Rattle.c0far.specs.Stats.{TellsStats, evacuator_line, fetcher_line, mover_lines, program_line, program_lines, shown_calls, shown_moves, shown_others, shown_work, stats_text};
 ghost use Rattle.streams.specs.Streams.{IsWritten, writes};
 
 use crate::say::after;
@@ -48,13 +48,20 @@ fn write_calls<E: Stream>(err: &mut E, one: &Finished) -> Result<(), Failed>
     )
 }
 
+/// Writes what it did beside its instructions.
+fn write_others<E: Stream>(err: &mut E, one: &Finished) -> Result<(), Failed>
+    ensures { IsWritten (writes E.contents E.failures err.old err.new) (shown_others one.now) result }
+{
+    write_moves(err, one)?;
+    write_calls(err, one)
+}
+
 /// Writes the line of a program.
 fn write_program<E: Stream>(err: &mut E, number: u64, one: &Finished) -> Result<(), Failed>
     ensures { IsWritten (writes E.contents E.failures err.old err.new) (program_line number one.now) result }
 {
     write_work(err, number, one)?;
-    write_moves(err, one)?;
-    write_calls(err, one)
+    write_others(err, one)
 }
 
 /// Writes the lines of several programs, whose numbers are those from this one on.
