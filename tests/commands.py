@@ -35,6 +35,9 @@ STOPS = (
     ("assertion", "int main() { assert(false); return 0; }\n", "assertion failed"),
     ("error", 'int main() { error("no more"); return 0; }\n', "error: no more"),
 )
+# what is counted, by whose it is
+PROGRAM = ("instructions", "turns", "objects", "opened", "brought", "written", "left", "calls", "failed", "hints", "dropped")
+COUNTED = {"program": PROGRAM, "evacuator": ("rounds", "left", "aborted", "failed"), "fetcher": ("brought", "dropped", "failed")}
 # of SEVEN: the number, its move to the result, and the return
 SCHEDULE = "p0\np0\np0\n"
 
@@ -173,6 +176,12 @@ def counted(objects):
     return f"int main() {{ for (int i = 0; i < {objects}; i++) {{ int* p = alloc(int); *p = i; }} return 7; }}\n"
 
 
+def scan(pieces):
+    """A text that writes an array of so many pieces, and reads it."""
+    return (f"int main() {{ int[] a = alloc_array(int, {64 * pieces}); for (int i = 0; i < {64 * pieces}; i++) {{ a[i] = i; }}\n"
+            f"int s = 0; for (int i = 0; i < {64 * pieces}; i++) {{ s += a[i]; }} return s; }}\n")
+
+
 def each_call_fails_in_turn(it):
     """Of 16 objects 12 are put to make room in four frames; from call K on, no call succeeds."""
     it.write("a.c0", counted(16))
@@ -201,6 +210,61 @@ def an_array_in_files(it):
         want(owner == first // 64, f"{file} is of object {owner}, and holds piece {first // 64}")
         pieces.add(owner)
     want(len(pieces) == len(os.listdir(it.path("store"))) >= 1092, f"{len(pieces)} pieces are there")
+
+
+def table_of(told):
+    """What `--stats` told, line by line: of each program and mover the numbers by their names."""
+    table = {}
+    for line in told.decode().splitlines():
+        of, numbers = line.split(": ")
+        named = dict(number.split(" ") for number in numbers.split(", "))
+        want(tuple(named) == COUNTED[of.split(" ")[0]], f"the line of {of} has {numbers}")
+        table[of] = {name: int(number) for name, number in named.items()}
+    return table
+
+
+def told_beside(it, words, out, status=0):
+    """The table of a run, which writes and gives what it does without one."""
+    it.check(*words.split(), status=status, out=out)
+    told = it.run(*words.split(), "--stats")
+    want(told[:2] == (status, out.encode()), f"{words} --stats gave {told[:2]}")
+    return table_of(told[2])
+
+
+def what_is_counted(it):
+    """Of 16 objects that are written in turn 12 are put to make room in four frames. Two pieces that are written and read again in one frame are both put, come back, and
+    the first of them leaves clean. Hints of which no fetcher takes any stay in a queue of 256."""
+    it.write("a.c0", counted(16))
+    alone = "--frames 4 --evacuators 0 --fetchers 0 --workers 1"
+    found = told_beside(it, f"run {alone} a.c0", "result: 7\n")
+    want(list(found) == ["program 0"], f"the table has {list(found)}")
+    whole = found["program 0"]
+    want({name: whole[name] for name in PROGRAM[2:]} == dict(zip(PROGRAM[2:], (16, 16, 16, 12, 0, 12, 0, 0, 0))), f"of 16 objects {whole} is told")
+    want(told_beside(it, f"run --live {alone} a.c0", "result: 7\n") == found, "run --live tells another table")
+    for first in range(1, 13):
+        failed = told_beside(it, f"run {alone} --fail-from {first} a.c0", "store failed\n", status=3)["program 0"]
+        want((failed["written"], failed["calls"], failed["failed"]) == (first - 1, first, 1), f"where call {first} fails {failed} is told")
+    it.write("b.c0", scan(2))
+    twice = told_beside(it, "run --frames 1 --evacuators 0 --fetchers 0 --workers 1 b.c0", f"result: {sum(range(128))}\n")["program 0"]
+    want(tuple(twice[name] for name in PROGRAM[2:9]) == (2, 4, 4, 2, 1, 4, 0), f"of two pieces {twice} is told")
+    it.write("c.c0", scan(400))
+    many = told_beside(it, "run --frames 8 --evacuators 0 --fetchers 0 c.c0", f"result: {sum(range(25600))}\n")["program 0"]
+    want(many["hints"] > 256 and many["dropped"] == many["hints"] - 256, f"of 400 pieces {many} is told")
+
+
+def what_is_counted_beside_movers(it):
+    """Each object that was brought in and did not leave is in one of the frames; and what a program does itself is the same."""
+    it.write("c.c0", scan(400))
+    out = "".join(f"program {number}:\nresult: {sum(range(25600))}\n" for number in (0, 1))
+    alone = told_beside(it, "run --frames 8 --evacuators 0 --fetchers 0 c.c0 c.c0", out)
+    found = told_beside(it, "run --frames 16 --evacuators 2 --fetchers 2 c.c0 c.c0", out)
+    want(list(found) == [f"{kind} {number}" for kind in COUNTED for number in (0, 1)], f"the table has {list(found)}")
+    brought = sum(numbers.get("brought", 0) for numbers in found.values())
+    left = sum(numbers.get("written", 0) + numbers.get("left", 0) for numbers in found.values())
+    want(0 <= brought - left <= 16, f"{brought} objects were brought in and {left} left: {found}")
+    for program in ("program 0", "program 1"):
+        for name in ("instructions", "turns", "objects", "failed"):
+            want(found[program][name] == alone[program][name], f"{program} tells {found[program]}, and alone {alone[program]}")
 
 
 def many_programs(it):
@@ -314,7 +378,7 @@ def a_full_disk(it):
 def output_that_nobody_takes(it):
     it.write("p.c0", PRINTS)
     it.write("endless.c0", ENDLESS)
-    for words in ("run p.c0", "run --live p.c0", "run --live endless.c0", "mean --turns 9 p.c0", "check p.c0", "list p.c0"):
+    for words in ("run p.c0", "run --stats p.c0", "run --live p.c0", "run --live endless.c0", "mean --turns 9 p.c0", "check p.c0", "list p.c0"):
         with open("/dev/full", "wb") as full:
             ran = subprocess.run([it.program, *words.split()], cwd=it.folder, stdout=full, stderr=subprocess.PIPE, stdin=subprocess.DEVNULL, timeout=60, check=False)
         want(ran.returncode == 2, f"{words} gave {ran.returncode}, {ran.stderr}")
@@ -359,6 +423,8 @@ TESTS = [
     *map(played, SCENES),
     each_call_fails_in_turn,
     an_array_in_files,
+    what_is_counted,
+    what_is_counted_beside_movers,
     many_programs,
     many_instructions,
     calls_that_nest,

@@ -7,11 +7,12 @@ use Rattle.cells.specs.declared.ending.Ended.{Ended}
 use Rattle.code_form.specs.Form.{Image, image_of}
 use Rattle.command_line.specs.Shell.{Compiling, Memory}
 use Rattle.command_line.specs.declared.words.Run.{Run}
-use Rattle.executor.specs.Ends.{AreEnds}
+use Rattle.executor.specs.Ends.{AreFinished}
 use Rattle.live_run.specs.Lives.{EndsLive, IsNotShown}
 use Rattle.live_run.specs.declared.live.LiveError.{LiveError}
 use Rattle.live_run.specs.declared.live.LiveError.TheVariants as live
-use Rattle.program_run.specs.Executed.{IsExecutedOver}
+use Rattle.program_run.specs.Executed.{IsExecutedOver, refusals_at}
+use Rattle.program_run.specs.declared.run.Finished.{Finished}
 use Rattle.region.specs.Admission.{IsAdmitted, IsWithinWork, image_at}
 use Rattle.scope_verifier.specs.declared.acceptance.Verified.{Verified}
 use Rattle.streams.proofs.Written.{appends_more, none_failed_more, one_failed_more}
@@ -31,14 +32,14 @@ one_code compiling held file (v ∷ []) are = refl
 one_code compiling held file (v ∷ (u ∷ us)) are = absurd are.1
 
 -- why a program is not seen to its end, where it is not told that one for which memory was wanted is admitted
-pub less_told : (asked : Run) (programs : List Verified) (w : Writes) (r : Result Ended LiveError)
+pub less_told : (asked : Run) (programs : List Verified) (w : Writes) (r : Result Finished LiveError)
     → IfErr r (λ e. IsNotShown programs asked.memory.frames asked.memory.objects asked.evacuators asked.fetchers asked.work.workers asked.work.quantum w e) → IfErr r (λ e. IsBroken asked programs w e)
 less_told asked programs w (Ok e) told = tt
 less_told asked programs w (Err (live.NotRun fault)) told = (fault_less _ _ _ _ _ _ _ fault told.0, told.1)
 less_told asked programs w (Err live.Unwritten) told = told.2
 
 -- and where it is known that it is
-pub more_told : (asked : Run) (programs : List Verified) (w : Writes) (r : Result Ended LiveError) → IsAdmitted programs asked.memory.frames asked.memory.objects asked.evacuators asked.fetchers
+pub more_told : (asked : Run) (programs : List Verified) (w : Writes) (r : Result Finished LiveError) → IsAdmitted programs asked.memory.frames asked.memory.objects asked.evacuators asked.fetchers
     → IsWithinWork asked.work.workers asked.work.quantum → IfErr r (λ e. IsBroken asked programs w e)
     → IfErr r (λ e. IsNotShown programs asked.memory.frames asked.memory.objects asked.evacuators asked.fetchers asked.work.workers asked.work.quantum w e)
 more_told asked programs w (Ok e) admitted work told = tt
@@ -46,23 +47,28 @@ more_told asked programs w (Err (live.NotRun fault)) admitted work told = (denie
 more_told asked programs w (Err live.Unwritten) admitted work told = (admitted, work, told)
 
 -- an end over a store that is reliable in fewer cases
-pub lived_less : (h r s : Type 0) (objects : ℕ) (C : Image) (w : Writes) (x : Result Ended LiveError) → (s → r) → IfOk x (λ e. EndsLive h r objects C w e) → IfOk x (λ e. EndsLive h s objects C w e)
-lived_less h r s objects C w (Ok e) less ran = record { executed = λ honest. executed_less r s objects C e less (ran.executed honest); shown = ran.shown }
+pub lived_less : (h r s : Type 0) (objects : ℕ) (C : Image) (w : Writes) (x : Result Finished LiveError) → (s → r) → IfOk x (λ f. EndsLive h r objects C w f.end) → IfOk x (λ f. EndsLive h s objects C w f.end)
+lived_less h r s objects C w (Ok f) less ran = record { executed = λ honest. executed_less r s objects C f.end less (ran.executed honest); shown = ran.shown }
 lived_less h r s objects C w (Err e) less ran = tt
 
 -- the end of the one program, over a store that is honest and reliable in fewer cases
-ends_of_one : (h r g s : Type 0) (objects : ℕ) (programs : List Verified) (w : Writes) (e : Ended) → length programs ≡ 1 → (g → h) → (g → s → r) → EndsLive h r objects (image_at programs 0) w e
-    → AreEnds g s (objects / length programs) programs (e ∷ [])
-ends_of_one h r g s objects [] w e one fewer less ran = absurd (let no : ⊥ = omega arith in no)
-ends_of_one h r g s objects (v ∷ []) w e one fewer less ran =
-    let all : objects / 1 ≡ objects = div-one objects in
-    (λ honest. subst (λ n. IsExecutedOver s n (image_of v.image) e) (sym all) (executed_less r s objects (image_of v.image) e (less honest) (ran.executed (fewer honest))), tt)
-ends_of_one h r g s objects (v ∷ (u ∷ us)) w e one fewer less ran = absurd (let no : ⊥ = omega arith in no)
+ends_of_one : (h r g s : Type 0) (objects : ℕ) (programs : List Verified) (w : Writes) (f : Finished) → length programs ≡ 1 → (g → h) → (g → s → r) → EndsLive h r objects (image_at programs 0) w f.end
+    → (h → f.refusals ≡ refusals_at f.end.run) → AreFinished g s (objects / length programs) programs (f ∷ [])
+ends_of_one h r g s objects [] w f one fewer less ran own = absurd (let no : ⊥ = omega arith in no)
+ends_of_one h r g s objects (v ∷ []) w f one fewer less ran own =
+    let all : objects / 1 ≡ objects = div-one objects in (
+      λ honest. record {
+        executed = subst (λ n. IsExecutedOver s n (image_of v.image) f.end) (sym all) (executed_less r s objects (image_of v.image) f.end (less honest) (ran.executed (fewer honest)));
+        own = own (fewer honest);
+      },
+      tt,
+    )
+ends_of_one h r g s objects (v ∷ (u ∷ us)) w f one fewer less ran own = absurd (let no : ⊥ = omega arith in no)
 
-ran_live : (h r honest : Type 0) (m : Memory) (programs : List Verified) (w : Writes) (e : Ended) → length programs ≡ 1 → (IsHonestIn honest m.store → h) → (IsHonestIn honest m.store → IsReliableIn m → r)
-    → EndsLive h r m.objects (image_at programs 0) w e → RanLive honest m programs w e
-ran_live h r honest m programs w e one fewer less ran = record {
-  executed = ends_of_one h r (IsHonestIn honest m.store) (IsReliableIn m) m.objects programs w e one fewer less ran;
+ran_live : (h r honest : Type 0) (m : Memory) (programs : List Verified) (w : Writes) (f : Finished) → length programs ≡ 1 → (IsHonestIn honest m.store → h) → (IsHonestIn honest m.store → IsReliableIn m → r)
+    → EndsLive h r m.objects (image_at programs 0) w f.end → (h → f.refusals ≡ refusals_at f.end.run) → RanLive honest m programs w f
+ran_live h r honest m programs w f one fewer less ran own = record {
+  executed = ends_of_one h r (IsHonestIn honest m.store) (IsReliableIn m) m.objects programs w f one fewer less ran own;
   printed = ran.shown.shown;
   whole = λ is. ran.shown.whole (fewer is);
   written = ran.shown.written;
@@ -70,50 +76,51 @@ ran_live h r honest m programs w e one fewer less ran = record {
 }
 
 -- a run over a store in memory
-pub lived_in_memory : (honest : Type 0) (m : Memory) (programs : List Verified) (w : Writes) (r : Result Ended LiveError) → length programs ≡ 1
-    → IfOk r (λ e. EndsLive (Unit {0}) (Unit {0} × (m.fail_from ≡ 0)) m.objects (image_at programs 0) w e) → IfOk r (λ e. RanLive honest m programs w e)
-lived_in_memory honest m programs w (Ok e) one ran = ran_live _ _ honest m programs w e one (λ h. tt) (λ h reliable. (tt, reliable.1)) ran
-lived_in_memory honest m programs w (Err e) one ran = tt
+pub lived_in_memory : (honest : Type 0) (m : Memory) (programs : List Verified) (w : Writes) (r : Result Finished LiveError) → length programs ≡ 1
+    → IfOk r (λ f. EndsLive (Unit {0}) (Unit {0} × (m.fail_from ≡ 0)) m.objects (image_at programs 0) w f.end) → IfOk r (λ f. Unit {0} → f.refusals ≡ refusals_at f.end.run) → IfOk r (λ f. RanLive honest m programs w f)
+lived_in_memory honest m programs w (Ok f) one ran own = ran_live _ _ honest m programs w f one (λ h. tt) (λ h reliable. (tt, reliable.1)) ran own
+lived_in_memory honest m programs w (Err e) one ran own = tt
 
 -- a run over a store in a folder
-pub lived_in_folder : (honest : Type 0) (m : Memory) (folder : List ℕ) (programs : List Verified) (w : Writes) (r : Result Ended LiveError) → length programs ≡ 1 → m.store ≡ Some folder
-    → IfOk r (λ e. EndsLive honest (⊥ × (m.fail_from ≡ 0)) m.objects (image_at programs 0) w e) → IfOk r (λ e. RanLive honest m programs w e)
-lived_in_folder honest m folder programs w (Ok e) one is ran =
-    ran_live _ _ honest m programs w e one (λ h. subst (IsHonestIn honest) is h) (λ h reliable. absurd (let no : ⊥ = cc (reliable.0, is) in no)) ran
-lived_in_folder honest m folder programs w (Err e) one is ran = tt
+pub lived_in_folder : (honest : Type 0) (m : Memory) (folder : List ℕ) (programs : List Verified) (w : Writes) (r : Result Finished LiveError) → length programs ≡ 1 → m.store ≡ Some folder
+    → IfOk r (λ f. EndsLive honest (⊥ × (m.fail_from ≡ 0)) m.objects (image_at programs 0) w f.end) → IfOk r (λ f. honest → f.refusals ≡ refusals_at f.end.run) → IfOk r (λ f. RanLive honest m programs w f)
+lived_in_folder honest m folder programs w (Ok f) one is ran own =
+    ran_live _ _ honest m programs w f one (λ h. subst (IsHonestIn honest) is h) (λ h reliable. absurd (let no : ⊥ = cc (reliable.0, is) in no)) ran own
+lived_in_folder honest m folder programs w (Err e) one is ran own = tt
 
 module _ {S : Type 0} (contents : S → Option (List ℕ)) (failures : S → ℕ) where
   -- the last line stands behind what was written while the program ran
-  pub shown_live : (honest : Type 0) (m : Memory) (programs : List Verified) (old now new : S) (e : Ended) (result : ℕ) → RanLive honest m programs (writes contents failures old now) e
-      → Says (writes contents failures now new) (shown_rest e) (run_status e.run) result
-      → IsShownLive honest m programs (writes contents failures old new) result ⊎ ((result ≡ 2) × OneFailed (writes contents failures old new))
-  shown_live honest m programs old now new e result ran (inl said) = inl (record {
-    end = e;
-    executed = ran.executed;
+  pub shown_live : (honest : Type 0) (m : Memory) (programs : List Verified) (old now new : S) (f : Finished) (status : ℕ) → RanLive honest m programs (writes contents failures old now) f
+      → Says (writes contents failures now new) (shown_rest f.end) (run_status f.end.run) status
+      → IsShownLive honest m f.end (writes contents failures old new) status ⊎ ((status ≡ 2) × OneFailed (writes contents failures old new))
+  shown_live honest m programs old now new f status ran (inl said) = inl (record {
     printed = ran.printed;
     whole = ran.whole;
-    written = appends_more (contents old) (contents now) (contents new) ran.printed (shown_rest e) ran.written said.1;
+    written = appends_more (contents old) (contents now) (contents new) ran.printed (shown_rest f.end) ran.written said.1;
     sound = none_failed_more contents failures old now new ran.sound said.2;
-    status = said.0;
+    own = said.0;
   })
-  shown_live honest m programs old now new e result ran (inr failed) = inr (failed.0, one_failed_more contents failures old now new ran.sound failed.1)
+  shown_live honest m programs old now new f status ran (inr failed) = inr (failed.0, one_failed_more contents failures old now new ran.sound failed.1)
 
 -- what was shown as it came is what is shown at the end
-same_shown : (out : Writes) (e : Ended) (printed : List ℕ) (result : ℕ) → printed ≡ e.output.items → Appends out.before.contents out.after.contents (printed ++ shown_rest e) → NoneFailed out → result ≡ run_status e.run
-    → Says out (shown_ends (e ∷ [])) (ends_status (e ∷ [])) result
-same_shown out e printed result whole written sound status =
-    inl (status ∙ sym (max-zero (run_status e.run)), subst (λ (l : List ℕ). Appends out.before.contents out.after.contents (l ++ shown_rest e)) whole written, sound)
+same_shown : (honest : Type 0) (m : Memory) (out : Writes) (e : Ended) (status : ℕ) → IsHonestIn honest m.store → IsShownLive honest m e out status ⊎ ((status ≡ 2) × OneFailed out)
+    → Says out (shown_ends (e ∷ [])) (ends_status (e ∷ [])) status
+same_shown honest m out e status is (inl s) =
+    inl (s.own ∙ sym (max-zero (run_status e.run)), subst (λ (l : List ℕ). Appends out.before.contents out.after.contents (l ++ shown_rest e)) (s.whole is) s.written, s.sound)
+same_shown honest m out e status is (inr failed) = inr failed
 
 pub shows_the_same : (h : Type 0) → LiveShowsTheSame h
-shows_the_same h asked file held out err result honest ran = elim ran.shown [
+shows_the_same h asked file held out err result honest ran = elim ran.ended [
   | inl s ↦ inl (record {
     programs = ran.programs;
     codes = ran.codes;
     admitted = ran.admitted;
-    ends = s.end ∷ [];
+    finished = s.finished ∷ [];
+    movers = [];
     executed = s.executed;
-    shown = same_shown out s.end s.printed result (s.whole honest) s.written s.sound s.status;
-    quiet = ran.quiet;
+    status = s.status;
+    shown = same_shown h asked.memory out s.finished.end s.status honest s.shown;
+    told = s.told;
   })
-  | inr failed ↦ inr failed
+  | inr failed ↦ inr (failed.0, failed.1)
 ]

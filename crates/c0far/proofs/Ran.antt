@@ -9,14 +9,14 @@ use Rattle.cells.specs.declared.ending.Want.TheVariants.{OutOfMemory, NoObjects,
 use Rattle.code_form.specs.Code.{Core}
 use Rattle.code_form.specs.Form.{Image, image_of}
 use Rattle.command_line.specs.Shell.{Memory}
-use Rattle.executor.specs.Ends.{AreEnds}
-use Rattle.program_run.specs.Executed.{EndsAs, IsExecutedOver}
+use Rattle.executor.specs.Ends.{AreFinished}
+use Rattle.executor.specs.declared.counts.Counted.{Counted}
+use Rattle.program_run.specs.Executed.{EndsAs, IsExecutedOver, IsFinishedOver}
+use Rattle.program_run.specs.declared.run.Finished.{Finished}
 use Rattle.region.specs.Admission.{IsAdmitted, IsDenied, IsRefused, IsWithinWork}
 use Rattle.region.specs.declared.fault.AdmitFault.{AdmitFault}
 use Rattle.region.specs.declared.fault.AdmitFault.TheVariants as admit
 use Rattle.scope_verifier.specs.declared.acceptance.Verified.{Verified}
-use Rattle.std.specs.declared.vec.Vec.{Vec}
-use Rattle.std.specs.declared.alloc.Global.{Global}
 use Rattle.c0far.specs.Runs.{IsHonestIn, IsReliableIn, RanOver}
 
 ends_less : (r s : Type 0) (objects : ℕ) (C : Image) (c : Core) (x : Run) → (s → r) → EndsAs r objects C c x → EndsAs s objects C c x
@@ -30,29 +30,34 @@ ends_less r s objects C c (Wanted StoreFailed) less h = (h.0, λ reliable. h.1 (
 pub executed_less : (r s : Type 0) (objects : ℕ) (C : Image) (e : Ended) → (s → r) → IsExecutedOver r objects C e → IsExecutedOver s objects C e
 executed_less r s objects C e less h = record { going = h.going; few = h.few; output = h.output; ends = ends_less r s objects C _ e.run less h.ends }
 
+-- ... and how many calls were refused is the same
+finished_less : (r s : Type 0) (objects : ℕ) (C : Image) (f : Finished) → (s → r) → IsFinishedOver r objects C f → IsFinishedOver s objects C f
+finished_less r s objects C f less h = record { executed = executed_less r s objects C f.end less h.executed; own = h.own }
+
 -- a store that is honest and reliable in fewer cases
-pub ends_fewer : (h r g s : Type 0) (objects : ℕ) (programs : List Verified) (ends : List Ended) → (g → h) → (g → s → r) → AreEnds h r objects programs ends → AreEnds g s objects programs ends
+ends_fewer : (h r g s : Type 0) (objects : ℕ) (programs : List Verified) (ends : List Finished) → (g → h) → (g → s → r) → AreFinished h r objects programs ends → AreFinished g s objects programs ends
 ends_fewer h r g s objects [] [] fewer less all = tt
-ends_fewer h r g s objects [] (e ∷ es) fewer less all = absurd all
+ends_fewer h r g s objects [] (f ∷ fs) fewer less all = absurd all
 ends_fewer h r g s objects (v ∷ vs) [] fewer less all = absurd all
-ends_fewer h r g s objects (v ∷ vs) (e ∷ es) fewer less all = (λ honest. executed_less r s objects (image_of v.image) e (less honest) (all.0 (fewer honest)), ends_fewer h r g s objects vs es fewer less all.1)
+ends_fewer h r g s objects (v ∷ vs) (f ∷ fs) fewer less all = (λ honest. finished_less r s objects (image_of v.image) f (less honest) (all.0 (fewer honest)), ends_fewer h r g s objects vs fs fewer less all.1)
 
 -- a run over a store in memory
-pub ran_in_memory : {E : Type 0} (honest : Type 0) (m : Memory) (programs : List Verified) (r : Result (Vec Ended Global) E)
-    → IfOk r (λ v. AreEnds (Unit {0}) (Unit {0} × (m.fail_from ≡ 0)) (m.objects / length programs) programs v.items) → IfOk r (λ v. RanOver honest m programs v.items)
-ran_in_memory honest m programs (Ok v) ran = ends_fewer _ _ _ _ _ programs v.items (λ h. tt) (λ h reliable. (tt, reliable.1)) ran
+pub ran_in_memory : {E : Type 0} (honest : Type 0) (m : Memory) (programs : List Verified) (r : Result Counted E)
+    → IfOk r (λ c. AreFinished (Unit {0}) (Unit {0} × (m.fail_from ≡ 0)) (m.objects / length programs) programs c.programs.items) → IfOk r (λ c. RanOver honest m programs c.programs.items)
+ran_in_memory honest m programs (Ok c) ran = ends_fewer _ _ _ _ _ programs c.programs.items (λ h. tt) (λ h reliable. (tt, reliable.1)) ran
 ran_in_memory honest m programs (Err e) ran = tt
 
 -- a run over a store in a folder
-pub ran_in_folder : {E : Type 0} (honest : Type 0) (m : Memory) (folder : List ℕ) (programs : List Verified) (r : Result (Vec Ended Global) E) → m.store ≡ Some folder
-    → IfOk r (λ v. AreEnds honest (⊥ × (m.fail_from ≡ 0)) (m.objects / length programs) programs v.items) → IfOk r (λ v. RanOver honest m programs v.items)
-ran_in_folder honest m folder programs (Ok v) is ran =
-    ends_fewer _ _ _ _ _ programs v.items (λ h. subst (IsHonestIn honest) is h) (λ h reliable. absurd (let no : ⊥ = cc (reliable.0, is) in no)) ran
+pub ran_in_folder : {E : Type 0} (honest : Type 0) (m : Memory) (folder : List ℕ) (programs : List Verified) (r : Result Counted E) → m.store ≡ Some folder
+    → IfOk r (λ c. AreFinished honest (⊥ × (m.fail_from ≡ 0)) (m.objects / length programs) programs c.programs.items) → IfOk r (λ c. RanOver honest m programs c.programs.items)
+ran_in_folder honest m folder programs (Ok c) is ran =
+    ends_fewer _ _ _ _ _ programs c.programs.items (λ h. subst (IsHonestIn honest) is h) (λ h reliable. absurd (let no : ⊥ = cc (reliable.0, is) in no)) ran
 ran_in_folder honest m folder programs (Err e) is ran = tt
 
 -- ends over a store that is reliable in fewer cases
-pub ran_less : {E : Type 0} (h r s : Type 0) (objects : ℕ) (programs : List Verified) (x : Result (Vec Ended Global) E) → (s → r) → IfOk x (λ v. AreEnds h r objects programs v.items) → IfOk x (λ v. AreEnds h s objects programs v.items)
-ran_less h r s objects programs (Ok v) less ran = ends_fewer h r h s objects programs v.items (λ honest. honest) (λ honest. less) ran
+pub ran_less : {E : Type 0} (h r s : Type 0) (objects : ℕ) (programs : List Verified) (x : Result Counted E) → (s → r) → IfOk x (λ c. AreFinished h r objects programs c.programs.items)
+    → IfOk x (λ c. AreFinished h s objects programs c.programs.items)
+ran_less h r s objects programs (Ok c) less ran = ends_fewer h r h s objects programs c.programs.items (λ honest. honest) (λ honest. less) ran
 ran_less h r s objects programs (Err e) less ran = tt
 
 -- why programs were not run, where it is not told that those for which memory was wanted are admitted

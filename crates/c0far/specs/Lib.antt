@@ -8,4 +8,5 @@ pub mod NoCode
 pub mod Replays
 pub mod Runs
 pub mod Shown
+pub mod Stats
 pub mod Statuses

@@ -7,6 +7,7 @@ use Rattle.command_line.specs.Shell.{Memory, Started}
 use Rattle.command_line.specs.declared.words.Run.{Run}
 use Rattle.live_run.specs.declared.live.LiveError.{LiveError}
 use Rattle.live_run.specs.declared.live.LiveError.TheVariants as live
+use Rattle.program_run.specs.declared.run.Finished.{Finished}
 use Rattle.region.specs.Admission.{IsAdmitted, IsRefused, IsWithinWork}
 use Rattle.region.specs.declared.fault.AdmitFault.TheVariants as admit
 use Rattle.scope_verifier.specs.declared.acceptance.Verified.{Verified}
@@ -16,13 +17,14 @@ use Rattle.c0far.specs.FileTexts.{Known}
 use Rattle.c0far.specs.NoCode.{LacksCode, LacksMemory}
 use Rattle.c0far.specs.Runs.{HasRun, IsHonestIn, IsNotRun, RanOver}
 use Rattle.c0far.specs.Shown.{shown_rest}
+use Rattle.c0far.specs.Stats.{TellsStats}
 use Rattle.c0far.specs.Statuses.{run_status}
 
 -- A program ran to this end over this memory, and something was written while it ran: over an honest store just its output
-pub record RanLive (honest : Type 0) (memory : Memory) (programs : List Verified) (out : Writes) (end : Ended) : Type 0 where
-  pub executed : RanOver honest memory programs (end ∷ [])
+pub record RanLive (honest : Type 0) (memory : Memory) (programs : List Verified) (out : Writes) (finished : Finished) : Type 0 where
+  pub executed : RanOver honest memory programs (finished ∷ [])
   pub printed : List ℕ
-  pub whole : IsHonestIn honest memory.store → printed ≡ end.output.items
+  pub whole : IsHonestIn honest memory.store → printed ≡ finished.end.output.items
   pub written : Appends out.before.contents out.after.contents printed
   pub sound : NoneFailed out
 
@@ -32,33 +34,38 @@ IsBroken asked programs out (live.NotRun fault) =
     ((fault ≡ admit.OutOfMemory) ⊎ IsRefused programs asked.memory.frames asked.memory.objects asked.evacuators asked.fetchers asked.work.workers asked.work.quantum fault) × IsQuiet out
 IsBroken asked programs out live.Unwritten = OneFailed out
 
--- A program ran to its end over this memory, and it was shown what it printed, as it came, and how it ended: over an honest store the same bytes as of a run that
+-- It was shown what a program printed that ran to this end over this memory, as it came, and how it ended: over an honest store the same bytes as of a run that
 -- shows them at its end
-pub record IsShownLive (honest : Type 0) (memory : Memory) (programs : List Verified) (out : Writes) (result : ℕ) : Type 0 where
-  pub end : Ended
-  pub executed : RanOver honest memory programs (end ∷ [])
+pub record IsShownLive (honest : Type 0) (memory : Memory) (end : Ended) (out : Writes) (status : ℕ) : Type 0 where
   pub printed : List ℕ
   pub whole : IsHonestIn honest memory.store → printed ≡ end.output.items
   pub written : Appends out.before.contents out.after.contents (printed ++ shown_rest end)
   pub sound : NoneFailed out
-  pub status : result ≡ run_status end.run
+  pub own : status ≡ run_status end.run
+
+-- A program ran to its end, as it is asked for: it was shown as it came, or one write failed; and where it was asked for it is told what was counted of it
+pub record IsEndedLive (honest : Type 0) (asked : Started) (programs : List Verified) (out err : Writes) (result : ℕ) : Type 0 where
+  pub finished : Finished
+  pub executed : RanOver honest asked.memory programs (finished ∷ [])
+  pub status : ℕ
+  pub shown : IsShownLive honest asked.memory finished.end out status ⊎ ((status ≡ 2) × OneFailed out)
+  pub told : TellsStats asked.stats (finished ∷ []) [] err status result
 
 -- in what follows folders are honest where h holds, this is asked for this file, and files hold this
 module _ (h : Type 0) (asked : Started) (file : Text) (held : Text → Known) where
-  -- the code of the file is admitted to this memory, and was run: it was shown as it came; or one write failed, and nothing was done behind it
+  -- the code of the file is admitted to this memory, and was run to its end; or one write failed before, and nothing was done behind it
   pub record HasRunLive (out err : Writes) (result : ℕ) : Type 0 where
     pub programs : List Verified
     pub codes : AreCodes asked.compiling held (file ∷ []) programs
     pub admitted : IsAdmitted programs asked.memory.frames asked.memory.objects asked.evacuators asked.fetchers × IsWithinWork asked.work.workers asked.work.quantum
-    pub shown : IsShownLive h asked.memory programs out result ⊎ ((result ≡ 2) × OneFailed out)
-    pub quiet : IsQuiet err
+    pub ended : IsEndedLive h asked programs out err result ⊎ ((result ≡ 2) × OneFailed out × IsQuiet err)
 
   -- the command `run --live` of this file
   abbrev pub RunsLive : Writes → Writes → ℕ → Type 0
   RunsLive out err result =
       HasRunLive out err result ⊎ (IsNotRun h asked (file ∷ []) held out err result ⊎ (LacksCode asked.compiling held (file ∷ []) out err result ⊎ LacksMemory out err result))
 
--- over an honest store `run --live` shows just what `run` shows of the file, with the same status, where no write fails
+-- over an honest store `run --live` shows just what `run` shows of the file, with the same status, where no write fails; what is counted need not be the same
 abbrev pub LiveShowsTheSame : Type 0 → Type 0
 LiveShowsTheSame h = (asked : Started) (file : Text) (held : Text → Known) (out err : Writes) (result : ℕ) → IsHonestIn h asked.memory.store → HasRunLive h asked file held out err result
     → HasRun h asked (file ∷ []) held out err result ⊎ ((result ≡ 2) × OneFailed out)

@@ -1,9 +1,10 @@
 -- What `run` does.
-use Rattle.std.specs.Prelude.{◌≡◌, ◌⊎◌, ℕ, ◌/◌, List, ◌++◌, Option, Some, None, codes, length}
-use Rattle.cells.specs.declared.ending.Ended.{Ended}
+use Rattle.std.specs.Prelude.{◌≡◌, ◌⊎◌, ℕ, ◌/◌, List, ◌++◌, Option, Some, None, codes, length, map}
 use Rattle.clap.specs.Words.{Text}
 use Rattle.command_line.specs.Shell.{Memory, Started}
-use Rattle.executor.specs.Ends.{AreEnds}
+use Rattle.executor.specs.Ends.{AreFinished, end_of}
+use Rattle.executor.specs.declared.counts.MoverCounts.{MoverCounts}
+use Rattle.program_run.specs.declared.run.Finished.{Finished}
 use Rattle.region.specs.Admission.{IsAdmitted, IsDenied, IsWithinWork}
 use Rattle.region.specs.Faults.{fault_line as admit_line}
 use Rattle.region.specs.declared.fault.AdmitFault.{AdmitFault}
@@ -13,6 +14,7 @@ use Rattle.c0far.specs.FileCode.{AreCodes}
 use Rattle.c0far.specs.FileTexts.{Known}
 use Rattle.c0far.specs.NoCode.{LacksCode, LacksMemory}
 use Rattle.c0far.specs.Shown.{ends_status, newline, shown_ends}
+use Rattle.c0far.specs.Stats.{TellsStats}
 use Rattle.streams.specs.Streams.{IsQuiet, Says, Writes}
 
 -- the store, in memory or in this folder, is honest: one in memory always is, one in files where folders are
@@ -25,8 +27,8 @@ abbrev pub IsReliableIn : Memory → Type 0
 IsReliableIn memory = (memory.store ≡ None) × (memory.fail_from ≡ 0)
 
 -- the programs ran so over this memory, of whose objects each had an equal share; of a store that is not honest nothing is told
-abbrev pub RanOver : Type 0 → Memory → List Verified → List Ended → Type 0
-RanOver honest memory programs ends = AreEnds (IsHonestIn honest memory.store) (IsReliableIn memory) (memory.objects / length programs) programs ends
+abbrev pub RanOver : Type 0 → Memory → List Verified → List Finished → Type 0
+RanOver honest memory programs finished = AreFinished (IsHonestIn honest memory.store) (IsReliableIn memory) (memory.objects / length programs) programs finished
 
 -- a fault of admission is shown
 abbrev pub SaysFault : AdmitFault → Writes → ℕ → Type 0
@@ -37,15 +39,18 @@ SaysFault admit.OutOfMemory err result = Says err (codes "out of memory" ++ newl
 
 -- in what follows folders are honest where h holds, this is asked for these files, and files hold this
 module _ (h : Type 0) (asked : Started) (files : List Text) (held : Text → Known) where
-  -- the codes of the files are admitted to this memory, and ran side by side: of each is shown what it printed and how it ended
+  -- the codes of the files are admitted to this memory, and ran side by side: of each is shown what it printed and how it ended, and where it was asked for it is
+  -- told what was counted of each, and of some movers
   pub record HasRun (out err : Writes) (result : ℕ) : Type 0 where
     pub programs : List Verified
     pub codes : AreCodes asked.compiling held files programs
     pub admitted : IsAdmitted programs asked.memory.frames asked.memory.objects asked.evacuators asked.fetchers × IsWithinWork asked.work.workers asked.work.quantum
-    pub ends : List Ended
-    pub executed : RanOver h asked.memory programs ends
-    pub shown : Says out (shown_ends ends) (ends_status ends) result
-    pub quiet : IsQuiet err
+    pub finished : List Finished
+    pub movers : List MoverCounts
+    pub executed : RanOver h asked.memory programs finished
+    pub status : ℕ
+    pub shown : Says out (shown_ends (map end_of finished)) (ends_status (map end_of finished)) status
+    pub told : TellsStats asked.stats finished movers err status result
 
   -- the programs of the files are not admitted to this memory: it is told why; or they are, and memory was wanted
   pub record IsNotRun (out err : Writes) (result : ℕ) : Type 0 where

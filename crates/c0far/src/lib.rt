@@ -12,6 +12,7 @@ mod replacing;
 mod replays;
 mod runs;
 pub mod say;
+mod stats;
 
 pub use command_line::{line, words};
 pub use laws::{live_shows_the_same, replays_never_fail};

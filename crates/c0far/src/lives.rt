@@ -3,6 +3,7 @@ ghost use Rattle.std.specs.Prelude.{◌≡◌, ◌+◌, ℕ, IfErr, IfOk, List, 
 ghost use Rattle.c0far.specs.Lives.{IsBroken, RanLive, RunsLive};
 ghost use Rattle.command_line.specs.Shell.{memory_of, started_of};
 ghost use Rattle.live_run.specs.Lives.{EndsLive, IsNotShown};
+ghost use Rattle.program_run.specs.Executed.{refusals_at};
 ghost use Rattle.region.specs.Admission.{IsAdmitted, IsWithinWork, image_at};
 ghost use Rattle.streams.specs.Streams.{writes};
 ghost use Rattle.world_semantics.specs.Pieces.{piece_of as first_piece};
@@ -11,14 +12,15 @@ use crate::code::codes_of;
 use crate::files::Files;
 use crate::runs::fits_asked;
 use crate::say::{REFUSED, say_admission, say_rest};
-use cells::Ended;
+use crate::stats::say_stats;
 use command_line::words::Run;
 use file_store::FileStores;
-use live_run::LiveError;
+use live_run::{Finished, LiveError, run_live_counted};
 use region::{AdmitFault, piece_of};
 use remote_store::{Config, FarHeap, FaultPlan, FaultStores, Stores};
 use scope_verifier::Verified;
 use std::alloc::Global;
+use std::slice::from_ref;
 use std::sync::Wait;
 use streams::Stream;
 
@@ -30,10 +32,11 @@ fn live_with<W: Wait, M: Stores + Drop, O: Stream>(
     asked: Run<'_>,
     stores: M,
     out: &mut O,
-) -> Result<Ended, LiveError>
+) -> Result<Finished, LiveError>
     requires one { length programs.items ≡ 1 }
     requires makes { M.makes stores (first_piece (image_at programs.items) + 3) }
-    ensures ended { IfOk result (λ e. EndsLive M.S.honest M.S.reliable asked.entry.memory.objects (image_at programs.items 0) (writes O.contents O.failures out.old out.new) e) }
+    ensures ended { IfOk result (λ f. EndsLive M.S.honest M.S.reliable asked.entry.memory.objects (image_at programs.items 0) (writes O.contents O.failures out.old out.new) f.end) }
+    ensures own { IfOk result (λ f. M.S.honest → f.refusals ≡ refusals_at f.end.run) }
     ensures broken { IfErr result (λ error. IsBroken asked.entry programs.items (writes O.contents O.failures out.old out.new) error) }
 {
     let config = Config {
@@ -45,7 +48,7 @@ fn live_with<W: Wait, M: Stores + Drop, O: Stream>(
         quantum: asked.work.quantum,
         stores,
     };
-    live_run::run_live(alloc, rt, programs, config, out)
+    run_live_counted(alloc, rt, programs, config, out)
 }
 
 /// Runs the one program over these stores, whose calls fail from the one on that is asked for.
@@ -56,10 +59,11 @@ fn live_over<W: Wait, M: Stores + Drop, O: Stream>(
     asked: Run<'_>,
     stores: M,
     out: &mut O,
-) -> Result<Ended, LiveError>
+) -> Result<Finished, LiveError>
     requires one { length programs.items ≡ 1 }
     requires makes { M.makes stores (first_piece (image_at programs.items) + 3) }
-    ensures ended { IfOk result (λ e. EndsLive M.S.honest (M.S.reliable × (asked.entry.memory.fail_from ≡ 0)) asked.entry.memory.objects (image_at programs.items 0) (writes O.contents O.failures out.old out.new) e) }
+    ensures ended { IfOk result (λ f. EndsLive M.S.honest (M.S.reliable × (asked.entry.memory.fail_from ≡ 0)) asked.entry.memory.objects (image_at programs.items 0) (writes O.contents O.failures out.old out.new) f.end) }
+    ensures own { IfOk result (λ f. M.S.honest → f.refusals ≡ refusals_at f.end.run) }
     ensures broken { IfErr result (λ error. IsBroken asked.entry programs.items (writes O.contents O.failures out.old out.new) error) }
 {
     if asked.memory.fail_from == 0 {
@@ -79,9 +83,9 @@ fn live_program<W: Wait, F: Files, O: Stream>(
     asked: Run<'_>,
     files: &F,
     out: &mut O,
-) -> Result<Ended, LiveError>
+) -> Result<Finished, LiveError>
     requires { length programs.items ≡ 1 }
-    ensures ended { IfOk result (λ e. RanLive F.Place.honest (memory_of asked.entry.memory) programs.items (writes O.contents O.failures out.old out.new) e) }
+    ensures ended { IfOk result (λ f. RanLive F.Place.honest (memory_of asked.entry.memory) programs.items (writes O.contents O.failures out.old out.new) f) }
     ensures broken { IfErr result (λ error. IsBroken asked.entry programs.items (writes O.contents O.failures out.old out.new) error) }
 {
     match asked.memory.store {
@@ -104,9 +108,9 @@ fn live_asked<W: Wait, F: Files, O: Stream>(
     asked: Run<'_>,
     files: &F,
     out: &mut O,
-) -> Result<Ended, LiveError>
+) -> Result<Finished, LiveError>
     requires { length programs.items ≡ 1 }
-    ensures ended { IfOk result (λ e. RanLive F.Place.honest (memory_of asked.entry.memory) programs.items (writes O.contents O.failures out.old out.new) e) }
+    ensures ended { IfOk result (λ f. RanLive F.Place.honest (memory_of asked.entry.memory) programs.items (writes O.contents O.failures out.old out.new) f) }
     ensures admitted { IfOk result (λ _. IsAdmitted programs.items asked.entry.memory.frames asked.entry.memory.objects asked.entry.evacuators asked.entry.fetchers × IsWithinWork asked.entry.work.workers asked.entry.work.quantum) }
     ensures left { IfErr result (λ error. IsNotShown programs.items asked.entry.memory.frames asked.entry.memory.objects asked.entry.evacuators asked.entry.fetchers asked.entry.work.workers asked.entry.work.quantum (writes O.contents O.failures out.old out.new) error) }
 {
@@ -134,7 +138,10 @@ pub fn run_live<W: Wait, F: Files, O: Stream, E: Stream>(
         Err(status) => return status,
     };
     match live_asked(alloc, rt, programs, asked, files, out) {
-        Ok(ended) => say_rest(out, &ended),
+        Ok(finished) => {
+            let status = say_rest(out, &finished.end);
+            say_stats(err, asked.stats, from_ref(&finished), &[], status)
+        }
         Err(LiveError::NotRun(fault)) => say_admission(err, fault),
         Err(LiveError::Unwritten) => REFUSED,
     }

@@ -1,7 +1,7 @@
 //! The command `run`: the codes of files, run side by side over the memory that is asked for.
 ghost use Rattle.std.specs.Prelude.{◌≡◌, ◌⊎◌, ◌/◌, ◌+◌, ℕ, IfErr, IfOk, List, MatchResult, length, map};
 ghost use Rattle.command_line.specs.Shell.{memory_of, started_of};
-ghost use Rattle.executor.specs.Ends.{AreEnds};
+ghost use Rattle.executor.specs.Ends.{AreFinished};
 ghost use Rattle.region.specs.Admission.{IsAdmitted, IsDenied, IsRefused, IsWithinWork, image_at};
 ghost use Rattle.world_semantics.specs.Pieces.{piece_of as first_piece};
 ghost use Rattle.c0far.specs.Runs.{RanOver, Runs};
@@ -9,10 +9,10 @@ ghost use Rattle.streams.specs.Streams.{writes};
 
 use crate::code::codes_of;
 use crate::files::Files;
-use crate::say::{say_admission, say_ends};
-use cells::Ended;
+use crate::say::{say_admission, say_finished};
+use crate::stats::say_stats;
 use command_line::words::Run;
-use executor::{OpenGate, run_all};
+use executor::{Counted, OpenGate, run_all_counted};
 use file_store::FileStores;
 use region::{AdmitFault, fits, piece_of};
 use remote_store::{Config, FarHeap, FaultPlan, FaultStores, Stores};
@@ -30,9 +30,9 @@ fn run_with<W: Wait + Threads + Clock + Sync, M: Stores + Drop>(
     programs: Vec<Verified>,
     asked: Run<'_>,
     stores: M,
-) -> Result<Vec<Ended>, AdmitFault>
+) -> Result<Counted, AdmitFault>
     requires { M.makes stores (first_piece (image_at programs.items) + 3) }
-    ensures ended { IfOk result (λ v. AreEnds M.S.honest M.S.reliable (asked.entry.memory.objects / length programs.items) programs.items v.items) }
+    ensures ended { IfOk result (λ r. AreFinished M.S.honest M.S.reliable (asked.entry.memory.objects / length programs.items) programs.items r.programs.items) }
     ensures refused { IfErr result (λ fault. (fault ≡ AdmitFault.OutOfMemory) ⊎ IsRefused programs.items asked.entry.memory.frames asked.entry.memory.objects asked.entry.evacuators asked.entry.fetchers asked.entry.work.workers asked.entry.work.quantum fault) }
 {
     let config = Config {
@@ -44,7 +44,7 @@ fn run_with<W: Wait + Threads + Clock + Sync, M: Stores + Drop>(
         quantum: asked.work.quantum,
         stores,
     };
-    run_all(alloc, rt, programs, config, &OpenGate)
+    run_all_counted(alloc, rt, programs, config, &OpenGate)
 }
 
 /// Runs these programs over these stores, whose calls fail from the one on that is asked for.
@@ -54,9 +54,9 @@ fn run_over<W: Wait + Threads + Clock + Sync, M: Stores + Drop>(
     programs: Vec<Verified>,
     asked: Run<'_>,
     stores: M,
-) -> Result<Vec<Ended>, AdmitFault>
+) -> Result<Counted, AdmitFault>
     requires { M.makes stores (first_piece (image_at programs.items) + 3) }
-    ensures ended { IfOk result (λ v. AreEnds M.S.honest (M.S.reliable × (asked.entry.memory.fail_from ≡ 0)) (asked.entry.memory.objects / length programs.items) programs.items v.items) }
+    ensures ended { IfOk result (λ r. AreFinished M.S.honest (M.S.reliable × (asked.entry.memory.fail_from ≡ 0)) (asked.entry.memory.objects / length programs.items) programs.items r.programs.items) }
     ensures refused { IfErr result (λ fault. (fault ≡ AdmitFault.OutOfMemory) ⊎ IsRefused programs.items asked.entry.memory.frames asked.entry.memory.objects asked.entry.evacuators asked.entry.fetchers asked.entry.work.workers asked.entry.work.quantum fault) }
 {
     if asked.memory.fail_from == 0 {
@@ -75,8 +75,8 @@ fn run_programs<W: Wait + Threads + Clock + Sync, F: Files>(
     programs: Vec<Verified>,
     asked: Run<'_>,
     files: &F,
-) -> Result<Vec<Ended>, AdmitFault>
-    ensures ended { IfOk result (λ v. RanOver F.Place.honest (memory_of asked.entry.memory) programs.items v.items) }
+) -> Result<Counted, AdmitFault>
+    ensures ended { IfOk result (λ r. RanOver F.Place.honest (memory_of asked.entry.memory) programs.items r.programs.items) }
     ensures refused { IfErr result (λ fault. (fault ≡ AdmitFault.OutOfMemory) ⊎ IsRefused programs.items asked.entry.memory.frames asked.entry.memory.objects asked.entry.evacuators asked.entry.fetchers asked.entry.work.workers asked.entry.work.quantum fault) }
 {
     match asked.memory.store {
@@ -116,8 +116,8 @@ fn run_asked<W: Wait + Threads + Clock + Sync, F: Files>(
     programs: Vec<Verified>,
     asked: Run<'_>,
     files: &F,
-) -> Result<Vec<Ended>, AdmitFault>
-    ensures ended { IfOk result (λ v. RanOver F.Place.honest (memory_of asked.entry.memory) programs.items v.items) }
+) -> Result<Counted, AdmitFault>
+    ensures ended { IfOk result (λ r. RanOver F.Place.honest (memory_of asked.entry.memory) programs.items r.programs.items) }
     ensures admitted { IfOk result (λ v. IsAdmitted programs.items asked.entry.memory.frames asked.entry.memory.objects asked.entry.evacuators asked.entry.fetchers × IsWithinWork asked.entry.work.workers asked.entry.work.quantum) }
     ensures refused { IfErr result (λ fault. IsDenied programs.items asked.entry.memory.frames asked.entry.memory.objects asked.entry.evacuators asked.entry.fetchers asked.entry.work.workers asked.entry.work.quantum fault) }
 {
@@ -143,7 +143,10 @@ pub fn run<W: Wait + Threads + Clock + Sync, F: Files, O: Stream, E: Stream>(
         Err(status) => return status,
     };
     match run_asked(alloc, rt, programs, asked, files) {
-        Ok(ends) => say_ends(out, &ends),
+        Ok(counted) => {
+            let status = say_finished(out, &counted.programs);
+            say_stats(err, asked.stats, &counted.programs, &counted.movers, status)
+        }
         Err(fault) => say_admission(err, fault),
     }
 }

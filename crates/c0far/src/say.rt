@@ -1,5 +1,5 @@
 //! What commands say on their two streams, with the exit status.
-ghost use Rattle.std.specs.Prelude.{◌≡◌, ◌++◌, ◌+◌, ◌<◌, ◌^◌, ℕ, [], MatchResult, codes, cond, length};
+ghost use Rattle.std.specs.Prelude.{◌≡◌, ◌++◌, ◌+◌, ◌<◌, ◌^◌, ℕ, [], MatchResult, codes, cond, length, map};
 ghost use Rattle.c0_front.specs.Texts.{IsRefusedText, IsTypedAs};
 ghost use Rattle.c0_source.specs.declared.fault.FaultKind.TheVariants.{OutOfMemory};
 ghost use Rattle.c0_syntax.specs.Levels.{has_loops};
@@ -9,12 +9,14 @@ ghost use Rattle.c0far.specs.Runs.{SaysFault};
 ghost use Rattle.c0far.specs.Shown.{StandsAt, ends_status, is_open, newline, shown_end, shown_ends, shown_fault, shown_from, shown_program, shown_rest};
 ghost use Rattle.c0far.specs.Statuses.{run_status};
 ghost use Rattle.c0far.specs.FileTexts.{HasText, Known};
+ghost use Rattle.executor.specs.Ends.{end_of};
 ghost use Rattle.streams.specs.Streams.{IsQuiet, IsWritten, Says, Writes, writes};
 
 use c0_source::fault::Fault;
 use c0_source::position::{Position, line_column};
 use c0_syntax::level::Level;
 use cells::{Ended, Run, Stop};
+use executor::Finished;
 use region::AdmitFault;
 use streams::{Failed, Stream};
 
@@ -146,6 +148,16 @@ fn status_of_all(ends: &[Ended]) -> u8
     }
 }
 
+/// The same of programs whose ends are told with what was counted.
+fn status_of_finished(programs: &[Finished]) -> u8
+    ensures { result ≡ ends_status (map end_of programs.now) }
+{
+    match programs {
+        [] => 0,
+        [one, rest @ ..] => status_of(&one.end.run).max(status_of_finished(rest)),
+    }
+}
+
 /// Writes what a program printed and how it ended: a newline stands between them where the output doesn't end in one.
 fn write_end<O: Stream>(out: &mut O, ended: &Ended) -> Result<(), Failed>
     ensures { IsWritten (writes O.contents O.failures out.old out.new) (shown_end ended.now) result }
@@ -196,6 +208,34 @@ fn write_ends<O: Stream>(out: &mut O, ends: &[Ended]) -> Result<(), Failed>
     }
 }
 
+/// Writes the ends of several programs that are told with what was counted, whose numbers are those from this one on.
+fn write_finished_from<O: Stream>(
+    out: &mut O,
+    number: u64,
+    programs: &[Finished],
+) -> Result<(), Failed>
+    requires { number + length programs.now < 2 ^ 64 }
+    ensures { IsWritten (writes O.contents O.failures out.old out.new) (shown_from number (map end_of programs.now)) result }
+{
+    match programs {
+        [] => Ok(()),
+        [one, rest @ ..] => {
+            write_program(out, number, &one.end)?;
+            write_finished_from(out, number + 1, rest)
+        }
+    }
+}
+
+/// Writes the ends of programs that are told with what was counted: that of one alone without a number.
+fn write_finished<O: Stream>(out: &mut O, programs: &[Finished]) -> Result<(), Failed>
+    ensures { IsWritten (writes O.contents O.failures out.old out.new) (shown_ends (map end_of programs.now)) result }
+{
+    match programs {
+        [one] => write_end(out, &one.end),
+        _ => write_finished_from(out, 0, programs),
+    }
+}
+
 /// Says what a program printed and how it ended.
 pub fn say_end<O: Stream>(out: &mut O, ended: &Ended) -> u8
     ensures { Says (writes O.contents O.failures out.old out.new) (shown_end ended.now) (run_status ended.now.run) result }
@@ -210,6 +250,14 @@ pub fn say_ends<O: Stream>(out: &mut O, ends: &[Ended]) -> u8
 {
     let status = status_of_all(ends);
     after(write_ends(out, ends), status)
+}
+
+/// Says what each program printed and how it ended, of those whose ends are told with what was counted.
+pub fn say_finished<O: Stream>(out: &mut O, programs: &[Finished]) -> u8
+    ensures { Says (writes O.contents O.failures out.old out.new) (shown_ends (map end_of programs.now)) (ends_status (map end_of programs.now)) result }
+{
+    let status = status_of_finished(programs);
+    after(write_finished(out, programs), status)
 }
 
 /// Says how a program ended whose output was written.

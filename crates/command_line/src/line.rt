@@ -3,7 +3,7 @@ ghost use Rattle.std.specs.Prelude.{◌≡◌, ◌≢◌, [], codes, false, IfEr
 ghost use Rattle.clap.specs.Words.{all_of, app_of, first_of, found_of, kind_of, rows_of, rule_of, subcommand_rows_of};
 ghost use Rattle.c0_syntax.specs.Levels.{has_loops};
 ghost use Rattle.cells.specs.Pieces.{cells_in};
-ghost use Rattle.command_line.specs.Shell.{Check, Command as Asked, IsLocal, Names, build_command, build_shape, check_shape, command_in, command_of, compiling_in, compiling_of, has_checks, has_flag, is_signed, level_in, list_command, list_shape, live_command, live_of as live_run, live_rule, mean_command, mean_shape, memory_in, memory_of, named_command, number_in, number_or, of_checked_texts as checked_texts_app, of_code as code_app, of_texts as texts_app, option_rule, piece_in, replay_command, replay_shape, replayed_in, replayed_of, run_command, run_shape, shell, short_number_in, short_option, started_in, started_of, texts_in, texts_of, whole_command, with_memory, with_work, work_in, work_of};
+ghost use Rattle.command_line.specs.Shell.{Check, Command as Asked, IsLocal, Names, build_command, build_shape, check_shape, command_in, command_of, compiling_in, compiling_of, has_checks, has_flag, is_signed, level_in, list_command, list_shape, live_command, live_of as live_run, live_rule, mean_command, mean_shape, memory_in, memory_of, named_command, number_in, number_or, of_checked_texts as checked_texts_app, of_code as code_app, of_texts as texts_app, option_rule, piece_in, replay_command, replay_shape, replayed_in, replayed_of, run_command, run_shape, shell, short_number_in, short_option, started_in, started_of, stats_rule, texts_in, texts_of, whole_command, with_memory, with_work, work_in, work_of};
 
 use crate::words::{Compiling, Line, Memory, Replay, Run, Texts, Usage, Work};
 use c0_syntax::level::Level;
@@ -133,6 +133,16 @@ fn live<'a>(alloc: Global) -> Arg<'a>
         .action(ArgAction::SetTrue)
 }
 
+/// The option that has what was counted told.
+fn stats<'a>(alloc: Global) -> Arg<'a>
+    ensures rule { rule_of result ≡ stats_rule }
+    ensures own { result.global ≡ false }
+{
+    Arg::new(alloc, "stats")
+        .long("stats")
+        .action(ArgAction::SetTrue)
+}
+
 /// The run, with its options and its files.
 fn run<'a>(alloc: Global) -> Result<Command<'a>, AllocError>
     ensures shape { IfOk result (λ c. app_of c ≡ record { top = run_shape; subs = [] }) }
@@ -149,6 +159,7 @@ fn run<'a>(alloc: Global) -> Result<Command<'a>, AllocError>
             .arg(option(alloc, "fetchers"))?,
     )?
     .arg(live(alloc))?
+    .arg(stats(alloc))?
     .arg(files)
 }
 
@@ -399,12 +410,14 @@ fn started<'a>(matches: &ArgMatches<'a>) -> Option<Run<'a>>
     let Some(work) = work(matches) else {
         return None;
     };
+    let stats = flag(matches, "stats");
     Some(Run {
         compiling,
         memory,
         evacuators,
         fetchers,
         work,
+        stats,
     })
 }
 

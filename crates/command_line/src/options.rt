@@ -24,6 +24,7 @@ pub enum Choice {
     Quantum,
     Schedule,
     Live,
+    Stats,
 }
 
 /// The option of this name.
@@ -46,6 +47,7 @@ pub(crate) fn named(name: &str) -> Option<Choice>
         "--quantum" => Some(Choice::Quantum),
         "--schedule" => Some(Choice::Schedule),
         "--live" => Some(Choice::Live),
+        "--stats" => Some(Choice::Stats),
         _ => None,
     }
 }
@@ -70,6 +72,7 @@ pub(crate) fn name_of(choice: Choice) -> &'static str
         Choice::Quantum => "--quantum",
         Choice::Schedule => "--schedule",
         Choice::Live => "--live",
+        Choice::Stats => "--stats",
     }
 }
 
@@ -78,7 +81,7 @@ pub(crate) fn wanted(choice: Choice) -> &'static str
     ensures { result.now ≡ wanted_text choice }
 {
     match choice {
-        Choice::Checks | Choice::Live => "no value",
+        Choice::Checks | Choice::Live | Choice::Stats => "no value",
         Choice::Level => "0 or 1",
         Choice::Piece => "16, 32, 64, 128 or 256",
         Choice::Out | Choice::Schedule => "a file",
@@ -97,7 +100,7 @@ pub(crate) fn wanted(choice: Choice) -> &'static str
 pub(crate) fn takes_value(choice: Choice) -> bool
     ensures { result ≡ takes choice }
 {
-    !matches!(choice, Choice::Checks | Choice::Live)
+    !matches!(choice, Choice::Checks | Choice::Live | Choice::Stats)
 }
 
 /// Whether the text tells a level of the language.
@@ -125,7 +128,7 @@ pub(crate) fn accepts(choice: Choice, text: &str) -> bool
     ensures { result ≡ accepted choice text.now }
 {
     match choice {
-        Choice::Checks | Choice::Live => false,
+        Choice::Checks | Choice::Live | Choice::Stats => false,
         Choice::Level => is_level(text),
         Choice::Piece => is_piece(text),
         Choice::Out | Choice::Schedule | Choice::Store => true,
@@ -164,7 +167,7 @@ pub(crate) fn has(name: &str, choice: Choice) -> bool
         Choice::Out => name == "build",
         Choice::Turns => name == "mean",
         Choice::Schedule => name == "replay",
-        Choice::Live => name == "run",
+        Choice::Live | Choice::Stats => name == "run",
         Choice::Frames
         | Choice::Objects
         | Choice::Store

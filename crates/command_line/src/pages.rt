@@ -146,6 +146,14 @@ options:
                   not when it has ended; for one FILE. It runs on one thread,
                   and no worker, evacuator or fetcher does, though --frames has
                   to suffice for these, too
+  --stats         when all have ended, tells on the standard error what each
+                  did, in a line for each. A program: instructions, turns,
+                  objects allocated, pieces opened, objects that it brought in,
+                  put into the store, and left as they were clean, calls of the
+                  store and how many failed, hints and how many were dropped.
+                  An evacuator: rounds, objects that left, that were used
+                  meanwhile, and that the store refused. A fetcher: objects
+                  brought in, hints let go, and gets that failed
 
 status: 0 where each ended with a result; 1 where one stopped otherwise; 2 where
   a text or an image is refused, or cannot be read, or there are too few frames
@@ -163,7 +171,7 @@ that the file S lists, one a line, for programs that share local memory and its
 movers. Then it prints of each program its output and how it ended, as run does,
 or `running`; where there are several, behind a line `program K:`.
 
-options, besides those of run but for --live (`c0far help run`):
+options, besides those of run but for --live and --stats (`c0far help run`):
   --schedule S    the steps; it has no default
   --workers W     not used, but within the limits of run (4)
   --quantum N     not used, but within the limits of run (1000)

@@ -34,7 +34,8 @@ pub struct Work {
     pub quantum: u32,
 }
 
-/// How programs are run: with code that is made so, over this memory, beside so many evacuators and fetchers, by turns of workers.
+/// How programs are run: with code that is made so, over this memory, beside so many evacuators and fetchers, by turns of workers. `stats` says whether it is told
+/// what was counted.
 #[derive(Clone, Copy, Debug, PartialEq, Eq)]
 pub struct Run<'a> {
     pub compiling: Compiling,
@@ -42,6 +43,7 @@ pub struct Run<'a> {
     pub evacuators: u32,
     pub fetchers: u32,
     pub work: Work,
+    pub stats: bool,
 }
 
 /// How programs are replayed: with code that is made so, over this memory, with so many evacuators and fetchers, by the schedule of this file. The

@@ -6,13 +6,15 @@ ghost use Rattle.object_lock.specs.Fresh.{AreNumbered, IsFreshMover, IsFreshOwne
 ghost use Rattle.region.specs.Admission.{IsAdmitted, IsDenied, IsWithinWork, image_at};
 ghost use Rattle.world_semantics.specs.Pieces.{piece_of};
 
+use crate::counts::Counted;
 use crate::filing::{all_ends, file_all, no_ends, without_numbers};
+use crate::movers::counts_of;
 use crate::places::run_beside;
 use crate::starting::{begin_all, enqueue, start_movers, start_workers};
 use cells::Ended;
 use fetcher::Hints;
 use object_lock::{MoverSeat, OwnerSeat};
-use program_run::{Finished, Gate};
+use program_run::Gate;
 use region::{AdmitFault, Region, admit, fits};
 use remote_store::{Config, RawStore, Stores};
 use scope_verifier::Verified;
@@ -34,32 +36,35 @@ fn run_region<S: RawStore + Send, G: Gate, R: Threads + Wait + Clock + Sync>(
     share: usize,
     workers: usize,
     quantum: u64,
-) -> Result<Vec<Finished>, AllocError>
+) -> Result<Counted, AllocError>
     requires numbers { AreNumbered 1 (length region.now.programs) owners.items }
     requires owners { All (IsFreshOwner region.now.table share) owners.items }
     requires movers { All (IsFreshMover region.now.table) movers.items }
     requires enough { length movers.items ≤ evacuators + region.now.fetchers }
     requires cells { (k : ℕ) → k < length region.now.programs → (image_at region.now.programs k).piece ≡ region.now.table.sizes.cells }
-    ensures { IfOk result (λ v. AreFinished S.honest S.reliable share region.now.programs v.items) }
+    ensures { IfOk result (λ r. AreFinished S.honest S.reliable share region.now.programs r.programs.items) }
 {
     let Ok((hints, mut passes)) = Hints::new(alloc, region) else {
         return Err(AllocError);
     };
     let count = region.programs();
     let ends = Vec::with_capacity(alloc, count)?;
+    let counts = Vec::with_capacity(alloc, movers.len())?;
     let tasks = begin_all(alloc, region, &hints, &mut passes, owners, share)?;
     let (queue, mut pass) = enqueue(alloc, rt, region, share, tasks)?;
     let places = no_ends(alloc, &queue, count)?;
     let workers = start_workers(alloc, &queue, &mut pass, workers, count)?;
     let movers = start_movers(alloc, region, &hints, evacuators, movers, passes)?;
     let left = AtomicUsize::new(count);
-    let workers = run_beside(rt, gate, &left, quantum, movers, workers);
-    all_ends(&queue, file_all(&queue, workers, places), ends)
+    let (movers, workers) = run_beside(rt, gate, &left, quantum, movers, workers);
+    let movers = counts_of(&movers, counts);
+    let programs = all_ends(&queue, file_all(&queue, workers, places), ends)?;
+    Ok(Counted { programs, movers })
 }
 
 /// Runs the programs as `run_all` does, and tells beside each end how many calls of the store were refused through the program's own port, modulo 2^64: over an
 /// honest store one where the program wants the store, and else none. So what fails through other ports, those of other programs, evacuators and fetchers, ends no
-/// program. The faults are those of `run_all`.
+/// program. It tells what else was counted of each program and of each mover, too, of which no contract speaks. The faults are those of `run_all`.
 pub fn run_all_counted<
     S: RawStore + Send,
     M: Stores<S = S> + Drop,
@@ -71,9 +76,9 @@ pub fn run_all_counted<
     programs: Vec<Verified>,
     config: Config<M>,
     gate: &G,
-) -> Result<Vec<Finished>, AdmitFault>
+) -> Result<Counted, AdmitFault>
     requires { M.makes config.stores (piece_of (image_at programs.items) + 3) }
-    ensures ends { IfOk result (λ v. AreFinished S.honest S.reliable (config.objects / length programs.items) programs.items v.items) }
+    ensures ends { IfOk result (λ r. AreFinished S.honest S.reliable (config.objects / length programs.items) programs.items r.programs.items) }
     ensures admitted { IfOk result (λ _. IsAdmitted programs.items config.frames config.objects config.evacuators config.fetchers × IsWithinWork config.workers config.quantum) }
     ensures refused { IfErr result (λ fault. IsDenied programs.items config.frames config.objects config.evacuators config.fetchers config.workers config.quantum fault) }
 {
@@ -86,7 +91,7 @@ pub fn run_all_counted<
     match run_region(
         alloc, rt, gate, &region, owners, evacuators, movers, share, workers, quantum,
     ) {
-        Ok(ends) => Ok(ends),
+        Ok(counted) => Ok(counted),
         Err(_refused) => Err(AdmitFault::OutOfMemory),
     }
 }
@@ -119,6 +124,6 @@ pub fn run_all<
     let Ok(ends) = Vec::with_capacity(alloc, programs.len()) else {
         return Err(AdmitFault::OutOfMemory);
     };
-    let finished = run_all_counted(alloc, rt, programs, config, gate)?;
-    Ok(without_numbers(finished, ends))
+    let counted = run_all_counted(alloc, rt, programs, config, gate)?;
+    Ok(without_numbers(counted.programs, ends))
 }

@@ -2,6 +2,7 @@
 #![tactic(auto)]
 
 mod all;
+mod counts;
 mod filing;
 mod movers;
 mod places;
@@ -9,5 +10,6 @@ mod starting;
 mod workers;
 
 pub use all::{run_all, run_all_counted};
+pub use counts::{Counted, Evacuated, Fetched, MoverCounts};
 pub use program_run::{Finished, Gate, OpenGate};
 pub use session::Session;

@@ -4,6 +4,7 @@ ghost use Rattle.executor.specs.Ends.{IsSeatOf};
 ghost use Rattle.object_lock.specs.SeatViews.{IsSeat};
 ghost use Rattle.pointer_word.specs.Asked.{HasNothing};
 
+use crate::counts::{Evacuated, Fetched, MoverCounts};
 use evacuator::round_from;
 use fetcher::{HintPass, Hints, Served, serve_one};
 use object_lock::MoverSeat;
@@ -41,6 +42,7 @@ pub(crate) struct Evacuator<'a, S: RawStore> {
     seat: MoverSeat<S>,
     // The frame at which the next round begins.
     next: usize,
+    counts: Evacuated,
 }
 
 impl<'a, S: RawStore> Model for Evacuator<'a, S> {
@@ -63,6 +65,7 @@ pub(crate) struct Fetcher<'a, S: RawStore> {
     number: u32,
     seat: MoverSeat<S>,
     pass: HintPass,
+    counts: Fetched,
 }
 
 impl<'a, S: RawStore> Model for Fetcher<'a, S> {
@@ -113,6 +116,7 @@ impl<'a, S: RawStore> Evacuator<'a, S> {
             number,
             seat,
             next: 0,
+            counts: Evacuated::none(),
         }
     }
 
@@ -129,6 +133,7 @@ impl<'a, S: RawStore> Evacuator<'a, S> {
         }
         let round = round_from(self.region, &mut self.seat, self.next, BUDGET);
         self.next = (self.next.wrapping_add(BUDGET as usize)) % frames.max(1);
+        self.counts.add(round);
         round.left > 0
     }
 }
@@ -153,6 +158,7 @@ impl<'a, S: RawStore> Fetcher<'a, S> {
             number,
             seat,
             pass,
+            counts: Fetched::none(),
         }
     }
 
@@ -160,7 +166,9 @@ impl<'a, S: RawStore> Fetcher<'a, S> {
     fn turn<R: Wait>(&mut self, rt: &R) -> bool
         ensures { self.new ≡ self.old }
     {
-        match serve_one(rt, self.region, self.hints, &mut self.pass, &mut self.seat) {
+        let served = serve_one(rt, self.region, self.hints, &mut self.pass, &mut self.seat);
+        self.counts.add(served);
+        match served {
             Served::Nothing => false,
             Served::Dropped | Served::Brought | Served::Failed => true,
         }
@@ -195,6 +203,14 @@ impl<'a, S: RawStore> Mover<'a, S> {
         }
     }
 
+    /// What it did.
+    fn counts(&self) -> MoverCounts {
+        match self {
+            Mover::Evacuates(evacuator) => MoverCounts::Evacuates(evacuator.counts),
+            Mover::Fetches(fetcher) => MoverCounts::Fetches(fetcher.counts),
+        }
+    }
+
     /// Goes on until every program has ended, when none is left.
     fn go_on<R: Wait + Clock, G: Gate>(&mut self, rt: &R, gate: &G, left: &AtomicUsize) {
         let mut idle = 0u32;
@@ -223,4 +239,28 @@ pub(crate) fn move_all<S: RawStore + Send, G: Gate, R: Threads + Wait + Clock + 
     if count > 0 {
         thread::for_each_mut(rt, movers, count, &|_, mover| mover.go_on(rt, gate, left));
     }
+}
+
+/// Has each mover go on until every program has ended.
+pub(crate) fn move_each<'a, S: RawStore + Send, G: Gate, R: Threads + Wait + Clock + Sync>(
+    rt: &R,
+    gate: &G,
+    left: &AtomicUsize,
+    mut movers: Vec<Mover<'a, S>>,
+) -> Vec<Mover<'a, S>> {
+    move_all(rt, gate, left, movers.as_mut_slice());
+    movers
+}
+
+/// What each of these movers did, as far as `counts` has room, which has room for all.
+pub(crate) fn counts_of<S: RawStore>(
+    movers: &[Mover<'_, S>],
+    mut counts: Vec<MoverCounts>,
+) -> Vec<MoverCounts> {
+    for mover in movers {
+        if counts.len() < counts.capacity() {
+            counts.push_reserved(mover.counts());
+        }
+    }
+    counts
 }

@@ -2,7 +2,7 @@
 ghost use Rattle.std.specs.Prelude.{◌≡◌};
 ghost use Rattle.executor.specs.Ends.{AreSame};
 
-use crate::movers::{Mover, move_all};
+use crate::movers::{Mover, move_each};
 use crate::workers::Worker;
 use program_run::Gate;
 use remote_store::RawStore;
@@ -49,22 +49,21 @@ fn work_each<'q, 'a, S: RawStore + Send, G: Gate, R: Threads + Wait + Clock + Sy
     workers
 }
 
-/// Has each worker go on until no program is left, beside the movers, which go on until then. A mover for which no thread can be made finds that none is left, and
-/// is not run.
+/// Has each worker go on until no program is left, beside the movers, which go on until then: what each of them did it tells then. A mover for which no thread can be
+/// made finds that none is left, and is not run.
 pub(crate) fn run_beside<'q, 'a, S: RawStore + Send, G: Gate, R: Threads + Wait + Clock + Sync>(
     rt: &R,
     gate: &G,
     left: &AtomicUsize,
     quantum: u64,
-    mut movers: Vec<Mover<'a, S>>,
+    movers: Vec<Mover<'a, S>>,
     workers: Vec<Worker<'q, 'a, S>>,
-) -> Vec<Worker<'q, 'a, S>>
-    ensures { AreSame workers.entry.items result.items }
+) -> (Vec<Mover<'a, S>>, Vec<Worker<'q, 'a, S>>)
+    ensures { AreSame workers.entry.items result.1.items }
 {
-    let ((), workers) = thread::join(
+    thread::join(
         rt,
-        move || move_all(rt, gate, left, movers.as_mut_slice()),
+        move || move_each(rt, gate, left, movers),
         move || work_each(rt, gate, left, quantum, workers),
-    );
-    workers
+    )
 }

@@ -124,13 +124,15 @@ impl Hints {
         Ok(passes)
     }
 
-    /// Puts a hint, which is dropped where the queue is full.
-    pub fn push<R: Wait>(&self, rt: &R, pass: &mut HintPass, object: usize)
+    /// Puts a hint, which is dropped where the queue is full. Whether it was put.
+    pub fn push<R: Wait>(&self, rt: &R, pass: &mut HintPass, object: usize) -> bool
         requires pass { pass.old ≡ self.now }
         requires named { object < self.now.objects }
         ensures { pass.new ≡ pass.old }
     {
-        let _ = self.queue.push_as::<Puts, R>(rt, &mut pass.pass, object);
+        self.queue
+            .push_as::<Puts, R>(rt, &mut pass.pass, object)
+            .is_ok()
     }
 
     /// Takes the oldest hint.

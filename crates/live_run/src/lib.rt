@@ -4,4 +4,5 @@
 mod live;
 mod turns;
 
-pub use live::{LiveError, run_live};
+pub use live::{LiveError, run_live, run_live_counted};
+pub use program_run::Finished;

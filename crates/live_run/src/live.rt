@@ -1,6 +1,7 @@
 //! The run of one program, alone in its region.
 ghost use Rattle.live_run.specs.Lives.{EndsLive, IsLeft, IsNotShown};
 ghost use Rattle.object_lock.specs.Fresh.{IsFresh};
+ghost use Rattle.program_run.specs.Executed.{refusals_at};
 ghost use Rattle.region.specs.Admission.{IsAdmitted, IsWithinWork, image_at};
 ghost use Rattle.std.specs.Prelude.{◌≡◌, ◌+◌, ◌-◌, ◌<◌, ◌≤◌, IfErr, IfOk, length};
 ghost use Rattle.streams.specs.Streams.{writes};
@@ -10,7 +11,7 @@ use crate::turns::go_on;
 use cells::Ended;
 use hint_queue::Hints;
 use object_lock::OwnerSeat;
-use program_run::ProgramRun;
+use program_run::{Finished, ProgramRun};
 use region::{AdmitFault, Region, admit};
 use remote_store::{Config, RawStore, Stores};
 use scope_verifier::Verified;
@@ -35,12 +36,13 @@ fn run_region<S: RawStore, O: Stream, R: Wait>(
     seat: OwnerSeat<S>,
     quantum: u64,
     out: &mut O,
-) -> Result<Ended, LiveError>
+) -> Result<Finished, LiveError>
     requires fresh { IsFresh region.now.table seat }
     requires own { seat.view.low ≤ seat.view.high }
     requires program { (0 < seat.view.number) × (seat.view.number ≤ length region.now.programs) }
     requires cells { region.now.table.sizes.cells ≡ (image_at region.now.programs (seat.view.number - 1)).piece }
-    ensures ends { IfOk result (λ e. EndsLive S.honest S.reliable (seat.view.high - seat.view.low) (image_at region.now.programs (seat.view.number - 1)) (writes O.contents O.failures out.old out.new) e) }
+    ensures ends { IfOk result (λ f. EndsLive S.honest S.reliable (seat.view.high - seat.view.low) (image_at region.now.programs (seat.view.number - 1)) (writes O.contents O.failures out.old out.new) f.end) }
+    ensures own { IfOk result (λ f. S.honest → f.refusals ≡ refusals_at f.end.run) }
     ensures left { IfErr result (λ error. IsLeft (writes O.contents O.failures out.old out.new) error) }
 {
     let Ok((hints, mut passes)) = Hints::new(alloc, region) else {
@@ -53,9 +55,36 @@ fn run_region<S: RawStore, O: Stream, R: Wait>(
         return Err(LiveError::NotRun(AdmitFault::OutOfMemory));
     };
     match go_on(rt, &mut program, quantum, out) {
-        Ok(()) => Ok(program.into_finished().end),
+        Ok(()) => Ok(program.into_finished()),
         Err(Failed) => Err(LiveError::Unwritten),
     }
+}
+
+/// Runs the program as `run_live` does, and tells beside its end how many calls of the store were refused through its own port, modulo 2^64: over an honest store one
+/// where it wants the store, and else none. It tells what else was counted of it, too, of which no contract speaks.
+pub fn run_live_counted<S: RawStore, M: Stores<S = S> + Drop, O: Stream, R: Wait>(
+    alloc: Global,
+    rt: &R,
+    programs: Vec<Verified>,
+    config: Config<M>,
+    out: &mut O,
+) -> Result<Finished, LiveError>
+    requires one { length programs.items ≡ 1 }
+    requires makes { M.makes config.stores (piece_of (image_at programs.items) + 3) }
+    ensures ends { IfOk result (λ f. EndsLive S.honest S.reliable config.objects (image_at programs.items 0) (writes O.contents O.failures out.old out.new) f.end) }
+    ensures own { IfOk result (λ f. S.honest → f.refusals ≡ refusals_at f.end.run) }
+    ensures admitted { IfOk result (λ _. IsAdmitted programs.items config.frames config.objects config.evacuators config.fetchers × IsWithinWork config.workers config.quantum) }
+    ensures left { IfErr result (λ error. IsNotShown programs.items config.frames config.objects config.evacuators config.fetchers config.workers config.quantum (writes O.contents O.failures out.old out.new) error) }
+{
+    let quantum = u64::from(config.quantum);
+    let (region, mut owners, _movers) = match admit(alloc, programs, config) {
+        Ok(admitted) => admitted,
+        Err(fault) => return Err(LiveError::NotRun(fault)),
+    };
+    let Some(seat) = owners.pop() else {
+        unreachable!()
+    };
+    run_region(alloc, rt, &region, seat, quantum, out)
 }
 
 /// Runs one program to its end on the calling thread, over a region of these numbers, and writes what it prints as it comes: behind each turn of the quantum's
@@ -75,13 +104,8 @@ pub fn run_live<S: RawStore, M: Stores<S = S> + Drop, O: Stream, R: Wait>(
     ensures admitted { IfOk result (λ _. IsAdmitted programs.items config.frames config.objects config.evacuators config.fetchers × IsWithinWork config.workers config.quantum) }
     ensures left { IfErr result (λ error. IsNotShown programs.items config.frames config.objects config.evacuators config.fetchers config.workers config.quantum (writes O.contents O.failures out.old out.new) error) }
 {
-    let quantum = u64::from(config.quantum);
-    let (region, mut owners, _movers) = match admit(alloc, programs, config) {
-        Ok(admitted) => admitted,
-        Err(fault) => return Err(LiveError::NotRun(fault)),
-    };
-    let Some(seat) = owners.pop() else {
-        unreachable!()
-    };
-    run_region(alloc, rt, &region, seat, quantum, out)
+    match run_live_counted(alloc, rt, programs, config, out) {
+        Ok(finished) => Ok(finished.end),
+        Err(error) => Err(error),
+    }
 }

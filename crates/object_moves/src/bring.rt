@@ -5,6 +5,7 @@ ghost use Rattle.object_lock.specs.Seats.{Owns, note};
 ghost use Rattle.object_moves.specs.Taken.{BringsOr, Claims, ClaimsOne, ClaimsOr, FetchesOr, HandOnly, HasOnly, IsQuiet, Refused, StillBrings, TakesOr};
 
 use crate::arrival::bring_into;
+use crate::moves::Moves;
 use crate::room::make_room;
 use crate::search::find_frame;
 use object_lock::{Begin, Held, ObjectTable, OwnerSeat};
@@ -42,6 +43,7 @@ fn claim_once<S: RawStore>(
     owner: &mut OwnerSeat<S>,
     obj: usize,
     from: usize,
+    moves: &mut Moves,
 ) -> Result<Option<usize>, Failed>
     requires table { IsSeat table.now owner.old }
     requires own { Owns owner.old.view obj }
@@ -53,7 +55,7 @@ fn claim_once<S: RawStore>(
     if let Some(frame) = find_frame(table, owner, obj, from) {
         return Ok(Some(frame));
     }
-    match make_room(table, owner, obj) {
+    match make_room(table, owner, obj, moves) {
         Ok(freed) => Ok(claim_freed(table, owner, obj, freed)),
         Err(failed) => Err(failed),
     }
@@ -67,6 +69,7 @@ fn claim<R: Wait, S: RawStore>(
     owner: &mut OwnerSeat<S>,
     obj: usize,
     from: &mut usize,
+    moves: &mut Moves,
 ) -> Result<usize, Failed>
     requires table { IsSeat table.now owner.old }
     requires own { Owns owner.old.view obj }
@@ -76,7 +79,7 @@ fn claim<R: Wait, S: RawStore>(
         (λ _. HandOnly owner.old owner.new × StillBrings owner.old.view.hand owner.new.view.hand × Refused S.reliable owner.old.refusals owner.new.refusals) }
 {
     for _ in rt.forever() {
-        match claim_once(table, owner, obj, *from) {
+        match claim_once(table, owner, obj, *from, &mut *moves) {
             Ok(Some(frame)) => {
                 *from = frame + 1;
                 return Ok(frame);
@@ -95,6 +98,7 @@ fn bring<R: Wait, S: RawStore>(
     owner: &mut OwnerSeat<S>,
     obj: usize,
     from: &mut usize,
+    moves: &mut Moves,
 ) -> Option<usize>
     requires table { IsSeat table.now owner.old }
     requires hold { Owns owner.old.view obj × (0 < (note owner.old.view obj).count) }
@@ -102,11 +106,14 @@ fn bring<R: Wait, S: RawStore>(
     ensures table { IsSeat table.now owner.new }
     ensures told { BringsOr S.reliable obj owner.old owner.new result }
 {
-    let Ok(frame) = claim(rt, table, owner, obj, from) else {
+    let Ok(frame) = claim(rt, table, owner, obj, from, moves) else {
         table.retreat(owner, obj);
         return None;
     };
+    let stored = owner.stored(obj);
+    moves.calls = moves.calls.wrapping_add(u64::from(stored));
     if bring_into(table, owner, obj, frame) {
+        moves.brought = moves.brought.wrapping_add(1);
         Some(frame)
     } else {
         None
@@ -121,6 +128,7 @@ fn fetch<R: Wait, S: RawStore>(
     obj: usize,
     count: u64,
     from: &mut usize,
+    moves: &mut Moves,
 ) -> Option<usize>
     requires table { IsSeat table.now owner.old }
     requires hold { Owns owner.old.view obj × (0 < count) × (count ≡ (note owner.old.view obj).count) × (count < 5) }
@@ -130,7 +138,7 @@ fn fetch<R: Wait, S: RawStore>(
 {
     for _ in rt.forever() {
         match table.try_begin(owner, obj, count) {
-            Begin::Taken => return bring(rt, table, owner, obj, from),
+            Begin::Taken => return bring(rt, table, owner, obj, from, moves),
             Begin::Here(frame) => return Some(frame),
             Begin::Busy => (),
         }
@@ -147,6 +155,7 @@ fn fetch_or_close<R: Wait, S: RawStore>(
     obj: usize,
     count: u64,
     from: &mut usize,
+    moves: &mut Moves,
 ) -> Option<usize>
     requires table { IsSeat table.now owner.old }
     requires hold { Owns owner.old.view obj × (0 < count) × (count ≡ (note owner.old.view obj).count) × (count < 5) }
@@ -154,7 +163,7 @@ fn fetch_or_close<R: Wait, S: RawStore>(
     ensures table { IsSeat table.now owner.new }
     ensures told { FetchesOr S.reliable obj owner.old owner.new result }
 {
-    let fetched = fetch(rt, table, owner, obj, count, from);
+    let fetched = fetch(rt, table, owner, obj, count, from, moves);
     match fetched {
         Some(frame) => Some(frame),
         None => {
@@ -165,7 +174,7 @@ fn fetch_or_close<R: Wait, S: RawStore>(
 }
 
 /// Opens a hold of the object, of which there are `count` more, and tells the frame where it is. `None` where the store failed:
-/// then no hold more is open.
+/// then no hold more is open. Looks for a free frame from frame `from` on, which is the one behind it then, and counts what it does.
 pub fn take<R: Wait, S: RawStore>(
     rt: &R,
     table: &ObjectTable<S>,
@@ -173,6 +182,7 @@ pub fn take<R: Wait, S: RawStore>(
     obj: usize,
     count: u64,
     from: &mut usize,
+    moves: &mut Moves,
 ) -> Option<usize>
     requires table { IsSeat table.now owner.old }
     requires hold { Owns owner.old.view obj × (count < 4) × (count ≡ (note owner.old.view obj).count) }
@@ -182,7 +192,7 @@ pub fn take<R: Wait, S: RawStore>(
 {
     match table.open(owner, obj) {
         Held::Here(frame) => Some(frame),
-        Held::Away => fetch_or_close(rt, table, owner, obj, count + 1, from),
-        Held::Coming => fetch_or_close(rt, table, owner, obj, count + 1, from),
+        Held::Away => fetch_or_close(rt, table, owner, obj, count + 1, from, moves),
+        Held::Coming => fetch_or_close(rt, table, owner, obj, count + 1, from, moves),
     }
 }

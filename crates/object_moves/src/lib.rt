@@ -4,11 +4,13 @@
 mod arrival;
 mod bring;
 mod moved;
+mod moves;
 mod room;
 mod search;
 
 pub use arrival::{bring_into, fill, read};
 pub use bring::take;
 pub use moved::Moved;
+pub use moves::Moves;
 pub use room::{leave_clean, move_out};
 pub use search::find_frame;

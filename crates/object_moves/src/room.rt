@@ -11,6 +11,7 @@ ghost use Rattle.pointer_word.specs.Ordered.{IsCopied};
 ghost use Rattle.pointer_word.specs.Words.{Here, counted};
 
 use crate::moved::Moved;
+use crate::moves::Moves;
 use object_lock::{MoverSeat, ObjectTable, OwnerSeat};
 use remote_store::{Failed, MOST_CELLS, RawStore, USUAL_CELLS};
 
@@ -167,6 +168,7 @@ fn move_one_out<S: RawStore>(
     table: &ObjectTable<S>,
     owner: &mut OwnerSeat<S>,
     obj: usize,
+    moves: &mut Moves,
 ) -> Result<Option<usize>, Failed>
     requires table { IsSeat table.now owner.old }
     requires own { Owns owner.old.view obj }
@@ -184,8 +186,12 @@ fn move_one_out<S: RawStore>(
             return Ok(None);
         };
         if table.try_mark(owner, victim, frame) {
+            moves.calls = moves.calls.wrapping_add(1);
             return match move_out(table, owner, victim, frame) {
-                Moved::Left => Ok(Some(frame)),
+                Moved::Left => {
+                    moves.written = moves.written.wrapping_add(1);
+                    Ok(Some(frame))
+                }
                 Moved::Stayed => Ok(None),
                 Moved::Failed => Err(Failed),
             };
@@ -199,6 +205,7 @@ pub(crate) fn make_room<S: RawStore>(
     table: &ObjectTable<S>,
     owner: &mut OwnerSeat<S>,
     obj: usize,
+    moves: &mut Moves,
 ) -> Result<Option<usize>, Failed>
     requires table { IsSeat table.now owner.old }
     requires own { Owns owner.old.view obj }
@@ -210,7 +217,10 @@ pub(crate) fn make_room<S: RawStore>(
     ensures told { MatchResult result (λ _. owner.new.refusals ≡ owner.old.refusals) (λ _. Refused S.reliable owner.old.refusals owner.new.refusals) }
 {
     match leave_one(table, owner, obj) {
-        Some(frame) => Ok(Some(frame)),
-        None => move_one_out(table, owner, obj),
+        Some(frame) => {
+            moves.left = moves.left.wrapping_add(1);
+            Ok(Some(frame))
+        }
+        None => move_one_out(table, owner, obj, moves),
     }
 }

@@ -17,7 +17,7 @@ use hint_queue::{HintPass, Hints};
 use object_lock::OwnerSeat;
 use region::Region;
 use remote_store::RawStore;
-use session::Session;
+use session::{Counts, Session};
 use std::alloc::Global;
 use std::marker::Model;
 use std::sync::Wait;
@@ -48,11 +48,14 @@ fn run_on<S: RawStore, W: Wait>(rt: &W, session: &mut Session<'_, S>, quantum: u
     session.run(rt, quantum)
 }
 
-/// How a program ended, and how many calls of the store were refused through its own port, modulo 2^64.
+/// How a program ended, and how many calls of the store were refused through its own port, modulo 2^64; and how many turns it had, modulo 2^64, with what its
+/// session did in them beside instructions.
 #[derive(Drop)]
 pub struct Finished {
     pub end: Ended,
     pub refusals: u64,
+    pub turns: u64,
+    pub counts: Counts,
 }
 
 /// A program of a region that is run to its end at its seat. A contract sees the region's programs, the number of this one, how many objects it has, how many
@@ -63,6 +66,8 @@ pub struct ProgramRun<'a, S: RawStore> {
     number: u32,
     session: Session<'a, S>,
     run: Run,
+    // How many turns it had, modulo 2^64.
+    turns: u64,
 }
 
 impl<'a, S: RawStore> Model for ProgramRun<'a, S> {
@@ -108,6 +113,7 @@ impl<'a, S: RawStore> ProgramRun<'a, S> {
                 number,
                 session,
                 run: Run::Running,
+                turns: 0,
             }),
             Err(_refused) => Err(Want::OutOfMemory),
         }
@@ -141,6 +147,7 @@ impl<'a, S: RawStore> ProgramRun<'a, S> {
         if self.session.completed() > u64::MAX - quantum || !gate.may_go(self.number) {
             return Turn::Held;
         }
+        self.turns = self.turns.wrapping_add(1);
         match run_on(rt, &mut self.session, quantum) {
             Run::Running => Turn::Ran,
             run => {
@@ -160,14 +167,25 @@ impl<'a, S: RawStore> ProgramRun<'a, S> {
         ensures printed { result.end.output.items ≡ self.entry.printed }
         ensures completed { result.end.completed ≡ self.entry.completed }
     {
-        let ProgramRun { session, run, .. } = self;
+        let ProgramRun {
+            session,
+            run,
+            turns,
+            ..
+        } = self;
         let completed = session.completed();
         let refusals = session.refusals();
+        let counts = session.counts();
         let end = Ended {
             output: session.into_output(),
             run,
             completed,
         };
-        Finished { end, refusals }
+        Finished {
+            end,
+            refusals,
+            turns,
+            counts,
+        }
     }
 }

@@ -10,7 +10,7 @@ use Rattle.session.specs.declared.hold.Hold.{Hold}
 use Rattle.object_moves.specs.Taken.{IsQuiet}
 use Rattle.session.specs.State.{State, cells_in, hold_at}
 use Rattle.session.specs.Keeping.{Changes, Holds, IsHeld, IsHolding, IsPlaced, a_hold, one, shut_at}
-use Rattle.session.proofs.Counts.{one_is, one_not, one_le, two_le, count-set}
+use Rattle.session.proofs.CountsOf.{one_is, one_not, one_le, two_le, count-set}
 
 pub note_set : (v : View) (o : ℕ) (n : Note) (p : ℕ) → o < length v.notes → ((p ≡ o) × (note (with_note v o n) p ≡ n)) ⊎ ((p ≢ o) × (note (with_note v o n) p ≡ note v p))
 note_set v o n p l =

@@ -1,4 +1,4 @@
-mod Counts
+mod CountsOf
 mod Holding
 mod Laws
 mod Missing

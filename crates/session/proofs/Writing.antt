@@ -13,7 +13,7 @@ use Rattle.session.specs.declared.hold.Hold.{Hold}
 use Rattle.session.specs.State.{State, cells_in, hold_at, object_of}
 use Rattle.session.specs.Keeping.{Changes, Closes, Holds, HoldsObject, IsHeld, IsHolding, a_hold, cleared, count_of, first_of, one, shut, shut_at, written}
 use Rattle.session.proofs.Holding.{held_along, hold_counts, holding_with, note_set, owned_here, stored_note, opened_hold}
-use Rattle.session.proofs.Counts.{count_room}
+use Rattle.session.proofs.CountsOf.{count_room}
 use Rattle.session.proofs.Places.{first_is, first_low, known, next_is, same_length}
 
 -- what a scope holds may be closed

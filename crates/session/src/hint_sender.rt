@@ -32,12 +32,14 @@ impl<'a> HintSender<'a> {
         HintSender { hints, pass }
     }
 
-    /// Hints the object. One that the queue is not for is not hinted.
-    pub(crate) fn hint<R: Wait>(&mut self, rt: &R, object: usize)
+    /// Hints the object. One that the queue is not for is not hinted. Whether the queue took it.
+    pub(crate) fn hint<R: Wait>(&mut self, rt: &R, object: usize) -> bool
         ensures { self.new ≡ self.old }
     {
         if object < self.hints.objects() {
-            self.hints.push(rt, &mut self.pass, object);
+            self.hints.push(rt, &mut self.pass, object)
+        } else {
+            false
         }
     }
 }

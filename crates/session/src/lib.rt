@@ -1,6 +1,7 @@
 //! A session: an image run through the lock, at one seat of a table of objects, which hints what it will want soon.
 #![tactic(auto)]
 
+mod counts;
 mod following;
 mod hint_sender;
 mod hold;
@@ -10,6 +11,7 @@ mod run;
 mod scale;
 mod session;
 
+pub use counts::Counts;
 pub use following::stores_are_its_codes;
 pub use hold::Hold;
 pub use session::Session;

@@ -15,6 +15,7 @@ ghost use Rattle.object_lock.specs.SeatViews.{IsSeat};
 ghost use Rattle.object_lock.specs.Seats.{Owns, note};
 ghost use Rattle.std.specs.Prelude.{◌≡◌, ◌≢◌, ◌⊎◌, ◌+◌, ◌-◌, ◌/◌, ◌%◌, ◌<◌, ◌≤◌, ◌^◌, ℕ, IfOk, MatchBool, MatchOption, MatchResult, None, Some, false, length, option_map, slice_index, true};
 
+use crate::counts::Counts;
 use crate::hint_sender::HintSender;
 use crate::hold::Hold;
 use crate::scale::Scale;
@@ -22,7 +23,7 @@ use cells::{Stop, Want};
 use code_execution::{Execution, Hinted, Plan};
 use code_form::{Cell, Image, Touch, heap_laws};
 use object_lock::{ObjectTable, OwnerSeat};
-use object_moves::take;
+use object_moves::{Moves, take};
 use pointer_word::{Word, WordState};
 use remote_store::RawStore;
 use std::alloc::{AllocError, Global};
@@ -47,6 +48,11 @@ pub(crate) struct Program<'a, S: RawStore> {
     // None where nobody serves hints.
     sender: Option<HintSender<'a>>,
     hinted: Hinted,
+    // What is counted of it beside its instructions: `Counts` tells each.
+    opened: u64,
+    hints: u64,
+    dropped: u64,
+    moves: Moves,
 }
 
 impl<'a, S: RawStore> Model for Program<'a, S> {
@@ -90,6 +96,10 @@ impl<'a, S: RawStore> Program<'a, S> {
             want: None,
             sender,
             hinted,
+            opened: 0,
+            hints: 0,
+            dropped: 0,
+            moves: Moves::none(),
         })
     }
 
@@ -113,6 +123,28 @@ impl<'a, S: RawStore> Program<'a, S> {
         ensures { result ≡ self.now.refusals }
     {
         self.owner.refusals()
+    }
+
+    /// What it did beside completing instructions.
+    pub(crate) fn counts(&self) -> Counts
+        ensures { result.objects ≡ self.now.next - self.now.view.low }
+    {
+        let Moves {
+            brought,
+            written,
+            left,
+            calls,
+        } = self.moves;
+        Counts {
+            objects: self.next.saturating_sub(self.owner.low() as u64),
+            opened: self.opened,
+            brought,
+            written,
+            left,
+            calls,
+            hints: self.hints,
+            dropped: self.dropped,
+        }
     }
 
     pub(crate) fn output(&self) -> &[u8]
@@ -217,8 +249,10 @@ impl<'a, S: RawStore> Program<'a, S> {
         ensures { MatchBool result (Holds scope object self.old self.new) (Misses S.reliable object self.old self.new) }
     {
         let from = &mut self.next_frame;
-        match take(rt, self.table, &mut self.owner, object, count, from) {
+        let moves = &mut self.moves;
+        match take(rt, self.table, &mut self.owner, object, count, from, moves) {
             Some(frame) => {
+                self.opened = self.opened.wrapping_add(1);
                 self.holds[scope] = Some(Hold {
                     object,
                     frame,
@@ -481,7 +515,9 @@ impl<'a, S: RawStore> Program<'a, S> {
             return;
         };
         if let WordState::Away = word.state() {
-            sender.hint(rt, object);
+            let put = sender.hint(rt, object);
+            self.hints = self.hints.wrapping_add(1);
+            self.dropped = self.dropped.wrapping_add(u64::from(!put));
         }
     }
 

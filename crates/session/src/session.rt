@@ -11,6 +11,7 @@ ghost use Rattle.object_lock.specs.Fresh.{IsFresh};
 ghost use Rattle.region.specs.Admission.{image_at};
 ghost use Rattle.std.specs.Prelude.{◌≡◌, ◌≢◌, ◌⊎◌, ◌+◌, ◌<◌, ◌≤◌, ◌^◌, ◌-◌, IfOk, MatchResult, Some, length};
 
+use crate::counts::Counts;
 use crate::hint_sender::HintSender;
 use crate::program::Program;
 use cells::{Run, Want};
@@ -144,5 +145,12 @@ impl<'a, S: RawStore> Session<'a, S> {
         ensures { result ≡ self.now.refusals }
     {
         self.program.refusals()
+    }
+
+    /// What it did beside completing instructions.
+    pub fn counts(&self) -> Counts
+        ensures { result.objects ≡ self.now.next - self.now.view.low }
+    {
+        self.program.counts()
     }
 }

@@ -51,7 +51,10 @@ fn run_over<R: Threads + Wait + Clock + Sync, M: Stores + Drop>(
         quantum: 1_000,
         stores,
     };
-    run_all_counted(alloc, rt, programs, config, &OpenGate).ok()
+    match run_all_counted(alloc, rt, programs, config, &OpenGate) {
+        Ok(counted) => Some(counted.programs),
+        Err(_refused) => None,
+    }
 }
 
 /// The same over ways to these stores, of which the read of this number lies so.

@@ -1,10 +1,12 @@
-use Rattle.std.proofs.Common.{inl, inr, refl, subst}
+use Rattle.std.proofs.Common.{List, [], inl, inr, refl, subst}
 use Rattle.command_line.specs.Shell.{compiling_of, memory_of}
 use Rattle.live_run.specs.Lives.{IsNotShown}
 use Rattle.live_run.specs.declared.live.LiveError.{LiveError}
+use Rattle.program_run.specs.declared.run.Finished.{Finished}
 use Rattle.c0far.proofs.Codes.{after_quiet}
 use Rattle.c0far.proofs.Lived.{one_code, shown_live}
 use Rattle.c0far.specs.Runs.{SaysFault}
+use Rattle.c0far.specs.Stats.{TellsStats}
 use Rattle.streams.specs.Streams.{Writes, writes}
 use Rattle.c0far.proofs.lives.run_live.Goals as goal
 
@@ -19,9 +21,16 @@ returns-in-Ok-live_asked-clause-done g c = inl (record {
   programs = c.in-Ok.programs.items;
   codes = c.in-Ok.ensures.codes;
   admitted = c.in-Ok-live_asked.ensures.admitted;
-  shown = shown_live g.O.Stream.contents g.O.Stream.failures g.F.Place.Folder.honest (memory_of c.args.asked.memory) c.in-Ok.programs.items c.args.out.now c.live_asked.new.out c.say_rest.new.out c.in-Ok-live_asked.ended c.say_rest.result
-      c.in-Ok-live_asked.ensures.ended c.say_rest.ensures;
-  quiet = c.in-Ok.ensures.quiet;
+  ended = inl (record {
+    finished = c.in-Ok-live_asked.finished;
+    executed = c.in-Ok-live_asked.ensures.ended.executed;
+    status = c.say_rest-status.result;
+    shown = shown_live g.O.Stream.contents g.O.Stream.failures g.F.Place.Folder.honest (memory_of c.args.asked.memory) c.in-Ok.programs.items c.args.out.now c.live_asked.new.out c.say_rest-status.new.out c.in-Ok-live_asked.finished
+        c.say_rest-status.result c.in-Ok-live_asked.ensures.ended c.say_rest-status.ensures;
+    told = subst (λ (l : List Finished). TellsStats c.args.asked.stats l [] (writes g.E.Stream.contents g.E.Stream.failures c.args.err.now c.say_stats.new.err) c.say_rest-status.result c.say_stats.result) c.from_ref.ensures.value
+        (subst (λ (w : Writes). TellsStats c.args.asked.stats c.from_ref.result.now [] w c.say_rest-status.result c.say_stats.result)
+        (after_quiet g.E.Stream.contents g.E.Stream.failures c.args.err.now c.codes_of.new.err c.say_stats.new.err c.in-Ok.ensures.quiet) c.say_stats.ensures);
+  });
 })
 
 pub returns-in-Err-NotRun-clause-done : goal.returns-in-Err-NotRun-clause-done
@@ -48,6 +57,5 @@ returns-in-Err-Unwritten-clause-done g c =
       programs = c.in-Ok.programs.items;
       codes = c.in-Ok.ensures.codes;
       admitted = (left.0, left.1);
-      shown = inr (refl, left.2);
-      quiet = c.in-Ok.ensures.quiet;
+      ended = inr (refl, left.2, c.in-Ok.ensures.quiet);
     })

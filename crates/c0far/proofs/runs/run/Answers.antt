@@ -1,8 +1,10 @@
-use Rattle.std.proofs.Common.{List, inl, inr, refl, subst}
-use Rattle.cells.specs.declared.ending.Ended.{Ended}
+use Rattle.std.proofs.Common.{List, inl, inr, map, refl, subst}
+use Rattle.executor.specs.Ends.{end_of}
+use Rattle.program_run.specs.declared.run.Finished.{Finished}
 use Rattle.c0far.proofs.Codes.{after_quiet}
 use Rattle.c0far.specs.Runs.{SaysFault}
 use Rattle.c0far.specs.Shown.{ends_status, shown_ends}
+use Rattle.c0far.specs.Stats.{TellsStats}
 use Rattle.streams.specs.Streams.{Says, Writes, writes}
 use Rattle.c0far.proofs.runs.run.Goals as goal
 
@@ -13,11 +15,15 @@ pub returns-in-Ok-run_asked-clause-done : goal.returns-in-Ok-run_asked-clause-do
 returns-in-Ok-run_asked-clause-done g c = inl (record {
   programs = c.in-Ok.programs.items;
   codes = c.in-Ok.ensures.codes;
-  ends = c.in-Ok-run_asked.ends.items;
+  finished = c.in-Ok-run_asked.counted.programs.items;
+  movers = c.in-Ok-run_asked.counted.movers.items;
   admitted = c.in-Ok-run_asked.ensures.admitted;
   executed = c.in-Ok-run_asked.ensures.ended;
-  shown = subst (λ (l : List Ended). Says (writes g.O.Stream.contents g.O.Stream.failures c.args.out.now c.say_ends.new.out) (shown_ends l) (ends_status l) c.say_ends.result) c.deref.ensures.value c.say_ends.ensures;
-  quiet = c.in-Ok.ensures.quiet;
+  status = c.say_finished-status.result;
+  shown = subst (λ (l : List Finished). Says (writes g.O.Stream.contents g.O.Stream.failures c.args.out.now c.say_finished-status.new.out) (shown_ends (map end_of l)) (ends_status (map end_of l)) c.say_finished-status.result)
+      c.deref.ensures.value c.say_finished-status.ensures;
+  told = subst (λ (w : Writes). TellsStats c.args.asked.stats c.in-Ok-run_asked.counted.programs.items c.in-Ok-run_asked.counted.movers.items w c.say_finished-status.result c.say_stats.result)
+      (after_quiet g.E.Stream.contents g.E.Stream.failures c.args.err.now c.codes_of.new.err c.say_stats.new.err c.in-Ok.ensures.quiet) c.say_stats.ensures;
 })
 
 pub returns-in-Err-run_asked-clause-done : goal.returns-in-Err-run_asked-clause-done

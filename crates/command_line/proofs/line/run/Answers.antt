@@ -13,11 +13,13 @@ returns-clause-shape c =
     let both = c.in_ok-arg-2.ensures.shape c.option-2.ensures.own ∙ ap₂ with_rule third c.option-2.ensures.rule in
     let fourth = c.in_ok-with_workers.ensures.shape ∙ ap with_work both in
     let fifth = c.in_ok-arg-3.ensures.shape c.live.ensures.own ∙ ap₂ with_rule fourth c.live.ensures.rule in
-    IfOk-weaker c.arg-4.result _ _ (λ r h. h.shape (search rules) ∙ ap₂ with_rule fifth files) c.arg-4.ensures
+    let sixth = c.in_ok-arg-4.ensures.shape c.stats.ensures.own ∙ ap₂ with_rule fifth c.stats.ensures.rule in
+    IfOk-weaker c.arg-5.result _ _ (λ r h. h.shape (search rules) ∙ ap₂ with_rule sixth files) c.arg-5.ensures
 
 pub returns-clause-local : goal.returns-clause-local
 returns-clause-local c =
     let third = still_local _ _ _ c.in_ok-arg.ensures.globals (c.in_ok-over_memory.ensures.local c.in_ok-command.ensures.local) c.option.ensures.own in
     let fourth = c.in_ok-with_workers.ensures.local (still_local _ _ _ c.in_ok-arg-2.ensures.globals third c.option-2.ensures.own) in
     let fifth = still_local _ _ _ c.in_ok-arg-3.ensures.globals fourth c.live.ensures.own in
-    IfOk-weaker c.arg-4.result _ _ (λ r h. still_local _ _ _ h.globals fifth (search rules)) c.arg-4.ensures
+    let sixth = still_local _ _ _ c.in_ok-arg-4.ensures.globals fifth c.stats.ensures.own in
+    IfOk-weaker c.arg-5.result _ _ (λ r h. still_local _ _ _ h.globals sixth (search rules)) c.arg-5.ensures

@@ -7,7 +7,7 @@ use Rattle.executor.proofs.all.run_all.Goals as goal
 pub without_numbers-requires-clause-room : goal.without_numbers-requires-clause-room
 without_numbers-requires-clause-room g c =
     let programs = c.args.programs.items in
-    let many = as_many g.S.RawStore.honest g.S.RawStore.reliable (c.args.config.objects / length programs) programs c.in_ok-finished.finished.items c.in_ok-finished.ensures.ends in
+    let many = as_many g.S.RawStore.honest g.S.RawStore.reliable (c.args.config.objects / length programs) programs c.in_ok-counted.counted.programs.items c.in_ok-counted.ensures.ends in
     let room = c.in-Ok.ensures.capacity in
     let count = c.len.ensures in
     omega arith
@@ -16,6 +16,6 @@ pub returns-clause-ends : goal.returns-clause-ends
 returns-clause-ends g c =
     let programs = c.args.programs.items in
     let objects = c.args.config.objects / length programs in
-    let all = c.in_ok-finished.finished.items in
+    let all = c.in_ok-counted.counted.programs.items in
     subst (λ (ends : List Ended). AreEnds g.S.RawStore.honest g.S.RawStore.reliable objects programs ends) (sym c.without_numbers.ensures)
-    (ends_alone g.S.RawStore.honest g.S.RawStore.reliable objects programs all c.in_ok-finished.ensures.ends)
+    (ends_alone g.S.RawStore.honest g.S.RawStore.reliable objects programs all c.in_ok-counted.ensures.ends)

@@ -1,7 +1,7 @@
 use Rattle.std.proofs.Common.{◌/◌, length}
 use Rattle.streams.specs.Streams.{writes}
 use Rattle.live_run.proofs.Alone.{ends_alone, seat_alone}
-use Rattle.live_run.proofs.live.run_live.Goals as goal
+use Rattle.live_run.proofs.live.run_live_counted.Goals as goal
 
 pub returns-clause-ends : goal.returns-clause-ends
 returns-clause-ends g c =
