@@ -1,6 +1,7 @@
 -- Tasks, seats and ends of programs, put together.
 use Rattle.std.proofs.Common.{◌≡◌, ◌<◌, ◌+◌, ◌⊎◌, refl, ℕ, zero, suc, List, [], ◌∷◌, ◌++◌, Option, Some, None, is_some, false, length, map, sym, ap, ◌∙◌, subst, slice_get, slice_index_or, take, set, inl, inr, ⊎_elim, arith, length-append, append_assoc, append-nil}
 use Rattle.std.proofs.Math.Seq.{take-length}
+use Rattle.std.specs.Bool.{◌==◌}
 use Rattle.std.proofs.lemmas.List.{length-map, length-set}
 use Rattle.std.proofs.lemmas.List.FromFn.{length-range_with_len}
 use Rattle.std.specs.List.{All, AllZip, remove}
@@ -45,6 +46,11 @@ all_rest P xs rest x e all = λ k d low. let every : All P (x ∷ rest) = subst 
 pub all_at : {X : Type 0} (P : X → Type 0) (done rest : List X) (x : X) → All P (done ++ x ∷ rest) → P x
 all_at P [] rest x all = all 0 x (omega arith)
 all_at P (d ∷ ds) rest x all = all_at P ds rest x (λ k e low. all (suc k) e (omega arith))
+
+-- a number that is not 0
+pub some_left : (n : ℕ) → false ≡ (n == 0) → 0 < n
+some_left zero e = absurd (let no : ⊥ = cc e in no)
+some_left (suc n) e = omega arith
 
 -- the first of two lists that are equal
 heads : (x y : ℕ) (xs ys : List ℕ) → x ∷ xs ≡ y ∷ ys → x ≡ y

@@ -1,5 +1,6 @@
 use Rattle.std.proofs.Common.{List, inl, inr, map, refl, subst}
 use Rattle.executor.specs.Ends.{end_of}
+use Rattle.executor.specs.declared.counts.MoverCounts.{MoverCounts}
 use Rattle.program_run.specs.declared.run.Finished.{Finished}
 use Rattle.c0far.proofs.Codes.{after_quiet}
 use Rattle.c0far.specs.Runs.{SaysFault}
@@ -23,7 +24,9 @@ returns-in-Ok-run_asked-clause-done g c = inl (record {
   shown = subst (λ (l : List Finished). Says (writes g.O.Stream.contents g.O.Stream.failures c.args.out.now c.say_finished-status.new.out) (shown_ends (map end_of l)) (ends_status (map end_of l)) c.say_finished-status.result)
       c.deref.ensures.value c.say_finished-status.ensures;
   told = subst (λ (w : Writes). TellsStats c.args.asked.stats c.in-Ok-run_asked.counted.programs.items c.in-Ok-run_asked.counted.movers.items w c.say_finished-status.result c.say_stats.result)
-      (after_quiet g.E.Stream.contents g.E.Stream.failures c.args.err.now c.codes_of.new.err c.say_stats.new.err c.in-Ok.ensures.quiet) c.say_stats.ensures;
+      (after_quiet g.E.Stream.contents g.E.Stream.failures c.args.err.now c.codes_of.new.err c.say_stats.new.err c.in-Ok.ensures.quiet)
+      (subst (λ (x : List Finished × List MoverCounts). TellsStats c.args.asked.stats x.0 x.1 (writes g.E.Stream.contents g.E.Stream.failures c.codes_of.new.err c.say_stats.new.err) c.say_finished-status.result c.say_stats.result)
+      (λ i. (c.deref-2.ensures.value i, c.deref-3.ensures.value i)) c.say_stats.ensures);
 })
 
 pub returns-in-Err-run_asked-clause-done : goal.returns-in-Err-run_asked-clause-done

@@ -23,7 +23,7 @@ pub start_movers-requires-clause-hints : goal.start_movers-requires-clause-hints
 start_movers-requires-clause-hints g c κs within = c.in-Ok.ensures.objects
 
 pub file_all-requires-clause-workers : goal.file_all-requires-clause-workers
-file_all-requires-clause-workers g c κs within = all_same c.in_ok-queue.queue c.in_ok-workers.workers.items c.run_beside.result.1.items c.run_beside.ensures c.in_ok-workers.ensures
+file_all-requires-clause-workers g c κs within = all_same c.in_ok-queue.queue c.in_ok-workers.workers.items c.run_beside-movers.result.1.items c.run_beside-movers.ensures c.in_ok-workers.ensures
 
 pub all_ends-requires-clause-room : goal.all_ends-requires-clause-room
 all_ends-requires-clause-room g c κs within =
