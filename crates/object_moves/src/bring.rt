@@ -7,7 +7,7 @@ ghost use Rattle.object_moves.specs.Taken.{BringsOr, Claims, ClaimsOne, ClaimsOr
 use crate::arrival::bring_into;
 use crate::moves::Moves;
 use crate::room::make_room;
-use crate::search::find_frame;
+use crate::search::{FEW, find_frame, find_near};
 use object_lock::{Begin, Held, ObjectTable, OwnerSeat};
 use remote_store::{Failed, RawStore};
 use std::sync::Wait;
@@ -36,8 +36,8 @@ fn claim_freed<S: RawStore>(
     }
 }
 
-/// Claims a frame for the object that is being brought in: one that is free, or that another object is moved out of. `None` where each
-/// frame was looked at, none was free, and none was freed that nobody else claimed. `Err` where the store failed.
+/// Claims a frame for the object that is being brought in: one of a few that is free, or one that another object is moved out of, or one of all. `None`
+/// where each frame was looked at, none was free, and none was freed that nobody else claimed. `Err` where the store failed.
 fn claim_once<S: RawStore>(
     table: &ObjectTable<S>,
     owner: &mut OwnerSeat<S>,
@@ -52,17 +52,34 @@ fn claim_once<S: RawStore>(
     ensures told { MatchResult result (λ claimed. ClaimsOr owner.old owner.new claimed)
         (λ _. HandOnly owner.old owner.new × StillBrings owner.old.view.hand owner.new.view.hand × Refused S.reliable owner.old.refusals owner.new.refusals) }
 {
-    if let Some(frame) = find_frame(table, owner, obj, from) {
+    if let Some(frame) = find_near(table, owner, obj, from) {
         return Ok(Some(frame));
     }
     match make_room(table, owner, obj, moves) {
+        Ok(None) => Ok(find_frame(table, owner, obj, from)),
         Ok(freed) => Ok(claim_freed(table, owner, obj, freed)),
         Err(failed) => Err(failed),
     }
 }
 
+/// Where the next search begins, where there are so many frames: behind the one that was claimed, where it was among the few that were looked at first, and
+/// else behind these.
+fn next_search(frames: usize, from: usize, claimed: usize) -> usize {
+    let start = if from < frames { from } else { 0 };
+    let distance = if claimed < start {
+        frames - (start - claimed)
+    } else {
+        claimed - start
+    };
+    if distance < FEW {
+        claimed.saturating_add(1)
+    } else {
+        start.saturating_add(FEW)
+    }
+}
+
 /// Claims a frame for the object that is being brought in: one that is free, or that another object is moved out of. Waits
-/// until there is one. Looks for it from frame `from` on, which is the one behind it then. `Err` where the store failed.
+/// until there is one. Looks for it from frame `from` on, and says where the next search begins. `Err` where the store failed.
 fn claim<R: Wait, S: RawStore>(
     rt: &R,
     table: &ObjectTable<S>,
@@ -81,7 +98,7 @@ fn claim<R: Wait, S: RawStore>(
     for _ in rt.forever() {
         match claim_once(table, owner, obj, *from, &mut *moves) {
             Ok(Some(frame)) => {
-                *from = frame + 1;
+                *from = next_search(table.frames(), *from, frame);
                 return Ok(frame);
             }
             Ok(None) => (),

@@ -1,5 +1,5 @@
 //! How an object is moved out of a frame, and room made for another.
-ghost use Rattle.std.specs.Prelude.{◌≡◌, ◌≢◌, ◌<◌, ℕ, None, Some, IfOk, IfSome, MatchResult, false, length, true};
+ghost use Rattle.std.specs.Prelude.{◌≡◌, ◌≢◌, ◌<◌, ◌≤◌, ℕ, None, Some, IfOk, IfSome, MatchResult, false, length, true};
 ghost use Rattle.object_lock.specs.Plays.{IsLook};
 ghost use Rattle.object_lock.specs.SeatViews.{IsSeat};
 ghost use Rattle.object_lock.specs.Seats.{Owns};
@@ -12,6 +12,7 @@ ghost use Rattle.pointer_word.specs.Words.{Here, counted};
 
 use crate::moved::Moved;
 use crate::moves::Moves;
+use crate::search::FEW;
 use object_lock::{MoverSeat, ObjectTable, OwnerSeat};
 use remote_store::{Failed, MOST_CELLS, RawStore, USUAL_CELLS};
 
@@ -138,12 +139,14 @@ pub fn leave_clean<S: RawStore>(
     }
 }
 
-/// Looks once at each frame, and has the first object leave there that is clean and has no hold: the frame that it has left.
+/// Looks once at each of the first so many frames, and has the first object leave there that is clean and has no hold: the frame that it has left.
 fn leave_one<S: RawStore>(
     table: &ObjectTable<S>,
     owner: &mut OwnerSeat<S>,
     obj: usize,
+    many: usize,
 ) -> Option<usize>
+    requires many { many ≤ table.now.sizes.frames }
     requires table { IsSeat table.now owner.old }
     requires own { Owns owner.old.view obj }
     requires hands { HasOnly obj owner.old.view }
@@ -152,7 +155,7 @@ fn leave_one<S: RawStore>(
 {
     // For the proof alone: the clauses speak of the object that is being brought in.
     let _ = obj;
-    for frame in 0..table.frames() {
+    for frame in 0..many {
         if let Some(victim) = table.look(owner, frame) {
             if leave_clean(table, owner, victim, frame) {
                 return Some(frame);
@@ -162,14 +165,16 @@ fn leave_one<S: RawStore>(
     None
 }
 
-/// Looks once at each frame, and moves out the first object there that it can mark: the frame that it has left. `Err` where the store
+/// Looks once at each of the first so many frames, and moves out the first object there that it can mark: the frame that it has left. `Err` where the store
 /// failed.
 fn move_one_out<S: RawStore>(
     table: &ObjectTable<S>,
     owner: &mut OwnerSeat<S>,
     obj: usize,
+    many: usize,
     moves: &mut Moves,
 ) -> Result<Option<usize>, Failed>
+    requires many { many ≤ table.now.sizes.frames }
     requires table { IsSeat table.now owner.old }
     requires own { Owns owner.old.view obj }
     requires hands { HasOnly obj owner.old.view }
@@ -181,7 +186,7 @@ fn move_one_out<S: RawStore>(
 {
     // For the proof alone: the clauses speak of the object that is being brought in.
     let _ = obj;
-    for frame in 0..table.frames() {
+    for frame in 0..many {
         let Some(victim) = table.look(owner, frame) else {
             return Ok(None);
         };
@@ -200,7 +205,35 @@ fn move_one_out<S: RawStore>(
     Ok(None)
 }
 
-/// Has a clean object leave a frame; where none can, moves one out that was written: the frame that it has left. `Err` where the store failed.
+/// Has a clean object leave one of the first so many frames; where none can, moves one out that was written: the frame that it has left. `Err` where the
+/// store failed.
+fn make_room_among<S: RawStore>(
+    table: &ObjectTable<S>,
+    owner: &mut OwnerSeat<S>,
+    obj: usize,
+    many: usize,
+    moves: &mut Moves,
+) -> Result<Option<usize>, Failed>
+    requires many { many ≤ table.now.sizes.frames }
+    requires table { IsSeat table.now owner.old }
+    requires own { Owns owner.old.view obj }
+    requires hands { HasOnly obj owner.old.view }
+    ensures table { IsSeat table.now owner.new }
+    ensures same { HandOnly owner.old owner.new }
+    ensures brings { StillBrings owner.old.view.hand owner.new.view.hand }
+    ensures low { IfOk result (λ freed. IfSome freed (λ frame. frame < table.now.sizes.frames)) }
+    ensures told { MatchResult result (λ _. owner.new.refusals ≡ owner.old.refusals) (λ _. Refused S.reliable owner.old.refusals owner.new.refusals) }
+{
+    match leave_one(table, owner, obj, many) {
+        Some(frame) => {
+            moves.left = moves.left.wrapping_add(1);
+            Ok(Some(frame))
+        }
+        None => move_one_out(table, owner, obj, many, moves),
+    }
+}
+
+/// Makes room in one of a few frames, or in one of all, where nothing can leave these: the frame that an object has left. `Err` where the store failed.
 pub(crate) fn make_room<S: RawStore>(
     table: &ObjectTable<S>,
     owner: &mut OwnerSeat<S>,
@@ -216,11 +249,9 @@ pub(crate) fn make_room<S: RawStore>(
     ensures low { IfOk result (λ freed. IfSome freed (λ frame. frame < table.now.sizes.frames)) }
     ensures told { MatchResult result (λ _. owner.new.refusals ≡ owner.old.refusals) (λ _. Refused S.reliable owner.old.refusals owner.new.refusals) }
 {
-    match leave_one(table, owner, obj) {
-        Some(frame) => {
-            moves.left = moves.left.wrapping_add(1);
-            Ok(Some(frame))
-        }
-        None => move_one_out(table, owner, obj, moves),
+    let count = table.frames();
+    match make_room_among(table, owner, obj, count.min(FEW), &mut *moves) {
+        Ok(None) => make_room_among(table, owner, obj, count, moves),
+        made => made,
     }
 }

@@ -7,6 +7,9 @@ ghost use Rattle.object_moves.specs.Taken.{ClaimsOne, HasOnly};
 use object_lock::{MoverSeat, ObjectTable};
 use remote_store::RawStore;
 
+/// At how many frames an owner looks for a free one, or for one whose object can leave, before it looks at all.
+pub(crate) const FEW: usize = 64;
+
 /// Claims the frame for the object that is being brought in, where a look at it finds it free, and nobody else claims it first.
 fn try_frame<S: RawStore>(
     table: &ObjectTable<S>,
@@ -47,6 +50,32 @@ fn find_between<S: RawStore>(
         }
     }
     None
+}
+
+/// Looks once at each of a few frames, from the one of this number on, behind the last of which comes frame 0, and claims the first that is free for the
+/// object that is being brought in.
+pub(crate) fn find_near<S: RawStore>(
+    table: &ObjectTable<S>,
+    mover: &mut MoverSeat<S>,
+    obj: usize,
+    from: usize,
+) -> Option<usize>
+    requires table { IsSeat table.now mover.old }
+    requires low { obj < table.now.sizes.objects }
+    requires hands { HasOnly obj mover.old.view }
+    ensures table { IsSeat table.now mover.new }
+    ensures told { ClaimsOne mover.old mover.new result }
+{
+    let count = table.frames();
+    let start = if from < count { from } else { 0 };
+    let end = count.min(start.saturating_add(FEW));
+    match find_between(table, mover, obj, start, end) {
+        Some(frame) => Some(frame),
+        None => {
+            let rest = FEW.saturating_sub(end - start);
+            find_between(table, mover, obj, 0, start.min(rest))
+        }
+    }
 }
 
 /// Looks once at each frame, from the one of this number on, and claims the first that is free for the object that is being brought in.
