@@ -3,14 +3,15 @@
 
 The six programs of `local_memory.py`, with heaps of 8 to 31 MiB, in C0 and in C. The C programs are written here from the same numbers and print the same answers.
 Each piece of 64 cells of 8 bytes, the row that the runtime moves, is 512 bytes of theirs, one piece behind the other: so both heaps have as many bytes, and what
-differs is the unit that moves, a piece or a page. A C program's memory is limited by a control group to what it takes without a heap, and a part of its heap.
+differs is the unit that moves, a piece or a page. A C program's memory is limited by a control group to what it takes without a heap, and a part of its heap;
+where the system can free none of that, it ends the program (`out of memory`).
     paging          C; the swap file is on the disk of FOLDER
     paging-memory   C; the swap file is in memory: a loop device over a file of a ramfs
     files           C0, over files in FOLDER, without a mover; `files-movers` is beside one evacuator and one fetcher
     files-limited   the same as `files-movers`, in a control group too: it has what a run that does nothing takes, and 4 MiB for the files that the system keeps
     memory-movers   C0, over the store in memory, beside one evacuator and one fetcher
 All of these, or each WAY that is named. The product is one of 2 rows by 512 by 4,096, since one of square matrices that large would take hours. A run is ended
-after 90 s, which counts as longer. It prints each run, and leaves `paging.csv` in FOLDER. Control groups (version 1, or 2) and swap want root. Swap files, groups
+after 60 s, which counts as longer. It prints each run, and leaves `paging.csv` in FOLDER. Control groups (version 1, or 2) and swap want root. Swap files, groups
 and mounts are taken down at the end, also after an interrupt.
 """
 import contextlib
@@ -25,9 +26,9 @@ import time
 
 from local_memory import hash_table, options, scanned_array, search_tree, sieve, walked_list
 
-PARTS = (100, 50, 25, 12.5)
+PARTS = (100, 50, 12.5)
 WAYS = ("paging", "paging-memory", "files", "files-movers", "files-limited", "memory-movers")
-MOST_SECONDS = 90
+MOST_SECONDS = 60
 SWAP_BYTES = 256 << 20
 KEPT_BYTES = 4 << 20
 PIECE_BYTES = 512
@@ -38,7 +39,7 @@ INTS, SCANS = 4_096_000, 2
 MOST = 1_024_000
 ROWS, INNER, COLUMNS = 2, 512, 4_096
 KEYS, BUCKETS, ROUNDS = 60_000, 65_536, 1
-TREE_NODES, TREE_STEP, LOOKS = 60_013, 22_922, 60_000
+TREE_NODES, TREE_STEP, LOOKS = 60_013, 22_922, 20_000
 
 # What stands before each C program. Its pieces lie one behind the other in one mapping.
 C_HEAD = """
@@ -322,19 +323,24 @@ def by_store(program, folder, name, part, way):
         return Ran([*words, "a.c0"], folder, group)
 
 
+def told(ran, answer):
+    """The seconds of a run that told the right answer, or what became of it."""
+    if not ran.ended:
+        return f"more than {MOST_SECONDS}"
+    if ran.said == f"result: {(answer + 2**31) % 2**32 - 2**31}":
+        return f"{ran.seconds:.3f}"
+    return "out of memory" if ran.status == signal.SIGKILL else f"{ran.said}, status {os.waitstatus_to_exitcode(ran.status)}"
+
+
 def measured(program, folder, ways):
-    """A row for each way, program and part, where a run told the right answer or took too long."""
+    """A row for each way, program and part."""
     for way in ways:
         with tempfile.TemporaryDirectory(dir=folder) as room, swap_of(way, room):
             for name, ((answer, _, _), _) in PROGRAMS.items():
                 for part in PARTS:
                     with tempfile.TemporaryDirectory(dir=room) as inner:
                         ran = by_paging(inner, name, part) if way.startswith("paging") else by_store(program, inner, name, part, way)
-                    right = f"result: {(answer + 2**31) % 2**32 - 2**31}"
-                    if ran.ended and ran.said != right:
-                        print(f"{name}, {way}, {part}: {ran.said}, status {os.waitstatus_to_exitcode(ran.status)}", flush=True)
-                        continue
-                    yield name, way, part, f"{ran.seconds:.3f}" if ran.ended else f"more than {MOST_SECONDS}", f"{ran.spent:.3f}", ran.faults
+                    yield name, way, part, told(ran, answer), f"{ran.spent:.3f}", ran.faults
 
 
 def main():

@@ -270,11 +270,19 @@ def pulled(hosts):
     hosts.pull("down")
 
 
+def given_up(hosts):
+    """The wire is pulled, and two seconds later the folder is given up by force, which tells that it is busy, and has its calls refused."""
+    hosts.pull("down")
+    time.sleep(2)
+    subprocess.run(["umount", "-f", f"{hosts.room}/here"], check=False, capture_output=True)
+
+
 CUTS = (
     ("the connection is closed", (), closed, "store"),
     ("the same, the folder of sshfs is the store", (), closed, ""),
     ("the connection is closed for a second, reconnect", ("reconnect",), closed_for_a_second, "store"),
     ("the wire is pulled, ServerAliveInterval=1, ServerAliveCountMax=2", ("ServerAliveInterval=1", "ServerAliveCountMax=2"), pulled, "store"),
+    ("the wire is pulled, umount -f two seconds later", (), given_up, "store"),
     (f"the wire is pulled for {HANGS} s", (), pulled, "store"),
 )
 
