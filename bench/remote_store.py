@@ -287,6 +287,16 @@ CUTS = (
 )
 
 
+def state_of(folder):
+    """What has become of the folder that `sshfs` made."""
+    if os.path.ismount(folder):
+        return "is still there"
+    try:
+        return f"is one of this host, with {len(os.listdir(folder))} files"
+    except OSError:
+        return "answers nothing"
+
+
 def cut_one(program, hosts, name, options, how, inside, movers):
     """A run in the middle of which something is cut."""
     here = f"{hosts.room}/here"
@@ -303,8 +313,7 @@ def cut_one(program, hosts, name, options, how, inside, movers):
             hosts.pull("up")
             came = run.end(MOST_SECONDS)
         tell(f"{name}, {movers} movers", came, LIST[0])
-        state = "is still there" if os.path.ismount(here) else f"is one of this host, with {len(os.listdir(here))} files"
-        print(f"    {time.monotonic() - before:.2f} s after the cut; the folder of sshfs {state}", flush=True)
+        print(f"    {time.monotonic() - before:.2f} s after the cut; the folder of sshfs {state_of(here)}", flush=True)
         if hosts.relays.poll() is not None:
             hosts.begin_relay()
     emptied(here)
