@@ -22,22 +22,19 @@ NOTHING = "int main() { return 0; }"
 ROOM = 12
 
 
-def walked_list():
-    nodes, walks = 6_000, 60
+def walked_list(nodes=6_000, walks=60):
     return walks * sum(range(nodes)), nodes, (
         f"struct node {{ int v; struct node* next; }};\nint main() {{ struct node* l = NULL; for (int i = 0; i < {nodes}; i++) {{ struct node* n = alloc(struct node);"
         f" n->v = i; n->next = l; l = n; }} int s = 0; for (int k = 0; k < {walks}; k++) {{ struct node* p = l; while (p != NULL) {{ s += p->v; p = p->next; }} }} return s; }}")
 
 
-def scanned_array():
-    ints, scans = 256_000, 4
+def scanned_array(ints=256_000, scans=4):
     return scans * sum(i % 100 for i in range(ints)), ints // 64, (
         f"int main() {{ int[] a = alloc_array(int, {ints}); for (int i = 0; i < {ints}; i++) {{ a[i] = i % 100; }} int s = 0;"
         f" for (int k = 0; k < {scans}; k++) {{ for (int i = 0; i < {ints}; i++) {{ s += a[i]; }} }} return s; }}")
 
 
-def sieve():
-    most = 128_000
+def sieve(most=128_000):
     out = bytearray(most)
     for i in range(2, most):
         if not out[i]:
@@ -56,8 +53,7 @@ def product():
         " int c = 0; for (int k = 0; k < n; k++) { c += a[i][k] * b[k][j]; } s += c; } } return s; }")
 
 
-def hash_table():
-    keys, buckets, rounds = 4_000, 4_096, 8
+def hash_table(keys=4_000, buckets=4_096, rounds=8):
     found = rounds * keys
     return found, keys + buckets // 64, (
         f"struct entry {{ int key; struct entry* next; }};\nint main() {{ struct entry*[] t = alloc_array(struct entry*, {buckets}); for (int i = 0; i < {keys}; i++) {{"
@@ -66,13 +62,12 @@ def hash_table():
         " return found; }")
 
 
-def search_tree():
-    nodes, looks = 4_001, 12_000
-    present = {i * 1_009 % nodes * 2 for i in range(nodes)}
+def search_tree(nodes=4_001, step=1_009, looks=12_000):
+    present = {i * step % nodes * 2 for i in range(nodes)}
     found = sum(1 for k in range(looks) if k * 37 % (2 * nodes) in present)
     return found, nodes + 1, (
         "struct node { int key; struct node* left; struct node* right; };\nint main() { struct node* root = NULL;"
-        f" for (int i = 0; i < {nodes}; i++) {{ int key = i * 1009 % {nodes} * 2; struct node* n = alloc(struct node); n->key = key; if (root == NULL) {{ root = n; }} else {{"
+        f" for (int i = 0; i < {nodes}; i++) {{ int key = i * {step} % {nodes} * 2; struct node* n = alloc(struct node); n->key = key; if (root == NULL) {{ root = n; }} else {{"
         " struct node* p = root; bool put = false; while (!put) { if (key < p->key) { if (p->left == NULL) { p->left = n; put = true; } else { p = p->left; } }"
         " else { if (p->right == NULL) { p->right = n; put = true; } else { p = p->right; } } } } } int found = 0;"
         f" for (int k = 0; k < {looks}; k++) {{ int key = k * 37 % {2 * nodes}; struct node* p = root; bool stop = false; while (p != NULL && !stop) {{"
