@@ -25,7 +25,7 @@ abbrev pub shown_others : Finished → List ℕ
 shown_others f = shown_moves f ++ shown_calls f
 
 -- the line of program number k
-abbrev pub program_line : ℕ → Finished → List ℕ
+unfoldable pub program_line : ℕ → Finished → List ℕ
 program_line k f = shown_work k f ++ shown_others f
 
 -- the lines of several, from number k on

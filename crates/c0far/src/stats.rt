@@ -57,6 +57,7 @@ fn write_others<E: Stream>(err: &mut E, one: &Finished) -> Result<(), Failed>
 }
 
 /// Writes the line of a program.
+#[tactic(auto, unfolding(crate::specs::Stats::program_line))]
 fn write_program<E: Stream>(err: &mut E, number: u64, one: &Finished) -> Result<(), Failed>
     ensures { IsWritten (writes E.contents E.failures err.old err.new) (program_line number one.now) result }
 {

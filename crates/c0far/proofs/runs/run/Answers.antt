@@ -26,7 +26,7 @@ returns-in-Ok-run_asked-clause-done g c = inl (record {
   told = subst (λ (w : Writes). TellsStats c.args.asked.stats c.in-Ok-run_asked.counted.programs.items c.in-Ok-run_asked.counted.movers.items w c.say_finished-status.result c.say_stats.result)
       (after_quiet g.E.Stream.contents g.E.Stream.failures c.args.err.now c.codes_of.new.err c.say_stats.new.err c.in-Ok.ensures.quiet)
       (subst (λ (x : List Finished × List MoverCounts). TellsStats c.args.asked.stats x.0 x.1 (writes g.E.Stream.contents g.E.Stream.failures c.codes_of.new.err c.say_stats.new.err) c.say_finished-status.result c.say_stats.result)
-      (λ i. (c.deref-2.ensures.value i, c.deref-3.ensures.value i)) c.say_stats.ensures);
+      (λ i. (c.deref-in-Ok-run_asked.ensures.value i, c.deref-in-Ok-run_asked-2.ensures.value i)) c.say_stats.ensures);
 })
 
 pub returns-in-Err-run_asked-clause-done : goal.returns-in-Err-run_asked-clause-done
