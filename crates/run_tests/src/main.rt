@@ -10,7 +10,7 @@
 //! - `touches`: a line for each instruction of a run tells what it touches, whether it is blocked, and whether the run has stopped, with plain ones in a row on one
 //!   line; then how the run stopped, and what it printed. `loads` has what its loads are given, in order;
 //! - `session`: an image runs over far memory, `runs` has how many instructions each call of `run` may complete; each call's answer is told, with how
-//!   many instructions were completed, and then what was printed;
+//!   many instructions were completed, and then what was printed; of one that is not verified its fault;
 //! - `schedule`: images run in one world, by lines that stand behind how often each comes; what `replay` answers is told;
 //! - `steps`: the same step by step: behind each line the word of object 0 and its first cell are told, and how many of its steps were taken, unless
 //!   all were. In place of a number may stand `A..B`: the row holds for each number of these, whose first is `A` and whose last is `B`.

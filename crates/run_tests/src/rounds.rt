@@ -10,7 +10,7 @@ use crate::setting::Setting;
 use crate::shelf::Shelf;
 use evacuator::round;
 use object_lock::{MoverSeat, ObjectTable, OwnerSeat};
-use object_moves::take;
+use object_moves::{Moves, take};
 use region::{Region, admit, piece_of};
 use remote_store::RawStore;
 use scope_verifier::Verified;
@@ -34,7 +34,8 @@ fn bring_in<R: Wait, S: RawStore>(
         return false;
     }
     let mut from = 0;
-    let Some(_frame) = take(rt, table, owner, obj, 0, &mut from) else {
+    let mut moves = Moves::none();
+    let Some(_frame) = take(rt, table, owner, obj, 0, &mut from, &mut moves) else {
         return false;
     };
     if written {
