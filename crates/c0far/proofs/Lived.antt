@@ -11,7 +11,7 @@ use Rattle.executor.specs.Ends.{AreFinished}
 use Rattle.live_run.specs.Lives.{EndsLive, IsNotShown}
 use Rattle.live_run.specs.declared.live.LiveError.{LiveError}
 use Rattle.live_run.specs.declared.live.LiveError.TheVariants as live
-use Rattle.program_run.specs.Executed.{IsExecutedOver, refusals_at}
+use Rattle.program_run.specs.Executed.{HasRefused, IsExecutedOver}
 use Rattle.program_run.specs.declared.run.Finished.{Finished}
 use Rattle.region.specs.Admission.{IsAdmitted, IsWithinWork, image_at}
 use Rattle.scope_verifier.specs.declared.acceptance.Verified.{Verified}
@@ -53,7 +53,7 @@ lived_less h r s objects C w (Err e) less ran = tt
 
 -- the end of the one program, over a store that is honest and reliable in fewer cases
 ends_of_one : (h r g s : Type 0) (objects : ℕ) (programs : List Verified) (w : Writes) (f : Finished) → length programs ≡ 1 → (g → h) → (g → s → r) → EndsLive h r objects (image_at programs 0) w f.end
-    → (h → f.refusals ≡ refusals_at f.end.run) → AreFinished g s (objects / length programs) programs (f ∷ [])
+    → (h → HasRefused f.end.run f.refusals) → AreFinished g s (objects / length programs) programs (f ∷ [])
 ends_of_one h r g s objects [] w f one fewer less ran own = absurd (let no : ⊥ = omega arith in no)
 ends_of_one h r g s objects (v ∷ []) w f one fewer less ran own =
     let all : objects / 1 ≡ objects = div-one objects in (
@@ -66,7 +66,7 @@ ends_of_one h r g s objects (v ∷ []) w f one fewer less ran own =
 ends_of_one h r g s objects (v ∷ (u ∷ us)) w f one fewer less ran own = absurd (let no : ⊥ = omega arith in no)
 
 ran_live : (h r honest : Type 0) (m : Memory) (programs : List Verified) (w : Writes) (f : Finished) → length programs ≡ 1 → (IsHonestIn honest m.store → h) → (IsHonestIn honest m.store → IsReliableIn m → r)
-    → EndsLive h r m.objects (image_at programs 0) w f.end → (h → f.refusals ≡ refusals_at f.end.run) → RanLive honest m programs w f
+    → EndsLive h r m.objects (image_at programs 0) w f.end → (h → HasRefused f.end.run f.refusals) → RanLive honest m programs w f
 ran_live h r honest m programs w f one fewer less ran own = record {
   executed = ends_of_one h r (IsHonestIn honest m.store) (IsReliableIn m) m.objects programs w f one fewer less ran own;
   printed = ran.shown.shown;
@@ -77,13 +77,13 @@ ran_live h r honest m programs w f one fewer less ran own = record {
 
 -- a run over a store in memory
 pub lived_in_memory : (honest : Type 0) (m : Memory) (programs : List Verified) (w : Writes) (r : Result Finished LiveError) → length programs ≡ 1
-    → IfOk r (λ f. EndsLive (Unit {0}) (Unit {0} × (m.fail_from ≡ 0)) m.objects (image_at programs 0) w f.end) → IfOk r (λ f. Unit {0} → f.refusals ≡ refusals_at f.end.run) → IfOk r (λ f. RanLive honest m programs w f)
+    → IfOk r (λ f. EndsLive (Unit {0}) (Unit {0} × (m.fail_from ≡ 0)) m.objects (image_at programs 0) w f.end) → IfOk r (λ f. Unit {0} → HasRefused f.end.run f.refusals) → IfOk r (λ f. RanLive honest m programs w f)
 lived_in_memory honest m programs w (Ok f) one ran own = ran_live _ _ honest m programs w f one (λ h. tt) (λ h reliable. (tt, reliable.1)) ran own
 lived_in_memory honest m programs w (Err e) one ran own = tt
 
 -- a run over a store in a folder
 pub lived_in_folder : (honest : Type 0) (m : Memory) (folder : List ℕ) (programs : List Verified) (w : Writes) (r : Result Finished LiveError) → length programs ≡ 1 → m.store ≡ Some folder
-    → IfOk r (λ f. EndsLive honest (⊥ × (m.fail_from ≡ 0)) m.objects (image_at programs 0) w f.end) → IfOk r (λ f. honest → f.refusals ≡ refusals_at f.end.run) → IfOk r (λ f. RanLive honest m programs w f)
+    → IfOk r (λ f. EndsLive honest (⊥ × (m.fail_from ≡ 0)) m.objects (image_at programs 0) w f.end) → IfOk r (λ f. honest → HasRefused f.end.run f.refusals) → IfOk r (λ f. RanLive honest m programs w f)
 lived_in_folder honest m folder programs w (Ok f) one is ran own =
     ran_live _ _ honest m programs w f one (λ h. subst (IsHonestIn honest) is h) (λ h reliable. absurd (let no : ⊥ = cc (reliable.0, is) in no)) ran own
 lived_in_folder honest m folder programs w (Err e) one is ran own = tt

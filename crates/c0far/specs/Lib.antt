@@ -10,3 +10,4 @@ pub mod Runs
 pub mod Shown
 pub mod Stats
 pub mod Statuses
+pub mod Wants

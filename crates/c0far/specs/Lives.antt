@@ -1,5 +1,5 @@
 -- What `run --live` does.
-use Rattle.std.specs.Prelude.{◌≡◌, ◌⊎◌, ℕ, List, [], ◌∷◌, ◌++◌}
+use Rattle.std.specs.Prelude.{◌≡◌, ◌⊎◌, ℕ, List, [], ◌∷◌, ◌++◌, length}
 use Rattle.std.specs.Io.KnownBytes.{Appends}
 use Rattle.cells.specs.declared.ending.Ended.{Ended}
 use Rattle.clap.specs.Words.{Text}
@@ -17,8 +17,8 @@ use Rattle.c0far.specs.FileTexts.{Known}
 use Rattle.c0far.specs.NoCode.{LacksCode, LacksMemory}
 use Rattle.c0far.specs.Runs.{HasRun, IsHonestIn, IsNotRun, RanOver}
 use Rattle.c0far.specs.Shown.{shown_rest}
-use Rattle.c0far.specs.Stats.{TellsStats}
 use Rattle.c0far.specs.Statuses.{run_status}
+use Rattle.c0far.specs.Wants.{TellsMore, share_of}
 
 -- A program ran to this end over this memory, and something was written while it ran: over an honest store just its output
 pub record RanLive (honest : Type 0) (memory : Memory) (programs : List Verified) (out : Writes) (finished : Finished) : Type 0 where
@@ -43,13 +43,13 @@ pub record IsShownLive (honest : Type 0) (memory : Memory) (end : Ended) (out : 
   pub sound : NoneFailed out
   pub own : status ≡ run_status end.run
 
--- A program ran to its end, as it is asked for: it was shown as it came, or one write failed; and where it was asked for it is told what was counted of it
+-- A program ran to its end, as it is asked for: it was shown as it came, or one write failed; and where it was asked for it is told what it wanted, and what was counted of it
 pub record IsEndedLive (honest : Type 0) (asked : Started) (programs : List Verified) (out err : Writes) (result : ℕ) : Type 0 where
   pub finished : Finished
   pub executed : RanOver honest asked.memory programs (finished ∷ [])
   pub status : ℕ
   pub shown : IsShownLive honest asked.memory finished.end out status ⊎ ((status ≡ 2) × OneFailed out)
-  pub told : TellsStats asked.stats (finished ∷ []) [] err status result
+  pub told : TellsMore asked.explains asked.stats (share_of asked.memory.objects (length programs)) (finished ∷ []) [] err status result
 
 -- in what follows folders are honest where h holds, this is asked for this file, and files hold this
 module _ (h : Type 0) (asked : Started) (file : Text) (held : Text → Known) where

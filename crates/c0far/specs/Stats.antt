@@ -1,11 +1,10 @@
 -- The table of what was counted.
-use Rattle.std.specs.Prelude.{◌≡◌, ℕ, suc, Bool, true, false, List, [], ◌∷◌, ◌++◌, codes, decimal}
+use Rattle.std.specs.Prelude.{ℕ, suc, List, [], ◌∷◌, ◌++◌, codes, decimal}
 use Rattle.executor.specs.declared.counts.Evacuated.{Evacuated}
 use Rattle.executor.specs.declared.counts.Fetched.{Fetched}
 use Rattle.executor.specs.declared.counts.MoverCounts.{MoverCounts}
 use Rattle.executor.specs.declared.counts.MoverCounts.TheVariants as mover
 use Rattle.program_run.specs.declared.run.Finished.{Finished}
-use Rattle.streams.specs.Streams.{IsQuiet, Says, Writes}
 use Rattle.c0far.specs.Shown.{newline}
 
 -- of program number k: how many instructions it completed, how many turns it had, how many objects it allocated
@@ -18,7 +17,7 @@ shown_moves f = codes ", opened " ++ (decimal f.counts.opened ++ (codes ", broug
 
 -- how many calls of the store it made, and how many of them were refused; how many hints it gave, and how many of them were dropped
 abbrev pub shown_calls : Finished → List ℕ
-shown_calls f = codes ", calls " ++ (decimal f.counts.calls ++ (codes ", failed " ++ (decimal f.refusals ++ (codes ", hints " ++ (decimal f.counts.hints ++ (codes ", dropped " ++ (decimal f.counts.dropped ++ newline)))))))
+shown_calls f = codes ", calls " ++ (decimal f.counts.calls ++ (codes ", failed " ++ (decimal f.refusals.count ++ (codes ", hints " ++ (decimal f.counts.hints ++ (codes ", dropped " ++ (decimal f.counts.dropped ++ newline)))))))
 
 -- what it did beside its instructions
 abbrev pub shown_others : Finished → List ℕ
@@ -51,8 +50,3 @@ mover_lines e q (mover.Fetches x ∷ ms) = fetcher_line q x ++ mover_lines e (su
 -- the table: a line for each program, and then one for each mover
 abbrev pub stats_text : List Finished → List MoverCounts → List ℕ
 stats_text programs movers = program_lines 0 programs ++ mover_lines 0 0 movers
-
--- The table was told where it was asked for, and the command answers so, or one write failed, and it answers 2; where it was not asked for, nothing was told
-abbrev pub TellsStats : Bool → List Finished → List MoverCounts → Writes → ℕ → ℕ → Type 0
-TellsStats false programs movers err status result = (result ≡ status) × IsQuiet err
-TellsStats true programs movers err status result = Says err (stats_text programs movers) status result

@@ -13,6 +13,7 @@ mod replays;
 mod runs;
 pub mod say;
 mod stats;
+mod wants;
 
 pub use command_line::{line, words};
 pub use laws::{live_shows_the_same, replays_never_fail};

@@ -3,7 +3,7 @@ ghost use Rattle.std.specs.Prelude.{◌≡◌, ◌+◌, ℕ, IfErr, IfOk, List, 
 ghost use Rattle.c0far.specs.Lives.{IsBroken, RanLive, RunsLive};
 ghost use Rattle.command_line.specs.Shell.{memory_of, started_of};
 ghost use Rattle.live_run.specs.Lives.{EndsLive, IsNotShown};
-ghost use Rattle.program_run.specs.Executed.{refusals_at};
+ghost use Rattle.program_run.specs.Executed.{HasRefused};
 ghost use Rattle.region.specs.Admission.{IsAdmitted, IsWithinWork, image_at};
 ghost use Rattle.streams.specs.Streams.{writes};
 ghost use Rattle.world_semantics.specs.Pieces.{piece_of as first_piece};
@@ -12,7 +12,7 @@ use crate::code::codes_of;
 use crate::files::Files;
 use crate::runs::fits_asked;
 use crate::say::{REFUSED, say_admission, say_rest};
-use crate::stats::say_stats;
+use crate::wants::{say_more, share_of};
 use command_line::words::Run;
 use file_store::FileStores;
 use live_run::{Finished, LiveError, run_live_counted};
@@ -36,7 +36,7 @@ fn live_with<W: Wait, M: Stores + Drop, O: Stream>(
     requires one { length programs.items ≡ 1 }
     requires makes { M.makes stores (first_piece (image_at programs.items) + 3) }
     ensures ended { IfOk result (λ f. EndsLive M.S.honest M.S.reliable asked.entry.memory.objects (image_at programs.items 0) (writes O.contents O.failures out.old out.new) f.end) }
-    ensures own { IfOk result (λ f. M.S.honest → f.refusals ≡ refusals_at f.end.run) }
+    ensures own { IfOk result (λ f. M.S.honest → HasRefused f.end.run f.refusals) }
     ensures broken { IfErr result (λ error. IsBroken asked.entry programs.items (writes O.contents O.failures out.old out.new) error) }
 {
     let config = Config {
@@ -63,7 +63,7 @@ fn live_over<W: Wait, M: Stores + Drop, O: Stream>(
     requires one { length programs.items ≡ 1 }
     requires makes { M.makes stores (first_piece (image_at programs.items) + 3) }
     ensures ended { IfOk result (λ f. EndsLive M.S.honest (M.S.reliable × (asked.entry.memory.fail_from ≡ 0)) asked.entry.memory.objects (image_at programs.items 0) (writes O.contents O.failures out.old out.new) f.end) }
-    ensures own { IfOk result (λ f. M.S.honest → f.refusals ≡ refusals_at f.end.run) }
+    ensures own { IfOk result (λ f. M.S.honest → HasRefused f.end.run f.refusals) }
     ensures broken { IfErr result (λ error. IsBroken asked.entry programs.items (writes O.contents O.failures out.old out.new) error) }
 {
     if asked.memory.fail_from == 0 {
@@ -137,10 +137,11 @@ pub fn run_live<W: Wait, F: Files, O: Stream, E: Stream>(
         Ok(programs) => programs,
         Err(status) => return status,
     };
+    let share = share_of(asked.memory.objects, programs.len());
     match live_asked(alloc, rt, programs, asked, files, out) {
         Ok(finished) => {
             let status = say_rest(out, &finished.end);
-            say_stats(err, asked.stats, from_ref(&finished), &[], status)
+            say_more(err, asked, share, from_ref(&finished), &[], status)
         }
         Err(LiveError::NotRun(fault)) => say_admission(err, fault),
         Err(LiveError::Unwritten) => REFUSED,

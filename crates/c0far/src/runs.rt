@@ -10,7 +10,7 @@ ghost use Rattle.streams.specs.Streams.{writes};
 use crate::code::codes_of;
 use crate::files::Files;
 use crate::say::{say_admission, say_finished};
-use crate::stats::say_stats;
+use crate::wants::{say_more, share_of};
 use command_line::words::Run;
 use executor::{Counted, OpenGate, run_all_counted};
 use file_store::FileStores;
@@ -142,10 +142,18 @@ pub fn run<W: Wait + Threads + Clock + Sync, F: Files, O: Stream, E: Stream>(
         Ok(programs) => programs,
         Err(status) => return status,
     };
+    let share = share_of(asked.memory.objects, programs.len());
     match run_asked(alloc, rt, programs, asked, files) {
         Ok(counted) => {
             let status = say_finished(out, &counted.programs);
-            say_stats(err, asked.stats, &counted.programs, &counted.movers, status)
+            say_more(
+                err,
+                asked,
+                share,
+                &counted.programs,
+                &counted.movers,
+                status,
+            )
         }
         Err(fault) => say_admission(err, fault),
     }

@@ -1,9 +1,8 @@
 //! The table of what was counted, which is told on the standard error where it is asked for.
 ghost use Rattle.std.specs.Prelude.{◌+◌, ◌<◌, ◌^◌, length};
-ghost use Rattle.c0far.specs.Stats.{TellsStats, evacuator_line, fetcher_line, mover_lines, program_line, program_lines, shown_calls, shown_moves, shown_others, shown_work, stats_text};
+ghost use Rattle.c0far.specs.Stats.{evacuator_line, fetcher_line, mover_lines, program_line, program_lines, shown_calls, shown_moves, shown_others, shown_work, stats_text};
 ghost use Rattle.streams.specs.Streams.{IsWritten, writes};
 
-use crate::say::after;
 use executor::{Evacuated, Fetched, Finished, MoverCounts};
 use streams::{Failed, Stream};
 
@@ -39,7 +38,7 @@ fn write_calls<E: Stream>(err: &mut E, one: &Finished) -> Result<(), Failed>
     ensures { IsWritten (writes E.contents E.failures err.old err.new) (shown_calls one.now) result }
 {
     let calls = one.counts.calls;
-    let failed = one.refusals;
+    let failed = one.refusals.count;
     let hints = one.counts.hints;
     let dropped = one.counts.dropped;
     writeln!(
@@ -135,7 +134,7 @@ fn write_movers<E: Stream>(
 }
 
 /// Writes the table.
-fn write_stats<E: Stream>(
+pub(crate) fn write_stats<E: Stream>(
     err: &mut E,
     programs: &[Finished],
     movers: &[MoverCounts],
@@ -144,20 +143,4 @@ fn write_stats<E: Stream>(
 {
     write_programs(err, 0, programs)?;
     write_movers(err, 0, 0, movers)
-}
-
-/// Tells the table where it is asked for; the status is this one, unless a write failed.
-pub(crate) fn say_stats<E: Stream>(
-    err: &mut E,
-    asked: bool,
-    programs: &[Finished],
-    movers: &[MoverCounts],
-    status: u8,
-) -> u8
-    ensures { TellsStats asked programs.now movers.now (writes E.contents E.failures err.old err.new) status result }
-{
-    if !asked {
-        return status;
-    }
-    after(write_stats(err, programs, movers), status)
 }

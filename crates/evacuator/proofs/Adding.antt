@@ -26,7 +26,7 @@ evacuates_both {W} {C} s t u a b x y =
       leaves = omega arith;
       commits = omega arith;
       aborts = omega arith;
-      refusals = rises s.refusals t.refusals u.refusals a.failed b.failed x.refusals y.refusals;
+      refusals = rises s.refusals.count t.refusals.count u.refusals.count a.failed b.failed x.refusals y.refusals;
       same = y.same ∙ ap (λ (z : SeatView W C). changed z u) x.same;
     }
 

@@ -29,5 +29,5 @@ pub record Evacuates {W C : Type 0} (s t : SeatView W C) (r : Round) : Type 0 wh
   pub leaves : s.view.hand.leaves ≤ t.view.hand.leaves
   pub commits : s.view.hand.commits ≤ t.view.hand.commits
   pub aborts : t.view.hand.aborts ≡ s.view.hand.aborts + (r.aborted + r.failed)
-  pub refusals : t.refusals ≡ (s.refusals + r.failed) % 18446744073709551616
+  pub refusals : t.refusals.count ≡ (s.refusals.count + r.failed) % 18446744073709551616
   pub same : t ≡ record s { view = with_hand s.view (record s.view.hand { source = t.view.hand.source; copied = t.view.hand.copied; marks = t.view.hand.marks; commits = t.view.hand.commits; aborts = t.view.hand.aborts; leaves = t.view.hand.leaves; past = t.view.hand.past }); taken = t.taken; store = t.store; refusals = t.refusals }

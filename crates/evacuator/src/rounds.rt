@@ -22,7 +22,7 @@ fn visit<S: RawStore>(table: &ObjectTable<S>, seat: &mut MoverSeat<S>, frame: us
     ensures sure { S.reliable → result.failed ≡ 0 }
 {
     // For the proof alone: the count of refusals is one of 64 bits.
-    let _ = seat.refusals();
+    let _ = seat.refusals().count;
     let Some(obj) = table.look(seat, frame) else {
         return Round::none();
     };
@@ -55,7 +55,7 @@ pub fn round_from<S: RawStore>(
     ensures sure { S.reliable → result.failed ≡ 0 }
 {
     // For the proof alone: the count of refusals is one of 64 bits.
-    let _ = seat.refusals();
+    let _ = seat.refusals().count;
     let table = region.table();
     let frames = table.frames();
     let start = if from < frames { from } else { 0 };

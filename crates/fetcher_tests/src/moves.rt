@@ -77,6 +77,6 @@ pub(crate) fn bring_twice<R: Wait, S: RawStore>(
         second,
         third,
         at: read(region.table(), owner, 0),
-        refused: fetcher.refusals(),
+        refused: fetcher.refusals().count,
     })
 }

@@ -5,7 +5,7 @@ ghost use Rattle.std.specs.Arc.{arc_value};
 use crate::failures::Failures;
 use crate::folder::{Folder, MOST_BYTES};
 use cells::Want;
-use remote_store::Failed;
+use remote_store::{Cause, Failed};
 use std::alloc::{AllocError, Global};
 use std::fs::{OpenFile, OpenOptions};
 use std::io::{Read, Write};
@@ -96,6 +96,20 @@ impl<'a, R: Files + AllocGlobal> Clone for DiskFolder<'a, R> {
             place,
             failures: self.failures,
         })
+    }
+}
+
+// What a failure of this kind is told as.
+fn cause_of(kind: io::ErrorKind) -> Cause {
+    match kind {
+        io::ErrorKind::NotFound | io::ErrorKind::NotADirectory => Cause::NotFound,
+        io::ErrorKind::PermissionDenied | io::ErrorKind::ReadOnlyFilesystem => Cause::Denied,
+        io::ErrorKind::StorageFull
+        | io::ErrorKind::QuotaExceeded
+        | io::ErrorKind::FileTooLarge
+        | io::ErrorKind::WriteZero => Cause::Full,
+        io::ErrorKind::AlreadyExists | io::ErrorKind::IsADirectory => Cause::NotRegular,
+        _ => Cause::Untold,
     }
 }
 
@@ -217,9 +231,9 @@ impl<'a, R: Files + AllocGlobal> Folder for DiskFolder<'a, R> {
                 file.written = true;
                 Ok(())
             }
-            Err(_told) => {
+            Err(error) => {
                 file.written = false;
-                Err(self.failures.failed())
+                Err(self.failures.failed(cause_of(error.kind())))
             }
         }
     }
@@ -233,11 +247,11 @@ impl<'a, R: Files + AllocGlobal> Folder for DiskFolder<'a, R> {
         ensures counted { MatchResult result (λ _. self.new.failures.count ≡ self.old.failures.count) (λ _. self.new.failures.count ≡ (self.old.failures.count + 1) % 18446744073709551616) }
     {
         if !file.written {
-            return Err(self.failures.failed());
+            return Err(self.failures.failed(Cause::Untold));
         }
         match read_file(self.rt, &self.place, file.number, bytes) {
             Ok(count) => Ok(count),
-            Err(_told) => Err(self.failures.failed()),
+            Err(error) => Err(self.failures.failed(cause_of(error.kind()))),
         }
     }
 }

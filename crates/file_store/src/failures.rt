@@ -1,7 +1,7 @@
 //! How often calls failed.
 ghost use Rattle.std.specs.Prelude.{◌≡◌, ◌+◌, ◌%◌};
 
-use remote_store::Failed;
+use remote_store::{Cause, Failed};
 
 /// How many calls failed, modulo 2^64.
 #[derive(Clone, Copy)]
@@ -17,11 +17,12 @@ impl Failures {
         Failures { count: 0 }
     }
 
-    /// One more failed.
-    pub(crate) fn failed(&mut self) -> Failed
-        ensures { self.new.count ≡ (self.old.count + 1) % 18446744073709551616 }
+    /// One more failed, for this cause.
+    pub(crate) fn failed(&mut self, cause: Cause) -> Failed
+        ensures count { self.new.count ≡ (self.old.count + 1) % 18446744073709551616 }
+        ensures cause { result.cause ≡ cause }
     {
         self.count = self.count.wrapping_add(1);
-        Failed
+        Failed { cause }
     }
 }

@@ -1,11 +1,12 @@
 //! What a berth promises over files, whatever the folder.
 ghost use Rattle.std.specs.Prelude.{◌≡◌, ℕ, ◌+◌, ◌%◌, ◌<◌, ◌≤◌, List, ◌∷◌, length, Some, IfOk, IfErr, MatchResult};
 ghost use Rattle.remote_store.specs.Kept.{Keeps, Took, RefusedFor, next_version};
+ghost use Rattle.remote_store.specs.Refusing.{RefusesGet, refused_once};
 ghost use Rattle.file_store.specs.FileRows.{row_in, word_bytes};
 
 use crate::folder::Folder;
 use crate::store::FileStore;
-use remote_store::{Berth, Failed, MOST_CELLS, Port, Refusal};
+use remote_store::{Berth, Failed, MOST_CELLS, Port, Refusal, RefusedCall};
 
 /// `Berth::put` over files: where it succeeds, the berth's file holds the bytes of the object, the version, the number of
 /// cells and the cells. `Failed` exactly where a call of this store failed.
@@ -20,7 +21,7 @@ pub fn put_into_file<D: Folder>(
     ensures whole { IfOk result (λ _. D.content berth.new.cell ≡ Some (word_bytes (obj ∷ berth.new.version ∷ length words.now ∷ words.now))) }
     ensures put { IfOk result (λ _. Keeps (length words.now) berth.new.version (row_in (D.content berth.new.cell)) obj words.now) }
     ensures counted { MatchResult result (λ _. (port.new.refusals ≡ port.old.refusals) × (port.new.store.failures.count ≡ port.old.store.failures.count))
-        (λ _. (port.new.refusals ≡ (port.old.refusals + 1) % 18446744073709551616) × (port.new.store.failures.count ≡ (port.old.store.failures.count + 1) % 18446744073709551616)) }
+        (λ failed. (port.new.refusals ≡ refused_once port.old.refusals (RefusedCall.Put obj failed.cause)) × (port.new.store.failures.count ≡ (port.old.store.failures.count + 1) % 18446744073709551616)) }
 {
     berth.put(port, obj, words)?;
     Ok(())
@@ -37,7 +38,7 @@ pub fn get_from_file<D: Folder>(
 ) -> Result<(), Refusal>
     requires { (length words.old ≤ MOST_CELLS) × (0 < berth.now.version) }
     ensures got { IfOk result (λ _. D.honest → (ws : List ℕ) → Keeps (length words.old) berth.now.version (row_in (D.content berth.now.cell)) obj ws → words.new ≡ ws) }
-    ensures refused { IfErr result (λ _. (words.new ≡ words.old) × (port.new.refusals ≡ (port.old.refusals + 1) % 18446744073709551616)) }
+    ensures refused { IfErr result (λ why. (words.new ≡ words.old) × RefusesGet why obj port.old.refusals port.new.refusals) }
     ensures read { MatchResult result (λ _. Took (length words.old) (λ row. D.read_gives port.old.store.folder berth.now.cell (word_bytes row) port.new.store.folder) berth.now.version obj words.new)
         (λ why. RefusedFor (length words.old) (port.new.store.failures.count ≡ (port.old.store.failures.count + 1) % 18446744073709551616)
         (λ row. D.read_gives port.old.store.folder berth.now.cell (word_bytes row) port.new.store.folder × (port.new.store.failures.count ≡ port.old.store.failures.count)) berth.now.version obj why) }

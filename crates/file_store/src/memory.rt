@@ -4,7 +4,7 @@ ghost use Rattle.std.specs.Prelude.{◌≡◌, ◌≢◌, ℕ, ◌+◌, ◌%◌,
 use crate::failures::Failures;
 use crate::folder::{Folder, MOST_BYTES};
 use cells::Want;
-use remote_store::Failed;
+use remote_store::{Cause, Failed};
 use std::alloc::Global;
 
 /// A folder in memory, which may be missing. It is honest: what a file holds stands in the file itself. `failures` counts
@@ -93,12 +93,12 @@ impl Folder for MemFolder {
         ensures counted { MatchResult result (λ _. self.new.failures.count ≡ self.old.failures.count) (λ _. self.new.failures.count ≡ (self.old.failures.count + 1) % 18446744073709551616) }
     {
         if !self.there {
-            return Err(self.failures.failed());
+            return Err(self.failures.failed(Cause::NotFound));
         }
         file.bytes.clear();
         match file.bytes.extend_from_slice(bytes) {
             Ok(()) => Ok(()),
-            Err(_refused) => Err(self.failures.failed()),
+            Err(_refused) => Err(self.failures.failed(Cause::Full)),
         }
     }
 
@@ -113,7 +113,7 @@ impl Folder for MemFolder {
         ensures counted { MatchResult result (λ _. self.new.failures.count ≡ self.old.failures.count) (λ _. self.new.failures.count ≡ (self.old.failures.count + 1) % 18446744073709551616) }
     {
         if !self.there {
-            return Err(self.failures.failed());
+            return Err(self.failures.failed(Cause::NotFound));
         }
         let count = copy_front(&file.bytes, bytes);
         Ok(count)

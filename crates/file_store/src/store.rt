@@ -7,7 +7,7 @@ use crate::bytes::{put_words, take_words};
 use crate::failures::Failures;
 use crate::folder::{Folder, MOST_BYTES};
 use cells::Want;
-use remote_store::{Failed, MOST_WORDS, RawStore, Stores};
+use remote_store::{Cause, Failed, MOST_WORDS, RawStore, Stores};
 use std::alloc::Global;
 
 /// Room for the bytes of the longest row and one more, which tells a file that is longer.
@@ -78,7 +78,7 @@ impl<D: Folder> RawStore for FileStore<D> {
         put_words(w, &mut *bytes);
         match self.folder.write(c, &*bytes) {
             Ok(()) => Ok(()),
-            Err(_) => Err(self.failures.failed()),
+            Err(failed) => Err(self.failures.failed(failed.cause)),
         }
     }
 
@@ -96,11 +96,12 @@ impl<D: Folder> RawStore for FileStore<D> {
         let size = 8 * w.len();
         let mut room = [0; ROOM];
         let bytes = &mut room[..size + 1];
-        let Ok(count) = self.folder.read(c, &mut *bytes) else {
-            return Err(self.failures.failed());
+        let count = match self.folder.read(c, &mut *bytes) {
+            Ok(count) => count,
+            Err(failed) => return Err(self.failures.failed(failed.cause)),
         };
         if count != size {
-            return Err(self.failures.failed());
+            return Err(self.failures.failed(Cause::OtherLength));
         }
         take_words(&bytes[..size], w);
         Ok(())

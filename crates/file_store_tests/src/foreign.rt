@@ -2,7 +2,7 @@
 
 use cells::Want;
 use file_store::Folder;
-use remote_store::Failed;
+use remote_store::{Cause, Failed};
 use std::alloc::Global;
 
 /// A folder whose reads give so many bytes, and of which each write fails.
@@ -31,7 +31,9 @@ impl Folder for Foreign {
 
     fn write(&mut self, _file: &mut (), _bytes: &[u8]) -> Result<(), Failed> {
         self.failures = self.failures.wrapping_add(1);
-        Err(Failed)
+        Err(Failed {
+            cause: Cause::Untold,
+        })
     }
 
     // Bytes 0 and 9 alone are not zero.

@@ -102,7 +102,7 @@ impl<D: Folder> PortWay<D> {
     fn counted(&self) -> Counts {
         Counts::Port(
             self.berth.version,
-            self.port.refusals(),
+            self.port.refusals().count,
             self.port.store().failures(),
         )
     }
@@ -178,7 +178,7 @@ impl Way for BerthWay<FaultStore<FarHeap>> {
     fn counts(&self) -> Counts {
         Counts::Port(
             self.berth.version,
-            self.port.refusals(),
+            self.port.refusals().count,
             self.port.store().failed_calls(),
         )
     }
@@ -247,7 +247,7 @@ impl Way for LyingWay {
         Counts::Lying(
             self.even.version,
             self.odd.version,
-            self.port.refusals(),
+            self.port.refusals().count,
             self.port.store().lies(),
         )
     }
@@ -304,7 +304,7 @@ impl<S: RawStore + Counted> Way for StoreWay<S> {
     fn get(&mut self, _object: usize, words: &mut [u64]) -> Result<(), Refusal> {
         match self.store.read(&self.cell, words) {
             Ok(()) => Ok(()),
-            Err(Failed) => Err(Refusal::Failed),
+            Err(_failed) => Err(Refusal::Failed),
         }
     }
 

@@ -1,7 +1,7 @@
 //! The run of one program, alone in its region.
 ghost use Rattle.live_run.specs.Lives.{EndsLive, IsLeft, IsNotShown};
 ghost use Rattle.object_lock.specs.Fresh.{IsFresh};
-ghost use Rattle.program_run.specs.Executed.{refusals_at};
+ghost use Rattle.program_run.specs.Executed.{HasRefused};
 ghost use Rattle.region.specs.Admission.{IsAdmitted, IsWithinWork, image_at};
 ghost use Rattle.std.specs.Prelude.{◌≡◌, ◌+◌, ◌-◌, ◌<◌, ◌≤◌, IfErr, IfOk, length};
 ghost use Rattle.streams.specs.Streams.{writes};
@@ -42,7 +42,7 @@ fn run_region<S: RawStore, O: Stream, R: Wait>(
     requires program { (0 < seat.view.number) × (seat.view.number ≤ length region.now.programs) }
     requires cells { region.now.table.sizes.cells ≡ (image_at region.now.programs (seat.view.number - 1)).piece }
     ensures ends { IfOk result (λ f. EndsLive S.honest S.reliable (seat.view.high - seat.view.low) (image_at region.now.programs (seat.view.number - 1)) (writes O.contents O.failures out.old out.new) f.end) }
-    ensures own { IfOk result (λ f. S.honest → f.refusals ≡ refusals_at f.end.run) }
+    ensures own { IfOk result (λ f. S.honest → HasRefused f.end.run f.refusals) }
     ensures left { IfErr result (λ error. IsLeft (writes O.contents O.failures out.old out.new) error) }
 {
     let Ok((hints, mut passes)) = Hints::new(alloc, region) else {
@@ -72,7 +72,7 @@ pub fn run_live_counted<S: RawStore, M: Stores<S = S> + Drop, O: Stream, R: Wait
     requires one { length programs.items ≡ 1 }
     requires makes { M.makes config.stores (piece_of (image_at programs.items) + 3) }
     ensures ends { IfOk result (λ f. EndsLive S.honest S.reliable config.objects (image_at programs.items 0) (writes O.contents O.failures out.old out.new) f.end) }
-    ensures own { IfOk result (λ f. S.honest → f.refusals ≡ refusals_at f.end.run) }
+    ensures own { IfOk result (λ f. S.honest → HasRefused f.end.run f.refusals) }
     ensures admitted { IfOk result (λ _. IsAdmitted programs.items config.frames config.objects config.evacuators config.fetchers × IsWithinWork config.workers config.quantum) }
     ensures left { IfErr result (λ error. IsNotShown programs.items config.frames config.objects config.evacuators config.fetchers config.workers config.quantum (writes O.contents O.failures out.old out.new) error) }
 {

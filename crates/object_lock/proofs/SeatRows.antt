@@ -7,6 +7,7 @@ use mathlib.Core.Path.{Path}
 use mathlib.Core.Option.{some}
 use lib.ListN.{get_elem?}
 use Rattle.pointer_word.specs.Hands.{empty_handed}
+use Rattle.remote_store.specs.Refusing.{no_refusals}
 use Rattle.remote_store.specs.declared.berth.Berth.{Berth}
 use Rattle.object_lock.specs.Kept.{berth_fits, berth_keeps}
 use Rattle.object_lock.specs.Seats.{View, first_part, next_owner, whole_part, next_mover}
@@ -49,7 +50,7 @@ module _ {W C : Type 0} where
   all_on P xs s a k = All-append P xs (s ∷ []) a (one P s k)
 
   -- a seat that was just made, from what the last seat was
-  made : (t : TableView) (s next : SeatView W C) (v : View) → IsFresh t s → next.table ≡ s.table → next.view ≡ v → v.sizes ≡ s.view.sizes → v.high ≤ s.view.high → v.hand ≡ empty_handed → v.notes ≡ s.view.notes → Path (Option (Berth C)) next.brought None → Path (Option (Berth C)) next.taken None → next.refusals ≡ 0 → IsFresh t next
+  made : (t : TableView) (s next : SeatView W C) (v : View) → IsFresh t s → next.table ≡ s.table → next.view ≡ v → v.sizes ≡ s.view.sizes → v.high ≤ s.view.high → v.hand ≡ empty_handed → v.notes ≡ s.view.notes → Path (Option (Berth C)) next.brought None → Path (Option (Berth C)) next.taken None → next.refusals ≡ no_refusals → IsFresh t next
   made t s next v k table is sizes high hand notes brought taken refusals =
       let w = k.0.2 in let l = k.0.3 in (
         (
@@ -84,7 +85,7 @@ module _ {W C : Type 0} where
       bounded h = let r = room_for share programs k l in let lo = last.2 in let hi = last.3 in let sh = last.4 in
           let x : ℕ = k * share in let y : ℕ = programs * share in let r' : x + share ≤ y = r in let lo' : s.view.low ≡ x = lo in let hi' : s.view.high ≡ y = hi in omega arith
 
-  pub owner_next : (t : TableView) (share programs k : ℕ) (s next : SeatView W C) → IsLastOwner t share programs k s → next.table ≡ s.table → next.view ≡ next_owner s.view → Path (Option (Berth C)) next.brought None → Path (Option (Berth C)) next.taken None → next.refusals ≡ 0
+  pub owner_next : (t : TableView) (share programs k : ℕ) (s next : SeatView W C) → IsLastOwner t share programs k s → next.table ≡ s.table → next.view ≡ next_owner s.view → Path (Option (Berth C)) next.brought None → Path (Option (Berth C)) next.taken None → next.refusals ≡ no_refusals
       → IsLastOwner t share programs (k + 1) next
   owner_next t share programs k s next last table is brought taken refusals = (
     made t s next (next_owner s.view) last.0 table is refl (omega arith) refl refl brought taken refusals,
@@ -99,7 +100,7 @@ module _ {W C : Type 0} where
   mover_done t n s s' last is = subst (IsFreshMover t) (sym is) last.0
 
   -- a mover's seat that was made by this seat
-  pub mover_next : (t : TableView) (s next : SeatView W C) → IsFresh t s → s.view.last ≡ true → next.table ≡ s.table → next.view ≡ next_mover s.view → Path (Option (Berth C)) next.brought None → Path (Option (Berth C)) next.taken None → next.refusals ≡ 0
+  pub mover_next : (t : TableView) (s next : SeatView W C) → IsFresh t s → s.view.last ≡ true → next.table ≡ s.table → next.view ≡ next_mover s.view → Path (Option (Berth C)) next.brought None → Path (Option (Berth C)) next.taken None → next.refusals ≡ no_refusals
       → IsLastMover t (suc s.view.number) next
   mover_next t s next k end table is brought taken refusals = (
     (made t s next (next_mover s.view) k table is refl (omega arith) refl refl brought taken refusals, ap (λ (q : View). q.high) is ∙ sym (ap (λ (q : View). q.low) is)),

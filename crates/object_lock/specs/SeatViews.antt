@@ -3,6 +3,7 @@ use Rattle.std.specs.Prelude.{◌≡◌, ℕ, ◌<◌, ◌≤◌, true, List, []
 use Rattle.atomic_table.specs.Seated.{TableId}
 use Rattle.cells.specs.Pieces.{is_piece}
 use Rattle.remote_store.specs.declared.berth.Berth.{Berth}
+use Rattle.remote_store.specs.declared.port.Refusals.{Refusals}
 use Rattle.object_lock.specs.Seats.{Sizes, View}
 use Rattle.object_lock.specs.Kept.{berth_fits, berth_keeps}
 
@@ -12,7 +13,7 @@ pub record TableView : Type 0 where
   pub sizes : Sizes
 
 -- The table of a seat and its number there, what the seat knows, the berth of the object that it is bringing in, the berth of the object that it is
--- moving out, its way to the store as it is now, and how many puts and gets were refused through its port, modulo 2^64
+-- moving out, its way to the store as it is now, and what was refused through its port
 pub record SeatView (W C : Type 0) : Type 0 where
   pub table : TableId
   pub id : ℕ
@@ -20,7 +21,7 @@ pub record SeatView (W C : Type 0) : Type 0 where
   pub brought : Option (Berth C)
   pub taken : Option (Berth C)
   pub store : W
-  pub refusals : ℕ
+  pub refusals : Refusals
 
 -- The numbers of a table are within the limits, and its frames are of a piece's size
 abbrev pub IsTable : TableView → Type 0

@@ -2,11 +2,12 @@
 ghost use Rattle.std.specs.Prelude.{◌≡◌, ℕ, ◌+◌, ◌%◌, ◌<◌, ◌≤◌, ◌==◌, not, false, Some, IfOk, IsOk, MatchResult, length};
 ghost use Rattle.pointer_word.specs.Hands.{listed};
 ghost use Rattle.remote_store.specs.Kept.{Took, RefusedFor, next_version};
+ghost use Rattle.remote_store.specs.Refusing.{RefusesGet, refused_once};
 ghost use Rattle.object_lock.specs.Kept.{berth_keeps};
 ghost use Rattle.object_lock.specs.SeatViews.{version_of};
 
 use crate::table::Token;
-use remote_store::{Berth, Failed, MOST_CELLS, Port, RawStore, Refusal};
+use remote_store::{Berth, Failed, MOST_CELLS, Port, RawStore, Refusal, Refusals, RefusedCall};
 use std::marker::Model;
 
 /// A mover's seat at a table: its port, and the berths that it has in hand.
@@ -58,8 +59,8 @@ impl<S: RawStore> MoverSeat<S> {
         self.high
     }
 
-    /// How many puts and gets were refused through its port, modulo 2^64.
-    pub fn refusals(&self) -> u64
+    /// How many puts and gets were refused through its port, and the last of these.
+    pub fn refusals(&self) -> Refusals
         ensures { result ≡ self.now.refusals }
     {
         self.port.refusals()
@@ -90,7 +91,7 @@ impl<S: RawStore> MoverSeat<S> {
         ensures got { IfOk result (λ _. S.honest → words.new ≡ self.old.view.hand.promised) }
         ensures sure { S.reliable → IsOk result }
         ensures counted { MatchResult result (λ _. (self.new.refusals ≡ self.old.refusals) × (S.failures self.new.store ≡ S.failures self.old.store))
-            (λ why. (words.new ≡ words.old) × (self.new.refusals ≡ (self.old.refusals + 1) % 18446744073709551616) × (why ≡ Refusal.Failed → S.failures self.new.store ≡ (S.failures self.old.store + 1) % 18446744073709551616)) }
+            (λ why. (words.new ≡ words.old) × RefusesGet why obj self.old.refusals self.new.refusals × (why ≡ Refusal.Failed → S.failures self.new.store ≡ (S.failures self.old.store + 1) % 18446744073709551616)) }
         ensures read { (b : _) × (self.old.brought ≡ Some b) × MatchResult result (λ _. Took (length words.old) (λ row. S.read_gives self.old.store b.cell row self.new.store) b.version obj words.new)
             (λ why. RefusedFor (length words.old) (S.failures self.new.store ≡ (S.failures self.old.store + 1) % 18446744073709551616)
             (λ row. S.read_gives self.old.store b.cell row self.new.store × (S.failures self.new.store ≡ S.failures self.old.store)) b.version obj why) }
@@ -111,7 +112,7 @@ impl<S: RawStore> MoverSeat<S> {
         ensures sure { S.reliable → IsOk result }
         ensures put { IfOk result (λ _. (b : _) × (self.new.taken ≡ Some b) × berth_keeps S.fits S.content self.old.view.sizes.cells b obj words.now) }
         ensures counted { MatchResult result (λ _. (self.new.refusals ≡ self.old.refusals) × (S.failures self.new.store ≡ S.failures self.old.store))
-            (λ _. (self.new.refusals ≡ (self.old.refusals + 1) % 18446744073709551616) × (S.failures self.new.store ≡ (S.failures self.old.store + 1) % 18446744073709551616)) }
+            (λ failed. (self.new.refusals ≡ refused_once self.old.refusals (RefusedCall.Put obj failed.cause)) × (S.failures self.new.store ≡ (S.failures self.old.store + 1) % 18446744073709551616)) }
     {
         match &mut self.taken {
             Some(berth) => berth.put(&mut self.port, obj, words),

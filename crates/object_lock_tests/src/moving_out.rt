@@ -142,13 +142,13 @@ fn gives_up<S: RawStore>(table: &ObjectTable<S>, mover: &mut MoverSeat<S>, tape:
     requires idle { IsIdle table.now mover.old }
     ensures { IsIdle table.now mover.new }
 {
-    tape.number(mover.refusals());
+    tape.number(mover.refusals().count);
     if !mark(table, mover, 0, 2) {
         return;
     }
     let done = put(table, mover, 0, 2);
     tape.did(done);
-    tape.number(mover.refusals());
+    tape.number(mover.refusals().count);
     if done {
         give_up_put(table, mover, 0, 2);
     } else {
@@ -174,7 +174,7 @@ pub(crate) fn survives_a_failed_put<S: RawStore>(
     let done = read_once(table, owner, 0, tape);
     tape.did(done);
     tape.did(move_out(table, mover, 0, 2));
-    tape.number(mover.refusals());
+    tape.number(mover.refusals().count);
     tell_word(table, mover, 0, tape);
 }
 
@@ -310,6 +310,6 @@ pub(crate) fn is_moved_out_and_in<S: RawStore>(
     close(table, owner, 0, 2);
     tell_word(table, owner, 0, tape);
     leaves_clean(table, mover, tape);
-    tape.number(owner.refusals());
-    tape.number(mover.refusals());
+    tape.number(owner.refusals().count);
+    tape.number(mover.refusals().count);
 }

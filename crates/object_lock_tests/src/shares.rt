@@ -29,7 +29,7 @@ fn parts(alloc: Global, programs: u32, config: &Config<FarHeap>, tape: &mut Tape
     for owner in &owners {
         tape.number(owner.low() as u64);
         tape.number(owner.high() as u64);
-        tape.number(owner.refusals());
+        tape.number(owner.refusals().count);
     }
 }
 

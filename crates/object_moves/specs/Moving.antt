@@ -1,6 +1,7 @@
 -- What moving an object out of a frame, and bringing one into a frame, leaves of its mover's seat.
 use Rattle.std.specs.Prelude.{◌≡◌, ℕ, ◌<◌, List, Bool, true, false, Option, Some, None}
 use Rattle.pointer_word.specs.Hands.{Hand, aborting, arriving, committing, leaving, releasing, retreating, told, unclaiming}
+use Rattle.remote_store.specs.declared.port.Refusals.{Refusals}
 use Rattle.object_lock.specs.Plays.{Holds, IsUnheld}
 use Rattle.object_lock.specs.Seats.{note, with_hand, with_note}
 use Rattle.object_lock.specs.SeatViews.{SeatView}
@@ -15,7 +16,7 @@ hand_after M.Stayed x ps = aborting (record x { copied = ps })
 hand_after M.Failed x ps = aborting (record x { copied = ps })
 
 -- a call was refused through the port just where the store failed
-abbrev pub Counts : Type 0 → ℕ → ℕ → Moved → Type 0
+abbrev pub Counts : Type 0 → Refusals → Refusals → Moved → Type 0
 Counts reliable before after M.Left = after ≡ before
 Counts reliable before after M.Stayed = after ≡ before
 Counts reliable before after M.Failed = Refused reliable before after

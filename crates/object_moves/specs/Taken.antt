@@ -1,6 +1,7 @@
 -- What bringing an object into a frame, and moving one out for it, leaves of its owner's seat.
-use Rattle.std.specs.Prelude.{◌≡◌, ℕ, ◌+◌, ◌%◌, ◌<◌, Option, Some, None, List, []}
+use Rattle.std.specs.Prelude.{◌≡◌, ℕ, ◌+◌, ◌%◌, ◌<◌, Option, Some, None, IsSome, List, []}
 use Rattle.pointer_word.specs.Hands.{Hand, claiming, closed, empty_handed, listed, opened, seen, told}
+use Rattle.remote_store.specs.declared.port.Refusals.{Refusals}
 use Rattle.object_lock.specs.Seats.{View, note, with_hand, with_note}
 use Rattle.object_lock.specs.SeatViews.{SeatView}
 
@@ -20,9 +21,9 @@ HasOnly o v = (v.hand.bringing ≡ Some o) × (v.hand.leaving ≡ None) × (v.ha
 abbrev pub MovesOut : ℕ → ℕ → Hand → Type 0
 MovesOut o f x = (x.leaving ≡ Some o) × (x.source ≡ f) × (x.claimed ≡ None) × (x.freed ≡ None)
 
--- one call more was refused through the port, modulo 2^64, which a reliable store never does
-abbrev pub Refused : Type 0 → ℕ → ℕ → Type 0
-Refused reliable before after = (after ≡ (before + 1) % 18446744073709551616) × (reliable → ⊥)
+-- one call more was refused through the port, modulo 2^64, which a reliable store never does; which one is told
+abbrev pub Refused : Type 0 → Refusals → Refusals → Type 0
+Refused reliable before after = (after.count ≡ (before.count + 1) % 18446744073709551616) × IsSome after.last × (reliable → ⊥)
 
 -- of a seat only the mover's hand changed, the berth that is moved out, its way to the store, and the count of what was refused
 abbrev pub HandOnly : {W C : Type 0} → SeatView W C → SeatView W C → Type 0

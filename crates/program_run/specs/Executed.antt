@@ -1,5 +1,5 @@
 -- How the run of an image ends.
-use Rattle.std.specs.Prelude.{◌≡◌, ◌<◌, ◌≤◌, ◌+◌, ℕ, true, List, Some, None}
+use Rattle.std.specs.Prelude.{◌≡◌, ◌<◌, ◌≤◌, ◌+◌, ℕ, true, List, Some, None, IsSome}
 use Rattle.cells.specs.declared.ending.Run.{Run}
 use Rattle.cells.specs.declared.ending.Run.TheVariants.{Running, Stopped, Wanted}
 use Rattle.cells.specs.declared.ending.Ended.{Ended}
@@ -13,6 +13,8 @@ use Rattle.code_form.specs.Growth.{may_grow, rest_of}
 use Rattle.code_form.specs.Placed.{next_object, pieces}
 use Rattle.code_form.specs.Touches.{touch_of}
 use Rattle.code_form.specs.declared.touch.Touch.TheVariants.{Allocs}
+use Rattle.remote_store.specs.Refusing.{no_refusals}
+use Rattle.remote_store.specs.declared.port.Refusals.{Refusals}
 use Rattle.session.specs.State.{Caused, CompletesUpTo, IsGoing, State}
 use Rattle.program_run.specs.declared.run.Finished.{Finished}
 
@@ -42,8 +44,8 @@ EndsAs reliable objects C c Running = ⊥
 EndsAs reliable objects C c (Stopped x) = stop_of c ≡ Some (stop_read x)
 EndsAs reliable objects C c (Wanted w) = (stop_of c ≡ None) × WantsFor reliable objects C c w
 
--- a session at its end, of which so many calls had been refused at its beginning: its program has stopped so, or wants this for a cause
-abbrev pub IsOver : Type 0 → ℕ → State → Run → Type 0
+-- a session at its end, of which these calls had been refused at its beginning: its program has stopped so, or wants this for a cause
+abbrev pub IsOver : Type 0 → Refusals → State → Run → Type 0
 IsOver reliable before t Running = ⊥
 IsOver reliable before t (Stopped x) = stop_of t.core ≡ Some (stop_read x)
 IsOver reliable before t (Wanted w) = (stop_of t.core ≡ None) × Caused reliable before t w
@@ -66,15 +68,15 @@ pub record IsExecutedOver (reliable : Type 0) (objects : ℕ) (C : Image) (e : E
 abbrev pub IsExecuted : ℕ → Image → Ended → Type 0
 IsExecuted objects C e = IsExecutedOver (Unit {0}) objects C e
 
--- how many calls are refused through the port of a program that runs or ends so: one where it wants the store, else none
-abbrev pub refusals_at : Run → ℕ
-refusals_at Running = 0
-refusals_at (Stopped x) = 0
-refusals_at (Wanted NoObjects) = 0
-refusals_at (Wanted OutOfMemory) = 0
-refusals_at (Wanted StoreFailed) = 1
+-- what was refused through the port of a program that runs or ends so: one call, which is told, where it wants the store, and else none
+abbrev pub HasRefused : Run → Refusals → Type 0
+HasRefused Running r = r ≡ no_refusals
+HasRefused (Stopped x) r = r ≡ no_refusals
+HasRefused (Wanted NoObjects) r = r ≡ no_refusals
+HasRefused (Wanted OutOfMemory) r = r ≡ no_refusals
+HasRefused (Wanted StoreFailed) r = (r.count ≡ 1) × IsSome r.last
 
--- The same of an end that is told with the number of calls that were refused through the program's own port: one was, exactly where the program wants the store
+-- The same of an end that is told with what was refused through the program's own port: one call was, exactly where the program wants the store
 pub record IsFinishedOver (reliable : Type 0) (objects : ℕ) (C : Image) (f : Finished) : Type 0 where
   pub executed : IsExecutedOver reliable objects C f.end
-  pub own : f.refusals ≡ refusals_at f.end.run
+  pub own : HasRefused f.end.run f.refusals

@@ -4,24 +4,26 @@ use Rattle.cells.specs.declared.ending.Run.{Run}
 use Rattle.cells.specs.declared.ending.Run.TheVariants.{Running, Stopped, Wanted}
 use Rattle.cells.specs.declared.ending.Want.TheVariants.{StoreFailed}
 use Rattle.session.specs.State.{CompletesUpTo, IsAt, IsGoing, State}
+use Rattle.remote_store.specs.Refusing.{no_refusals}
+use Rattle.remote_store.specs.declared.port.Refusals.{Refusals}
 use Rattle.scope_verifier.specs.declared.acceptance.Verified.{Verified}
-use Rattle.program_run.specs.Executed.{IsOver, refusals_at}
+use Rattle.program_run.specs.Executed.{HasRefused, IsOver}
 use Rattle.program_run.specs.declared.run.Turn.{Turn}
 use Rattle.program_run.specs.declared.run.Turn.TheVariants as turn
 
--- a program that is run: the programs of its region, its number, how many objects it has, how many instructions it completed, how many calls were refused through its own port, what it printed, and whether its run is over
+-- a program that is run: the programs of its region, its number, how many objects it has, how many instructions it completed, what was refused through its own port, what it printed, and whether its run is over
 pub record RunView : Type 0 where
   pub programs : List Verified
   pub number : ℕ
   pub objects : ℕ
   pub completed : ℕ
-  pub refusals : ℕ
+  pub refusals : Refusals
   pub printed : List ℕ
   pub over : Bool
 
 -- the program of this number with so many objects, at its beginning
 abbrev pub begun : List Verified → ℕ → ℕ → RunView
-begun programs k n = record { programs = programs; number = k; objects = n; completed = 0; refusals = 0; printed = []; over = false }
+begun programs k n = record { programs = programs; number = k; objects = n; completed = 0; refusals = no_refusals; printed = []; over = false }
 
 -- What became of a program's turn of n instructions: nothing was done; or they were completed, and it goes on, with no call refused; or its run is over, after
 -- at most so many more. What it printed then is told by itself
@@ -38,9 +40,9 @@ is_over (Wanted w) = true
 
 -- how far a session has come, through whose port nothing was refused at its beginning: it goes on, and nothing is refused yet; or it is at its end
 abbrev pub HasCome : Type 0 → State → Run → Type 0
-HasCome reliable s Running = IsGoing s × (s.refusals ≡ 0)
-HasCome reliable s (Stopped x) = IsOver reliable 0 s (Stopped x)
-HasCome reliable s (Wanted w) = IsOver reliable 0 s (Wanted w)
+HasCome reliable s Running = IsGoing s × (s.refusals ≡ no_refusals)
+HasCome reliable s (Stopped x) = IsOver reliable no_refusals s (Stopped x)
+HasCome reliable s (Wanted w) = IsOver reliable no_refusals s (Wanted w)
 
 -- A session of a verified image, over a table of its pieces, that has come so far; over an honest store a call was refused through its port exactly where it wants
 -- the store, and over one that is reliable, too, it never does
@@ -49,5 +51,5 @@ pub record IsOnRun (honest reliable : Type 0) (s : State) (r : Run) : Type 0 whe
   pub cells : s.view.sizes.cells ≡ s.image.piece
   pub share : s.view.low ≤ s.view.high
   pub come : HasCome reliable s r
-  pub own : honest → s.refusals ≡ refusals_at r
+  pub own : honest → HasRefused r s.refusals
   pub sure : honest → reliable → r ≢ Wanted StoreFailed

@@ -5,9 +5,10 @@ ghost use Rattle.cells.specs.declared.ending.Want.TheVariants.{OutOfMemory, Stor
 ghost use Rattle.cells.specs.Outcomes.{IsPrefix};
 ghost use Rattle.code_form.specs.Code.{output_of};
 ghost use Rattle.object_lock.specs.Fresh.{IsFresh};
-ghost use Rattle.program_run.specs.Executed.{HasRunOn, IsFinishedOver, refusals_at};
+ghost use Rattle.program_run.specs.Executed.{HasRefused, HasRunOn, IsFinishedOver};
 ghost use Rattle.program_run.specs.Runs.{HasTurned, begun};
 ghost use Rattle.region.specs.Admission.{image_at};
+ghost use Rattle.remote_store.specs.Refusing.{no_refusals};
 ghost use Rattle.session.specs.State.{IsAt, IsGoing, SameProgram};
 
 use crate::gate::Gate;
@@ -16,7 +17,7 @@ use code_form::run_laws;
 use hint_queue::{HintPass, Hints};
 use object_lock::OwnerSeat;
 use region::Region;
-use remote_store::RawStore;
+use remote_store::{RawStore, Refusals};
 use session::{Counts, Session};
 use std::alloc::Global;
 use std::marker::Model;
@@ -41,25 +42,25 @@ fn run_on<S: RawStore, W: Wait>(rt: &W, session: &mut Session<'_, S>, quantum: u
     ensures same { SameProgram session.old session.new }
     ensures told { HasRunOn S.reliable quantum session.old session.new result }
     ensures sure { S.honest → S.reliable → result ≢ Wanted StoreFailed }
-    ensures own { S.honest → session.old.refusals ≡ 0 → session.new.refusals ≡ refusals_at result }
+    ensures own { S.honest → session.old.refusals ≡ no_refusals → HasRefused result session.new.refusals }
     ensures grows { S.honest → IsAt session.old → IsPrefix (output_of session.old.core) (output_of session.new.core) }
 {
     run_laws();
     session.run(rt, quantum)
 }
 
-/// How a program ended, and how many calls of the store were refused through its own port, modulo 2^64; and how many turns it had, modulo 2^64, with what its
-/// session did in them beside instructions.
+/// How a program ended, and what was refused through its own port to the store; and how many turns it had, modulo 2^64, with what its session did in them beside
+/// instructions.
 #[derive(Drop)]
 pub struct Finished {
     pub end: Ended,
-    pub refusals: u64,
+    pub refusals: Refusals,
     pub turns: u64,
     pub counts: Counts,
 }
 
 /// A program of a region that is run to its end at its seat. A contract sees the region's programs, the number of this one, how many objects it has, how many
-/// instructions it completed, how many calls were refused through its own port, what it printed, and whether its run is over.
+/// instructions it completed, what was refused through its own port, what it printed, and whether its run is over.
 #[derive(Drop)]
 pub struct ProgramRun<'a, S: RawStore> {
     region: &'a Region<S>,
@@ -158,8 +159,8 @@ impl<'a, S: RawStore> ProgramRun<'a, S> {
         }
     }
 
-    /// What it printed, how it ended, and how many instructions it completed: over an honest store those of the code's run. Beside it, how many calls of the
-    /// store were refused through its own port: over an honest store one where it wants the store, and else none.
+    /// What it printed, how it ended, and how many instructions it completed: over an honest store those of the code's run. Beside it, what was refused through its own port to the
+    /// store: over an honest store one call where it wants the store, and else none.
     pub fn into_finished(self) -> Finished
         requires over { self.over ≡ true }
         ensures end { S.honest → IsFinishedOver S.reliable self.entry.objects (image_at self.entry.programs self.entry.number) result }

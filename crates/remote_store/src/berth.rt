@@ -1,8 +1,9 @@
 //! An object's place in the store.
 ghost use Rattle.std.specs.Prelude.{◌≡◌, ℕ, ◌+◌, ◌%◌, ◌<◌, ◌≤◌, List, length, IfOk, IsOk, MatchResult};
 ghost use Rattle.remote_store.specs.Kept.{Keeps, Took, RefusedFor, next_version};
+ghost use Rattle.remote_store.specs.Refusing.{RefusesGet, refused_once};
 
-use crate::port::{Failed, Port, Refusal};
+use crate::port::{Failed, Port, Refusal, RefusedCall};
 use crate::raw::{HEADER_WORDS, MOST_CELLS, MOST_WORDS, RawStore, USUAL_CELLS, USUAL_WORDS};
 
 /// The store cell of an object, and the version that was put there last. At version 0 nothing was put yet.
@@ -36,7 +37,7 @@ impl<C: Drop> Berth<C> {
         ensures put { IfOk result (λ _. Keeps (length words.now) self.new.version (S.content self.new.cell) obj words.now) }
         ensures sure { S.reliable → IsOk result }
         ensures counted { MatchResult result (λ _. (port.new.refusals ≡ port.old.refusals) × (S.failures port.new.store ≡ S.failures port.old.store))
-            (λ _. (port.new.refusals ≡ (port.old.refusals + 1) % 18446744073709551616) × (S.failures port.new.store ≡ (S.failures port.old.store + 1) % 18446744073709551616)) }
+            (λ failed. (port.new.refusals ≡ refused_once port.old.refusals (RefusedCall.Put obj failed.cause)) × (S.failures port.new.store ≡ (S.failures port.old.store + 1) % 18446744073709551616)) }
     {
         self.version = if self.version == u64::MAX {
             1
@@ -48,11 +49,13 @@ impl<C: Drop> Berth<C> {
         row[1] = self.version;
         row[2] = words.len() as u64;
         row[HEADER_WORDS..].copy_from_slice(words);
-        let written = port.store.write(&mut self.cell, &*row);
-        if written.is_err() {
-            port.refusals = port.refusals.wrapping_add(1);
+        match port.store.write(&mut self.cell, &*row) {
+            Ok(()) => Ok(()),
+            Err(failed) => {
+                port.refusals.add(RefusedCall::Put(obj, failed.cause));
+                Err(failed)
+            }
         }
-        written
     }
 
     /// Puts the object's cells into the berth, under the next version. After a failure nothing is known of what it keeps.
@@ -69,7 +72,7 @@ impl<C: Drop> Berth<C> {
         ensures put { IfOk result (λ _. Keeps (length words.now) self.new.version (S.content self.new.cell) obj words.now) }
         ensures sure { S.reliable → IsOk result }
         ensures counted { MatchResult result (λ _. (port.new.refusals ≡ port.old.refusals) × (S.failures port.new.store ≡ S.failures port.old.store))
-            (λ _. (port.new.refusals ≡ (port.old.refusals + 1) % 18446744073709551616) × (S.failures port.new.store ≡ (S.failures port.old.store + 1) % 18446744073709551616)) }
+            (λ failed. (port.new.refusals ≡ refused_once port.old.refusals (RefusedCall.Put obj failed.cause)) × (S.failures port.new.store ≡ (S.failures port.old.store + 1) % 18446744073709551616)) }
     {
         if words.len() <= USUAL_CELLS {
             let mut buffer = [0; USUAL_WORDS];
@@ -95,18 +98,21 @@ impl<C: Drop> Berth<C> {
         ensures sure { S.reliable → (ws : List ℕ) → Keeps (length words.old) self.now.version (S.content self.now.cell) obj ws → IsOk result }
         ensures got { IfOk result (λ _. S.honest → (ws : List ℕ) → Keeps (length words.old) self.now.version (S.content self.now.cell) obj ws → words.new ≡ ws) }
         ensures counted { MatchResult result (λ _. (port.new.refusals ≡ port.old.refusals) × (S.failures port.new.store ≡ S.failures port.old.store))
-            (λ why. (words.new ≡ words.old) × (port.new.refusals ≡ (port.old.refusals + 1) % 18446744073709551616) × (why ≡ Refusal.Failed → S.failures port.new.store ≡ (S.failures port.old.store + 1) % 18446744073709551616)) }
+            (λ why. (words.new ≡ words.old) × RefusesGet why obj port.old.refusals port.new.refusals × (why ≡ Refusal.Failed → S.failures port.new.store ≡ (S.failures port.old.store + 1) % 18446744073709551616)) }
         ensures read { MatchResult result (λ _. Took (length words.old) (λ row. S.read_gives port.old.store self.now.cell row port.new.store) self.now.version obj words.new)
             (λ why. RefusedFor (length words.old) (S.failures port.new.store ≡ (S.failures port.old.store + 1) % 18446744073709551616)
             (λ row. S.read_gives port.old.store self.now.cell row port.new.store × (S.failures port.new.store ≡ S.failures port.old.store)) self.now.version obj why) }
     {
         let row = &mut buffer[..words.len() + HEADER_WORDS];
-        let Ok(()) = port.store.read(&self.cell, &mut *row) else {
-            port.refusals = port.refusals.wrapping_add(1);
-            return Err(Refusal::Failed);
-        };
+        match port.store.read(&self.cell, &mut *row) {
+            Ok(()) => (),
+            Err(failed) => {
+                port.refusals.add(RefusedCall::Get(obj, failed.cause));
+                return Err(Refusal::Failed);
+            }
+        }
         if row[0] != obj as u64 || row[1] != self.version || row[2] != words.len() as u64 {
-            port.refusals = port.refusals.wrapping_add(1);
+            port.refusals.add(RefusedCall::Wrong(obj));
             return Err(Refusal::Wrong);
         }
         words.copy_from_slice(&row[HEADER_WORDS..]);
@@ -128,7 +134,7 @@ impl<C: Drop> Berth<C> {
         ensures sure { S.reliable → (ws : List ℕ) → Keeps (length words.old) self.now.version (S.content self.now.cell) obj ws → IsOk result }
         ensures got { IfOk result (λ _. S.honest → (ws : List ℕ) → Keeps (length words.old) self.now.version (S.content self.now.cell) obj ws → words.new ≡ ws) }
         ensures counted { MatchResult result (λ _. (port.new.refusals ≡ port.old.refusals) × (S.failures port.new.store ≡ S.failures port.old.store))
-            (λ why. (words.new ≡ words.old) × (port.new.refusals ≡ (port.old.refusals + 1) % 18446744073709551616) × (why ≡ Refusal.Failed → S.failures port.new.store ≡ (S.failures port.old.store + 1) % 18446744073709551616)) }
+            (λ why. (words.new ≡ words.old) × RefusesGet why obj port.old.refusals port.new.refusals × (why ≡ Refusal.Failed → S.failures port.new.store ≡ (S.failures port.old.store + 1) % 18446744073709551616)) }
         ensures read { MatchResult result (λ _. Took (length words.old) (λ row. S.read_gives port.old.store self.now.cell row port.new.store) self.now.version obj words.new)
             (λ why. RefusedFor (length words.old) (S.failures port.new.store ≡ (S.failures port.old.store + 1) % 18446744073709551616)
             (λ row. S.read_gives port.old.store self.now.cell row port.new.store × (S.failures port.new.store ≡ S.failures port.old.store)) self.now.version obj why) }

@@ -3,7 +3,7 @@ ghost use Rattle.std.specs.Prelude.{◌≡◌, ◌≢◌, ℕ, ◌+◌, ◌%◌,
 ghost use Rattle.remote_store.specs.Faults.{FailsAt, MayFail};
 
 use crate::config::Stores;
-use crate::port::Failed;
+use crate::port::{Cause, Failed};
 use crate::raw::RawStore;
 use cells::Want;
 use std::alloc::{AllocError, Global};
@@ -106,7 +106,9 @@ impl<S: RawStore> RawStore for FaultStore<S> {
             (λ _. (MayFail self.old.calls.plan × (self.new.store ≡ self.old.store) × (c.new ≡ c.old)) ⊎ (S.failures self.new.store ≡ (S.failures self.old.store + 1) % 18446744073709551616)) }
     {
         let written = if self.calls.next_fails() {
-            Err(Failed)
+            Err(Failed {
+                cause: Cause::Untold,
+            })
         } else {
             self.store.write(c, w)
         };
@@ -128,7 +130,9 @@ impl<S: RawStore> RawStore for FaultStore<S> {
             (λ _. (MayFail self.old.calls.plan × (self.new.store ≡ self.old.store) × (w.new ≡ w.old)) ⊎ (S.failures self.new.store ≡ (S.failures self.old.store + 1) % 18446744073709551616)) }
     {
         let found = if self.calls.next_fails() {
-            Err(Failed)
+            Err(Failed {
+                cause: Cause::Untold,
+            })
         } else {
             self.store.read(c, w)
         };

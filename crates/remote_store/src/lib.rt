@@ -14,5 +14,5 @@ pub use config::{Config, Stores};
 pub use fault::{FaultPlan, FaultStore, FaultStores};
 pub use heap::{FarCell, FarHeap};
 pub use lying::{Lie, LyingCell, LyingStore, LyingStores};
-pub use port::{Failed, Port, Refusal};
+pub use port::{Cause, Failed, Port, Refusal, Refusals, RefusedCall};
 pub use raw::{HEADER_WORDS, MOST_CELLS, MOST_WORDS, RawStore, USUAL_CELLS};

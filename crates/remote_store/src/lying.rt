@@ -5,7 +5,7 @@ ghost use Rattle.remote_store.specs.Lies.{Answered, is_told, kept_behind, lie_wo
 
 use crate::config::Stores;
 use crate::fault::{FaultPlan, PlannedCalls};
-use crate::port::Failed;
+use crate::port::{Cause, Failed};
 use crate::raw::RawStore;
 use cells::Want;
 use std::alloc::{AllocError, Global};
@@ -171,10 +171,17 @@ impl<S: RawStore> RawStore for LyingStore<S> {
             (λ _. ((self.new.store ≡ self.old.store) × (c.new.cell ≡ c.old.cell)) ⊎ (S.failures self.new.store ≡ (S.failures self.old.store + 1) % 18446744073709551616)) }
     {
         // The copy is made first, so that a write for which there is no memory does not come to the store below.
-        if !keep(&mut c.older, w) || self.store.write(&mut c.cell, w).is_err() {
+        let written = if keep(&mut c.older, w) {
+            self.store.write(&mut c.cell, w)
+        } else {
+            Err(Failed {
+                cause: Cause::Untold,
+            })
+        };
+        if let Err(failed) = written {
             c.older.clear();
             self.failures = self.failures.wrapping_add(1);
-            return Err(Failed);
+            return Err(failed);
         }
         mem::swap(&mut c.last, &mut c.older);
         keep(&mut self.met, w);
@@ -194,10 +201,13 @@ impl<S: RawStore> RawStore for LyingStore<S> {
         ensures cause { MatchResult result (λ _. S.failures self.new.store ≡ S.failures self.old.store) (λ _. S.failures self.new.store ≡ (S.failures self.old.store + 1) % 18446744073709551616) }
     {
         let named = self.reads.next_fails();
-        let Ok(()) = self.store.read(&c.cell, w) else {
-            self.failures = self.failures.wrapping_add(1);
-            return Err(Failed);
-        };
+        match self.store.read(&c.cell, w) {
+            Ok(()) => (),
+            Err(failed) => {
+                self.failures = self.failures.wrapping_add(1);
+                return Err(failed);
+            }
+        }
         if named && tell(self.lie, w, &c.last, &c.older, &self.met) {
             self.lies = self.lies.wrapping_add(1);
         } else {

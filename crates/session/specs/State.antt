@@ -18,9 +18,10 @@ use Rattle.pointer_word.specs.Hands.{latest_of}
 use Rattle.object_lock.specs.Seats.{View, note}
 use Rattle.session.specs.declared.hold.Hold.{Hold}
 use Rattle.object_moves.specs.Taken.{Refused, seat_of}
+use Rattle.remote_store.specs.declared.port.Refusals.{Refusals}
 
 -- A session: its image, where its program is, what each scope holds, the first object of each allocation, the newest first, the next
--- object, what its seat knows, how many calls were refused through its port modulo 2^64, how many instructions were completed, and what it
+-- object, what its seat knows, what was refused through its port, how many instructions were completed, and what it
 -- wants if it wants anything
 pub record State : Type 0 where
   pub image : Image
@@ -29,7 +30,7 @@ pub record State : Type 0 where
   pub firsts : List ℕ
   pub next : ℕ
   pub view : View
-  pub refusals : ℕ
+  pub refusals : Refusals
   pub completed : ℕ
   pub want : Option Want
 
@@ -101,10 +102,10 @@ abbrev pub HasRoom : State → Touch → Type 0
 HasRoom s (touch.Allocs n) = next_object s.view.sizes.cells s.view.low (cells_in s) + pieces s.view.sizes.cells n ≤ s.view.high
 HasRoom s _ = Unit {0}
 
--- Why a want is answered, where so many calls had been refused before. NoObjects: the pieces of the allocation that is next don't fit in
+-- Why a want is answered, where these calls had been refused before. NoObjects: the pieces of the allocation that is next don't fit in
 -- what is left of the share. OutOfMemory: memory was refused to an instruction for which it may have to grow, and an allocation's pieces would fit. StoreFailed: one call was refused through the session's own port;
 -- or none was, and the code is halted, which is never so over an honest store
-abbrev pub Caused : Type 0 → ℕ → State → Want → Type 0
+abbrev pub Caused : Type 0 → Refusals → State → Want → Type 0
 Caused reliable before s NoObjects = (s.refusals ≡ before) × ((n : ℕ) × (next_touch s ≡ touch.Allocs n) × (s.view.high < next_object s.view.sizes.cells s.view.low (cells_in s) + pieces s.view.sizes.cells n))
 Caused reliable before s OutOfMemory = (s.refusals ≡ before) × (may_grow (next_touch s) (rest_of s.core) ≡ true) × HasRoom s (next_touch s)
 Caused reliable before s StoreFailed = Refused reliable before s.refusals ⊎ ((s.refusals ≡ before) × IsHalted s)
@@ -129,5 +130,5 @@ abbrev pub IsUntold : State → State → Run → Type 0
 IsUntold s t r = (t ≡ s) × (has_text (stop_of s.core) ≡ true) × (r ≡ Wanted OutOfMemory)
 
 -- a session at its beginning
-abbrev pub begin : Image → View → ℕ → State
+abbrev pub begin : Image → View → Refusals → State
 begin C v n = record { image = C; core = (code C).start; holds = replicate 4 None; firsts = []; next = v.low; view = v; refusals = n; completed = 0; want = None }

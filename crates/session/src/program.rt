@@ -25,7 +25,7 @@ use code_form::{Cell, Image, Touch, heap_laws};
 use object_lock::{ObjectTable, OwnerSeat};
 use object_moves::{Moves, take};
 use pointer_word::{Word, WordState};
-use remote_store::RawStore;
+use remote_store::{RawStore, Refusals};
 use std::alloc::{AllocError, Global};
 use std::marker::Model;
 use std::sync::Wait;
@@ -118,8 +118,8 @@ impl<'a, S: RawStore> Program<'a, S> {
         self.completed
     }
 
-    /// How many calls of the store were refused through the seat's port, modulo 2^64.
-    pub(crate) fn refusals(&self) -> u64
+    /// How many calls of the store were refused through the seat's port, and the last of these.
+    pub(crate) fn refusals(&self) -> Refusals
         ensures { result ≡ self.now.refusals }
     {
         self.owner.refusals()

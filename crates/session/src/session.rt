@@ -19,7 +19,7 @@ use code_form::{effect_laws, heap_laws, run_laws};
 use hint_queue::{HintPass, Hints};
 use object_lock::{ObjectTable, OwnerSeat};
 use region::Region;
-use remote_store::RawStore;
+use remote_store::{RawStore, Refusals};
 use scope_verifier::Verified;
 use scope_verifier_laws::accepted_is_verified;
 use std::alloc::Global;
@@ -140,8 +140,8 @@ impl<'a, S: RawStore> Session<'a, S> {
         self.program.completed()
     }
 
-    /// How many calls of the store were refused through the session's own port, modulo 2^64.
-    pub fn refusals(&self) -> u64
+    /// How many calls of the store were refused through the session's own port, and the last of these.
+    pub fn refusals(&self) -> Refusals
         ensures { result ≡ self.now.refusals }
     {
         self.program.refusals()

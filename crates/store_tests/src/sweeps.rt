@@ -55,10 +55,10 @@ fn wants_store(one: &Finished) -> bool {
 /// Whether a program that wanted the store had one call refused through its own port, and another none, and ended as this one.
 fn is_right(one: &Finished, whole: &Ended) -> bool {
     if wants_store(one) {
-        return one.refusals == 1;
+        return one.refusals.count == 1 && one.refusals.last.is_some();
     }
     let same = one.end.run == whole.run && one.end.completed == whole.completed;
-    same && one.end.output.as_slice() == whole.output.as_slice() && one.refusals == 0
+    same && one.end.output.as_slice() == whole.output.as_slice() && one.refusals.count == 0
 }
 
 /// What came of a run of these ends, where a program ends as this one if nothing goes wrong.

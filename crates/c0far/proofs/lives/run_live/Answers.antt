@@ -1,4 +1,4 @@
-use Rattle.std.proofs.Common.{List, [], inl, inr, refl, subst}
+use Rattle.std.proofs.Common.{ℕ, List, [], inl, inr, refl, subst}
 use Rattle.command_line.specs.Shell.{compiling_of, memory_of}
 use Rattle.live_run.specs.Lives.{IsNotShown}
 use Rattle.live_run.specs.declared.live.LiveError.{LiveError}
@@ -6,7 +6,7 @@ use Rattle.program_run.specs.declared.run.Finished.{Finished}
 use Rattle.c0far.proofs.Codes.{after_quiet}
 use Rattle.c0far.proofs.Lived.{one_code, shown_live}
 use Rattle.c0far.specs.Runs.{SaysFault}
-use Rattle.c0far.specs.Stats.{TellsStats}
+use Rattle.c0far.specs.Wants.{TellsMore, share_of}
 use Rattle.streams.specs.Streams.{Writes, writes}
 use Rattle.c0far.proofs.lives.run_live.Goals as goal
 
@@ -27,9 +27,10 @@ returns-in-Ok-live_asked-clause-done g c = inl (record {
     status = c.say_rest-status.result;
     shown = shown_live g.O.Stream.contents g.O.Stream.failures g.F.Place.Folder.honest (memory_of c.args.asked.memory) c.in-Ok.programs.items c.args.out.now c.live_asked.new.out c.say_rest-status.new.out c.in-Ok-live_asked.finished
         c.say_rest-status.result c.in-Ok-live_asked.ensures.ended c.say_rest-status.ensures;
-    told = subst (λ (l : List Finished). TellsStats c.args.asked.stats l [] (writes g.E.Stream.contents g.E.Stream.failures c.args.err.now c.say_stats.new.err) c.say_rest-status.result c.say_stats.result) c.from_ref.ensures.value
-        (subst (λ (w : Writes). TellsStats c.args.asked.stats c.from_ref.result.now [] w c.say_rest-status.result c.say_stats.result)
-        (after_quiet g.E.Stream.contents g.E.Stream.failures c.args.err.now c.codes_of.new.err c.say_stats.new.err c.in-Ok.ensures.quiet) c.say_stats.ensures);
+    told = subst (λ (x : ℕ × List Finished). TellsMore c.args.asked.explains c.args.asked.stats x.0 x.1 [] (writes g.E.Stream.contents g.E.Stream.failures c.args.err.now c.say_more.new.err) c.say_rest-status.result c.say_more.result)
+        (λ i. (c.share_of-share.ensures i, c.from_ref.ensures.value i))
+        (subst (λ (w : Writes). TellsMore c.args.asked.explains c.args.asked.stats c.share_of-share.result c.from_ref.result.now [] w c.say_rest-status.result c.say_more.result)
+        (after_quiet g.E.Stream.contents g.E.Stream.failures c.args.err.now c.codes_of.new.err c.say_more.new.err c.in-Ok.ensures.quiet) c.say_more.ensures);
   });
 })
 

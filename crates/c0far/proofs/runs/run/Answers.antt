@@ -1,11 +1,11 @@
-use Rattle.std.proofs.Common.{List, inl, inr, map, refl, subst}
+use Rattle.std.proofs.Common.{ℕ, List, inl, inr, length, map, refl, subst}
 use Rattle.executor.specs.Ends.{end_of}
 use Rattle.executor.specs.declared.counts.MoverCounts.{MoverCounts}
 use Rattle.program_run.specs.declared.run.Finished.{Finished}
 use Rattle.c0far.proofs.Codes.{after_quiet}
 use Rattle.c0far.specs.Runs.{SaysFault}
 use Rattle.c0far.specs.Shown.{ends_status, shown_ends}
-use Rattle.c0far.specs.Stats.{TellsStats}
+use Rattle.c0far.specs.Wants.{TellsMore, share_of}
 use Rattle.streams.specs.Streams.{Says, Writes, writes}
 use Rattle.c0far.proofs.runs.run.Goals as goal
 
@@ -23,10 +23,10 @@ returns-in-Ok-run_asked-clause-done g c = inl (record {
   status = c.say_finished-status.result;
   shown = subst (λ (l : List Finished). Says (writes g.O.Stream.contents g.O.Stream.failures c.args.out.now c.say_finished-status.new.out) (shown_ends (map end_of l)) (ends_status (map end_of l)) c.say_finished-status.result)
       c.deref.ensures.value c.say_finished-status.ensures;
-  told = subst (λ (w : Writes). TellsStats c.args.asked.stats c.in-Ok-run_asked.counted.programs.items c.in-Ok-run_asked.counted.movers.items w c.say_finished-status.result c.say_stats.result)
-      (after_quiet g.E.Stream.contents g.E.Stream.failures c.args.err.now c.codes_of.new.err c.say_stats.new.err c.in-Ok.ensures.quiet)
-      (subst (λ (x : List Finished × List MoverCounts). TellsStats c.args.asked.stats x.0 x.1 (writes g.E.Stream.contents g.E.Stream.failures c.codes_of.new.err c.say_stats.new.err) c.say_finished-status.result c.say_stats.result)
-      (λ i. (c.deref-in-Ok-run_asked.ensures.value i, c.deref-in-Ok-run_asked-2.ensures.value i)) c.say_stats.ensures);
+  told = subst (λ (w : Writes). TellsMore c.args.asked.explains c.args.asked.stats (share_of c.args.asked.memory.objects (length c.in-Ok.programs.items)) c.in-Ok-run_asked.counted.programs.items c.in-Ok-run_asked.counted.movers.items w c.say_finished-status.result c.say_more.result)
+      (after_quiet g.E.Stream.contents g.E.Stream.failures c.args.err.now c.codes_of.new.err c.say_more.new.err c.in-Ok.ensures.quiet)
+      (subst (λ (x : ℕ × List Finished × List MoverCounts). TellsMore c.args.asked.explains c.args.asked.stats x.0 x.1 x.2 (writes g.E.Stream.contents g.E.Stream.failures c.codes_of.new.err c.say_more.new.err) c.say_finished-status.result c.say_more.result)
+      (λ i. (c.share_of-share.ensures i, c.deref-in-Ok-run_asked.ensures.value i, c.deref-in-Ok-run_asked-2.ensures.value i)) c.say_more.ensures);
 })
 
 pub returns-in-Err-run_asked-clause-done : goal.returns-in-Err-run_asked-clause-done
