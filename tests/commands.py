@@ -35,6 +35,8 @@ STOPS = (
     ("assertion", "int main() { assert(false); return 0; }\n", "assertion failed"),
     ("error", 'int main() { error("no more"); return 0; }\n', "error: no more"),
 )
+# two pieces in one frame: the first is put, and is read again when the loop has ended
+READ_AGAIN = '#use <conio>\nint main() { int[] a = alloc_array(int, 65); a[0] = 1; a[64] = 2; println("put"); int s = 0; for (int i = 0; i < 20000000; i++) { s = s + 1; } return a[0] + s; }\n'
 # what is counted, by whose it is
 PROGRAM = ("instructions", "turns", "objects", "opened", "brought", "written", "left", "calls", "failed", "hints", "dropped")
 COUNTED = {"program": PROGRAM, "evacuator": ("rounds", "left", "aborted", "failed"), "fetcher": ("brought", "dropped", "failed")}
@@ -345,6 +347,69 @@ def a_limit_of_the_size_of_files(it):
     it.write("work/b.c0", counted(16))
     told = started_by_the_script(it, "run --frames 4 --evacuators 0 --fetchers 0 --store store b.c0", 100)
     want(told == (3, b"store failed\n", b""), f"run gave {told}")
+    shutil.rmtree(it.path("work/store"))
+    os.makedirs(it.path("work/store"))
+    told = started_by_the_script(it, "run --where --frames 4 --evacuators 0 --fetchers 0 --store store b.c0", 100)
+    want(told == (3, b"store failed\n", b"program 0: store: cannot write object 0: no room is left\n"), f"run --where gave {told}")
+
+
+def what_cannot_be_written_to_a_store(it):
+    """Of sixteen objects that are written in turn the first is the first that makes room. What another program has under its number is neither followed nor replaced."""
+    it.write("b.c0", counted(16))
+    run = "run --where --frames 4 --evacuators 0 --fetchers 0 --store"
+    it.check(*f"{run} none b.c0".split(), status=3, out="store failed\n", err="program 0: store: cannot write object 0: no such file or folder\n")
+    it.check(*f"{run} b.c0 b.c0".split(), status=3, out="store failed\n", err="program 0: store: cannot write object 0: no such file or folder\n")
+    os.makedirs(it.path("folder/0"))
+    os.mkdir(it.path("pipe"))
+    os.mkfifo(it.path("pipe/0"))
+    os.mkdir(it.path("link"))
+    os.symlink("../b.c0", it.path("link/0"))
+    for store in ("folder", "pipe", "link"):
+        it.check(*f"{run} {store} b.c0".split(), status=3, out="store failed\n", err="program 0: store: cannot write object 0: not a regular file\n")
+    os.makedirs(it.path("third/2"))
+    it.check(*f"{run} third b.c0".split(), status=3, out="store failed\n", err="program 0: store: cannot write object 2: not a regular file\n")
+
+
+def changed_while_it_runs(it, change):
+    """What a program gives of whose store the file 0 is changed, while it goes round a loop."""
+    store = it.path("store")
+    shutil.rmtree(store, ignore_errors=True)
+    os.mkdir(store)
+    words = "run --live --where --frames 1 --evacuators 0 --fetchers 0 --store store r.c0"
+    ran = subprocess.Popen([it.program, *words.split()], cwd=it.folder, stdout=subprocess.PIPE, stderr=subprocess.PIPE, stdin=subprocess.DEVNULL, bufsize=0)
+    with ran:
+        watch = threading.Timer(60, ran.kill)
+        watch.start()
+        try:
+            want(ran.stdout.readline() == b"put\n", "the program did not put")
+            ran.send_signal(signal.SIGSTOP)
+            change(os.path.join(store, "0"))
+            ran.send_signal(signal.SIGCONT)
+            rest, err = ran.communicate()
+        finally:
+            watch.cancel()
+            ran.kill()
+    return ran.returncode, rest, err.decode()
+
+
+def what_cannot_be_read_from_a_store(it):
+    """A file that is as it was is read; one that was cut, removed or overwritten is told."""
+    it.write("r.c0", READ_AGAIN)
+
+    def overwrite(path):
+        with open(path, "r+b") as file:
+            file.write(struct.pack("<Q", 5))
+
+    failures = (
+        (lambda path: os.truncate(path, 100), "cannot read object 0: not as long as it was written"),
+        (os.remove, "cannot read object 0: no such file or folder"),
+        (overwrite, "object 0 is not as it was written"),
+    )
+    told = changed_while_it_runs(it, os.stat)
+    want(told == (0, b"result: 20000001\n", ""), f"a file that stays gave {told}")
+    for change, line in failures:
+        told = changed_while_it_runs(it, change)
+        want(told == (3, b"store failed\n", f"program 0: store: {line}\n"), f"{told} is told, and not {line}")
 
 
 def a_full_disk(it):
@@ -359,7 +424,8 @@ def a_full_disk(it):
         it.write("a.c0", SEVEN)
         it.write("b.c0", counted(64))
         it.check("build", "-o", "disk/a.c0i", "a.c0")
-        it.check(*"run --frames 4 --evacuators 0 --fetchers 0 --store disk b.c0".split(), status=3, out="store failed\n")
+        status, out, err = it.run(*"run --where --frames 4 --evacuators 0 --fetchers 0 --store disk b.c0".split())
+        want((status, out) == (3, b"store failed\n") and err.startswith(b"program 0: store: cannot write object ") and err.endswith(b": no room is left\n"), f"run --where gave {out}, {err}")
         with open(it.path("disk/rest"), "wb", buffering=0) as file:
             try:
                 while True:
@@ -430,6 +496,8 @@ TESTS = [
     calls_that_nest,
     movers,
     a_limit_of_the_size_of_files,
+    what_cannot_be_written_to_a_store,
+    what_cannot_be_read_from_a_store,
     a_full_disk,
     output_that_nobody_takes,
     lines_of_a_program_without_an_end,

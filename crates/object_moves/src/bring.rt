@@ -5,11 +5,12 @@ ghost use Rattle.object_lock.specs.Seats.{Owns, note};
 ghost use Rattle.object_moves.specs.Taken.{BringsOr, Claims, ClaimsOne, ClaimsOr, FetchesOr, HandOnly, HasOnly, IsQuiet, Refused, StillBrings, TakesOr};
 
 use crate::arrival::bring_into;
+use crate::moved::StoreRefused;
 use crate::moves::Moves;
 use crate::room::make_room;
 use crate::search::{FEW, find_frame, find_near};
 use object_lock::{Begin, Held, ObjectTable, OwnerSeat};
-use remote_store::{Failed, RawStore};
+use remote_store::RawStore;
 use std::sync::Wait;
 
 /// Claims the frame, which was freed just now, for the object that is being brought in, unless somebody else claims it first.
@@ -44,7 +45,7 @@ fn claim_once<S: RawStore>(
     obj: usize,
     from: usize,
     moves: &mut Moves,
-) -> Result<Option<usize>, Failed>
+) -> Result<Option<usize>, StoreRefused>
     requires table { IsSeat table.now owner.old }
     requires own { Owns owner.old.view obj }
     requires hands { HasOnly obj owner.old.view }
@@ -58,7 +59,7 @@ fn claim_once<S: RawStore>(
     match make_room(table, owner, obj, moves) {
         Ok(None) => Ok(find_frame(table, owner, obj, from)),
         Ok(freed) => Ok(claim_freed(table, owner, obj, freed)),
-        Err(failed) => Err(failed),
+        Err(refused) => Err(refused),
     }
 }
 
@@ -87,7 +88,7 @@ fn claim<R: Wait, S: RawStore>(
     obj: usize,
     from: &mut usize,
     moves: &mut Moves,
-) -> Result<usize, Failed>
+) -> Result<usize, StoreRefused>
     requires table { IsSeat table.now owner.old }
     requires own { Owns owner.old.view obj }
     requires hands { HasOnly obj owner.old.view }
@@ -102,7 +103,7 @@ fn claim<R: Wait, S: RawStore>(
                 return Ok(frame);
             }
             Ok(None) => (),
-            Err(failed) => return Err(failed),
+            Err(refused) => return Err(refused),
         }
     }
     unreachable!()

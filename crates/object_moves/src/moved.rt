@@ -10,3 +10,7 @@ pub enum Moved {
     /// It stayed, as the store refused the put.
     Failed,
 }
+
+/// The store refused a call; the seat tells which.
+#[derive(Clone, Copy, PartialEq, Eq, Debug)]
+pub(crate) struct StoreRefused;

@@ -10,11 +10,11 @@ ghost use Rattle.pointer_word.specs.Asked.{HasNoFrame};
 ghost use Rattle.pointer_word.specs.Ordered.{IsCopied};
 ghost use Rattle.pointer_word.specs.Words.{Here, counted};
 
-use crate::moved::Moved;
+use crate::moved::{Moved, StoreRefused};
 use crate::moves::Moves;
 use crate::search::FEW;
 use object_lock::{MoverSeat, ObjectTable, OwnerSeat};
-use remote_store::{Failed, MOST_CELLS, RawStore, USUAL_CELLS};
+use remote_store::{MOST_CELLS, RawStore, USUAL_CELLS};
 
 /// Copies the cells of the frame, in which the mover has marked the object.
 fn copy<S: RawStore>(
@@ -83,7 +83,7 @@ fn move_by_way_of<S: RawStore>(
     copy(table, mover, obj, frame, &mut *words);
     match mover.put(obj, &*words) {
         Ok(()) => let_go(table, mover, obj, frame),
-        Err(Failed) => {
+        Err(_failed) => {
             table.abort(mover, obj);
             Moved::Failed
         }
@@ -173,7 +173,7 @@ fn move_one_out<S: RawStore>(
     obj: usize,
     many: usize,
     moves: &mut Moves,
-) -> Result<Option<usize>, Failed>
+) -> Result<Option<usize>, StoreRefused>
     requires many { many ≤ table.now.sizes.frames }
     requires table { IsSeat table.now owner.old }
     requires own { Owns owner.old.view obj }
@@ -198,7 +198,7 @@ fn move_one_out<S: RawStore>(
                     Ok(Some(frame))
                 }
                 Moved::Stayed => Ok(None),
-                Moved::Failed => Err(Failed),
+                Moved::Failed => Err(StoreRefused),
             };
         }
     }
@@ -213,7 +213,7 @@ fn make_room_among<S: RawStore>(
     obj: usize,
     many: usize,
     moves: &mut Moves,
-) -> Result<Option<usize>, Failed>
+) -> Result<Option<usize>, StoreRefused>
     requires many { many ≤ table.now.sizes.frames }
     requires table { IsSeat table.now owner.old }
     requires own { Owns owner.old.view obj }
@@ -239,7 +239,7 @@ pub(crate) fn make_room<S: RawStore>(
     owner: &mut OwnerSeat<S>,
     obj: usize,
     moves: &mut Moves,
-) -> Result<Option<usize>, Failed>
+) -> Result<Option<usize>, StoreRefused>
     requires table { IsSeat table.now owner.old }
     requires own { Owns owner.old.view obj }
     requires hands { HasOnly obj owner.old.view }
