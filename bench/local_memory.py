@@ -1,25 +1,29 @@
 #!/usr/bin/env python3
 """What far memory costs: processor time against the part of the heap that is local: local_memory.py PROGRAM FOLDER [RUNS]
 
-Six programs, each with all of its objects in frames, and then with a half, a quarter and so on down to 3 in 100: without movers and with one evacuator and one
-fetcher, over the store in memory; and in part over files of a folder. Each time is the least of RUNS runs (5; over files 1), less that of a program that does
-nothing, and stands beside that with all objects in frames and no mover. Into FOLDER go `local_memory.csv`, with all times, and `local_memory.svg`, the picture:
-the store in memory, with movers. Each run has to print the answer that is computed here. It takes some ten minutes.
+Six programs, each with all of its objects in frames, and then with three quarters, a half, a quarter and so on down to 3 in 100: without movers and with one
+evacuator and one fetcher, over the store in memory and over files of a folder below FOLDER. Each time is the least of RUNS runs (5; over files 1), less that of a
+program that does nothing, and stands beside that with all objects in frames and no mover, and beside what `--stats` counts in the fastest run. Into FOLDER go
+`local_memory.csv`, with all of this, and `local_memory.svg`, the picture: the store in memory, with movers. Each run has to print the answer that is computed here.
+It takes some ten minutes.
 """
 import csv
 import math
 import os
+import re
 import resource
 import subprocess
 import sys
 import tempfile
 import time
 
-PARTS = (100, 50, 25, 12.5, 6.25, 3)
-PARTS_IN_FILES = (100, 12.5)
+PARTS = (100, 75, 50, 25, 12.5, 6.25, 3)
 WAYS = (("memory", 0), ("memory", 1), ("folder", 0), ("folder", 1))
 NOTHING = "int main() { return 0; }"
 ROOM = 12
+# what is counted, and whose line tells it
+COUNTS = (("brought", "program 0"), ("written", "program 0"), ("left", "program 0"), ("calls", "program 0"), ("left", "evacuator 0"), ("brought", "fetcher 0"))
+HEADINGS = ("brought by the program", "written by it", "left clean for it", "its calls of the store", "left by the evacuator", "brought by the fetcher")
 
 
 def walked_list(nodes=6_000, walks=60):
@@ -78,25 +82,32 @@ PROGRAMS = {"list": walked_list, "scan": scanned_array, "sieve": sieve, "product
 
 
 def seconds(program, folder, words, answer):
-    """Processor seconds and seconds of one run, whose answer has to be this."""
+    """Processor seconds and seconds of one run, whose answer has to be this, and what was counted."""
     before, begun = resource.getrusage(resource.RUSAGE_CHILDREN), time.monotonic()
-    ran = subprocess.run([program, "run", "--workers", "1", *words, "a.c0"], cwd=folder, capture_output=True, text=True, check=False)
+    ran = subprocess.run([program, "run", "--stats", "--workers", "1", *words, "a.c0"], cwd=folder, capture_output=True, text=True, check=False)
     took, after = time.monotonic() - begun, resource.getrusage(resource.RUSAGE_CHILDREN)
     if ran.stdout != f"result: {(answer + 2**31) % 2**32 - 2**31}\n":
         sys.exit(f"{' '.join(words)}: {ran.stdout}{ran.stderr}")
-    return after.ru_utime + after.ru_stime - before.ru_utime - before.ru_stime, took
+    return after.ru_utime + after.ru_stime - before.ru_utime - before.ru_stime, took, counted(ran.stderr)
 
 
-def least(program, text, answer, words, runs, store):
-    """The least processor seconds, and the least seconds, of so many runs."""
-    with tempfile.TemporaryDirectory() as folder:
+def counted(table):
+    """The numbers of the table of `--stats` that stand in a row; 0 of a mover that there is not."""
+    lines = dict(line.split(": ", 1) for line in table.splitlines())
+    return [int(re.search(rf"\b{name} (\d+)", lines[of])[1]) if of in lines else 0 for name, of in COUNTS]
+
+
+def least(program, text, answer, words, runs, store, below):
+    """The least processor seconds, and the least seconds, of so many runs, and what the first of these counted; files lie in a folder below this one."""
+    with tempfile.TemporaryDirectory(dir=below) as folder:
         with open(f"{folder}/a.c0", "w") as file:
             file.write(text)
         if store == "folder":
             os.mkdir(f"{folder}/store")
             words = [*words, "--store", "store"]
         took = [seconds(program, folder, words, answer) for _ in range(runs)]
-    return min(it[0] for it in took), min(it[1] for it in took)
+    fastest = min(took, key=lambda it: it[0])
+    return fastest[0], min(it[1] for it in took), fastest[2]
 
 
 def options(objects, part, movers):
@@ -104,18 +115,18 @@ def options(objects, part, movers):
     return ["--frames", str(frames), "--objects", str(objects + ROOM), "--evacuators", str(movers), "--fetchers", str(movers)]
 
 
-def measured(program, runs):
+def measured(program, runs, below):
     """A row for each program, way and part: its seconds, and how many times those of all local they are."""
     rows = []
     for name, made in PROGRAMS.items():
         answer, objects, text = made()
-        start = least(program, NOTHING, 0, options(objects, 100, 0), runs, "memory")[0]
+        start = least(program, NOTHING, 0, options(objects, 100, 0), runs, "memory", below)[0]
         base = None
         for store, movers in WAYS:
-            for part in PARTS if store == "memory" else PARTS_IN_FILES:
-                took, wall = least(program, text, answer, options(objects, part, movers), runs if store == "memory" else 1, store)
+            for part in PARTS:
+                took, wall, counts = least(program, text, answer, options(objects, part, movers), runs if store == "memory" else 1, store, below)
                 base = base or took - start
-                rows.append((name, store, movers, part, f"{took - start:.4f}", f"{wall:.4f}", f"{(took - start) / base:.2f}"))
+                rows.append((name, store, movers, part, f"{took - start:.4f}", f"{wall:.4f}", f"{(took - start) / base:.2f}", *counts))
                 print(*rows[-1], flush=True)
     return rows
 
@@ -156,10 +167,10 @@ def picture(rows):
 def main():
     if len(sys.argv) not in (3, 4) or not os.path.isdir(sys.argv[2]) or not (len(sys.argv) == 3 or (sys.argv[3].isdigit() and int(sys.argv[3]) > 0)):
         sys.exit(__doc__)
-    rows = measured(os.path.abspath(sys.argv[1]), int(sys.argv[3]) if len(sys.argv) == 4 else 5)
+    rows = measured(os.path.abspath(sys.argv[1]), int(sys.argv[3]) if len(sys.argv) == 4 else 5, sys.argv[2])
     with open(f"{sys.argv[2]}/local_memory.csv", "w", newline="") as file:
         writer = csv.writer(file)
-        writer.writerow(("program", "store", "movers of each sort", "part local", "processor seconds", "seconds", "times all local"))
+        writer.writerow(("program", "store", "movers of each sort", "part local", "processor seconds", "seconds", "times all local", *HEADINGS))
         writer.writerows(rows)
     with open(f"{sys.argv[2]}/local_memory.svg", "w") as file:
         file.write(picture([row for row in rows if row[1] == "memory" and row[2] == 1]))

@@ -8,7 +8,7 @@ _c0far_options() {
         check) echo '--level' ;;
         list) echo '--level --piece' ;;
         mean) echo '-d --level --turns' ;;
-        run) echo "-d --level --piece $memory $work --live --stats" ;;
+        run) echo "-d --level --piece $memory $work --live --stats --where" ;;
         replay) echo "-d --level --piece $memory $work --schedule" ;;
     esac
 }

@@ -110,8 +110,8 @@ memory_is f frames objects from o of_frames of_objects of_from told =
     ∙ ap (option_and_then (λ m. option_and_then (λ n. option_map (λ k. over m n k store) calls) many)) of_frames
 
 -- a run
-abbrev pub started : Compiling → Memory → (evacuators fetchers : ℕ) → Work → (stats : Bool) → Started
-started compiling memory evacuators fetchers work stats = record { compiling = compiling; memory = memory; evacuators = evacuators; fetchers = fetchers; work = work; stats = stats }
+abbrev pub started : Compiling → Memory → (evacuators fetchers : ℕ) → Work → (stats explains : Bool) → Started
+started compiling memory evacuators fetchers work stats explains = record { compiling = compiling; memory = memory; evacuators = evacuators; fetchers = fetchers; work = work; stats = stats; explains = explains }
 
 -- what was found of its options tells the work
 pub work_is : (f : Found) (workers quantum : ℕ) → Some workers ≡ short_option (codes "workers") 4 (rows_of f) → Some quantum ≡ short_option (codes "quantum") 1000 (rows_of f)
@@ -121,22 +121,24 @@ work_is f workers quantum of_workers of_quantum =
     ∙ ap (option_and_then (λ w. option_map (λ n. record { workers = w; quantum = n }) (short_option (codes "quantum") 1000 (rows_of f)))) of_workers
 
 -- what was found of its options tells the run
-pub started_is : (f : Found) (t : Compiling) (memory : Memory) (evacuators fetchers : ℕ) (work : Work) (stats : Bool) → Some t ≡ compiling_in (rows_of f) → Some memory ≡ memory_in (rows_of f) → Some evacuators ≡ short_option (codes "evacuators") 1 (rows_of f)
-    → Some fetchers ≡ short_option (codes "fetchers") 1 (rows_of f) → Some work ≡ work_in (rows_of f) → stats ≡ has_flag (codes "stats") (rows_of f)
-    → Some (started t memory evacuators fetchers work stats) ≡ started_in (rows_of f)
-started_is f t memory evacuators fetchers work stats of_compiling of_memory of_evacuators of_fetchers of_work of_stats =
+pub started_is : (f : Found) (t : Compiling) (memory : Memory) (evacuators fetchers : ℕ) (work : Work) (stats explains : Bool) → Some t ≡ compiling_in (rows_of f) → Some memory ≡ memory_in (rows_of f) → Some evacuators ≡ short_option (codes "evacuators") 1 (rows_of f)
+    → Some fetchers ≡ short_option (codes "fetchers") 1 (rows_of f) → Some work ≡ work_in (rows_of f) → stats ≡ has_flag (codes "stats") (rows_of f) → explains ≡ has_flag (codes "where") (rows_of f)
+    → Some (started t memory evacuators fetchers work stats explains) ≡ started_in (rows_of f)
+started_is f t memory evacuators fetchers work stats explains of_compiling of_memory of_evacuators of_fetchers of_work of_stats of_explains =
     let rows : List Row = rows_of f in
     let ahead : Option ℕ = short_option (codes "fetchers") 1 rows in
     let out : Option ℕ = short_option (codes "evacuators") 1 rows in
     let turns : Option Work = work_in rows in
     let over : Option Memory = memory_in rows in
     let told : Bool = has_flag (codes "stats") rows in
-    ap (λ (b : Bool). Some (started t memory evacuators fetchers work b)) of_stats
-    ∙ ap (option_map (λ w. started t memory evacuators fetchers w told)) of_work
-    ∙ ap (option_and_then (λ q. option_map (λ w. started t memory evacuators q w told) turns)) of_fetchers
-    ∙ ap (option_and_then (λ e. option_and_then (λ q. option_map (λ w. started t memory e q w told) turns) ahead)) of_evacuators
-    ∙ ap (option_and_then (λ m. option_and_then (λ e. option_and_then (λ q. option_map (λ w. started t m e q w told) turns) ahead) out)) of_memory
-    ∙ ap (option_and_then (λ x. option_and_then (λ m. option_and_then (λ e. option_and_then (λ q. option_map (λ w. started x m e q w told) turns) ahead) out) over)) of_compiling
+    let why : Bool = has_flag (codes "where") rows in
+    ap (λ (b : Bool). Some (started t memory evacuators fetchers work b explains)) of_stats
+    ∙ ap (λ (b : Bool). Some (started t memory evacuators fetchers work told b)) of_explains
+    ∙ ap (option_map (λ w. started t memory evacuators fetchers w told why)) of_work
+    ∙ ap (option_and_then (λ q. option_map (λ w. started t memory evacuators q w told why) turns)) of_fetchers
+    ∙ ap (option_and_then (λ e. option_and_then (λ q. option_map (λ w. started t memory e q w told why) turns) ahead)) of_evacuators
+    ∙ ap (option_and_then (λ m. option_and_then (λ e. option_and_then (λ q. option_map (λ w. started t m e q w told why) turns) ahead) out)) of_memory
+    ∙ ap (option_and_then (λ x. option_and_then (λ m. option_and_then (λ e. option_and_then (λ q. option_map (λ w. started x m e q w told why) turns) ahead) out) over)) of_compiling
 
 -- a replay
 abbrev pub by : Compiling → Memory → (evacuators fetchers : ℕ) → Work → (schedule : Text) → Replayed

@@ -27,7 +27,8 @@ named name =
     (cond (bytes_eq name (codes "--quantum")) (Some o.Quantum)
     (cond (bytes_eq name (codes "--schedule")) (Some o.Schedule)
     (cond (bytes_eq name (codes "--live")) (Some o.Live)
-    (cond (bytes_eq name (codes "--stats")) (Some o.Stats) None)))))))))))))))
+    (cond (bytes_eq name (codes "--stats")) (Some o.Stats)
+    (cond (bytes_eq name (codes "--where")) (Some o.Where) None))))))))))))))))
 
 -- the name of an option
 abbrev pub name_text : Choice → Text
@@ -47,6 +48,7 @@ name_text o.Quantum = codes "--quantum"
 name_text o.Schedule = codes "--schedule"
 name_text o.Live = codes "--live"
 name_text o.Stats = codes "--stats"
+name_text o.Where = codes "--where"
 
 -- what an option wants behind it, in words
 abbrev pub wanted_text : Choice → Text
@@ -66,12 +68,14 @@ wanted_text o.Quantum = codes "a number below 4,294,967,296"
 wanted_text o.Schedule = codes "a file"
 wanted_text o.Live = codes "no value"
 wanted_text o.Stats = codes "no value"
+wanted_text o.Where = codes "no value"
 
--- an option has a value, but for `-d`, `--live` and `--stats`
+-- an option has a value, but for `-d`, `--live`, `--stats` and `--where`
 abbrev pub takes_value : Choice → Bool
 takes_value o.Checks = false
 takes_value o.Live = false
 takes_value o.Stats = false
+takes_value o.Where = false
 takes_value _ = true
 
 -- the text tells a level of the language
@@ -100,6 +104,7 @@ accepts o.Quantum text = is_some (short_number_in text)
 accepts o.Schedule text = true
 accepts o.Live text = false
 accepts o.Stats text = false
+accepts o.Where text = false
 
 -- the command of this name takes the options of a run, and several files
 abbrev pub is_run_name : Text → Bool
@@ -127,6 +132,7 @@ has_choice name o.Quantum = is_run_name name
 has_choice name o.Schedule = bytes_eq name (codes "replay")
 has_choice name o.Live = bytes_eq name (codes "run")
 has_choice name o.Stats = bytes_eq name (codes "run")
+has_choice name o.Where = bytes_eq name (codes "run")
 
 -- the option without which the command of this name does nothing
 abbrev pub required_in : Text → Option Choice

@@ -36,6 +36,10 @@ live_rule = record (new_rule (codes "live")) { long = Some (codes "live"); actio
 abbrev pub stats_rule : Rule
 stats_rule = record (new_rule (codes "stats")) { long = Some (codes "stats"); action = Some SetTrue }
 
+-- --where
+abbrev pub where_rule : Rule
+where_rule = record (new_rule (codes "where")) { long = Some (codes "where"); action = Some SetTrue }
+
 -- --turns N
 abbrev pub turns_rule : Rule
 turns_rule = record (new_rule (codes "turns")) { long = Some (codes "turns"); required = true; action = Some Set }
@@ -94,10 +98,10 @@ abbrev pub mean_shape : Shape
 mean_shape = (with_rule (with_rule (of_checked_texts (codes "mean")) turns_rule) file_rule).top
 
 -- run [--level L] [-d] [--piece C] [--frames F] [--objects N] [--store DIR] [--fail-from K] [--evacuators E] [--fetchers Q] [--workers W] [--quantum N]
--- [--live] [--stats] FILE...
+-- [--live] [--stats] [--where] FILE...
 abbrev pub run_shape : Shape
 run_shape =
-    (with_rule (with_rule (with_rule (with_work (with_rule (with_rule (with_memory (of_code (codes "run"))) (option_rule (codes "evacuators"))) (option_rule (codes "fetchers")))) live_rule) stats_rule) files_rule).top
+    (with_rule (with_rule (with_rule (with_rule (with_work (with_rule (with_rule (with_memory (of_code (codes "run"))) (option_rule (codes "evacuators"))) (option_rule (codes "fetchers")))) live_rule) stats_rule) where_rule) files_rule).top
 
 -- replay [--level L] [-d] [--piece C] [--frames F] [--objects N] [--store DIR] [--fail-from K] [--evacuators E] [--fetchers Q] [--workers W]
 -- [--quantum N] --schedule S FILE...
@@ -140,7 +144,7 @@ pub record Work : Type 0 where
   pub workers : ℕ
   pub quantum : ℕ
 
--- how programs are run, and whether it is told what was counted
+-- how programs are run, and whether it is told what was counted, and what each program wanted that wanted something
 pub record Started : Type 0 where
   pub compiling : Compiling
   pub memory : Memory
@@ -148,6 +152,7 @@ pub record Started : Type 0 where
   pub fetchers : ℕ
   pub work : Work
   pub stats : Bool
+  pub explains : Bool
 
 -- how programs are replayed
 pub record Replayed : Type 0 where
@@ -248,7 +253,7 @@ work_in rows = option_and_then (λ w. option_map (λ n. record { workers = w; qu
 -- how the rows say that programs are run: beside one evacuator and one fetcher where they tell no other number
 abbrev pub started_in : List Row → Option Started
 started_in rows =
-    option_and_then (λ c. option_and_then (λ m. option_and_then (λ e. option_and_then (λ q. option_map (λ w. record { compiling = c; memory = m; evacuators = e; fetchers = q; work = w; stats = has_flag (codes "stats") rows })
+    option_and_then (λ c. option_and_then (λ m. option_and_then (λ e. option_and_then (λ q. option_map (λ w. record { compiling = c; memory = m; evacuators = e; fetchers = q; work = w; stats = has_flag (codes "stats") rows; explains = has_flag (codes "where") rows })
     (work_in rows)) (short_option (codes "fetchers") 1 rows)) (short_option (codes "evacuators") 1 rows)) (memory_in rows)) (compiling_in rows)
 
 -- the run of the files of the rows, whose output is written when all have ended
@@ -312,7 +317,7 @@ work_of w = record { workers = w.workers; quantum = w.quantum }
 
 -- a run as code has it
 abbrev pub started_of : AskedRun → Started
-started_of r = record { compiling = compiling_of r.compiling; memory = memory_of r.memory; evacuators = r.evacuators; fetchers = r.fetchers; work = work_of r.work; stats = r.stats }
+started_of r = record { compiling = compiling_of r.compiling; memory = memory_of r.memory; evacuators = r.evacuators; fetchers = r.fetchers; work = work_of r.work; stats = r.stats; explains = r.explains }
 
 -- a replay as code has it
 abbrev pub replayed_of : Asked → Replayed

@@ -3,7 +3,7 @@ ghost use Rattle.std.specs.Prelude.{◌≡◌, ◌≢◌, [], codes, false, IfEr
 ghost use Rattle.clap.specs.Words.{all_of, app_of, first_of, found_of, kind_of, rows_of, rule_of, subcommand_rows_of};
 ghost use Rattle.c0_syntax.specs.Levels.{has_loops};
 ghost use Rattle.cells.specs.Pieces.{cells_in};
-ghost use Rattle.command_line.specs.Shell.{Check, Command as Asked, IsLocal, Names, build_command, build_shape, check_shape, command_in, command_of, compiling_in, compiling_of, has_checks, has_flag, is_signed, level_in, list_command, list_shape, live_command, live_of as live_run, live_rule, mean_command, mean_shape, memory_in, memory_of, named_command, number_in, number_or, of_checked_texts as checked_texts_app, of_code as code_app, of_texts as texts_app, option_rule, piece_in, replay_command, replay_shape, replayed_in, replayed_of, run_command, run_shape, shell, short_number_in, short_option, started_in, started_of, stats_rule, texts_in, texts_of, whole_command, with_memory, with_work, work_in, work_of};
+ghost use Rattle.command_line.specs.Shell.{Check, Command as Asked, IsLocal, Names, build_command, build_shape, check_shape, command_in, command_of, compiling_in, compiling_of, has_checks, has_flag, is_signed, level_in, list_command, list_shape, live_command, live_of as live_run, live_rule, mean_command, mean_shape, memory_in, memory_of, named_command, number_in, number_or, of_checked_texts as checked_texts_app, of_code as code_app, of_texts as texts_app, option_rule, piece_in, replay_command, replay_shape, replayed_in, replayed_of, run_command, run_shape, shell, short_number_in, short_option, started_in, started_of, stats_rule, texts_in, texts_of, where_rule, whole_command, with_memory, with_work, work_in, work_of};
 
 use crate::words::{Compiling, Line, Memory, Replay, Run, Texts, Usage, Work};
 use c0_syntax::level::Level;
@@ -143,6 +143,16 @@ fn stats<'a>(alloc: Global) -> Arg<'a>
         .action(ArgAction::SetTrue)
 }
 
+/// The option that has what programs wanted told.
+fn explains<'a>(alloc: Global) -> Arg<'a>
+    ensures rule { rule_of result ≡ where_rule }
+    ensures own { result.global ≡ false }
+{
+    Arg::new(alloc, "where")
+        .long("where")
+        .action(ArgAction::SetTrue)
+}
+
 /// The run, with its options and its files.
 fn run<'a>(alloc: Global) -> Result<Command<'a>, AllocError>
     ensures shape { IfOk result (λ c. app_of c ≡ record { top = run_shape; subs = [] }) }
@@ -160,6 +170,7 @@ fn run<'a>(alloc: Global) -> Result<Command<'a>, AllocError>
     )?
     .arg(live(alloc))?
     .arg(stats(alloc))?
+    .arg(explains(alloc))?
     .arg(files)
 }
 
@@ -411,6 +422,7 @@ fn started<'a>(matches: &ArgMatches<'a>) -> Option<Run<'a>>
         return None;
     };
     let stats = flag(matches, "stats");
+    let explains = flag(matches, "where");
     Some(Run {
         compiling,
         memory,
@@ -418,6 +430,7 @@ fn started<'a>(matches: &ArgMatches<'a>) -> Option<Run<'a>>
         fetchers,
         work,
         stats,
+        explains,
     })
 }
 

@@ -25,6 +25,7 @@ pub enum Choice {
     Schedule,
     Live,
     Stats,
+    Where,
 }
 
 /// The option of this name.
@@ -48,6 +49,7 @@ pub(crate) fn named(name: &str) -> Option<Choice>
         "--schedule" => Some(Choice::Schedule),
         "--live" => Some(Choice::Live),
         "--stats" => Some(Choice::Stats),
+        "--where" => Some(Choice::Where),
         _ => None,
     }
 }
@@ -73,6 +75,7 @@ pub(crate) fn name_of(choice: Choice) -> &'static str
         Choice::Schedule => "--schedule",
         Choice::Live => "--live",
         Choice::Stats => "--stats",
+        Choice::Where => "--where",
     }
 }
 
@@ -81,7 +84,7 @@ pub(crate) fn wanted(choice: Choice) -> &'static str
     ensures { result.now ≡ wanted_text choice }
 {
     match choice {
-        Choice::Checks | Choice::Live | Choice::Stats => "no value",
+        Choice::Checks | Choice::Live | Choice::Stats | Choice::Where => "no value",
         Choice::Level => "0 or 1",
         Choice::Piece => "16, 32, 64, 128 or 256",
         Choice::Out | Choice::Schedule => "a file",
@@ -100,7 +103,10 @@ pub(crate) fn wanted(choice: Choice) -> &'static str
 pub(crate) fn takes_value(choice: Choice) -> bool
     ensures { result ≡ takes choice }
 {
-    !matches!(choice, Choice::Checks | Choice::Live | Choice::Stats)
+    !matches!(
+        choice,
+        Choice::Checks | Choice::Live | Choice::Stats | Choice::Where
+    )
 }
 
 /// Whether the text tells a level of the language.
@@ -128,7 +134,7 @@ pub(crate) fn accepts(choice: Choice, text: &str) -> bool
     ensures { result ≡ accepted choice text.now }
 {
     match choice {
-        Choice::Checks | Choice::Live | Choice::Stats => false,
+        Choice::Checks | Choice::Live | Choice::Stats | Choice::Where => false,
         Choice::Level => is_level(text),
         Choice::Piece => is_piece(text),
         Choice::Out | Choice::Schedule | Choice::Store => true,
@@ -167,7 +173,7 @@ pub(crate) fn has(name: &str, choice: Choice) -> bool
         Choice::Out => name == "build",
         Choice::Turns => name == "mean",
         Choice::Schedule => name == "replay",
-        Choice::Live | Choice::Stats => name == "run",
+        Choice::Live | Choice::Stats | Choice::Where => name == "run",
         Choice::Frames
         | Choice::Objects
         | Choice::Store

@@ -154,6 +154,9 @@ options:
                   An evacuator: rounds, objects that left, that were used
                   meanwhile, and that the store refused. A fetcher: objects
                   brought in, hints let go, and gets that failed
+  --where         when all have ended, tells on the standard error why a
+                  program wanted something: which call of the store was
+                  refused, of which object, or how many objects were in use
 
 status: 0 where each ended with a result; 1 where one stopped otherwise; 2 where
   a text or an image is refused, or cannot be read, or there are too few frames
@@ -171,7 +174,7 @@ that the file S lists, one a line, for programs that share local memory and its
 movers. Then it prints of each program its output and how it ended, as run does,
 or `running`; where there are several, behind a line `program K:`.
 
-options, besides those of run but for --live and --stats (`c0far help run`):
+options, besides those of run but for --live, --stats and --where:
   --schedule S    the steps; it has no default
   --workers W     not used, but within the limits of run (4)
   --quantum N     not used, but within the limits of run (1000)
@@ -181,7 +184,7 @@ status: 0 where each program ended with a result, or runs; 1 where one stopped
   file cannot be read, or there are too few frames or too many of anything; 3
   where memory or objects ran out, or the store failed
 
-docs/SCHEDULES.md tells what a line may say";
+`c0far help run` tells of run's options; docs/SCHEDULES.md what a line may say";
 
 /// The page of the last lines.
 pub const STOPS_PAGE: &str = "The last line tells how a program ended.

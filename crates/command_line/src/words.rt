@@ -35,7 +35,7 @@ pub struct Work {
 }
 
 /// How programs are run: with code that is made so, over this memory, beside so many evacuators and fetchers, by turns of workers. `stats` says whether it is told
-/// what was counted.
+/// what was counted. `explains` says whether it is told, on the standard error, what each program wanted that wanted something.
 #[derive(Clone, Copy, Debug, PartialEq, Eq)]
 pub struct Run<'a> {
     pub compiling: Compiling,
@@ -44,6 +44,7 @@ pub struct Run<'a> {
     pub fetchers: u32,
     pub work: Work,
     pub stats: bool,
+    pub explains: bool,
 }
 
 /// How programs are replayed: with code that is made so, over this memory, with so many evacuators and fetchers, by the schedule of this file. The

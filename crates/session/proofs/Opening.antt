@@ -20,6 +20,7 @@ use Rattle.object_lock.specs.SeatViews.{SeatView, TableView}
 use Rattle.object_lock.specs.Seats.{View}
 use Rattle.session.specs.declared.hold.Hold.{Hold}
 use Rattle.object_moves.specs.Taken.{Refused}
+use Rattle.remote_store.specs.declared.port.Refusals.{Refusals}
 use Rattle.session.specs.State.{AllShut, IsAt, IsGoing, IsHalted, Matches, Ran, State, begin, hold_at}
 use Rattle.session.specs.Keeping.{IsBlank, IsHolding, IsNext, IsRun, IsSafe, IsSession, count_of}
 use Rattle.session.proofs.Laws.{Ended, Laws, ended}
@@ -66,7 +67,7 @@ blank_seat t s f low =
       quiet = (ap (λ h. h.bringing) hand, ap (λ h. h.leaving) hand, ap (λ h. h.claimed) hand, ap (λ h. h.freed) hand);
     }
 
-pub opened_run : (honest : Type 0) (C : Image) (v : View) (n : ℕ) → IsBlank v → most_scopes C.functions ≤ 4 → IsRun honest (begin C v n)
+pub opened_run : (honest : Type 0) (C : Image) (v : View) (n : Refusals) → IsBlank v → most_scopes C.functions ≤ 4 → IsRun honest (begin C v n)
 opened_run honest C v n f few =
     let b = begins_so (slice_get C.functions 0) in
     let none : Option Hold = None in

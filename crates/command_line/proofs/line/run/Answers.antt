@@ -1,6 +1,7 @@
-use Rattle.std.proofs.Common.{rules, ◌≡◌, ◌∙◌, ap, ap₂}
+use Rattle.std.proofs.Common.{rules, ◌≡◌, ◌∙◌, false, ap, ap₂}
 use Rattle.std.proofs.lemmas.Result.{IfOk-weaker}
 use Rattle.clap.specs.Words.{rule_of, with_rule}
+use Rattle.clap.specs.declared.builder.arg.Arg.{Arg}
 use Rattle.command_line.specs.Shell.{files_rule, with_memory, with_work}
 use Rattle.command_line.proofs.Found.{still_local}
 use Rattle.command_line.proofs.line.run.Goals as goal
@@ -14,12 +15,15 @@ returns-clause-shape c =
     let fourth = c.in_ok-with_workers.ensures.shape ∙ ap with_work both in
     let fifth = c.in_ok-arg-3.ensures.shape c.live.ensures.own ∙ ap₂ with_rule fourth c.live.ensures.rule in
     let sixth = c.in_ok-arg-4.ensures.shape c.stats.ensures.own ∙ ap₂ with_rule fifth c.stats.ensures.rule in
-    IfOk-weaker c.arg-5.result _ _ (λ r h. h.shape (search rules) ∙ ap₂ with_rule sixth files) c.arg-5.ensures
+    let seventh = c.in_ok-arg-5.ensures.shape c.explains.ensures.own ∙ ap₂ with_rule sixth c.explains.ensures.rule in
+    IfOk-weaker c.arg-6.result _ _ (λ r h. h.shape (search rules) ∙ ap₂ with_rule seventh files) c.arg-6.ensures
 
 pub returns-clause-local : goal.returns-clause-local
 returns-clause-local c =
+    let own : c.action-files.result.global ≡ false = ap (λ (a : Arg). a.global) c.action-files.ensures ∙ ap (λ (a : Arg). a.global) c.required.ensures ∙ c.new.ensures.optional.1 in
     let third = still_local _ _ _ c.in_ok-arg.ensures.globals (c.in_ok-over_memory.ensures.local c.in_ok-command.ensures.local) c.option.ensures.own in
     let fourth = c.in_ok-with_workers.ensures.local (still_local _ _ _ c.in_ok-arg-2.ensures.globals third c.option-2.ensures.own) in
     let fifth = still_local _ _ _ c.in_ok-arg-3.ensures.globals fourth c.live.ensures.own in
     let sixth = still_local _ _ _ c.in_ok-arg-4.ensures.globals fifth c.stats.ensures.own in
-    IfOk-weaker c.arg-5.result _ _ (λ r h. still_local _ _ _ h.globals sixth (search rules)) c.arg-5.ensures
+    let seventh = still_local _ _ _ c.in_ok-arg-5.ensures.globals sixth c.explains.ensures.own in
+    IfOk-weaker c.arg-6.result _ _ (λ r h. still_local _ _ _ h.globals seventh own) c.arg-6.ensures
