@@ -149,10 +149,14 @@ fn write_both<E: Stream>(
 }
 
 /// How many objects each of so many programs has.
-pub(crate) fn share_of(objects: usize, count: usize) -> usize
+pub(crate) fn share_of(objects: u32, count: usize) -> usize
     ensures { result ≡ equal_share objects count }
 {
-    if count == 0 { 0 } else { objects / count }
+    if count == 0 {
+        0
+    } else {
+        objects as usize / count
+    }
 }
 
 /// Tells what is asked for beside the ends; the status is this one, unless a write failed.
