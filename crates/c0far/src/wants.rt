@@ -62,11 +62,7 @@ fn write_failure<E: Stream>(err: &mut E, last: Option<RefusedCall>) -> Result<()
 }
 
 /// Writes the line of a program for which the store failed.
-fn write_store<E: Stream>(
-    err: &mut E,
-    number: u64,
-    last: Option<RefusedCall>,
-) -> Result<(), Failed>
+fn write_store<E: Stream>(err: &mut E, number: u64, last: Option<RefusedCall>) -> Result<(), Failed>
     ensures { IsWritten (writes E.contents E.failures err.old err.new) (failure_line number last) result }
 {
     write!(err, "program {number}: store: ")?;
@@ -74,12 +70,7 @@ fn write_store<E: Stream>(
 }
 
 /// Writes the line of a program that wanted more objects than its share has.
-fn write_objects<E: Stream>(
-    err: &mut E,
-    number: u64,
-    share: usize,
-    used: u64,
-) -> Result<(), Failed>
+fn write_objects<E: Stream>(err: &mut E, number: u64, share: usize, used: u64) -> Result<(), Failed>
     ensures { IsWritten (writes E.contents E.failures err.old err.new) (objects_line number share used) result }
 {
     writeln!(
