@@ -22,10 +22,18 @@ shown_cause cause.Full = codes ": no room is left"
 shown_cause cause.NotRegular = codes ": not a regular file"
 shown_cause cause.OtherLength = codes ": not as long as it was written"
 
--- a call of the store that was refused, and its object
+-- a put of this object that was refused
+unfoldable pub shown_put : ℕ → List ℕ
+shown_put o = codes "cannot write object " ++ decimal o
+
+-- a get of this object that was refused
+unfoldable pub shown_get : ℕ → List ℕ
+shown_get o = codes "cannot read object " ++ decimal o
+
+-- a call of the store that was refused, its object, and why
 abbrev pub shown_call : RefusedCall → List ℕ
-shown_call (call.Put o why) = codes "cannot write object " ++ (decimal o ++ shown_cause why)
-shown_call (call.Get o why) = codes "cannot read object " ++ (decimal o ++ shown_cause why)
+shown_call (call.Put o why) = shown_put o ++ shown_cause why
+shown_call (call.Get o why) = shown_get o ++ shown_cause why
 shown_call (call.Wrong o) = codes "object " ++ (decimal o ++ codes " is not as it was written")
 
 -- the last call that was refused; where none was, the store gave back other cells than were put there

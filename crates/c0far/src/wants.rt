@@ -1,7 +1,7 @@
 //! What is told on the standard error beside the ends of programs, where it is asked for: what they wanted, and the table of what was counted.
 ghost use Rattle.std.specs.Prelude.{◌≡◌, ◌+◌, ◌++◌, ◌<◌, ◌^◌, length};
 ghost use Rattle.c0far.specs.Stats.{stats_text};
-ghost use Rattle.c0far.specs.Wants.{TellsMore, share_of as equal_share, failure_line, memory_line, objects_line, shown_call, shown_cause, shown_failure, shown_last, want_line, want_lines, wants_text};
+ghost use Rattle.c0far.specs.Wants.{TellsMore, share_of as equal_share, failure_line, memory_line, objects_line, shown_call, shown_cause, shown_failure, shown_get, shown_last, shown_put, want_line, want_lines, wants_text};
 ghost use Rattle.streams.specs.Streams.{IsWritten, writes};
 
 use crate::say::after;
@@ -12,32 +12,48 @@ use executor::{Finished, MoverCounts};
 use remote_store::{Cause, RefusedCall};
 use streams::{Failed, Stream};
 
-/// Why the store failed, as it stands behind the call that failed.
-fn cause_text(cause: Cause) -> &'static str
-    ensures { result.now ≡ shown_cause cause }
+/// Writes why the store failed, as it stands behind the call that failed.
+fn write_cause<E: Stream>(err: &mut E, cause: Cause) -> Result<(), Failed>
+    ensures { IsWritten (writes E.contents E.failures err.old err.new) (shown_cause cause) result }
 {
     match cause {
-        Cause::Untold => "",
-        Cause::NotFound => ": no such file or folder",
-        Cause::Denied => ": permission denied",
-        Cause::Full => ": no room is left",
-        Cause::NotRegular => ": not a regular file",
-        Cause::OtherLength => ": not as long as it was written",
+        Cause::Untold => Ok(()),
+        Cause::NotFound => write!(err, ": no such file or folder"),
+        Cause::Denied => write!(err, ": permission denied"),
+        Cause::Full => write!(err, ": no room is left"),
+        Cause::NotRegular => write!(err, ": not a regular file"),
+        Cause::OtherLength => write!(err, ": not as long as it was written"),
     }
 }
 
-/// Writes which call was refused.
+/// Writes that a put of the object was refused.
+#[tactic(auto, unfolding(crate::specs::Wants::shown_put))]
+fn write_put<E: Stream>(err: &mut E, object: usize) -> Result<(), Failed>
+    ensures { IsWritten (writes E.contents E.failures err.old err.new) (shown_put object) result }
+{
+    write!(err, "cannot write object {object}")
+}
+
+/// Writes that a get of the object was refused.
+#[tactic(auto, unfolding(crate::specs::Wants::shown_get))]
+fn write_get<E: Stream>(err: &mut E, object: usize) -> Result<(), Failed>
+    ensures { IsWritten (writes E.contents E.failures err.old err.new) (shown_get object) result }
+{
+    write!(err, "cannot read object {object}")
+}
+
+/// Writes which call was refused, and why.
 fn write_call<E: Stream>(err: &mut E, call: RefusedCall) -> Result<(), Failed>
     ensures { IsWritten (writes E.contents E.failures err.old err.new) (shown_call call) result }
 {
     match call {
         RefusedCall::Put(object, cause) => {
-            let why = cause_text(cause);
-            write!(err, "cannot write object {object}{why}")
+            write_put(err, object)?;
+            write_cause(err, cause)
         }
         RefusedCall::Get(object, cause) => {
-            let why = cause_text(cause);
-            write!(err, "cannot read object {object}{why}")
+            write_get(err, object)?;
+            write_cause(err, cause)
         }
         RefusedCall::Wrong(object) => write!(err, "object {object} is not as it was written"),
     }

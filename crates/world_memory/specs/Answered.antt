@@ -25,7 +25,7 @@ module _ {S C : Type 0} (reliable : Type 0) (failures : S → ℕ) (gives : S �
 
   -- what was refused is counted
   abbrev pub IsCounted : Port S C → Port S C → Type 0
-  IsCounted p q = q.refusals ≡ (p.refusals + 1) % 18446744073709551616
+  IsCounted p q = q.refusals.count ≡ (p.refusals.count + 1) % 18446744073709551616
 
   -- a put succeeds, or the store failed
   abbrev pub PutSo : Bool → Port S C → Port S C → Type 0
