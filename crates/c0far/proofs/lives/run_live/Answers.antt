@@ -1,4 +1,4 @@
-use Rattle.std.proofs.Common.{ℕ, List, [], inl, inr, refl, subst}
+use Rattle.std.proofs.Common.{◌≡◌, ℕ, List, [], ap, inl, inr, length, refl, rules, subst, vec_len, ◌∙◌}
 use Rattle.command_line.specs.Shell.{compiling_of, memory_of}
 use Rattle.live_run.specs.Lives.{IsNotShown}
 use Rattle.live_run.specs.declared.live.LiveError.{LiveError}
@@ -17,22 +17,25 @@ pub returns-in-Err-clause-done : goal.returns-in-Err-clause-done
 returns-in-Err-clause-done g c = inr (inr (c.in-Err.ensures.refused _ refl))
 
 pub returns-in-Ok-live_asked-clause-done : goal.returns-in-Ok-live_asked-clause-done
-returns-in-Ok-live_asked-clause-done g c = inl (record {
-  programs = c.in-Ok.programs.items;
-  codes = c.in-Ok.ensures.codes;
-  admitted = c.in-Ok-live_asked.ensures.admitted;
-  ended = inl (record {
-    finished = c.in-Ok-live_asked.finished;
-    executed = c.in-Ok-live_asked.ensures.ended.executed;
-    status = c.say_rest-status.result;
-    shown = shown_live g.O.Stream.contents g.O.Stream.failures g.F.Place.Folder.honest (memory_of c.args.asked.memory) c.in-Ok.programs.items c.args.out.now c.live_asked.new.out c.say_rest-status.new.out c.in-Ok-live_asked.finished
-        c.say_rest-status.result c.in-Ok-live_asked.ensures.ended c.say_rest-status.ensures;
-    told = subst (λ (x : ℕ × List Finished). TellsMore c.args.asked.explains c.args.asked.stats x.0 x.1 [] (writes g.E.Stream.contents g.E.Stream.failures c.args.err.now c.say_more.new.err) c.say_rest-status.result c.say_more.result)
-        (λ i. (c.share_of-share.ensures i, c.from_ref.ensures.value i))
-        (subst (λ (w : Writes). TellsMore c.args.asked.explains c.args.asked.stats c.share_of-share.result c.from_ref.result.now [] w c.say_rest-status.result c.say_more.result)
-        (after_quiet g.E.Stream.contents g.E.Stream.failures c.args.err.now c.codes_of.new.err c.say_more.new.err c.in-Ok.ensures.quiet) c.say_more.ensures);
-  });
-})
+returns-in-Ok-live_asked-clause-done g c =
+    let long : vec_len c.in-Ok.programs ≡ length c.in-Ok.programs.items = search rules in
+    let share = c.share_of-share.ensures ∙ ap (share_of c.args.asked.memory.objects) (c.len.ensures ∙ long) in
+    inl (record {
+      programs = c.in-Ok.programs.items;
+      codes = c.in-Ok.ensures.codes;
+      admitted = c.in-Ok-live_asked.ensures.admitted;
+      ended = inl (record {
+        finished = c.in-Ok-live_asked.finished;
+        executed = c.in-Ok-live_asked.ensures.ended.executed;
+        status = c.say_rest-status.result;
+        shown = shown_live g.O.Stream.contents g.O.Stream.failures g.F.Place.Folder.honest (memory_of c.args.asked.memory) c.in-Ok.programs.items c.args.out.now c.live_asked.new.out c.say_rest-status.new.out c.in-Ok-live_asked.finished
+            c.say_rest-status.result c.in-Ok-live_asked.ensures.ended c.say_rest-status.ensures;
+        told = subst (λ (x : ℕ × List Finished). TellsMore c.args.asked.explains c.args.asked.stats x.0 x.1 [] (writes g.E.Stream.contents g.E.Stream.failures c.args.err.now c.say_more.new.err) c.say_rest-status.result c.say_more.result)
+            (λ i. (share i, c.from_ref.ensures.value i))
+            (subst (λ (w : Writes). TellsMore c.args.asked.explains c.args.asked.stats c.share_of-share.result c.from_ref.result.now [] w c.say_rest-status.result c.say_more.result)
+            (after_quiet g.E.Stream.contents g.E.Stream.failures c.args.err.now c.codes_of.new.err c.say_more.new.err c.in-Ok.ensures.quiet) c.say_more.ensures);
+      });
+    })
 
 pub returns-in-Err-NotRun-clause-done : goal.returns-in-Err-NotRun-clause-done
 returns-in-Err-NotRun-clause-done g c =

@@ -1,4 +1,4 @@
-use Rattle.std.proofs.Common.{ℕ, List, inl, inr, length, map, refl, subst}
+use Rattle.std.proofs.Common.{◌≡◌, ℕ, List, ap, inl, inr, length, map, refl, rules, subst, vec_len, ◌∙◌}
 use Rattle.executor.specs.Ends.{end_of}
 use Rattle.executor.specs.declared.counts.MoverCounts.{MoverCounts}
 use Rattle.program_run.specs.declared.run.Finished.{Finished}
@@ -13,21 +13,24 @@ pub returns-in-Err-clause-done : goal.returns-in-Err-clause-done
 returns-in-Err-clause-done g c = inr (inr (c.in-Err.ensures.refused _ refl))
 
 pub returns-in-Ok-run_asked-clause-done : goal.returns-in-Ok-run_asked-clause-done
-returns-in-Ok-run_asked-clause-done g c = inl (record {
-  programs = c.in-Ok.programs.items;
-  codes = c.in-Ok.ensures.codes;
-  finished = c.in-Ok-run_asked.counted.programs.items;
-  movers = c.in-Ok-run_asked.counted.movers.items;
-  admitted = c.in-Ok-run_asked.ensures.admitted;
-  executed = c.in-Ok-run_asked.ensures.ended;
-  status = c.say_finished-status.result;
-  shown = subst (λ (l : List Finished). Says (writes g.O.Stream.contents g.O.Stream.failures c.args.out.now c.say_finished-status.new.out) (shown_ends (map end_of l)) (ends_status (map end_of l)) c.say_finished-status.result)
-      c.deref.ensures.value c.say_finished-status.ensures;
-  told = subst (λ (w : Writes). TellsMore c.args.asked.explains c.args.asked.stats (share_of c.args.asked.memory.objects (length c.in-Ok.programs.items)) c.in-Ok-run_asked.counted.programs.items c.in-Ok-run_asked.counted.movers.items w c.say_finished-status.result c.say_more.result)
-      (after_quiet g.E.Stream.contents g.E.Stream.failures c.args.err.now c.codes_of.new.err c.say_more.new.err c.in-Ok.ensures.quiet)
-      (subst (λ (x : ℕ × List Finished × List MoverCounts). TellsMore c.args.asked.explains c.args.asked.stats x.0 x.1 x.2 (writes g.E.Stream.contents g.E.Stream.failures c.codes_of.new.err c.say_more.new.err) c.say_finished-status.result c.say_more.result)
-      (λ i. (c.share_of-share.ensures i, c.deref-in-Ok-run_asked.ensures.value i, c.deref-in-Ok-run_asked-2.ensures.value i)) c.say_more.ensures);
-})
+returns-in-Ok-run_asked-clause-done g c =
+    let long : vec_len c.in-Ok.programs ≡ length c.in-Ok.programs.items = search rules in
+    let share = c.share_of-share.ensures ∙ ap (share_of c.args.asked.memory.objects) (c.len.ensures ∙ long) in
+    inl (record {
+      programs = c.in-Ok.programs.items;
+      codes = c.in-Ok.ensures.codes;
+      finished = c.in-Ok-run_asked.counted.programs.items;
+      movers = c.in-Ok-run_asked.counted.movers.items;
+      admitted = c.in-Ok-run_asked.ensures.admitted;
+      executed = c.in-Ok-run_asked.ensures.ended;
+      status = c.say_finished-status.result;
+      shown = subst (λ (l : List Finished). Says (writes g.O.Stream.contents g.O.Stream.failures c.args.out.now c.say_finished-status.new.out) (shown_ends (map end_of l)) (ends_status (map end_of l)) c.say_finished-status.result)
+          c.deref.ensures.value c.say_finished-status.ensures;
+      told = subst (λ (w : Writes). TellsMore c.args.asked.explains c.args.asked.stats (share_of c.args.asked.memory.objects (length c.in-Ok.programs.items)) c.in-Ok-run_asked.counted.programs.items c.in-Ok-run_asked.counted.movers.items w c.say_finished-status.result c.say_more.result)
+          (after_quiet g.E.Stream.contents g.E.Stream.failures c.args.err.now c.codes_of.new.err c.say_more.new.err c.in-Ok.ensures.quiet)
+          (subst (λ (x : ℕ × List Finished × List MoverCounts). TellsMore c.args.asked.explains c.args.asked.stats x.0 x.1 x.2 (writes g.E.Stream.contents g.E.Stream.failures c.codes_of.new.err c.say_more.new.err) c.say_finished-status.result c.say_more.result)
+          (λ i. (share i, c.deref-in-Ok-run_asked.ensures.value i, c.deref-in-Ok-run_asked-2.ensures.value i)) c.say_more.ensures);
+    })
 
 pub returns-in-Err-run_asked-clause-done : goal.returns-in-Err-run_asked-clause-done
 returns-in-Err-run_asked-clause-done g c = inr (inl (record {
