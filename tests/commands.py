@@ -354,7 +354,8 @@ def a_limit_of_the_size_of_files(it):
 
 
 def what_cannot_be_written_to_a_store(it):
-    """Of sixteen objects that are written in turn the first is the first that makes room. What another program has under its number is neither followed nor replaced."""
+    """Of sixteen objects that are written in turn the first makes room, and then the one that came in its place. What another program has under its number is neither
+    followed nor replaced."""
     it.write("b.c0", counted(16))
     run = "run --where --frames 4 --evacuators 0 --fetchers 0 --store"
     it.check(*f"{run} none b.c0".split(), status=3, out="store failed\n", err="program 0: store: cannot write object 0: no such file or folder\n")
@@ -366,8 +367,8 @@ def what_cannot_be_written_to_a_store(it):
     os.symlink("../b.c0", it.path("link/0"))
     for store in ("folder", "pipe", "link"):
         it.check(*f"{run} {store} b.c0".split(), status=3, out="store failed\n", err="program 0: store: cannot write object 0: not a regular file\n")
-    os.makedirs(it.path("third/2"))
-    it.check(*f"{run} third b.c0".split(), status=3, out="store failed\n", err="program 0: store: cannot write object 2: not a regular file\n")
+    os.makedirs(it.path("third/4"))
+    it.check(*f"{run} third b.c0".split(), status=3, out="store failed\n", err="program 0: store: cannot write object 4: not a regular file\n")
 
 
 def changed_while_it_runs(it, change):
