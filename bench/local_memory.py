@@ -2,10 +2,10 @@
 """What far memory costs: processor time against the part of the heap that is local: local_memory.py PROGRAM FOLDER [RUNS]
 
 Six programs, each with all of its objects in frames, and then with three quarters, a half, a quarter and so on down to 3 in 100: without movers and with one
-evacuator and one fetcher, over the store in memory and over files of a folder below FOLDER. Each time is the least of RUNS runs (5; over files 1), less that of a
+evacuator and one fetcher, over the store in memory and over files of a folder below FOLDER. Each time is the least of RUNS runs (5), less that of a
 program that does nothing, and stands beside that with all objects in frames and no mover, and beside what `--stats` counts in the fastest run. Into FOLDER go
 `local_memory.csv`, with all of this, and `local_memory.svg`, the picture: the store in memory, with movers. Each run has to print the answer that is computed here.
-It takes some ten minutes.
+It takes a quarter of an hour.
 """
 import csv
 import math
@@ -124,7 +124,7 @@ def measured(program, runs, below):
         base = None
         for store, movers in WAYS:
             for part in PARTS:
-                took, wall, counts = least(program, text, answer, options(objects, part, movers), runs if store == "memory" else 1, store, below)
+                took, wall, counts = least(program, text, answer, options(objects, part, movers), runs, store, below)
                 base = base or took - start
                 rows.append((name, store, movers, part, f"{took - start:.4f}", f"{wall:.4f}", f"{(took - start) / base:.2f}", *counts))
                 print(*rows[-1], flush=True)
