@@ -4,8 +4,8 @@
 Six programs, each with all of its objects in frames, and then with three quarters, a half, a quarter and so on down to 3 in 100: without movers and with one
 evacuator and one fetcher, over the store in memory and over files of a folder below FOLDER. Each time is the least of RUNS runs (5), less that of a
 program that does nothing, and stands beside that with all objects in frames and no mover, and beside what `--stats` counts in the fastest run. Into FOLDER go
-`local_memory.csv`, with all of this, and `local_memory.svg`, the picture: the store in memory, with movers. Each run has to print the answer that is computed here.
-It takes a quarter of an hour.
+`local_memory.csv`, with all of this, `local_memory.svg`, the picture: the store in memory, with movers, and `local_memory.md`, the table of `README.md` here. Each run has
+to print the answer that is computed here. It takes a quarter of an hour.
 """
 import csv
 import math
@@ -131,6 +131,17 @@ def measured(program, runs, below):
     return rows
 
 
+def table(rows):
+    """How many times those of all local the processor seconds are, as a table of a page."""
+    times = {tuple(row[:4]): row[6] for row in rows}
+    out = ["| | all local | " + " | ".join(f"{part:g} %" for part in PARTS[1:]) + " | 25 % in files | 12.5 % in files |", "|---" * (len(PARTS) + 3) + "|"]
+    for name in PROGRAMS:
+        for movers, told in ((0, "no mover"), (1, "one of each")):
+            shown = [times[name, "memory", movers, part] for part in PARTS] + [times[name, "folder", movers, part] for part in (25, 12.5)]
+            out.append(f"| {name}, {told} | " + " | ".join(shown) + " |")
+    return "\n".join([*out, ""])
+
+
 COLOURS = ("#1b6ca8", "#d1495b", "#2e8b57", "#8e5ea2", "#c98a00", "#555555")
 
 
@@ -172,6 +183,8 @@ def main():
         writer = csv.writer(file)
         writer.writerow(("program", "store", "movers of each sort", "part local", "processor seconds", "seconds", "times all local", *HEADINGS))
         writer.writerows(rows)
+    with open(f"{sys.argv[2]}/local_memory.md", "w") as file:
+        file.write(table(rows))
     with open(f"{sys.argv[2]}/local_memory.svg", "w") as file:
         file.write(picture([row for row in rows if row[1] == "memory" and row[2] == 1]))
 
