@@ -35,8 +35,9 @@ STOPS = (
     ("assertion", "int main() { assert(false); return 0; }\n", "assertion failed"),
     ("error", 'int main() { error("no more"); return 0; }\n', "error: no more"),
 )
-# two pieces in one frame: the first is put, and is read again when the loop has ended
-READ_AGAIN = '#use <conio>\nint main() { int[] a = alloc_array(int, 65); a[0] = 1; a[64] = 2; println("put"); int s = 0; for (int i = 0; i < 20000000; i++) { s = s + 1; } return a[0] + s; }\n'
+# two pieces in one frame: the first is put, and is read again when more has been printed than a pipe holds
+FILLED = 40 * "-"
+READ_AGAIN = f'#use <conio>\nint main() {{ int[] a = alloc_array(int, 65); a[0] = 1; a[64] = 2; println("put"); for (int i = 0; i < 4000; i++) {{ println("{FILLED}"); }} return a[0]; }}\n'
 # what is counted, by whose it is
 PROGRAM = ("instructions", "turns", "objects", "opened", "brought", "written", "left", "calls", "failed", "hints", "dropped")
 COUNTED = {"program": PROGRAM, "evacuator": ("rounds", "left", "aborted", "failed"), "fetcher": ("brought", "dropped", "failed")}
@@ -372,7 +373,7 @@ def what_cannot_be_written_to_a_store(it):
 
 
 def changed_while_it_runs(it, change):
-    """What a program gives of whose store the file 0 is changed, while it goes round a loop."""
+    """What a program gives of whose store the file 0 is changed, while it waits for its output to be read."""
     store = it.path("store")
     shutil.rmtree(store, ignore_errors=True)
     os.mkdir(store)
@@ -383,14 +384,14 @@ def changed_while_it_runs(it, change):
         watch.start()
         try:
             want(ran.stdout.readline() == b"put\n", "the program did not put")
-            ran.send_signal(signal.SIGSTOP)
             change(os.path.join(store, "0"))
-            ran.send_signal(signal.SIGCONT)
             rest, err = ran.communicate()
         finally:
             watch.cancel()
             ran.kill()
-    return ran.returncode, rest, err.decode()
+    lines = rest.decode().splitlines()
+    want(lines[:-1] == 4000 * [FILLED], f"{len(lines)} lines were printed")
+    return ran.returncode, lines[-1], err.decode()
 
 
 def what_cannot_be_read_from_a_store(it):
@@ -407,10 +408,10 @@ def what_cannot_be_read_from_a_store(it):
         (overwrite, "object 0 is not as it was written"),
     )
     told = changed_while_it_runs(it, os.stat)
-    want(told == (0, b"result: 20000001\n", ""), f"a file that stays gave {told}")
+    want(told == (0, "result: 1", ""), f"a file that stays gave {told}")
     for change, line in failures:
         told = changed_while_it_runs(it, change)
-        want(told == (3, b"store failed\n", f"program 0: store: {line}\n"), f"{told} is told, and not {line}")
+        want(told == (3, "store failed", f"program 0: store: {line}\n"), f"{told} is told, and not {line}")
 
 
 def a_full_disk(it):
