@@ -7,7 +7,7 @@ _c0far_options() {
         build) echo '-d --level --piece -o' ;;
         check) echo '--level' ;;
         list) echo '--level --piece' ;;
-        mean) echo '-d --level --turns' ;;
+        mean) echo '-d --level --turns --where' ;;
         run) echo "-d --level --piece $memory $work --live --stats --where" ;;
         replay) echo "-d --level --piece $memory $work --schedule" ;;
     esac

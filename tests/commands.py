@@ -35,6 +35,8 @@ STOPS = (
     ("assertion", "int main() { assert(false); return 0; }\n", "assertion failed"),
     ("error", 'int main() { error("no more"); return 0; }\n', "error: no more"),
 )
+# the column of what stops each, and the numbers that are told of it
+PLACES = {"null": (36, ""), "bounds": (52, " (index 3, length 3)"), "length": (41, " (length -1)"), "arithmetic": (32, ""), "assertion": (21, ""), "error": (20, "")}
 # two pieces in one frame: the first is put, and is read again when more has been printed than a pipe holds
 FILLED = 40 * "-"
 READ_AGAIN = f'#use <conio>\nint main() {{ int[] a = alloc_array(int, 65); a[0] = 1; a[64] = 2; println("put"); for (int i = 0; i < 4000; i++) {{ println("{FILLED}"); }} return a[0]; }}\n'
@@ -102,6 +104,17 @@ SCENES = (
     )),
     ("how programs stop", {f"{name}.c0": text for name, text, _ in STOPS}, tuple(
         (f"{command} {name}.c0", 1, f"{line}\n", "", ()) for name, _, line in STOPS for command in ("run", "mean --turns 9"))),
+    ("where programs stop", {f"{name}.c0": text for name, text, _ in STOPS}, tuple(
+        (f"{command} --where {name}.c0", 1, f"{line}\n", f"{name}.c0:1:{PLACES[name][0]}: {line}{PLACES[name][1]}\n", ())
+        for name, _, line in STOPS
+        for command in ("run", "run --live", "mean --turns 9"))),
+    ("where images and results stop", {"a.c0": SEVEN, "bounds.c0": STOPS[1][1]}, (
+        ("run --where a.c0", 0, "result: 7\n", "", ()),
+        ("mean --where --turns 1 a.c0", 0, "result: 7\n", "", ()),
+        ("mean --where --turns 0 a.c0", 0, "cut\n", "", ()),
+        ("build -o bounds.c0i bounds.c0", 0, "", "", ("bounds.c0i",)),
+        ("run --where bounds.c0i", 1, "bounds fault\n", "", ()),
+    )),
     ("an image is built, and used", {"p.c0": PRINTS, "c.c0": CONTRACT}, (
         ("build -o p.c0i p.c0", 0, "", "", ("p.c0i",)),
         ("check p.c0i", 0, "ok\n", "", ()),

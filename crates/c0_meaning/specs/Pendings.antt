@@ -113,6 +113,11 @@ module _ (c : Context) where
   reaches (t.Field j p i) k d vs (at ∷ ps) s = k m.Next d vs (field_of at i ∷ ps) s
   reaches _ k d vs ps s = Cut []
 
+  -- of a condition, of which the value is given
+  abbrev pub asserts : Rest → ℕ → List v.Value → List v.Spot → m.State → m.Outcome v.Value
+  asserts k d (a ∷ vs) ps s = leaving k d vs ps (m.holds a s)
+  asserts k d [] ps s = Cut []
+
   -- of a statement, where what it evaluates first is given
   abbrev pub completes : t.Stmt → Rest → ℕ → List v.Value → List v.Spot → m.State → m.Outcome v.Value
   completes (t.Set x e) k d (a ∷ vs) ps s = k m.Next d vs ps (m.set_local x a s)
@@ -123,7 +128,7 @@ module _ (c : Context) where
   completes (t.Do e) k d (a ∷ vs) ps s = k m.Next d vs ps s
   completes (t.If e x y) k d (a ∷ vs) ps s = leaving k d vs ps (m.if_true a (executes d x s) (executes d y s))
   completes (t.ReturnValue e) k d (a ∷ vs) ps s = k m.Returned d vs ps (m.set_local 0 a s)
-  completes (t.Assert e) k d (a ∷ vs) ps s = leaving k d vs ps (m.holds a s)
+  completes (t.Assert e) k d vs ps s = asserts k d vs ps s
   completes (t.Error e) k d (a ∷ vs) ps s = m.stop (ErrorCalled (v.as_text a)) s
   completes _ k d vs ps s = Cut []
 
@@ -155,7 +160,7 @@ module _ (c : Context) where
   does (task.Execute a (progress.Turned n)) k d vs ps s = rounds (stmt_of (texts_in c) a.now) n k d vs ps s
   does (task.ExecuteAll all) k d vs ps s = leaving k d vs ps (executes d (block_of (texts_in c) all.now) s)
   does (task.Check es) k d vs ps s = leaving k d vs ps (checked d (exps_of (texts_in c) es.now) s)
-  does task.Assert k d (a ∷ vs) ps s = leaving k d vs ps (m.holds a s)
+  does (task.Assert e) k d vs ps s = asserts k d vs ps s
   does (task.Argument es given f) k d (a ∷ vs) ps s = calling k d vs ps es.now (values_of (texts_in c) given ++ a ∷ []) f s
   does task.Peek k d vs (at ∷ ps) s = k m.Next d (v.load s.heap at ∷ vs) (at ∷ ps) s
   does task.EndBody k d vs ps s = k m.Next d vs ps s
@@ -219,6 +224,10 @@ Reaches c place r result s = let p = pending_of r in Steps c result (reaches c p
 -- the same of a statement
 abbrev pub Completes : Context → t.Stmt → PlainRun → Result (Unit {0}) Halt → PlainRun → Type 0
 Completes c a r result s = let p = pending_of r in Steps c result (completes c a (behind c p.tasks) p.depth (values_in c p) (places_in c p) (state_in c p)) (pending_of s)
+
+-- the condition whose value was given held, or the program has stopped
+abbrev pub Asserts : Context → PlainRun → Result (Unit {0}) Halt → PlainRun → Type 0
+Asserts c r result s = let p = pending_of r in Steps c result (asserts c (behind c p.tasks) p.depth (values_in c p) (places_in c p) (state_in c p)) (pending_of s)
 
 -- a call with arguments that are still to be evaluated, behind those that are given
 abbrev pub PerformsCalls : Context → List Expression → List v.Value → Callee → PlainRun → Result (Unit {0}) Halt → PlainRun → Type 0

@@ -1,12 +1,11 @@
 //! What the plain run does for statements whose values are given.
 ghost use Rattle.std.specs.Prelude.{◌≡◌, ℕ};
 ghost use Rattle.c0_typed.specs.Meaning.{Returned};
-ghost use Rattle.c0_typed.specs.Trees.{Assert, Do, Error, Exp, If, Place as PlaceTree, ReturnValue, Set, Store, StoreUpdate, Update};
+ghost use Rattle.c0_typed.specs.Trees.{Do, Error, Exp, If, Place as PlaceTree, ReturnValue, Set, Store, StoreUpdate, Update};
 ghost use Rattle.c0_typed.specs.Views.{stmt_of};
-ghost use Rattle.c0_meaning.specs.Pendings.{Completes, Performs, left_by, means, pending_of};
+ghost use Rattle.c0_meaning.specs.Pendings.{Asserts, Completes, left_by, means, pending_of};
 ghost use Rattle.c0_meaning.specs.Run.{texts_in};
 ghost use Rattle.c0_meaning.specs.declared.context.Context.{Context as ContextOf};
-ghost use Rattle.c0_meaning.specs.declared.task.Task.TheVariants as task;
 
 use crate::context::Context;
 use crate::operators::binary_value;
@@ -101,8 +100,7 @@ impl<'p> PlainRun<'p> {
 
     /// Stops the program where the value is false.
     pub(crate) fn assert(&mut self) -> Result<(), Halt>
-        ensures assert { (c : ContextOf) → Performs c task.Assert self.old result self.new }
-        ensures statement { (c : ContextOf) (a : Exp) → Completes c (Assert a) self.old result self.new }
+        ensures { (c : ContextOf) → Asserts c self.old result self.new }
     {
         let condition = self.take()?;
         asserted(condition)

@@ -17,4 +17,5 @@ mod statements;
 mod task;
 mod value;
 
-pub use run::{Meant, mean};
+pub use pending::Numbers;
+pub use run::{Meant, Placed, mean, mean_placed};

@@ -7,7 +7,7 @@ ghost use Rattle.c0_meaning.specs.declared.context.Context.{Context as ContextOf
 
 use crate::context::Context;
 use crate::operators::{binary_value, compare, unary_value};
-use crate::pending::PlainRun;
+use crate::pending::{Numbers, PlainRun};
 use crate::plain_state::Halt;
 use crate::task::Task;
 use crate::value::Value;
@@ -87,10 +87,14 @@ impl<'p> PlainRun<'p> {
         ensures { (a : Exp) → Combines context.now (AllocArray (type_of ty.now) a) self.old result self.new }
     {
         let count = self.take()?;
-        let value = self
-            .state
-            .allocate_many(context.alloc, &context.program.structs, ty, count)?;
-        self.give(value)
+        let structs = &context.program.structs;
+        match self.state.allocate_many(context.alloc, structs, ty, count) {
+            Ok(value) => self.give(value),
+            Err(halt) => {
+                self.numbers = Some(Numbers::Length(count.number()));
+                Err(halt)
+            }
+        }
     }
 
     /// The length of the array that the value is.

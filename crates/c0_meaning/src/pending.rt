@@ -7,15 +7,28 @@ use crate::heap::Spot;
 use crate::plain_state::{Halt, PlainState};
 use crate::task::Task;
 use crate::value::Value;
+use c0_typed::Site;
 use std::alloc::Global;
 
-/// What is to be done, the next task last; the values and the places that tasks gave and none has taken, how many calls may still be under way, and the state.
+/// The numbers that stopped a program.
+#[derive(Clone, Copy, PartialEq, Eq, Debug)]
+pub enum Numbers {
+    /// An element at this index was wanted, of an array of this length.
+    Index { index: i32, length: usize },
+    /// An array of this length was wanted.
+    Length(i32),
+}
+
+/// What is to be done, the next task last; the values and the places that tasks gave and none has taken, how many calls may still be under way, where in the
+/// text the last task stands, if it may stop the program, by which numbers it did, and the state.
 #[derive(Drop)]
 pub(crate) struct PlainRun<'p> {
     tasks: Vec<Task<'p>>,
     values: Vec<Value>,
     places: Vec<Spot>,
     pub(crate) depth: u64,
+    pub(crate) site: Option<Site>,
+    pub(crate) numbers: Option<Numbers>,
     pub(crate) state: PlainState,
 }
 
@@ -31,6 +44,8 @@ impl<'p> PlainRun<'p> {
             values: Vec::new(alloc),
             places: Vec::new(alloc),
             depth: turns,
+            site: None,
+            numbers: None,
             state: PlainState::begin(alloc, turns),
         }
     }

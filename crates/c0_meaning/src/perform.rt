@@ -10,8 +10,16 @@ use crate::task::Task;
 use crate::value::Value;
 
 impl<'p> PlainRun<'p> {
-    /// Does a task.
+    /// Does a task. Where it stops the program, the run tells where that stands.
     fn perform(&mut self, context: &Context<'p>, task: Task<'p>) -> Result<(), Halt>
+        ensures { Performs context.now task.entry self.old result self.new }
+    {
+        self.site = task.site();
+        self.act(context, task)
+    }
+
+    /// What a task does.
+    fn act(&mut self, context: &Context<'p>, task: Task<'p>) -> Result<(), Halt>
         ensures { Performs context.now task.entry self.old result self.new }
     {
         match task {
@@ -22,7 +30,7 @@ impl<'p> PlainRun<'p> {
             Task::Execute(statement, progress) => self.proceed(context, statement, progress),
             Task::ExecuteAll(statements) => self.execute_all(statements),
             Task::Check(conditions) => self.check(context, conditions),
-            Task::Assert => self.assert(),
+            Task::Assert(_) => self.assert(),
             Task::Argument(rest, given, callee) => self.argument(context, rest, given, callee),
             Task::Peek => self.peek(),
             Task::EndBody => Ok(()),

@@ -6,7 +6,7 @@ ghost use Rattle.c0_meaning.specs.declared.context.Context.{Context as ContextOf
 ghost use Rattle.c0_meaning.specs.declared.task.Task.TheVariants as task;
 
 use crate::context::Context;
-use crate::pending::PlainRun;
+use crate::pending::{Numbers, PlainRun};
 use crate::plain_state::{Halt, at_field, pointed};
 use crate::task::Task;
 use c0_typed::Place;
@@ -53,8 +53,16 @@ impl<'p> PlainRun<'p> {
     {
         let index = self.take()?;
         let array = self.take()?;
-        let place = self.state.element(context.alloc, array, index)?;
-        self.give_place(place)
+        match self.state.element(context.alloc, array, index) {
+            Ok(place) => self.give_place(place),
+            Err(halt) => {
+                self.numbers = Some(Numbers::Index {
+                    index: index.number(),
+                    length: self.state.length(array.reference()),
+                });
+                Err(halt)
+            }
+        }
     }
 
     /// The field of the struct at the place.

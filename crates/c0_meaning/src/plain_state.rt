@@ -207,7 +207,7 @@ impl PlainState {
     }
 
     /// How many elements an array has; the empty default array has none.
-    fn length(&self, array: usize) -> usize
+    pub(crate) fn length(&self, array: usize) -> usize
         ensures { (texts : Texts) → result ≡ array_length (state_of texts self.now).heap array }
     {
         if array == 0 {

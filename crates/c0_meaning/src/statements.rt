@@ -125,7 +125,11 @@ impl<'p> PlainRun<'p> {
         match conditions.split_first() {
             None => Ok(()),
             Some((first, rest)) => {
-                self.then_three(Task::Evaluate(first), Task::Assert, Task::Check(rest))
+                self.then_three(
+                    Task::Evaluate(first),
+                    Task::Assert(first),
+                    Task::Check(rest),
+                )
             }
         }
     }

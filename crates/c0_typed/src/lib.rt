@@ -8,7 +8,7 @@ ghost use Rattle.c0_typed.specs.More.{MoreTurnsExtend};
 ghost use Rattle.c0_typed.specs.Typing.{EvalSound, LocateSound, ExecSound, CallSound, FreshSound, LoadSound, StoreSound, MainSound};
 
 pub use tree::{
-    Constant, Expression, Function, Output, Place, Relation, Statement, Struct, Typed,
+    Constant, Expression, Function, Output, Place, Relation, Site, Statement, Struct, Typed,
     UnaryOperator, ValueType,
 };
 

@@ -59,10 +59,18 @@ pub enum Constant {
     Text(u32),
 }
 
+/// Where a part of a program stands in the text: the offset of its first byte.
+#[derive(Clone, Copy, PartialEq, Eq, Debug)]
+pub struct Site {
+    pub offset: usize,
+}
+
 /// An expression.
 #[derive(Debug, Drop)]
 #[cycle(expression)]
 pub enum Expression {
+    /// An expression, and where it stands. What stops a program tells this of its first operand, or of its condition; it means nothing else.
+    At(Site, Box<Expression>),
     Constant(Constant),
     /// NULL, of this pointer type.
     Null(ValueType),

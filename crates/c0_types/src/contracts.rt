@@ -41,12 +41,12 @@ fn push_spec(
 {
     match spec.kind {
         SpecKind::Contract(Clause::Requires) => {
-            let found = before.wanted(&ResolvedType::Bool, &spec.condition)?;
+            let found = before.sited(&ResolvedType::Bool, &spec.condition)?;
             conditions.preconditions.push(found)?;
             Ok(())
         }
         SpecKind::Contract(Clause::Ensures) => {
-            let found = behind.wanted(&ResolvedType::Bool, &spec.condition)?;
+            let found = behind.sited(&ResolvedType::Bool, &spec.condition)?;
             conditions.postconditions.push(found)?;
             Ok(())
         }

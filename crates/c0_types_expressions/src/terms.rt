@@ -35,7 +35,7 @@ use c0_typed::{Constant, Expression as TypedExpression, ValueType};
 use c0_types_tables::resolved::ResolvedType;
 use names::{Callee, output_takes};
 use operators::operator_rule;
-use steps::{fault_at, left_operand};
+use steps::{fault_at, left_operand, sited};
 
 // Whether this type is `void`.
 fn is_void(resolved: &ResolvedType) -> bool
@@ -342,6 +342,16 @@ impl<'a> Terms<'a> {
     {
         let typing = self.typing(&e.kind, e.span)?;
         self.required(want, e, typing)
+    }
+
+    /// The same, of an expression that tells where it stands.
+    pub fn sited(&self, want: &ResolvedType, e: &Expression) -> Result<TypedExpression, Fault>
+        requires { HasTexts self.now.texts.now (expression_of e.now) }
+        ensures answers { Answers (exp_of self.now.texts.now) result (wanted (env_of self.now) (resolved_of want.now) (typed_expression (env_of self.now) (context_of self.now) (expression_of e.now))) }
+        ensures cause { IfErr result (λ f. (f.kind ≡ OutOfMemory) ⊎ InExpression (env_of self.now) (context_of self.now) f AsValue e.now.kind e.now.span ⊎ Mistyped (env_of self.now) (context_of self.now) f (resolved_of want.now) e.now.kind e.now.span) }
+    {
+        let found = self.wanted(want, e)?;
+        Ok(sited(self.alloc, found, e.span)?)
     }
 
     /// An expression as a statement: it has a small value or NULL's type, or is a call.

@@ -73,6 +73,15 @@ impl<'a> Body<'a> {
         self.terms().wanted(want, e)
     }
 
+    // The same, of an expression that tells where it stands.
+    fn sited(&self, want: &ResolvedType, e: &Expression) -> Result<TypedExpression, Fault>
+        requires { HasTexts self.now.texts.now (expression_of e.now) }
+        ensures answers { Answers (exp_of self.now.texts.now) result (expression_as (environment_of self.now.environment.now) (resolved_of want.now) (scope_of self.now.scope) (expression_of e.now)) }
+        ensures cause { IfErr result (λ f. (f.kind ≡ OutOfMemory) ⊎ InWanted (environment_of self.now.environment.now) f (scope_of self.now.scope) (resolved_of want.now) e.now) }
+    {
+        self.terms().sited(want, e)
+    }
+
     // A place of the heap; `whole` is its place with all parentheses.
     fn place(&self, kind: &ExpressionKind, span: Span, whole: Span) -> Result<Place, Fault>
         requires { HasTexts self.now.texts.now (expression_of_kind kind.now) }

@@ -12,7 +12,7 @@ use Rattle.c0_typed.specs.declared.tree.Constant.TheVariants as c
 use Rattle.c0_typed.specs.declared.tree.UnaryOperator.{UnaryOperator}
 use Rattle.c0_typed.specs.declared.tree.UnaryOperator.TheVariants as u
 use Rattle.c0_typed.specs.declared.tree.ValueType.{ValueType}
-use Rattle.c0_typed.specs.declared.tree.Expression.{Expression, Row_of-Expression, end_of-Expression, more_of-Expression, Constant, Null, Local, Unary', Binary', Compare', And', Or', Choose', Call', Print', Load', Alloc, AllocArray', Length'}
+use Rattle.c0_typed.specs.declared.tree.Expression.{Expression, Row_of-Expression, end_of-Expression, more_of-Expression, At', Constant, Null, Local, Unary', Binary', Compare', And', Or', Choose', Call', Print', Load', Alloc, AllocArray', Length'}
 use Rattle.c0_typed.specs.declared.tree.Place.{Place, Deref', Index', Field'}
 use Rattle.c0_typed.specs.declared.tree.Typed.{Typed}
 use Rattle.code_form.specs.declared.form.Kind.{Kind}
@@ -206,6 +206,7 @@ module _ (typed : Typed) (singles : List Kind) (checks : Bool) (fp : FitsProgram
 
     mutual
       pub exp_fits : (a : Expression) (ty : Ty) (d : ℕ) → At ks d (kinds a) → Knows n singles a → Has p types (exp_of texts a) ty → AllFit P ks around (code a d)
+      exp_fits (At' here q e) ty d at known h = exp_fits e ty d at known h
       exp_fits (Constant x) ty d at known h = fit_one P ks around _ (constant_fits x d (at_head ks d (constant_kind x) [] at)) refl
       exp_fits (Null w) ty d at known h = fit_one P ks around _ (ap (on_kind is_reference) (at_head ks d (kind.Ptr (layout w)) [] at)) refl
       exp_fits (Local x) ty d at known h = fit_none P ks around

@@ -6,7 +6,7 @@ use Rattle.c0_typed.specs.declared.tree.Constant.{Constant as ConstantValue}
 use Rattle.c0_typed.specs.declared.tree.Constant.TheVariants as c
 use Rattle.c0_typed.specs.declared.tree.Output.{Output}
 use Rattle.c0_typed.specs.declared.tree.Output.TheVariants as o
-use Rattle.c0_typed.specs.declared.tree.Expression.{Expression, Row_of-Expression, end_of-Expression, more_of-Expression, Constant, Null, Local, Unary', Binary', Compare', And', Or', Choose', Call', Print', Load', Alloc, AllocArray', Length'}
+use Rattle.c0_typed.specs.declared.tree.Expression.{Expression, Row_of-Expression, end_of-Expression, more_of-Expression, At', Constant, Null, Local, Unary', Binary', Compare', And', Or', Choose', Call', Print', Load', Alloc, AllocArray', Length'}
 use Rattle.c0_typed.specs.declared.tree.Place.{Place, Deref', Index', Field'}
 use Rattle.c0_typed.specs.declared.tree.Function.{Function}
 use Rattle.code_form.specs.declared.form.Kind.{Kind}
@@ -111,6 +111,7 @@ module _ (structs : List (List t.Ty)) (singles : List Kind) (texts : List (List 
 
   mutual
     pub exp_guards : (a : Expression) (d : ℕ) → Low d → Guards P P (code a d)
+    exp_guards (At' here q e) d low = exp_guards e d low
     exp_guards (Constant x) d low = guard_one _ (constant_written x d low)
     exp_guards (Null w) d low = guard_one _ (written d low)
     exp_guards (Local x) d low = guard_none

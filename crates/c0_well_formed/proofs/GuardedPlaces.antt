@@ -5,7 +5,7 @@ use Rattle.std.proofs.lemmas.List.{length-append}
 use Rattle.c0_typed.specs.Trees.{Program, Ty, StructTy, PointerTy, ArrayTy}
 use Rattle.c0_typed.specs.Typing.{Has, Holds}
 use Rattle.c0_typed.specs.Views.{exp_of, place_of, program_of, texts_of, type_of}
-use Rattle.c0_typed.specs.declared.tree.Expression.{Expression, Constant, Null, Local, Unary', Binary', Compare', And', Or', Choose', Call', Print', Load', Alloc, AllocArray', Length'}
+use Rattle.c0_typed.specs.declared.tree.Expression.{Expression, At', Constant, Null, Local, Unary', Binary', Compare', And', Or', Choose', Call', Print', Load', Alloc, AllocArray', Length'}
 use Rattle.c0_typed.specs.declared.tree.Place.{Place, Deref', Index', Field'}
 use Rattle.c0_typed.specs.declared.tree.Typed.{Typed}
 use Rattle.code_form.specs.declared.form.Kind.{Kind}
@@ -55,6 +55,7 @@ module _ (typed : Typed) (singles : List Kind) (types : List Ty) (locals : ℕ) 
   wider d i e j r h k (inr q) = let low : d ≤ r = q.0 in let high : r < d + i = q.1 in inr (omega arith, omega arith)
 
   value_within : (a : Expression) (ty : Ty) (d : ℕ) → Has p types (exp_of texts a) ty → Within d (length (kinds a)) (value_at locals a d)
+  value_within (At' here q e) ty d h = value_within e ty d h
   value_within (Constant x) ty d h = own d 0
   value_within (Null w) ty d h = own d 0
   value_within (Local x) ty d h = inl (there x ty h)

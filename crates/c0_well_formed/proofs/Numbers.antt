@@ -7,7 +7,7 @@ use Rattle.c0_typed.specs.declared.tree.Constant.{Constant as ConstantValue}
 use Rattle.c0_typed.specs.declared.tree.Constant.TheVariants as c
 use Rattle.c0_typed.specs.declared.tree.Output.{Output}
 use Rattle.c0_typed.specs.declared.tree.Output.TheVariants as o
-use Rattle.c0_typed.specs.declared.tree.Expression.{Expression, Row_of-Expression, end_of-Expression, more_of-Expression, Constant, Null, Local, Unary', Binary', Compare', And', Or', Choose', Call', Print', Load', Alloc, AllocArray', Length'}
+use Rattle.c0_typed.specs.declared.tree.Expression.{Expression, Row_of-Expression, end_of-Expression, more_of-Expression, At', Constant, Null, Local, Unary', Binary', Compare', And', Or', Choose', Call', Print', Load', Alloc, AllocArray', Length'}
 use Rattle.c0_typed.specs.declared.tree.Place.{Place, Deref', Index', Field'}
 use Rattle.c0_typed.specs.declared.tree.Statement.{Statement, Row_of-Statement, end_of-Statement, more_of-Statement, Block', Set, Update, Store, StoreUpdate, Do, If', Loop', Return, ReturnValue, Break, Continue, Assert, Error, Check}
 use Rattle.c0_typed.specs.declared.tree.Function.{Function}
@@ -88,6 +88,7 @@ module _ (typed : Typed) (singles : List Kind) (checks : Bool) (types : List Ty)
 
   mutual
     exp_names : (a : Expression) (ty : Ty) (d : ℕ) → Has p types (exp_of texts a) ty → Each CodeNames (code a d)
+    exp_names (At' here q e) ty d h = exp_names e ty d h
     exp_names (Constant x) ty d h = (constant_names texts p types x ty d h, tt)
     exp_names (Null w) ty d h = (tt, tt)
     exp_names (Local x) ty d h = tt

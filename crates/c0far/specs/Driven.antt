@@ -13,7 +13,7 @@ use Rattle.c0far.specs.Lives.{RunsLive}
 use Rattle.c0far.specs.NoCode.{HasFailed, HasNoCode, IsUnread, LacksMemory}
 use Rattle.c0far.specs.Replays.{Replays}
 use Rattle.c0far.specs.Runs.{Runs}
-use Rattle.c0far.specs.Shown.{newline, shown_meaning}
+use Rattle.c0far.specs.Shown.{TellsWhere, newline, shown_meaning}
 use Rattle.command_line.specs.Help.{asks_version, behind, help_text, version_text}
 use Rattle.command_line.specs.Shell.{Check, Command, Compiling, Live, Mean, Names, Replay, Run, Texts}
 use Rattle.command_line.specs.Shell as shell
@@ -81,18 +81,19 @@ HasNotBuilt loops file target held before now out err result = (now ≡ before) 
 abbrev pub Builds : Text → Compiling → Text → (held before now : Known) → Writes → Writes → ℕ → Type 0
 Builds file compiling target held before now out err result = HasBuilt file compiling held now out err result ⊎ HasNotBuilt compiling.texts.loops file target held before now out err result
 
--- the program of the file's text, taken so, means this within so many turns: what it printed and its end are shown
-pub record HasMeant (texts : Texts) (turns : ℕ) (held : Known) (out err : Writes) (result : ℕ) : Type 0 where
+-- the program of the file's text, taken so, means this within so many turns: what it printed and its end are shown, and where it stopped, if that was asked for
+pub record HasMeant (file : Text) (texts : Texts) (turns : ℕ) (explains : Bool) (held : Known) (out err : Writes) (result : ℕ) : Type 0 where
   pub text : List ℕ
   pub read : HasText held text
   pub typed : y.Program
   pub accepted : IsTypedAs texts.loops text typed
-  pub shown : Says out (shown_meaning (mean typed texts.checks turns)) (ended_status (mean typed texts.checks turns).stop) result
-  pub quiet : IsQuiet err
+  pub status : ℕ
+  pub shown : Says out (shown_meaning (mean typed texts.checks turns)) (ended_status (mean typed texts.checks turns).stop) status
+  pub told : TellsWhere explains file text (mean typed texts.checks turns).stop err status result
 
 -- the command `mean` of this file, which holds this
-abbrev pub Means : Text → Texts → ℕ → Known → Writes → Writes → ℕ → Type 0
-Means file texts turns held out err result = HasMeant texts turns held out err result ⊎ (HasFailed texts.loops file held out err result ⊎ (IsUnread file held out err result ⊎ LacksMemory out err result))
+abbrev pub Means : Text → Texts → (turns : ℕ) → (explains : Bool) → Known → Writes → Writes → ℕ → Type 0
+Means file texts turns explains held out err result = HasMeant file texts turns explains held out err result ⊎ (HasFailed texts.loops file held out err result ⊎ (IsUnread file held out err result ⊎ LacksMemory out err result))
 
 -- all files but the one that is written hold what they held, and that of the text does
 pub record WritesOnly (file target : Text) (held now : Text → Known) : Type 0 where
@@ -108,7 +109,7 @@ abbrev pub Does : Type 0 → (held now : Text → Known) → Command → Writes 
 Does honest held now (shell.Build compiling target file) out err result = Builds file compiling target (held file) (held target) (now target) out err result × WritesOnly file target held now
 Does honest held now (Check loops file) out err result = Checks loops file (held file) out err result × KeepsFiles held now
 Does honest held now (shell.Lists loops piece file) out err result = Lists loops piece file (held file) out err result × KeepsFiles held now
-Does honest held now (Mean texts turns file) out err result = Means file texts turns (held file) out err result × KeepsFiles held now
+Does honest held now (Mean texts turns explains file) out err result = Means file texts turns explains (held file) out err result × KeepsFiles held now
 Does honest held now (Replay asked files) out err result = Replays honest asked files held out err result × KeepsFiles held now
 Does honest held now (Run asked files) out err result = Runs honest asked files held out err result × KeepsFiles held now
 Does honest held now (Live asked file) out err result = RunsLive honest asked file held out err result × KeepsFiles held now

@@ -5,6 +5,7 @@ pub mod Lives
 pub mod MeantLines
 pub mod MemTexts
 pub mod NoCode
+pub mod Places
 pub mod Replays
 pub mod Runs
 pub mod Shown

@@ -18,7 +18,8 @@ use Rattle.c0far.specs.NoCode.{LacksCode, LacksMemory}
 use Rattle.c0far.specs.Runs.{HasRun, IsHonestIn, IsNotRun, RanOver}
 use Rattle.c0far.specs.Shown.{shown_rest}
 use Rattle.c0far.specs.Statuses.{run_status}
-use Rattle.c0far.specs.Wants.{TellsMore, share_of}
+use Rattle.c0far.specs.Places.{TellsBeside}
+use Rattle.c0far.specs.Wants.{share_of}
 
 -- A program ran to this end over this memory, and something was written while it ran: over an honest store just its output
 pub record RanLive (honest : Type 0) (memory : Memory) (programs : List Verified) (out : Writes) (finished : Finished) : Type 0 where
@@ -43,13 +44,14 @@ pub record IsShownLive (honest : Type 0) (memory : Memory) (end : Ended) (out : 
   pub sound : NoneFailed out
   pub own : status ≡ run_status end.run
 
--- A program ran to its end, as it is asked for: it was shown as it came, or one write failed; and where it was asked for it is told what it wanted, and what was counted of it
-pub record IsEndedLive (honest : Type 0) (asked : Started) (programs : List Verified) (out err : Writes) (result : ℕ) : Type 0 where
+-- The program of a file ran to its end, as it is asked for: it was shown as it came, or one write failed; and where it was asked for it is told where it stopped at most,
+-- what it wanted, and what was counted of it
+pub record IsEndedLive (honest : Type 0) (asked : Started) (file : Text) (held : Text → Known) (programs : List Verified) (out err : Writes) (result : ℕ) : Type 0 where
   pub finished : Finished
   pub executed : RanOver honest asked.memory programs (finished ∷ [])
   pub status : ℕ
   pub shown : IsShownLive honest asked.memory finished.end out status ⊎ ((status ≡ 2) × OneFailed out)
-  pub told : TellsMore asked.explains asked.stats (share_of asked.memory.objects (length programs)) (finished ∷ []) [] err status result
+  pub told : TellsBeside asked.explains asked.stats held (file ∷ []) (share_of asked.memory.objects (length programs)) (finished ∷ []) [] err status result
 
 -- in what follows folders are honest where h holds, this is asked for this file, and files hold this
 module _ (h : Type 0) (asked : Started) (file : Text) (held : Text → Known) where
@@ -58,7 +60,7 @@ module _ (h : Type 0) (asked : Started) (file : Text) (held : Text → Known) wh
     pub programs : List Verified
     pub codes : AreCodes asked.compiling held (file ∷ []) programs
     pub admitted : IsAdmitted programs asked.memory.frames asked.memory.objects asked.evacuators asked.fetchers × IsWithinWork asked.work.workers asked.work.quantum
-    pub ended : IsEndedLive h asked programs out err result ⊎ ((result ≡ 2) × OneFailed out × IsQuiet err)
+    pub ended : IsEndedLive h asked file held programs out err result ⊎ ((result ≡ 2) × OneFailed out × IsQuiet err)
 
   -- the command `run --live` of this file
   abbrev pub RunsLive : Writes → Writes → ℕ → Type 0

@@ -14,7 +14,8 @@ use Rattle.c0far.specs.FileCode.{AreCodes}
 use Rattle.c0far.specs.FileTexts.{Known}
 use Rattle.c0far.specs.NoCode.{LacksCode, LacksMemory}
 use Rattle.c0far.specs.Shown.{ends_status, newline, shown_ends}
-use Rattle.c0far.specs.Wants.{TellsMore, share_of}
+use Rattle.c0far.specs.Places.{TellsBeside}
+use Rattle.c0far.specs.Wants.{share_of}
 use Rattle.streams.specs.Streams.{IsQuiet, Says, Writes}
 
 -- the store, in memory or in this folder, is honest: one in memory always is, one in files where folders are
@@ -40,7 +41,7 @@ SaysFault admit.OutOfMemory err result = Says err (codes "out of memory" ++ newl
 -- in what follows folders are honest where h holds, this is asked for these files, and files hold this
 module _ (h : Type 0) (asked : Started) (files : List Text) (held : Text → Known) where
   -- the codes of the files are admitted to this memory, and ran side by side: of each is shown what it printed and how it ended, and where it was asked for it is
-  -- told what each wanted that wanted something, and what was counted of each, and of some movers
+  -- told where each stopped at most, what each wanted that wanted something, and what was counted of each, and of some movers
   pub record HasRun (out err : Writes) (result : ℕ) : Type 0 where
     pub programs : List Verified
     pub codes : AreCodes asked.compiling held files programs
@@ -50,7 +51,7 @@ module _ (h : Type 0) (asked : Started) (files : List Text) (held : Text → Kno
     pub executed : RanOver h asked.memory programs finished
     pub status : ℕ
     pub shown : Says out (shown_ends (map end_of finished)) (ends_status (map end_of finished)) status
-    pub told : TellsMore asked.explains asked.stats (share_of asked.memory.objects (length programs)) finished movers err status result
+    pub told : TellsBeside asked.explains asked.stats held files (share_of asked.memory.objects (length programs)) finished movers err status result
 
   -- the programs of the files are not admitted to this memory: it is told why; or they are, and memory was wanted
   pub record IsNotRun (out err : Writes) (result : ℕ) : Type 0 where

@@ -1,14 +1,19 @@
 -- What is shown.
-use Rattle.std.specs.Prelude.{◌≡◌, ℕ, suc, ◌+◌, ◌-◌, ◌==◌, max, min, Bool, true, false, not, List, [], ◌∷◌, ◌++◌, length, take, count_by, Option, Some, None, slice_get, codes, cond, decimal}
+use Rattle.std.specs.Prelude.{◌≡◌, ◌⊎◌, ℕ, suc, ◌+◌, ◌-◌, ◌==◌, max, min, Bool, true, false, not, List, [], ◌∷◌, ◌++◌, length, take, count_by, Option, Some, None, slice_get, codes, cond, decimal}
 use Rattle.cells.specs.declared.ending.Ended.{Ended}
 use Rattle.cells.specs.Lines.{run_line}
 use Rattle.cells.specs.Outcomes.{Meant}
+use Rattle.cells.specs.Stops.{Stop, Ended as EndedBy}
+use Rattle.c0_meaning.specs.declared.pending.Numbers.{Numbers}
+use Rattle.c0_meaning.specs.declared.pending.Numbers.TheVariants as numbers
 use Rattle.c0_source.specs.declared.fault.Fault.{Fault}
 use Rattle.c0_source.specs.FaultLines.{fault_line}
 use Rattle.c0_source.specs.Lines.{BeginsLine}
+use Rattle.std.specs.Fmt.{signed_decimal}
 use Rattle.clap.specs.Words.{Text}
-use Rattle.c0far.specs.MeantLines.{last_line}
+use Rattle.c0far.specs.MeantLines.{end_line, last_line}
 use Rattle.c0far.specs.Statuses.{run_status}
+use Rattle.streams.specs.Streams.{IsQuiet, Says, Writes}
 
 -- the end of a line
 abbrev pub newline : List ℕ
@@ -59,7 +64,33 @@ shown_meaning m = m.output ++ (cond (is_open m.output) newline [] ++ (last_line 
 abbrev pub shown_fault : Text → ℕ → ℕ → Fault → List ℕ
 shown_fault file line column fault = file ++ (codes ":" ++ (decimal line ++ (codes ":" ++ (decimal column ++ (codes ": " ++ (fault_line fault ++ newline))))))
 
+-- the numbers that stopped a program
+abbrev pub shown_numbers : Option Numbers → List ℕ
+shown_numbers None = []
+shown_numbers (Some (numbers.Index index length)) = codes " (index " ++ (signed_decimal index ++ (codes ", length " ++ (decimal length ++ codes ")")))
+shown_numbers (Some (numbers.Length length)) = codes " (length " ++ (signed_decimal length ++ codes ")")
+
+-- the line of a program that stopped so in a file's text, and by these numbers: FILE:LINE:COLUMN: and how
+abbrev pub shown_stop : Text → ℕ → ℕ → Stop → Option Numbers → List ℕ
+shown_stop file line column stop by = (file ++ (codes ":" ++ (decimal line ++ (codes ":" ++ (decimal column ++ (codes ": " ++ end_line stop)))))) ++ (shown_numbers by ++ newline)
+
 -- a place in a text stands in this line, at this column, both counted from 1
 abbrev pub StandsAt : List ℕ → ℕ → ℕ → ℕ → Type 0
 StandsAt text at line column = (line ≡ count_by (λ b. b == 10) (take at text) + 1)
     × ((start : ℕ) × BeginsLine text (min at (length text)) start × (column ≡ min at (length text) - start + 1))
+
+-- Where a program of a file's text stopped so, that is told at most, by the line and column of a place, and the command answers so; or one write failed, and it answers 2
+abbrev pub TellsStop : Text → List ℕ → Stop → Writes → (status result : ℕ) → Type 0
+TellsStop file text stop err status result = ((result ≡ status) × IsQuiet err)
+    ⊎ ((at : ℕ) × (line : ℕ) × (column : ℕ) × (by : Option Numbers) × StandsAt text at line column × Says err (shown_stop file line column stop by) status result)
+
+-- the same of a plain run: nothing is told of one that gave a result, or was cut
+abbrev pub TellsPlace : Text → List ℕ → Option Stop → Writes → (status result : ℕ) → Type 0
+TellsPlace file text None err status result = (result ≡ status) × IsQuiet err
+TellsPlace file text (Some (EndedBy number)) err status result = (result ≡ status) × IsQuiet err
+TellsPlace file text (Some stop) err status result = TellsStop file text stop err status result
+
+-- the same where it was asked for, and else nothing is told
+abbrev pub TellsWhere : (explains : Bool) → Text → List ℕ → Option Stop → Writes → (status result : ℕ) → Type 0
+TellsWhere false file text stop err status result = (result ≡ status) × IsQuiet err
+TellsWhere true file text stop err status result = TellsPlace file text stop err status result

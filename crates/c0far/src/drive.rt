@@ -160,10 +160,21 @@ pub fn drive<W: Wait + Threads + Clock + Sync, F: Files, O: Stream, E: Stream>(
         ) => build(alloc, compiling, target, file, files, out, err),
         Ok(Line::Check { level, file }) => check(alloc, level, file, files, out, err),
         Ok(Line::List { level, piece, file }) => list(alloc, level, piece, file, files, out, err),
-        Ok(Line::Mean { texts, turns, file }) => mean(
+        Ok(
+            Line::Mean {
+                texts,
+                turns,
+                explains,
+                file,
+            },
+        ) => mean(
             alloc,
             rt,
-            Bound { texts, turns },
+            Bound {
+                texts,
+                turns,
+                explains,
+            },
             file,
             files,
             out,

@@ -7,6 +7,7 @@ pub mod files;
 mod images;
 mod laws;
 mod lives;
+mod places;
 mod plain;
 mod replacing;
 mod replays;

@@ -10,9 +10,10 @@ ghost use Rattle.world_semantics.specs.Pieces.{piece_of as first_piece};
 
 use crate::code::codes_of;
 use crate::files::Files;
+use crate::places::say_beside;
 use crate::runs::fits_asked;
 use crate::say::{REFUSED, say_admission, say_rest};
-use crate::wants::{say_more, share_of};
+use crate::wants::share_of;
 use command_line::words::Run;
 use file_store::FileStores;
 use live_run::{Finished, LiveError, run_live_counted};
@@ -22,6 +23,7 @@ use scope_verifier::Verified;
 use std::alloc::Global;
 use std::slice::from_ref;
 use std::sync::Wait;
+use std::thread::Threads;
 use streams::Stream;
 
 /// Runs the one program over these stores.
@@ -121,7 +123,7 @@ fn live_asked<W: Wait, F: Files, O: Stream>(
 }
 
 /// Runs the code of this file by itself, and writes what it prints as it comes.
-pub fn run_live<W: Wait, F: Files, O: Stream, E: Stream>(
+pub fn run_live<W: Wait + Threads, F: Files, O: Stream, E: Stream>(
     alloc: Global,
     rt: &W,
     asked: Run<'_>,
@@ -141,7 +143,18 @@ pub fn run_live<W: Wait, F: Files, O: Stream, E: Stream>(
     match live_asked(alloc, rt, programs, asked, files, out) {
         Ok(finished) => {
             let status = say_rest(out, &finished.end);
-            say_more(err, asked, share, from_ref(&finished), &[], status)
+            say_beside(
+                alloc,
+                rt,
+                asked,
+                share,
+                &[name],
+                files,
+                from_ref(&finished),
+                &[],
+                err,
+                status,
+            )
         }
         Err(LiveError::NotRun(fault)) => say_admission(err, fault),
         Err(LiveError::Unwritten) => REFUSED,

@@ -1,29 +1,32 @@
 //! The command `mean`: what the program of a text means within some turns.
-ghost use Rattle.std.specs.Prelude.{◌≡◌, ℕ, List};
+ghost use Rattle.std.specs.Prelude.{◌≡◌, ◌++◌, ℕ, List};
+ghost use Rattle.cells.specs.Stops.{stop_of};
 ghost use Rattle.c0_meaning.specs.Run.{ended_of, meant_of};
 ghost use Rattle.command_line.specs.Shell.{texts_of};
 ghost use Rattle.c0far.specs.Driven.{Means};
-ghost use Rattle.c0far.specs.Shown.{shown_meaning};
+ghost use Rattle.c0far.specs.Shown.{TellsPlace, TellsWhere, newline, shown_meaning, shown_numbers, shown_stop};
 ghost use Rattle.c0far.specs.FileTexts.{HasText, Known};
 ghost use Rattle.c0far.specs.Statuses.{ended_status};
-ghost use Rattle.streams.specs.Streams.{Says, writes};
+ghost use Rattle.streams.specs.Streams.{IsWritten, Says, writes};
 
 use crate::files::{FileError, Files};
 use crate::say::{REFUSED, STOPPED, after, say_memory, say_refused, say_unread, write_output};
-use c0_meaning::Meant;
-use c0_plain::mean_text;
+use c0_meaning::{Meant, Numbers, Placed};
+use c0_plain::mean_text_placed;
 use c0_source::fault::FaultKind;
+use c0_source::position::{Position, line_column};
 use cells::Stop;
 use command_line::words::Texts;
 use std::alloc::Global;
 use std::thread::Threads;
-use streams::Stream;
+use streams::{Failed, Stream};
 
-/// How a program's text is taken, and how far it is run.
+/// How a program's text is taken, how far it is run, and whether it is told where it stopped.
 #[derive(Clone, Copy, Debug, PartialEq, Eq)]
 pub struct Bound {
     pub texts: Texts,
     pub turns: u64,
+    pub explains: bool,
 }
 
 /// The status of a program that has stopped so, or was cut.
@@ -50,6 +53,74 @@ fn say_meaning<O: Stream>(out: &mut O, meant: &Meant) -> u8
     }
 }
 
+/// Writes the numbers that stopped a program, and the end of their line.
+fn write_numbers<E: Stream>(err: &mut E, numbers: Option<Numbers>) -> Result<(), Failed>
+    ensures { IsWritten (writes E.contents E.failures err.old err.new) (shown_numbers numbers ++ newline) result }
+{
+    match numbers {
+        None => writeln!(err),
+        Some(Numbers::Index { index, length }) => {
+            writeln!(err, " (index {index}, length {length})")
+        }
+        Some(Numbers::Length(length)) => writeln!(err, " (length {length})"),
+    }
+}
+
+/// Writes that a program stopped so, at a place of a file's text, by these numbers.
+pub(crate) fn write_stop<E: Stream>(
+    err: &mut E,
+    file: &str,
+    position: Position,
+    stop: &Stop,
+    numbers: Option<Numbers>,
+) -> Result<(), Failed>
+    ensures { IsWritten (writes E.contents E.failures err.old err.new) (shown_stop file.now position.line position.column (stop_of stop.now) numbers) result }
+{
+    let line = position.line;
+    let column = position.column;
+    write!(err, "{file}:{line}:{column}: {stop}")?;
+    write_numbers(err, numbers)
+}
+
+/// Says where a program of a file's text stopped, if it did otherwise than by a result; the status is this one, unless the write failed.
+fn say_place<E: Stream>(err: &mut E, file: &str, text: &[u8], placed: &Placed, status: u8) -> u8
+    ensures { TellsPlace file.now text.now (ended_of placed.now.meant.stop) (writes E.contents E.failures err.old err.new) status result }
+{
+    let Some(site) = placed.place else {
+        return status;
+    };
+    match &placed.meant.stop {
+        None | Some(Stop::Ended(_)) => status,
+        Some(stop) => {
+            let position = line_column(text, site.offset);
+            after(
+                write_stop(err, file, position, stop, placed.numbers),
+                status,
+            )
+        }
+    }
+}
+
+/// Says what a plain run came to, and where it stopped, if that is asked for.
+fn say_placed<O: Stream, E: Stream>(
+    out: &mut O,
+    err: &mut E,
+    explains: bool,
+    file: &str,
+    text: &[u8],
+    placed: &Placed,
+) -> u8
+    ensures { (status : ℕ) × Says (writes O.contents O.failures out.old out.new) (shown_meaning (meant_of placed.now.meant)) (ended_status (ended_of placed.now.meant.stop)) status
+        × TellsWhere explains file.now text.now (ended_of placed.now.meant.stop) (writes E.contents E.failures err.old err.new) status result }
+{
+    let status = say_meaning(out, &placed.meant);
+    if explains {
+        say_place(err, file, text, placed, status)
+    } else {
+        status
+    }
+}
+
 /// The plain run of a text, which stands in this file.
 fn mean_named<R: Threads, O: Stream, E: Stream>(
     alloc: Global,
@@ -60,9 +131,9 @@ fn mean_named<R: Threads, O: Stream, E: Stream>(
     out: &mut O,
     err: &mut E,
 ) -> u8
-    ensures { (held : Known) → HasText held text.now → Means file.now (texts_of bound.texts) bound.turns held (writes O.contents O.failures out.old out.new) (writes E.contents E.failures err.old err.new) result }
+    ensures { (held : Known) → HasText held text.now → Means file.now (texts_of bound.texts) bound.turns bound.explains held (writes O.contents O.failures out.old out.new) (writes E.contents E.failures err.old err.new) result }
 {
-    match mean_text(
+    match mean_text_placed(
         alloc,
         rt,
         text,
@@ -70,7 +141,7 @@ fn mean_named<R: Threads, O: Stream, E: Stream>(
         bound.texts.level,
         bound.turns,
     ) {
-        Ok(meant) => say_meaning(out, &meant),
+        Ok(placed) => say_placed(out, err, bound.explains, file, text, &placed),
         Err(fault) if fault.kind == FaultKind::OutOfMemory => say_memory(err),
         Err(fault) => say_refused(err, file, text, bound.texts.level, fault),
     }
@@ -87,7 +158,7 @@ pub fn mean<R: Threads, F: Files, O: Stream, E: Stream>(
     err: &mut E,
 ) -> u8
     ensures files { (name : List ℕ) → F.holds files.new name ≡ F.holds files.old name }
-    ensures done { Means file.now (texts_of bound.texts) bound.turns (F.holds files.old file.now) (writes O.contents O.failures out.old out.new) (writes E.contents E.failures err.old err.new) result }
+    ensures done { Means file.now (texts_of bound.texts) bound.turns bound.explains (F.holds files.old file.now) (writes O.contents O.failures out.old out.new) (writes E.contents E.failures err.old err.new) result }
 {
     match files.read_text(alloc, file) {
         Ok(text) => mean_named(alloc, rt, bound, file, &text, out, err),

@@ -9,8 +9,9 @@ ghost use Rattle.streams.specs.Streams.{writes};
 
 use crate::code::codes_of;
 use crate::files::Files;
+use crate::places::say_beside;
 use crate::say::{say_admission, say_finished};
-use crate::wants::{say_more, share_of};
+use crate::wants::share_of;
 use command_line::words::Run;
 use executor::{Counted, OpenGate, run_all_counted};
 use file_store::FileStores;
@@ -146,12 +147,16 @@ pub fn run<W: Wait + Threads + Clock + Sync, F: Files, O: Stream, E: Stream>(
     match run_asked(alloc, rt, programs, asked, files) {
         Ok(counted) => {
             let status = say_finished(out, &counted.programs);
-            say_more(
-                err,
+            say_beside(
+                alloc,
+                rt,
                 asked,
                 share,
+                names,
+                files,
                 &counted.programs,
                 &counted.movers,
+                err,
                 status,
             )
         }

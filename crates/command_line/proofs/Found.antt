@@ -69,12 +69,13 @@ list_is f loops o file of_level of_piece =
     ap (option_map (λ p. Lists loops p file)) of_piece ∙ ap (option_and_then (λ l. option_map (λ p. Lists l p file) (piece_in (rows_of f)))) of_level
 
 -- what was found of the turns tells the plain run
-pub run_is : (f : Found) (t : Texts) (o : Option Text) (n : Option ℕ) (file : Text) → Some t ≡ texts_in (rows_of f) → o ≡ first_value f (codes "turns") → n ≡ option_and_then number_in o
-    → option_map (λ turns. Mean t turns file) n ≡ mean_command (rows_of f) file
-run_is f t o n file of_texts e told =
+pub run_is : (f : Found) (t : Texts) (o : Option Text) (n : Option ℕ) (b : Bool) (file : Text) → Some t ≡ texts_in (rows_of f) → o ≡ first_value f (codes "turns") → n ≡ option_and_then number_in o
+    → b ≡ has_flag (codes "where") (rows_of f) → option_map (λ turns. Mean t turns b file) n ≡ mean_command (rows_of f) file
+run_is f t o n b file of_texts e told of_explains =
     let turns : Option ℕ = option_and_then number_in (first_of (codes "turns") (rows_of f)) in
-    ap (option_map (λ turns. Mean t turns file)) (told ∙ ap (option_and_then number_in) (e ∙ sym (first_is f (codes "turns"))))
-    ∙ ap (option_and_then (λ t. option_map (λ n. Mean t n file) turns)) of_texts
+    ap (option_map (λ turns. Mean t turns b file)) (told ∙ ap (option_and_then number_in) (e ∙ sym (first_is f (codes "turns"))))
+    ∙ ap (λ x. option_map (λ n. Mean t n x file) turns) of_explains
+    ∙ ap (option_and_then (λ t. option_map (λ n. Mean t n (has_flag (codes "where") (rows_of f)) file) turns)) of_texts
 
 -- what was found of the file to write tells the writing of an image
 pub build_is : (f : Found) (x : Compiling) (o : Option Text) (file : Text) → Some x ≡ compiling_in (rows_of f) → o ≡ first_value f (codes "out") → option_map (λ out. Build x out file) o ≡ build_command (rows_of f) file

@@ -132,7 +132,7 @@ has_choice name o.Quantum = is_run_name name
 has_choice name o.Schedule = bytes_eq name (codes "replay")
 has_choice name o.Live = bytes_eq name (codes "run")
 has_choice name o.Stats = bytes_eq name (codes "run")
-has_choice name o.Where = bytes_eq name (codes "run")
+has_choice name o.Where = bytes_eq name (codes "run") || bytes_eq name (codes "mean")
 
 -- the option without which the command of this name does nothing
 abbrev pub required_in : Text → Option Choice

@@ -93,9 +93,9 @@ check_shape = (with_rule (of_texts (codes "check")) file_rule).top
 abbrev pub list_shape : Shape
 list_shape = (with_rule (with_rule (of_texts (codes "list")) (option_rule (codes "piece"))) file_rule).top
 
--- mean [--level L] [-d] --turns N FILE
+-- mean [--level L] [-d] --turns N [--where] FILE
 abbrev pub mean_shape : Shape
-mean_shape = (with_rule (with_rule (of_checked_texts (codes "mean")) turns_rule) file_rule).top
+mean_shape = (with_rule (with_rule (with_rule (of_checked_texts (codes "mean")) turns_rule) where_rule) file_rule).top
 
 -- run [--level L] [-d] [--piece C] [--frames F] [--objects N] [--store DIR] [--fail-from K] [--evacuators E] [--fetchers Q] [--workers W] [--quantum N]
 -- [--live] [--stats] [--where] FILE...
@@ -170,7 +170,7 @@ pub data Command : Type 0 where
   Build : Compiling → (out file : Text) → Command
   Check : (loops : Bool) → Text → Command
   Lists : (loops : Bool) → (piece : ℕ) → Text → Command
-  Mean : Texts → ℕ → Text → Command
+  Mean : Texts → (turns : ℕ) → (explains : Bool) → Text → Command
   Replay : Replayed → List Text → Command
   Run : Started → List Text → Command
   Live : Started → Text → Command
@@ -230,7 +230,7 @@ compiling_in rows = option_and_then (λ t. option_map (λ p. record { texts = t;
 
 -- the plain run of this file, within the turns of the rows
 abbrev pub mean_command : List Row → Text → Option Command
-mean_command rows file = option_and_then (λ t. option_map (λ turns. Mean t turns file) (option_and_then number_in (first_of (codes "turns") rows))) (texts_in rows)
+mean_command rows file = option_and_then (λ t. option_map (λ turns. Mean t turns (has_flag (codes "where") rows) file) (option_and_then number_in (first_of (codes "turns") rows))) (texts_in rows)
 
 -- the image of this file, written to the file of the rows
 abbrev pub build_command : List Row → Text → Option Command
@@ -328,7 +328,7 @@ abbrev pub command_of : Line → Command
 command_of (line.Build compiling out file) = Build (compiling_of compiling) out.now file.now
 command_of (line.Check level file) = Check (has_loops level) file.now
 command_of (line.List level piece file) = Lists (has_loops level) (cells_in piece) file.now
-command_of (line.Mean texts turns file) = Mean (texts_of texts) turns file.now
+command_of (line.Mean texts turns explains file) = Mean (texts_of texts) turns explains file.now
 command_of (line.Replay asked files) = Replay (replayed_of asked) (map (λ f. f.now) files.items)
 command_of (line.Run asked files) = Run (started_of asked) (map (λ f. f.now) files.items)
 command_of (line.Live asked file) = Live (started_of asked) file.now

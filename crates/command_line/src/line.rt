@@ -98,7 +98,10 @@ fn mean<'a>(alloc: Global) -> Result<Command<'a>, AllocError>
     let file = Arg::new(alloc, "file")
         .required(true)
         .action(ArgAction::Set);
-    of_checked_texts(alloc, "mean")?.arg(turns)?.arg(file)
+    of_checked_texts(alloc, "mean")?
+        .arg(turns)?
+        .arg(explains(alloc))?
+        .arg(file)
 }
 
 /// A command with the options of its memory.
@@ -143,7 +146,7 @@ fn stats<'a>(alloc: Global) -> Arg<'a>
         .action(ArgAction::SetTrue)
 }
 
-/// The option that has what programs wanted told.
+/// The option that has told where programs stopped, and what they wanted.
 fn explains<'a>(alloc: Global) -> Arg<'a>
     ensures rule { rule_of result ≡ where_rule }
     ensures own { result.global ≡ false }
@@ -369,7 +372,12 @@ fn plain_run<'a>(matches: &ArgMatches<'a>, file: &'a str) -> Option<Line<'a>>
     let Some(turns) = number(text) else {
         return None;
     };
-    Some(Line::Mean { texts, turns, file })
+    Some(Line::Mean {
+        texts,
+        turns,
+        explains: flag(matches, "where"),
+        file,
+    })
 }
 
 /// The writing of this file's image, with the options that clap found.

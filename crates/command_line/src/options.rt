@@ -173,7 +173,8 @@ pub(crate) fn has(name: &str, choice: Choice) -> bool
         Choice::Out => name == "build",
         Choice::Turns => name == "mean",
         Choice::Schedule => name == "replay",
-        Choice::Live | Choice::Stats | Choice::Where => name == "run",
+        Choice::Live | Choice::Stats => name == "run",
+        Choice::Where => name == "run" || name == "mean",
         Choice::Frames
         | Choice::Objects
         | Choice::Store

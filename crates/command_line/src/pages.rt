@@ -90,7 +90,7 @@ status: 0 where it is printed; 2 where the text or the image is refused, or
 docs/IMAGES.md tells what each instruction does";
 
 /// The page of `mean`.
-pub const MEAN_PAGE: &str = "usage: c0far mean [-d] [--level L] --turns N FILE
+pub const MEAN_PAGE: &str = "usage: c0far mean [-d] [--level L] --turns N [--where] FILE
 
 Runs the program of the text in FILE plainly, as the language defines it, and
 prints its output and then how it ended: `result: N`, `assertion failed`,
@@ -103,6 +103,9 @@ options:
   --turns N    at most N turns, a number below 2^64: a turn is the call of a
                function of the text, or an entry of a loop's body; it has no
                default
+  --where      tells on the standard error where the program stopped otherwise
+               than by a result: FILE:LINE:COLUMN of the expression, or of the
+               condition of an assertion or a contract, and how it stopped
 
 status: 0 where it ended with a result, or was cut; 1 where it stopped
   otherwise; 2 where the text is refused, or cannot be read; 3 where memory ran
@@ -154,9 +157,11 @@ options:
                   An evacuator: rounds, objects that left, that were used
                   meanwhile, and that the store refused. A fetcher: objects
                   brought in, hints let go, and gets that failed
-  --where         when all have ended, tells on the standard error why a
-                  program wanted something: which call of the store was
-                  refused, of which object, or how many objects were in use
+  --where         when all have ended, tells on the standard error where the
+                  program of a text stopped otherwise than by a result:
+                  FILE:LINE:COLUMN, and how; and why a program wanted
+                  something: which call of the store was refused, of which
+                  object, or how many objects were in use
 
 status: 0 where each ended with a result; 1 where one stopped otherwise; 2 where
   a text or an image is refused, or cannot be read, or there are too few frames
@@ -187,7 +192,9 @@ status: 0 where each program ended with a result, or runs; 1 where one stopped
 `c0far help run` tells of run's options; docs/SCHEDULES.md what a line may say";
 
 /// The page of the last lines.
-pub const STOPS_PAGE: &str = "The last line tells how a program ended.
+pub const STOPS_PAGE: &str =
+    "The last line tells how a program ended. With --where, run and mean tell on the
+standard error where it stopped.
 
 result: N         main returned N
 assertion failed  the condition of an assert is false, or with -d a contract

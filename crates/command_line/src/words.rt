@@ -79,10 +79,12 @@ pub enum Line<'a> {
         piece: Piece,
         file: &'a str,
     },
-    /// The plain run of a text that is taken so: what its program means within so many turns.
+    /// The plain run of a text that is taken so: what its program means within so many turns. `explains` says whether it is told, on the standard error,
+    /// where the program stopped.
     Mean {
         texts: Texts,
         turns: u64,
+        explains: bool,
         file: &'a str,
     },
     /// Replays a schedule of the programs of these files, each an image or a text.

@@ -11,7 +11,7 @@ use Rattle.c0_typed.specs.declared.tree.Constant.{Constant as ConstantValue}
 use Rattle.c0_typed.specs.declared.tree.Constant.TheVariants as c
 use Rattle.c0_typed.specs.declared.tree.UnaryOperator.{UnaryOperator}
 use Rattle.c0_typed.specs.declared.tree.UnaryOperator.TheVariants as u
-use Rattle.c0_typed.specs.declared.tree.Expression.{Expression, Row_of-Expression, end_of-Expression, more_of-Expression, Constant, Null, Local, Unary', Binary', Compare', And', Or', Choose', Call', Print', Load', Alloc, AllocArray', Length'}
+use Rattle.c0_typed.specs.declared.tree.Expression.{Expression, Row_of-Expression, end_of-Expression, more_of-Expression, At', Constant, Null, Local, Unary', Binary', Compare', And', Or', Choose', Call', Print', Load', Alloc, AllocArray', Length'}
 use Rattle.c0_typed.specs.declared.tree.Function.{Function}
 use Rattle.c0_typed.specs.declared.tree.Typed.{Typed}
 use Rattle.code_form.specs.declared.form.Kind.{Kind}
@@ -74,6 +74,7 @@ module _ (typed : Typed) (singles : List Kind) (types : List Ty) (locals : ℕ) 
 
     -- the register of an expression's value has the kind of its type
     pub value_kind : (e : Expression) (t : Ty) (d : ℕ) → At ks d (kinds e) → Has p types (exp_of (texts_of typed) e) t → slice_get ks (value_at locals e d) ≡ Some (kind_of n singles t)
+    value_kind (At' here q e) t d a h = value_kind e t d a h
     value_kind (Constant x) t d a h = as_kind d (constant_kind x) t t [] a (constant_kind_is x t h) refl
     value_kind (Null ty) t d a h = as_kind d _ t _ [] a refl h
     value_kind (Local x) t d a h = locals_at x t h
@@ -110,6 +111,7 @@ module _ (typed : Typed) (singles : List Kind) (types : List Ty) (locals : ℕ) 
 
     -- a value stands below the registers of what follows
     pub value_before : (e : Expression) (t : Ty) (d : ℕ) → suc locals ≤ d → Has p types (exp_of (texts_of typed) e) t → value_at locals e d < d + length (kinds e)
+    value_before (At' here q e) t d l h = value_before e t d l h
     value_before (Local x) t d l h = let q = low x (local_there x t h) in omega arith
     value_before (Constant x) t d l h = above d _
     value_before (Null ty) t d l h = above d _
@@ -128,6 +130,7 @@ module _ (typed : Typed) (singles : List Kind) (types : List Ty) (locals : ℕ) 
 
     -- and it is no register that is neither a local's nor one of its own
     pub value_apart : (e : Expression) (t : Ty) (d b : ℕ) → suc locals ≤ d → d < b → Has p types (exp_of (texts_of typed) e) t → value_at locals e b ≢ d
+    value_apart (At' here q e) t d b l lt h = value_apart e t d b l lt h
     value_apart (Local x) t d b l lt h = let q = low x (local_there x t h) in omega arith
     value_apart (Constant x) t d b l lt h = omega arith
     value_apart (Null ty) t d b l lt h = omega arith

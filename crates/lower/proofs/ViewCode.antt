@@ -13,7 +13,7 @@ use Rattle.c0_typed.specs.declared.tree.Constant.{Constant as ConstantValue}
 use Rattle.c0_typed.specs.declared.tree.Constant.TheVariants as c
 use Rattle.c0_typed.specs.declared.tree.Output.{Output}
 use Rattle.c0_typed.specs.declared.tree.Output.TheVariants as o
-use Rattle.c0_typed.specs.declared.tree.Expression.{Expression, Row_of-Expression, end_of-Expression, more_of-Expression, Constant, Null, Local, Unary', Binary', Compare', And', Or', Choose', Call', Print', Load', Alloc, AllocArray', Length'}
+use Rattle.c0_typed.specs.declared.tree.Expression.{Expression, Row_of-Expression, end_of-Expression, more_of-Expression, At', Constant, Null, Local, Unary', Binary', Compare', And', Or', Choose', Call', Print', Load', Alloc, AllocArray', Length'}
 use Rattle.c0_typed.specs.declared.tree.Place.{Place, Deref', Index', Field'}
 use Rattle.c0_typed.specs.declared.tree.Statement.{Statement, Row_of-Statement, end_of-Statement, more_of-Statement, Block', Set, Update, Store, StoreUpdate, Do, If', Loop', Return, ReturnValue, Break, Continue, Assert, Error, Check}
 use Rattle.c0_typed.specs.declared.tree.Function.{Function}
@@ -404,6 +404,7 @@ module _ (structs : List (List t.Ty)) (singles : List Kind) (texts : List (List 
 
   mutual
     exp_is : (a : Expression) → E (exp_of texts a) ≡ exp_made a
+    exp_is (At' here q e) = exp_is e
     exp_is (Constant x) = λ i. leaf (value_kind_is texts x i) (λ d. value_code_is texts x d i)
     exp_is (Null ty) = refl
     exp_is (Local x) = refl

@@ -3,7 +3,7 @@ use Rattle.std.proofs.Common.{◌≡◌, ℕ, List, [], ◌∷◌, ◌++◌, len
 use Rattle.std.proofs.lemmas.List.{length-map}
 use Rattle.c0_typed.specs.Trees as t
 use Rattle.c0_typed.specs.Views.{block_of, block_row, exp_of, exps_of, function_of, place_of, program_of, row_of, stmt_of, struct_of, texts_of, type_of}
-use Rattle.c0_typed.specs.declared.tree.Expression.{Expression, Row_of-Expression, end_of-Expression, more_of-Expression, Constant, Null, Local, Unary', Binary', Compare', And', Or', Choose', Call', Print', Load', Alloc, AllocArray', Length'}
+use Rattle.c0_typed.specs.declared.tree.Expression.{Expression, Row_of-Expression, end_of-Expression, more_of-Expression, At', Constant, Null, Local, Unary', Binary', Compare', And', Or', Choose', Call', Print', Load', Alloc, AllocArray', Length'}
 use Rattle.c0_typed.specs.declared.tree.Place.{Place, Deref', Index', Field'}
 use Rattle.c0_typed.specs.declared.tree.Statement.{Statement, Row_of-Statement, end_of-Statement, more_of-Statement, Block', Set, Update, Store, StoreUpdate, Do, If', Loop', Return, ReturnValue, Break, Continue, Assert, Error, Check}
 use Rattle.c0_typed.specs.declared.tree.Function.{Function}
@@ -72,6 +72,7 @@ singles_in p = g.all_learned (length p.structs) [] (types_of_functions p.functio
 module _ (texts : List (List ℕ)) where
   mutual
     exp_types : (e : Expression) → types_in (exp_of texts e) ≡ g.types_in e
+    exp_types (At' here q e) = exp_types e
     exp_types (Constant x) = refl
     exp_types (Null ty) = refl
     exp_types (Local x) = refl

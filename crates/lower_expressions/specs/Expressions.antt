@@ -12,7 +12,7 @@ use Rattle.c0_typed.specs.declared.tree.Constant.{Constant as ConstantValue}
 use Rattle.c0_typed.specs.declared.tree.Constant.TheVariants as c
 use Rattle.c0_typed.specs.declared.tree.Output.{Output}
 use Rattle.c0_typed.specs.declared.tree.Output.TheVariants as o
-use Rattle.c0_typed.specs.declared.tree.Expression.{Expression, Row_of-Expression, end_of-Expression, more_of-Expression, Constant, Null, Local, Unary', Binary', Compare', And', Or', Choose', Call', Print', Load', Alloc, AllocArray', Length'}
+use Rattle.c0_typed.specs.declared.tree.Expression.{Expression, Row_of-Expression, end_of-Expression, more_of-Expression, At', Constant, Null, Local, Unary', Binary', Compare', And', Or', Choose', Call', Print', Load', Alloc, AllocArray', Length'}
 use Rattle.c0_typed.specs.declared.tree.Place.{Place, Deref', Index', Field'}
 use Rattle.c0_typed.specs.declared.tree.Function.{Function}
 use Rattle.code_form.specs.declared.form.Kind.{Kind}
@@ -98,6 +98,7 @@ local_register locals (suc x) = x
 
 -- where the value of an expression stands whose registers begin at d
 abbrev pub value_at : ℕ → Expression → ℕ → ℕ
+value_at locals (At' here q e) d = value_at locals e d
 value_at locals (Local x) d = local_register locals x
 value_at locals e d = d
 
@@ -128,6 +129,7 @@ module _ (structs : List (List t.Ty)) (singles : List Kind) (texts : List (List 
   -- ---- registers beside the locals, by their kinds, in their order
   abbrev mutual
     pub exp_kinds : Expression → List Kind
+    exp_kinds (At' here q e) = exp_kinds e
     exp_kinds (Constant x) = constant_kind x ∷ []
     exp_kinds (Null ty) = kind.Ptr (layout_at ty) ∷ []
     exp_kinds (Local x) = []
@@ -188,6 +190,7 @@ module _ (structs : List (List t.Ty)) (singles : List Kind) (texts : List (List 
     abbrev mutual
       -- the code of an expression, with its registers from d on
       pub exp_code : Expression → ℕ → List Code
+      exp_code (At' here q e) d = exp_code e d
       exp_code (Constant x) d = m.Do (constant_code texts x d) ∷ []
       exp_code (Null ty) d = m.Do (op.Null d) ∷ []
       exp_code (Local x) d = []

@@ -35,6 +35,7 @@ pub fn expression(
     ensures added { OnOk result (codes code.new.items ≡ codes code.old.items ++ exp_code context.now whole.now (length kinds.old.items)) }
 {
     match whole {
+        Expression::At(_, inner) => expression(context, kinds, code, inner),
         Expression::Constant(value) => constant(context, kinds, code, *value),
         Expression::Null(ty) => null(context, kinds, code, ty),
         Expression::Local(local) => Ok(local_register(context.locals, *local)),

@@ -2,7 +2,7 @@
 use Rattle.std.specs.Prelude.{ℕ, ◌++◌, nat_lt, cond, List, [], ◌∷◌, length}
 use Rattle.c0_typed.specs.Trees as t
 use Rattle.c0_typed.specs.Views.{type_of}
-use Rattle.c0_typed.specs.declared.tree.Expression.{Expression, Row_of-Expression, end_of-Expression, more_of-Expression, Constant, Null, Local, Unary', Binary', Compare', And', Or', Choose', Call', Print', Load', Alloc, AllocArray', Length'}
+use Rattle.c0_typed.specs.declared.tree.Expression.{Expression, Row_of-Expression, end_of-Expression, more_of-Expression, At', Constant, Null, Local, Unary', Binary', Compare', And', Or', Choose', Call', Print', Load', Alloc, AllocArray', Length'}
 use Rattle.c0_typed.specs.declared.tree.Place.{Place, Deref', Index', Field'}
 use Rattle.c0_typed.specs.declared.tree.Statement.{Statement, Row_of-Statement, end_of-Statement, more_of-Statement, Block', Set, Update, Store, StoreUpdate, Do, If', Loop', Return, ReturnValue, Break, Continue, Assert, Error, Check}
 use Rattle.c0_typed.specs.declared.tree.Function.{Function}
@@ -34,6 +34,7 @@ all_learned n singles (ty ∷ rest) = all_learned n (learned n singles ty) rest
 abbrev mutual
   -- the types that an expression allocates or looks at
   pub types_in : Expression → List t.Ty
+  types_in (At' here q e) = types_in e
   types_in (Constant x) = []
   types_in (Null ty) = []
   types_in (Local x) = []

@@ -4,7 +4,7 @@ use Rattle.c0_typed.specs.Trees as t
 use Rattle.c0_typed.specs.Typing.{IsSmall}
 use Rattle.c0_typed.specs.Views.{struct_of, type_of}
 use Rattle.c0_typed.specs.declared.tree.ValueType.{ValueType}
-use Rattle.c0_typed.specs.declared.tree.Expression.{Expression, Row_of-Expression, end_of-Expression, more_of-Expression, Constant, Null, Local, Unary', Binary', Compare', And', Or', Choose', Call', Print', Load', Alloc, AllocArray', Length'}
+use Rattle.c0_typed.specs.declared.tree.Expression.{Expression, Row_of-Expression, end_of-Expression, more_of-Expression, At', Constant, Null, Local, Unary', Binary', Compare', And', Or', Choose', Call', Print', Load', Alloc, AllocArray', Length'}
 use Rattle.c0_typed.specs.declared.tree.Place.{Place, Deref', Index', Field'}
 use Rattle.c0_typed.specs.declared.tree.Statement.{Statement, Row_of-Statement, end_of-Statement, more_of-Statement, Block', Set, Update, Store, StoreUpdate, Do, If', Loop', Return, ReturnValue, Break, Continue, Assert, Error, Check}
 use Rattle.c0_typed.specs.declared.tree.Function.{Function}
@@ -21,6 +21,7 @@ module _ (n : ℕ) (singles : List Kind) where
   abbrev mutual
     -- so is each type whose values an expression allocates or looks at in the heap
     pub Knows : Expression → Type 0
+    Knows (At' here q e) = Knows e
     Knows (Constant x) = Unit {0}
     Knows (Null ty) = Unit {0}
     Knows (Local x) = Unit {0}

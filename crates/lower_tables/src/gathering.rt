@@ -63,9 +63,9 @@ fn from_expression(
 {
     match whole {
         Expression::Constant(_) | Expression::Null(_) | Expression::Local(_) => Ok(()),
-        Expression::Unary(_, operand) | Expression::Length(_, operand) => {
-            from_expression(structs, singles, operand)
-        }
+        Expression::At(_, operand)
+        | Expression::Unary(_, operand)
+        | Expression::Length(_, operand) => from_expression(structs, singles, operand),
         Expression::Binary(_, left, right)
         | Expression::Compare(_, _, left, right)
         | Expression::And(left, right)

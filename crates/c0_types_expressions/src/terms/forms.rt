@@ -18,7 +18,7 @@ ghost use Rattle.c0_types_tables.specs.Views.{resolved_of};
 use super::is_void;
 use super::names::Callee;
 use super::retyping::retype;
-use super::steps::fault_at;
+use super::steps::{fault_at, sited_boxed};
 use crate::typing::{Place, Terms, Typing};
 use c0_source::fault::{Fault, FaultKind, Span};
 use c0_syntax::expression::Expression;
@@ -65,7 +65,7 @@ impl<'a> Terms<'a> {
                 return Err(fault);
             }
         };
-        match Box::new(self.alloc, length) {
+        match sited_boxed(self.alloc, length, here) {
             Ok(length) => Ok(self.array_made(element, length)?),
             Err(refused) => {
                 drop(element);

@@ -14,7 +14,7 @@ ghost use Rattle.c0_rules.specs.Types as t;
 ghost use Rattle.c0_rules.specs.Answers.{Answers};
 ghost use Rattle.c0_types_tables.specs.Views.{field_entry_of, resolved_of, struct_entry_of};
 
-use super::steps::{boxed, fault_at};
+use super::steps::{boxed_at, fault_at, sited_boxed};
 use crate::typing::{Place, Terms, Typing};
 use c0_source::fault::{Fault, FaultKind, Span};
 use c0_syntax::name::Name;
@@ -32,7 +32,7 @@ impl<'a> Terms<'a> {
     {
         match pointer {
             Typing::Has(resolved, e) => match resolved {
-                ResolvedType::Pointer(target) => Ok(self.target_of(target, e)?),
+                ResolvedType::Pointer(target) => Ok(self.target_of(target, e, sign)?),
                 other => {
                     drop(other);
                     drop(e);
@@ -47,10 +47,15 @@ impl<'a> Terms<'a> {
     }
 
     // What this pointer points to, of this type.
-    fn target_of(&self, target: Rc<ResolvedType>, e: Expression) -> Result<Place, AllocError>
+    fn target_of(
+        &self,
+        target: Rc<ResolvedType>,
+        e: Expression,
+        sign: Span,
+    ) -> Result<Place, AllocError>
         ensures { IfOk result (λ r. x.pointed (env_of self.now) (x.Has (t.PointerTo (resolved_of target.value)) (exp_of self.now.texts.now e)) ≡ Some (place_of self.now.texts.now r)) }
     {
-        let pointer = Box::new(self.alloc, e)?;
+        let pointer = sited_boxed(self.alloc, e, sign)?;
         let value_type = self.numbered(&target)?;
         Ok(Place {
             resolved: target.duplicate()?,
@@ -103,7 +108,7 @@ impl<'a> Terms<'a> {
             drop(index);
             return Err(fault_at(FaultKind::StructNotComplete, span));
         }
-        let (array, index) = boxed(self.alloc, array, index)?;
+        let (array, index) = boxed_at(self.alloc, array, index, span)?;
         let value_type = self.numbered(&element)?;
         Ok(Place {
             resolved: element.duplicate()?,

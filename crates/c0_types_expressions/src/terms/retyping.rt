@@ -39,6 +39,10 @@ pub(crate) fn retype(
     ensures { (texts : List Name) → IfOk result (λ r. exp_of texts r ≡ retyped (type_of target.now) (exp_of texts e)) }
 {
     match e {
+        Expression::At(site, inner) => {
+            let inner = retype(alloc, target, Box::into_inner(inner))?;
+            Ok(Expression::At(site, Box::new(alloc, inner)?))
+        }
         Expression::Null(old) => {
             drop(old);
             Ok(Expression::Null(duplicate(alloc, target)?))

@@ -20,8 +20,9 @@ use super::retyping::retype;
 use crate::typing::{Terms, Typing};
 use c0_source::fault::{Fault, FaultKind, Span};
 use c0_syntax::operator::PrefixOperator;
-use c0_typed::{Expression, Relation, UnaryOperator, ValueType};
+use c0_typed::{Expression, Relation, Site, UnaryOperator, ValueType};
 use c0_types_tables::resolved::ResolvedType;
+use cells::Int32Op;
 use std::alloc::{AllocError, Global};
 use std::rc::Rc;
 
@@ -85,6 +86,63 @@ pub(crate) fn boxed(
             Err(refused.into())
         }
     }
+}
+
+/// An expression that tells where it stands.
+pub(crate) fn sited(alloc: Global, e: Expression, here: Span) -> Result<Expression, AllocError>
+    ensures { (texts : List Name) → IfOk result (λ r. exp_of texts r ≡ exp_of texts e) }
+{
+    let inner = Box::new(alloc, e)?;
+    let site = Site { offset: here.start };
+    Ok(Expression::At(site, inner))
+}
+
+/// Two operands on the heap, of which the first tells where it stands.
+pub(crate) fn boxed_at(
+    alloc: Global,
+    first: Expression,
+    second: Expression,
+    here: Span,
+) -> Result<(Box<Expression>, Box<Expression>), AllocError>
+    ensures { (texts : List Name) → IfOk result (λ r. (exp_of texts r.0.value ≡ exp_of texts first) × (r.1.value ≡ second)) }
+{
+    match sited(alloc, first, here) {
+        Ok(first) => boxed(alloc, first, second),
+        Err(refused) => {
+            drop(second);
+            Err(refused)
+        }
+    }
+}
+
+// Two operands of an operator on numbers, on the heap. Where it may stop the program, the first tells where it stands.
+fn numbers_boxed(
+    alloc: Global,
+    operator: Int32Op,
+    first: Expression,
+    second: Expression,
+    here: Span,
+) -> Result<(Box<Expression>, Box<Expression>), AllocError>
+    ensures { (texts : List Name) → IfOk result (λ r. (exp_of texts r.0.value ≡ exp_of texts first) × (r.1.value ≡ second)) }
+{
+    match operator {
+        Int32Op::Div | Int32Op::Mod | Int32Op::Shl | Int32Op::Shr => {
+            boxed_at(alloc, first, second, here)
+        }
+        Int32Op::Add | Int32Op::Sub | Int32Op::Mul => boxed(alloc, first, second),
+        Int32Op::And | Int32Op::Or | Int32Op::Xor => boxed(alloc, first, second),
+    }
+}
+
+/// An expression on the heap that tells where it stands.
+pub(crate) fn sited_boxed(
+    alloc: Global,
+    e: Expression,
+    here: Span,
+) -> Result<Box<Expression>, AllocError>
+    ensures { (texts : List Name) → IfOk result (λ r. exp_of texts r.value ≡ exp_of texts e) }
+{
+    Ok(Box::new(alloc, sited(alloc, e, here)?)?)
 }
 
 // An operand that is NULL, as a pointer to numbers.
@@ -511,7 +569,7 @@ impl<'a> Terms<'a> {
         match rule {
             OperatorRule::OnNumbers(operator) => {
                 let (a, b) = self.operands(&ResolvedType::Int, first, second, spans)?;
-                let (a, b) = boxed(self.alloc, a, b)?;
+                let (a, b) = numbers_boxed(self.alloc, operator, a, b, spans.0)?;
                 Ok(Typing::Has(ResolvedType::Int, Expression::Binary(operator, a, b)))
             }
             OperatorRule::Compares(relation) => self.compared(relation, first, second, spans.1),

@@ -47,7 +47,7 @@ fn condition(terms: &Terms<'_>, role: SpecKind, spec: &Spec) -> Result<TypedExpr
             span: spec.word,
         });
     }
-    terms.wanted(&ResolvedType::Bool, &spec.condition)
+    terms.sited(&ResolvedType::Bool, &spec.condition)
 }
 
 // The conditions of specs, which must all have this role, behind those so far.

@@ -208,11 +208,11 @@ impl<'a> Body<'a> {
                 self.for_loop(first, condition, third, annotations, body)
             }
             StatementKind::Assert(condition) => {
-                let condition = self.wanted(&ResolvedType::Bool, condition)?;
+                let condition = self.sited(&ResolvedType::Bool, condition)?;
                 Ok(TypedStatement::Assert(condition))
             }
             StatementKind::Error(text) => {
-                Ok(TypedStatement::Error(self.wanted(&ResolvedType::Text, text)?))
+                Ok(TypedStatement::Error(self.sited(&ResolvedType::Text, text)?))
             }
             StatementKind::Break => self.broken(span),
             StatementKind::Continue => self.continued(span),

@@ -332,7 +332,7 @@ impl<'a> Body<'a> {
                 span,
             });
         };
-        match self.wanted(&ResolvedType::Int, value) {
+        match self.sited(&ResolvedType::Int, value) {
             Ok(number) => self.updated(found, destination.span, change, number),
             Err(fault) => {
                 drop(found);

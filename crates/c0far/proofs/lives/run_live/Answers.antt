@@ -1,4 +1,4 @@
-use Rattle.std.proofs.Common.{◌≡◌, ℕ, List, [], ap, inl, inr, length, refl, rules, subst, vec_len, ◌∙◌}
+use Rattle.std.proofs.Common.{◌≡◌, ℕ, List, [], ◌∷◌, ap, inl, inr, length, refl, rules, subst, vec_len, ◌∙◌}
 use Rattle.command_line.specs.Shell.{compiling_of, memory_of}
 use Rattle.live_run.specs.Lives.{IsNotShown}
 use Rattle.live_run.specs.declared.live.LiveError.{LiveError}
@@ -6,7 +6,9 @@ use Rattle.program_run.specs.declared.run.Finished.{Finished}
 use Rattle.c0far.proofs.Codes.{after_quiet}
 use Rattle.c0far.proofs.Lived.{one_code, shown_live}
 use Rattle.c0far.specs.Runs.{SaysFault}
-use Rattle.c0far.specs.Wants.{TellsMore, share_of}
+use Rattle.c0far.specs.FileTexts.{Known}
+use Rattle.c0far.specs.Places.{TellsBeside}
+use Rattle.c0far.specs.Wants.{share_of}
 use Rattle.streams.specs.Streams.{Writes, writes}
 use Rattle.c0far.proofs.lives.run_live.Goals as goal
 
@@ -20,6 +22,7 @@ pub returns-in-Ok-live_asked-clause-done : goal.returns-in-Ok-live_asked-clause-
 returns-in-Ok-live_asked-clause-done g c =
     let long : vec_len c.in-Ok.programs ≡ length c.in-Ok.programs.items = search rules in
     let share = c.share_of-share.ensures ∙ ap (share_of c.args.asked.memory.objects) (c.len.ensures ∙ long) in
+    let held : List ℕ → Known = g.F.Files.holds c.args.files.now in
     inl (record {
       programs = c.in-Ok.programs.items;
       codes = c.in-Ok.ensures.codes;
@@ -30,10 +33,10 @@ returns-in-Ok-live_asked-clause-done g c =
         status = c.say_rest-status.result;
         shown = shown_live g.O.Stream.contents g.O.Stream.failures g.F.Place.Folder.honest (memory_of c.args.asked.memory) c.in-Ok.programs.items c.args.out.now c.live_asked.new.out c.say_rest-status.new.out c.in-Ok-live_asked.finished
             c.say_rest-status.result c.in-Ok-live_asked.ensures.ended c.say_rest-status.ensures;
-        told = subst (λ (x : ℕ × List Finished). TellsMore c.args.asked.explains c.args.asked.stats x.0 x.1 [] (writes g.E.Stream.contents g.E.Stream.failures c.args.err.now c.say_more.new.err) c.say_rest-status.result c.say_more.result)
+        told = subst (λ (x : ℕ × List Finished). TellsBeside c.args.asked.explains c.args.asked.stats held (c.args.name.now ∷ []) x.0 x.1 [] (writes g.E.Stream.contents g.E.Stream.failures c.args.err.now c.say_beside.new.err) c.say_rest-status.result c.say_beside.result)
             (λ i. (share i, c.from_ref.ensures.value i))
-            (subst (λ (w : Writes). TellsMore c.args.asked.explains c.args.asked.stats c.share_of-share.result c.from_ref.result.now [] w c.say_rest-status.result c.say_more.result)
-            (after_quiet g.E.Stream.contents g.E.Stream.failures c.args.err.now c.codes_of.new.err c.say_more.new.err c.in-Ok.ensures.quiet) c.say_more.ensures);
+            (subst (λ (w : Writes). TellsBeside c.args.asked.explains c.args.asked.stats held (c.args.name.now ∷ []) c.share_of-share.result c.from_ref.result.now [] w c.say_rest-status.result c.say_beside.result)
+            (after_quiet g.E.Stream.contents g.E.Stream.failures c.args.err.now c.codes_of.new.err c.say_beside.new.err c.in-Ok.ensures.quiet) (c.say_beside.ensures.told held c.codes_of.ensures.files));
       });
     })
 

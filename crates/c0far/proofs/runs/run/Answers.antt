@@ -5,7 +5,9 @@ use Rattle.program_run.specs.declared.run.Finished.{Finished}
 use Rattle.c0far.proofs.Codes.{after_quiet}
 use Rattle.c0far.specs.Runs.{SaysFault}
 use Rattle.c0far.specs.Shown.{ends_status, shown_ends}
-use Rattle.c0far.specs.Wants.{TellsMore, share_of}
+use Rattle.c0far.specs.FileTexts.{Known}
+use Rattle.c0far.specs.Places.{TellsBeside}
+use Rattle.c0far.specs.Wants.{share_of}
 use Rattle.streams.specs.Streams.{Says, Writes, writes}
 use Rattle.c0far.proofs.runs.run.Goals as goal
 
@@ -16,6 +18,8 @@ pub returns-in-Ok-run_asked-clause-done : goal.returns-in-Ok-run_asked-clause-do
 returns-in-Ok-run_asked-clause-done g c =
     let long : vec_len c.in-Ok.programs ≡ length c.in-Ok.programs.items = search rules in
     let share = c.share_of-share.ensures ∙ ap (share_of c.args.asked.memory.objects) (c.len.ensures ∙ long) in
+    let held : List ℕ → Known = g.F.Files.holds c.args.files.now in
+    let names : List (List ℕ) = map (λ n. n.now) c.args.names.now in
     inl (record {
       programs = c.in-Ok.programs.items;
       codes = c.in-Ok.ensures.codes;
@@ -26,10 +30,10 @@ returns-in-Ok-run_asked-clause-done g c =
       status = c.say_finished-status.result;
       shown = subst (λ (l : List Finished). Says (writes g.O.Stream.contents g.O.Stream.failures c.args.out.now c.say_finished-status.new.out) (shown_ends (map end_of l)) (ends_status (map end_of l)) c.say_finished-status.result)
           c.deref.ensures.value c.say_finished-status.ensures;
-      told = subst (λ (w : Writes). TellsMore c.args.asked.explains c.args.asked.stats (share_of c.args.asked.memory.objects (length c.in-Ok.programs.items)) c.in-Ok-run_asked.counted.programs.items c.in-Ok-run_asked.counted.movers.items w c.say_finished-status.result c.say_more.result)
-          (after_quiet g.E.Stream.contents g.E.Stream.failures c.args.err.now c.codes_of.new.err c.say_more.new.err c.in-Ok.ensures.quiet)
-          (subst (λ (x : ℕ × List Finished × List MoverCounts). TellsMore c.args.asked.explains c.args.asked.stats x.0 x.1 x.2 (writes g.E.Stream.contents g.E.Stream.failures c.codes_of.new.err c.say_more.new.err) c.say_finished-status.result c.say_more.result)
-          (λ i. (share i, c.deref-in-Ok-run_asked.ensures.value i, c.deref-in-Ok-run_asked-2.ensures.value i)) c.say_more.ensures);
+      told = subst (λ (w : Writes). TellsBeside c.args.asked.explains c.args.asked.stats held names (share_of c.args.asked.memory.objects (length c.in-Ok.programs.items)) c.in-Ok-run_asked.counted.programs.items c.in-Ok-run_asked.counted.movers.items w c.say_finished-status.result c.say_beside.result)
+          (after_quiet g.E.Stream.contents g.E.Stream.failures c.args.err.now c.codes_of.new.err c.say_beside.new.err c.in-Ok.ensures.quiet)
+          (subst (λ (x : ℕ × List Finished × List MoverCounts). TellsBeside c.args.asked.explains c.args.asked.stats held names x.0 x.1 x.2 (writes g.E.Stream.contents g.E.Stream.failures c.codes_of.new.err c.say_beside.new.err) c.say_finished-status.result c.say_beside.result)
+          (λ i. (share i, c.deref-in-Ok-run_asked.ensures.value i, c.deref-in-Ok-run_asked-2.ensures.value i)) (c.say_beside.ensures.told held c.codes_of.ensures.files));
     })
 
 pub returns-in-Err-run_asked-clause-done : goal.returns-in-Err-run_asked-clause-done

@@ -10,9 +10,11 @@ returns-clause-shape c =
     let turns : rule_of c.action-turns.result ≡ turns_rule = search rules in
     let file : rule_of c.action-file.result ≡ file_rule = search rules in
     let second = c.in_ok-arg.ensures.shape (search rules) ∙ ap₂ with_rule c.in_ok-of_checked_texts.ensures.shape turns in
-    IfOk-weaker c.arg-2.result _ _ (λ r h. h.shape (search rules) ∙ ap₂ with_rule second file) c.arg-2.ensures
+    let third = c.in_ok-arg-2.ensures.shape c.explains.ensures.own ∙ ap₂ with_rule second c.explains.ensures.rule in
+    IfOk-weaker c.arg-3.result _ _ (λ r h. h.shape (search rules) ∙ ap₂ with_rule third file) c.arg-3.ensures
 
 pub returns-clause-local : goal.returns-clause-local
 returns-clause-local c =
     let second = still_local _ _ _ c.in_ok-arg.ensures.globals c.in_ok-of_checked_texts.ensures.local (search rules) in
-    IfOk-weaker c.arg-2.result _ _ (λ r h. still_local _ _ _ h.globals second (search rules)) c.arg-2.ensures
+    let third = still_local _ _ _ c.in_ok-arg-2.ensures.globals second c.explains.ensures.own in
+    IfOk-weaker c.arg-3.result _ _ (λ r h. still_local _ _ _ h.globals third (search rules)) c.arg-3.ensures

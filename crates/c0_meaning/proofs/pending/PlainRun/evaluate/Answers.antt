@@ -16,9 +16,9 @@ returns-in-Call c =
     let ctx = c.args.context.now in
     let texts = texts_in ctx in
     let p = pending_of c.args.self.now in
-    let es = c.deref.result.now in
+    let es = c.deref-in-Call.result.now in
     let f = callee.Function c.in-Call.function in
-    let shape : exp_of texts c.args.expression.now ≡ t.Call c.in-Call.function (exps_of texts es) = ap (exp_of texts) c.in-Call.is ∙ exp_call texts c.in-Call.function c.in-Call.arguments ∙ ap (λ xs. t.Call c.in-Call.function (exps_of texts xs)) (sym c.deref.ensures.value) in
+    let shape : exp_of texts c.args.expression.now ≡ t.Call c.in-Call.function (exps_of texts es) = ap (exp_of texts) c.in-Call.is ∙ exp_call texts c.in-Call.function c.in-Call.arguments ∙ ap (λ xs. t.Call c.in-Call.function (exps_of texts xs)) (sym c.deref-in-Call.ensures.value) in
     let comes : t.Exp → m.Outcome v.Value = λ e. giving ctx (behind ctx p.tasks) p.depth (values_in ctx p) (places_in ctx p) (evaluates ctx p.depth e (state_in ctx p)) in
     let with : List v.Value → m.Outcome v.Value = λ given. calling ctx (behind ctx p.tasks) p.depth (values_in ctx p) (places_in ctx p) es given f (state_in ctx p) in
     steps_as ctx c.arguments.result _ _ (pending_of c.arguments.new.self)

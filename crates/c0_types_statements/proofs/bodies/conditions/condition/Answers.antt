@@ -11,4 +11,4 @@ pub returns-clause-answers : goal.returns-clause-answers
 returns-clause-answers c =
     let same : same_role (role_by c.args.role) (role_by c.args.spec.now.kind) ≡ true = search rules in
     let terms = c.args.terms.now in
-    subst (Answers (exp_of terms.texts.now) c.wanted.result) (sym (rule_is (env_of terms) (role_by c.args.role) (context_of terms) c.args.spec.now same)) c.wanted.ensures.answers
+    subst (Answers (exp_of terms.texts.now) c.sited.result) (sym (rule_is (env_of terms) (role_by c.args.role) (context_of terms) c.args.spec.now same)) c.sited.ensures.answers

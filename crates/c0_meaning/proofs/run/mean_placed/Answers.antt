@@ -1,4 +1,5 @@
-use Rattle.std.proofs.Common.{[], ap, ◌∙◌, refl, sym}
+use Rattle.std.proofs.Common.{Ok, [], ap, ◌∙◌, refl, sym}
+use Rattle.cells.specs.declared.ending.Want.{Want}
 use Rattle.c0_typed.specs.Meaning as m
 use Rattle.c0_typed.specs.Meaning.{struct_defaults}
 use Rattle.c0_typed.specs.Views.{program_of, texts_of}
@@ -6,7 +7,7 @@ use Rattle.c0_meaning.specs.PlainStates.{state_of}
 use Rattle.c0_meaning.specs.Run.{calls_over, meant_of}
 use Rattle.c0_meaning.specs.declared.plain_state.PlainState.{PlainState}
 use Rattle.c0_meaning.proofs.Steps.{mean_is, told_along}
-use Rattle.c0_meaning.proofs.run.mean.Goals as goal
+use Rattle.c0_meaning.proofs.run.mean_placed.Goals as goal
 
 pub returns-clause-meant : goal.returns-clause-meant
 returns-clause-meant c =
@@ -18,5 +19,5 @@ returns-clause-meant c =
     let whole = turned ∙ mean_is c.args.checks p c.args.turns structs [] begun refl refl (c.begin-run.ensures.state texts) in
     let ended = state_of texts c.run_main-came.new.self.state in
     let printed = ap (λ (s : PlainState). s.output.items) (sym c.into_state-state.ensures) in
-    let said = c.tell.ensures.told texts _ ended printed (c.run_main-came.ensures c.begin-run.ensures.empty.0 c.begin-run.ensures.empty.1) in
-    told_along meant_of c.tell.result _ _ whole said
+    let said = c.in_ok-meant.ensures.told texts _ ended printed (c.run_main-came.ensures c.begin-run.ensures.empty.0 c.begin-run.ensures.empty.1) in
+    told_along {E = Want} meant_of (Ok c.in_ok-meant.meant) _ _ whole said
