@@ -20,7 +20,7 @@ impl<'p> PlainRun<'p> {
         ensures { Performs context.now (task.Evaluate expression.entry) self.old result self.new }
     {
         match expression {
-            Expression::At(_, inner) => self.then(Task::Evaluate(inner)),
+            Expression::At(_, inner) => self.evaluate(context, inner),
             Expression::Constant(constant) => self.give(constant_value(*constant)),
             Expression::Null(_) => self.give(Value::Reference(0)),
             Expression::Local(x) => self.give_local(*x as usize),

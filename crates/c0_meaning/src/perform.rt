@@ -10,16 +10,8 @@ use crate::task::Task;
 use crate::value::Value;
 
 impl<'p> PlainRun<'p> {
-    /// Does a task. Where it stops the program, the run tells where that stands.
+    /// Does a task.
     fn perform(&mut self, context: &Context<'p>, task: Task<'p>) -> Result<(), Halt>
-        ensures { Performs context.now task.entry self.old result self.new }
-    {
-        self.site = task.site();
-        self.act(context, task)
-    }
-
-    /// What a task does.
-    fn act(&mut self, context: &Context<'p>, task: Task<'p>) -> Result<(), Halt>
         ensures { Performs context.now task.entry self.old result self.new }
     {
         match task {
@@ -38,7 +30,7 @@ impl<'p> PlainRun<'p> {
         }
     }
 
-    /// Does what is pending, to the value of it. A run of more tasks than numbers of 64 bits tell apart is want of memory.
+    /// Does what is pending, to the value of it. Where a task stops the program, the run tells where that stands. A run of more tasks than numbers of 64 bits tell apart is want of memory.
     pub(crate) fn finish(&mut self, context: &Context<'p>) -> Result<Value, Halt>
         ensures { Agrees (value_of (texts_in context.now)) result (means context.now (pending_of self.old)) (state_in context.now (pending_of self.new)) }
     {
@@ -46,6 +38,7 @@ impl<'p> PlainRun<'p> {
             let Some(task) = self.next_task() else {
                 return self.take();
             };
+            self.site = task.site();
             self.perform(context, task)?;
         }
         Err(Halt::Memory)

@@ -4,6 +4,7 @@ pub mod Lived
 pub mod Memory
 pub mod Moved
 pub mod NoCode
+pub mod Placed
 pub mod Ran
 pub mod Replayed
 pub mod Rooms

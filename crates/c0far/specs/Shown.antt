@@ -3,7 +3,7 @@ use Rattle.std.specs.Prelude.{◌≡◌, ◌⊎◌, ℕ, suc, ◌+◌, ◌-◌, 
 use Rattle.cells.specs.declared.ending.Ended.{Ended}
 use Rattle.cells.specs.Lines.{run_line}
 use Rattle.cells.specs.Outcomes.{Meant}
-use Rattle.cells.specs.Stops.{Stop, Ended as EndedBy}
+use Rattle.cells.specs.Stops.{Stop}
 use Rattle.c0_meaning.specs.declared.pending.Numbers.{Numbers}
 use Rattle.c0_meaning.specs.declared.pending.Numbers.TheVariants as numbers
 use Rattle.c0_source.specs.declared.fault.Fault.{Fault}
@@ -12,7 +12,7 @@ use Rattle.c0_source.specs.Lines.{BeginsLine}
 use Rattle.std.specs.Fmt.{signed_decimal}
 use Rattle.clap.specs.Words.{Text}
 use Rattle.c0far.specs.MeantLines.{end_line, last_line}
-use Rattle.c0far.specs.Statuses.{run_status}
+use Rattle.c0far.specs.Statuses.{ended_status, run_status}
 use Rattle.streams.specs.Streams.{IsQuiet, Says, Writes}
 
 -- the end of a line
@@ -79,16 +79,22 @@ abbrev pub StandsAt : List ℕ → ℕ → ℕ → ℕ → Type 0
 StandsAt text at line column = (line ≡ count_by (λ b. b == 10) (take at text) + 1)
     × ((start : ℕ) × BeginsLine text (min at (length text)) start × (column ≡ min at (length text) - start + 1))
 
--- Where a program of a file's text stopped so, that is told at most, by the line and column of a place, and the command answers so; or one write failed, and it answers 2
-abbrev pub TellsStop : Text → List ℕ → Stop → Writes → (status result : ℕ) → Type 0
-TellsStop file text stop err status result = ((result ≡ status) × IsQuiet err)
-    ⊎ ((at : ℕ) × (line : ℕ) × (column : ℕ) × (by : Option Numbers) × StandsAt text at line column × Says err (shown_stop file line column stop by) status result)
+-- the program of a file's text stopped so in its plain run, and not by a result: the line of that is told, by the line and column of a place; and the command answers so, or one
+-- write failed, and it answers 2
+pub record IsPlaced (file : Text) (text : List ℕ) (stop : Option Stop) (err : Writes) (status result : ℕ) : Type 0 where
+  pub by : Stop
+  pub is : stop ≡ Some by
+  pub other : ended_status stop ≡ 1
+  pub at : ℕ
+  pub line : ℕ
+  pub column : ℕ
+  pub stands : StandsAt text at line column
+  pub numbers : Option Numbers
+  pub told : Says err (shown_stop file line column by numbers) status result
 
--- the same of a plain run: nothing is told of one that gave a result, or was cut
+-- nothing is told of a plain run, or where it stopped
 abbrev pub TellsPlace : Text → List ℕ → Option Stop → Writes → (status result : ℕ) → Type 0
-TellsPlace file text None err status result = (result ≡ status) × IsQuiet err
-TellsPlace file text (Some (EndedBy number)) err status result = (result ≡ status) × IsQuiet err
-TellsPlace file text (Some stop) err status result = TellsStop file text stop err status result
+TellsPlace file text stop err status result = ((result ≡ status) × IsQuiet err) ⊎ IsPlaced file text stop err status result
 
 -- the same where it was asked for, and else nothing is told
 abbrev pub TellsWhere : (explains : Bool) → Text → List ℕ → Option Stop → Writes → (status result : ℕ) → Type 0

@@ -2,13 +2,15 @@
 ghost use Rattle.std.specs.Prelude.{◌≡◌, ℕ, IfErr, IfOk, IfSome, List, map};
 ghost use Rattle.std.specs.Io.KnownBytes.{Appends};
 ghost use Rattle.c0far.specs.FileTexts.{HasText, Known};
+ghost use Rattle.cells.specs.Stops.{stop_of};
 ghost use Rattle.c0far.specs.Places.{ArePlaces, IsPlace, TellsBeside};
-ghost use Rattle.streams.specs.Streams.{NoneFailed, OneFailed, writes};
+ghost use Rattle.c0far.specs.Shown.{StandsAt, shown_stop};
+ghost use Rattle.streams.specs.Streams.{IsWritten, NoneFailed, OneFailed, writes};
 
 use crate::code::is_image_name;
 use crate::files::Files;
 use crate::plain::write_stop;
-use crate::say::REFUSED;
+use crate::say::{REFUSED, STOPPED, status_of};
 use crate::wants::say_more;
 use c0_meaning::Numbers;
 use c0_plain::mean_text_placed;
@@ -59,8 +61,22 @@ fn stop_site<R: Threads, F: Files>(
     }
 }
 
+/// Writes that a program stopped so, at a site of a text of this file.
+fn write_found<E: Stream>(
+    err: &mut E,
+    file: &str,
+    stop: &Stop,
+    found: &StopSite,
+) -> Result<(), Failed>
+    ensures { (line : ℕ) × (column : ℕ) × StandsAt found.now.text.items found.now.site.offset line column
+        × IsWritten (writes E.contents E.failures err.old err.new) (shown_stop file.now line column (stop_of stop.now) found.now.numbers) result }
+{
+    let position = line_column(&found.text, found.site.offset);
+    write_stop(err, file, position, stop, found.numbers)
+}
+
 /// Writes where the program of a file stopped, which ended so, if it is known.
-fn write_end<R: Threads, F: Files, E: Stream>(
+fn write_place<R: Threads, F: Files, E: Stream>(
     alloc: Global,
     rt: &R,
     texts: Texts,
@@ -73,20 +89,20 @@ fn write_end<R: Threads, F: Files, E: Stream>(
     ensures written { IfOk result (λ u. (bytes : List ℕ) × IsPlace file.now (F.holds files.old file.now) run.now bytes × Appends (E.contents err.old) (E.contents err.new) bytes × NoneFailed (writes E.contents E.failures err.old err.new)) }
     ensures failed { IfErr result (λ u. OneFailed (writes E.contents E.failures err.old err.new)) }
 {
-    match run {
-        Run::Running | Run::Wanted(_) | Run::Stopped(Stop::Ended(_)) => Ok(()),
-        Run::Stopped(stop) => match stop_site(alloc, rt, texts, file, files) {
-            Some(found) => {
-                let position = line_column(&found.text, found.site.offset);
-                write_stop(err, file, position, stop, found.numbers)
-            }
-            None => Ok(()),
-        },
+    let Run::Stopped(stop) = run else {
+        return Ok(());
+    };
+    if status_of(run) != STOPPED {
+        return Ok(());
+    }
+    match stop_site(alloc, rt, texts, file, files) {
+        Some(found) => write_found(err, file, stop, &found),
+        None => Ok(()),
     }
 }
 
 /// Writes where the programs of files stopped, which ended so.
-fn write_ends<R: Threads, F: Files, E: Stream>(
+fn write_places<R: Threads, F: Files, E: Stream>(
     alloc: Global,
     rt: &R,
     texts: Texts,
@@ -105,8 +121,8 @@ fn write_ends<R: Threads, F: Files, E: Stream>(
         [name, others @ ..] => match programs {
             [] => Ok(()),
             [one, rest @ ..] => {
-                write_end(alloc, rt, texts, name, files, &one.end.run, err)?;
-                write_ends(alloc, rt, texts, others, files, rest, err)
+                write_place(alloc, rt, texts, name, files, &one.end.run, err)?;
+                write_places(alloc, rt, texts, others, files, rest, err)
             }
         },
     }
@@ -133,7 +149,7 @@ pub(crate) fn say_beside<R: Threads, F: Files, E: Stream>(
         return say_more(err, asked, share, programs, movers, status);
     }
     let texts = asked.compiling.texts;
-    match write_ends(alloc, rt, texts, names, files, programs, err) {
+    match write_places(alloc, rt, texts, names, files, programs, err) {
         Ok(()) => say_more(err, asked, share, programs, movers, status),
         Err(Failed) => REFUSED,
     }

@@ -4,7 +4,7 @@ ghost use Rattle.cells.specs.Stops.{stop_of};
 ghost use Rattle.c0_meaning.specs.Run.{ended_of, meant_of};
 ghost use Rattle.command_line.specs.Shell.{texts_of};
 ghost use Rattle.c0far.specs.Driven.{Means};
-ghost use Rattle.c0far.specs.Shown.{TellsPlace, TellsWhere, newline, shown_meaning, shown_numbers, shown_stop};
+ghost use Rattle.c0far.specs.Shown.{StandsAt, TellsPlace, TellsWhere, newline, shown_meaning, shown_numbers, shown_stop};
 ghost use Rattle.c0far.specs.FileTexts.{HasText, Known};
 ghost use Rattle.c0far.specs.Statuses.{ended_status};
 ghost use Rattle.streams.specs.Streams.{IsWritten, Says, writes};
@@ -15,6 +15,7 @@ use c0_meaning::{Meant, Numbers, Placed};
 use c0_plain::mean_text_placed;
 use c0_source::fault::FaultKind;
 use c0_source::position::{Position, line_column};
+use c0_typed::Site;
 use cells::Stop;
 use command_line::words::Texts;
 use std::alloc::Global;
@@ -82,6 +83,23 @@ pub(crate) fn write_stop<E: Stream>(
     write_numbers(err, numbers)
 }
 
+/// Says that a program stopped so, at a site of a file's text, by these numbers; the status is this one, unless the write failed.
+fn say_stop<E: Stream>(
+    err: &mut E,
+    file: &str,
+    text: &[u8],
+    site: Site,
+    stop: &Stop,
+    numbers: Option<Numbers>,
+    status: u8,
+) -> u8
+    ensures { (line : ℕ) × (column : ℕ) × StandsAt text.now site.offset line column
+        × Says (writes E.contents E.failures err.old err.new) (shown_stop file.now line column (stop_of stop.now) numbers) status result }
+{
+    let position = line_column(text, site.offset);
+    after(write_stop(err, file, position, stop, numbers), status)
+}
+
 /// Says where a program of a file's text stopped, if it did otherwise than by a result; the status is this one, unless the write failed.
 fn say_place<E: Stream>(err: &mut E, file: &str, text: &[u8], placed: &Placed, status: u8) -> u8
     ensures { TellsPlace file.now text.now (ended_of placed.now.meant.stop) (writes E.contents E.failures err.old err.new) status result }
@@ -89,16 +107,13 @@ fn say_place<E: Stream>(err: &mut E, file: &str, text: &[u8], placed: &Placed, s
     let Some(site) = placed.place else {
         return status;
     };
-    match &placed.meant.stop {
-        None | Some(Stop::Ended(_)) => status,
-        Some(stop) => {
-            let position = line_column(text, site.offset);
-            after(
-                write_stop(err, file, position, stop, placed.numbers),
-                status,
-            )
-        }
+    let Some(stop) = &placed.meant.stop else {
+        return status;
+    };
+    if status_of(&placed.meant.stop) != STOPPED {
+        return status;
     }
+    say_stop(err, file, text, site, stop, placed.numbers, status)
 }
 
 /// Says what a plain run came to, and where it stopped, if that is asked for.

@@ -128,7 +128,7 @@ pub fn say_admission<E: Stream>(err: &mut E, fault: AdmitFault) -> u8
 }
 
 /// The status of a run that has ended so.
-fn status_of(run: &Run) -> u8
+pub(crate) fn status_of(run: &Run) -> u8
     ensures { result ≡ run_status run.now }
 {
     match run {

@@ -3,6 +3,7 @@ use Rattle.command_line.specs.Shell.{compiling_of, memory_of}
 use Rattle.live_run.specs.Lives.{IsNotShown}
 use Rattle.live_run.specs.declared.live.LiveError.{LiveError}
 use Rattle.program_run.specs.declared.run.Finished.{Finished}
+use Rattle.region.specs.declared.fault.AdmitFault.{AdmitFault}
 use Rattle.c0far.proofs.Codes.{after_quiet}
 use Rattle.c0far.proofs.Lived.{one_code, shown_live}
 use Rattle.c0far.specs.Runs.{SaysFault}
@@ -45,13 +46,14 @@ returns-in-Err-NotRun-clause-done g c =
     let a = c.args.asked in
     let out = writes g.O.Stream.contents g.O.Stream.failures c.args.out.now c.live_asked.new.out in
     let left = subst (λ (e : LiveError). IsNotShown c.in-Ok.programs.items a.memory.frames a.memory.objects a.evacuators a.fetchers a.work.workers a.work.quantum out e) c.in-Err-NotRun.field-0-is c.in-Err-NotRun.ensures.left in
+    let told = subst (λ (f : AdmitFault). SaysFault f (writes g.E.Stream.contents g.E.Stream.failures c.codes_of.new.err c.say_admission.new.err) c.say_admission.result) c.in-Err-NotRun.fault-is c.say_admission.ensures in
     inr (inl (record {
       programs = c.in-Ok.programs.items;
       codes = c.in-Ok.ensures.codes;
       fault = c.in-Err-NotRun.fault;
       cause = left.0;
       shown = subst (λ (w : Writes). SaysFault c.in-Err-NotRun.fault w c.say_admission.result)
-          (after_quiet g.E.Stream.contents g.E.Stream.failures c.args.err.now c.codes_of.new.err c.say_admission.new.err c.in-Ok.ensures.quiet) c.say_admission.ensures;
+          (after_quiet g.E.Stream.contents g.E.Stream.failures c.args.err.now c.codes_of.new.err c.say_admission.new.err c.in-Ok.ensures.quiet) told;
       quiet = left.1;
     }))
 

@@ -1,6 +1,6 @@
 use Rattle.std.proofs.Common.{rules, ◌∙◌, ap}
 use Rattle.c0_typed.specs.Meaning.{mean as mean_of}
-use Rattle.c0_plain.proofs.plain.mean_text.Goals as goal
+use Rattle.c0_plain.proofs.plain.mean_text_placed.Goals as goal
 
 pub returns-in_err-program-clause-every : goal.returns-in_err-program-clause-every
 returns-in_err-program-clause-every g c = λ p typed. let known = c.in_err-program.ensures.every p typed in search rules

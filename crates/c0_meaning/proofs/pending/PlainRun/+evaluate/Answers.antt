@@ -9,10 +9,10 @@ use Rattle.c0_meaning.specs.Run.{texts_in}
 use Rattle.c0_meaning.specs.Pendings.{behind, calling, evaluates, giving, pending_of, places_in, state_in, values_in}
 use Rattle.c0_meaning.proofs.Pendings.{calling_all, steps_as}
 use Rattle.c0_meaning.proofs.Rows.{exp_call, exp_print}
-use Rattle.c0_meaning.proofs.pending.PlainRun.evaluate.Goals as goal
+use Rattle.c0_meaning.proofs.pending.PlainRun.+evaluate.Goals as goal
 
 pub returns-in-Call : goal.returns-in-Call
-returns-in-Call c =
+returns-in-Call turn c =
     let ctx = c.args.context.now in
     let texts = texts_in ctx in
     let p = pending_of c.args.self.now in
@@ -26,7 +26,7 @@ returns-in-Call c =
     c.arguments.ensures
 
 pub returns-in-Print : goal.returns-in-Print
-returns-in-Print c =
+returns-in-Print turn c =
     let ctx = c.args.context.now in
     let texts = texts_in ctx in
     let p = pending_of c.args.self.now in
