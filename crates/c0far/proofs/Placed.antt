@@ -83,17 +83,18 @@ module _ {S : Type 0} (contents : S → Option (List ℕ)) (failures : S → ℕ
   places_more file files f fs now later held a b c (Err e) is kept first more = tt
 
   -- the same of the first of several, and then of those behind it
-  pub places_behind : (names others : List (Bor (List ℕ))) (ends rest : List Finished) (name : Bor (List ℕ)) (one : Finished) (now later : List ℕ → Known) (a b c : S) (r : Result (Unit {0}) Failed) → 1 ≤ length names → 1 ≤ length ends
-      → ((n : List ℕ) → later n ≡ now n)
-      → ((bytes : List ℕ) × IsPlace (get_or names 0 name).now (now (get_or names 0 name).now) (get_or ends 0 one).end.run bytes × Appends (contents a) (contents b) bytes × NoneFailed (writes contents failures a b))
+  pub places_behind : (names others : List (Bor (List ℕ))) (ends rest : List Finished) (file : List ℕ) (name : Bor (List ℕ)) (one : Finished) (now later : List ℕ → Known) (a b c : S) (r : Result (Unit {0}) Failed) → 1 ≤ length names
+      → 1 ≤ length ends → ((n : List ℕ) → later n ≡ now n)
+      → ((bytes : List ℕ) × IsPlace file (now file) one.end.run bytes × Appends (contents a) (contents b) bytes × NoneFailed (writes contents failures a b)) → file ≡ (get_or names 0 name).now → one ≡ get_or ends 0 one
       → IfOk r (λ u. (other : List ℕ → Known) → ((n : List ℕ) → later n ≡ other n) → AllPlaces other (map (λ n. n.now) others) rest b c) → others ≡ drop 1 names → rest ≡ drop 1 ends
       → IfOk r (λ u. (held : List ℕ → Known) → ((n : List ℕ) → now n ≡ held n) → AllPlaces held (map (λ n. n.now) names) ends a c)
-  places_behind [] others ends rest name one now later a b c r some any kept first more o e = absurd (let no : ⊥ = omega arith in no)
-  places_behind (n ∷ ns) others [] rest name one now later a b c r some any kept first more o e = absurd (let no : ⊥ = omega arith in no)
-  places_behind (n ∷ ns) others (f ∷ fs) rest name one now later a b c (Ok u) some any kept first more o e = λ held is.
-      places_more n.now (map (λ m. m.now) ns) f fs now later held a b c (Ok u) is kept first
+  places_behind [] others ends rest file name one now later a b c r some any kept first named item more o e = absurd (let no : ⊥ = omega arith in no)
+  places_behind (n ∷ ns) others [] rest file name one now later a b c r some any kept first named item more o e = absurd (let no : ⊥ = omega arith in no)
+  places_behind (n ∷ ns) others (f ∷ fs) rest file name one now later a b c (Ok u) some any kept first named item more o e = λ held is.
+      places_more n.now (map (λ m. m.now) ns) f fs now later held a b c (Ok u) is kept
+      (subst (λ (x : List ℕ × Finished). (bytes : List ℕ) × IsPlace x.0 (now x.0) x.1.end.run bytes × Appends (contents a) (contents b) bytes × NoneFailed (writes contents failures a b)) (λ i. (named i, item i)) first)
       (subst (λ (x : List (Bor (List ℕ)) × List Finished). (other : List ℕ → Known) → ((m : List ℕ) → later m ≡ other m) → AllPlaces other (map (λ m. m.now) x.0) x.1 b c) (λ i. (o i, e i)) more)
-  places_behind (n ∷ ns) others (f ∷ fs) rest name one now later a b c (Err z) some any kept first more o e = tt
+  places_behind (n ∷ ns) others (f ∷ fs) rest file name one now later a b c (Err z) some any kept first named item more o e = tt
 
   -- and what is told behind that
   pub told_beside : (stats : Bool) (held : List ℕ → Known) (files : List (List ℕ)) (share : ℕ) (ends : List Finished) (movers : List MoverCounts) (a b c : S) (status result : ℕ) → AllPlaces held files ends a b
