@@ -7,8 +7,8 @@ _c0far_options() {
         build) echo '-d --level --piece -o' ;;
         check) echo '--level' ;;
         list) echo '--level --piece' ;;
-        mean) echo '-d --level --turns --where' ;;
-        run) echo "-d --level --piece $memory $work --live --stats --where" ;;
+        mean) echo '-d --level --turns --where --memory' ;;
+        run) echo "-d --level --piece $memory $work --live --stats --where --memory" ;;
         replay) echo "-d --level --piece $memory $work --schedule" ;;
     esac
 }
@@ -30,7 +30,7 @@ _c0far() {
         --piece) mapfile -t COMPREPLY < <(compgen -W '16 32 64 128 256' -- "$word") ;;
         --store) mapfile -t COMPREPLY < <(compgen -d -- "$word") ;;
         --schedule | -o) mapfile -t COMPREPLY < <(compgen -f -- "$word") ;;
-        --frames | --objects | --fail-from | --evacuators | --fetchers | --workers | --quantum | --turns) ;;
+        --frames | --objects | --fail-from | --evacuators | --fetchers | --workers | --quantum | --turns | --memory) ;;
         *)
             if [[ $word == -* ]]; then
                 mapfile -t COMPREPLY < <(compgen -W "$(_c0far_options "$command")" -- "$word")

@@ -12,7 +12,7 @@ import struct
 import subprocess
 import threading
 
-from process import want
+from process import MEBIBYTE, want
 
 SCRIPT = os.path.join(os.path.dirname(os.path.dirname(os.path.realpath(__file__))), "c0far")
 
@@ -24,6 +24,10 @@ ENDLESS = '#use <conio>\nint main() { int i = 0; while (true) { printint(i); pri
 SILENT = '#use <conio>\nint main() { println("begun"); while (true) { } return 0; }\n'
 CONTRACT = "int f(int x) //@requires x > 0;\n{ return x; }\nint main() { return f(0); }\n"
 LEVEL_ONE = "int main() { int i = 0; while (true) { i = i + 1; if (i == 5) { break; } } return i; }\n"
+CALLS = "int f(int n) { return f(n + 1) + 1; }\nint main() { return f(0); }\n"
+LINES = '#use <conio>\nint main() { while (true) { println("one line more, and then one more, and so on"); } return 0; }\n'
+CELLS = "struct cell { struct cell* next; }; int main() { struct cell* list = NULL; while (true) { struct cell* one = alloc(struct cell); one->next = list; list = one; } return 0; }\n"
+ARRAY = "int main() { int[] a = alloc_array(int, 2000000000); return 7; }\n"
 # ten objects are read and one is written in turn, which is held in the second frame, or in the first one
 HELD_BEHIND = "int main() { int[] a = alloc_array(int, 640); int[] b = alloc_array(int, 1); for (int i = 0; i < 640; i++) { a[i] = i; } for (int i = 0; i < 640; i++) { b[0] = b[0] + a[i]; } return b[0]; }\n"
 HELD_BEFORE = HELD_BEHIND.replace("b[0] + a[i]", "a[i] + b[0]")
@@ -114,6 +118,18 @@ SCENES = (
         ("mean --where --turns 0 a.c0", 0, "cut\n", "", ()),
         ("build -o bounds.c0i bounds.c0", 0, "", "", ("bounds.c0i",)),
         ("run --where bounds.c0i", 1, "bounds fault\n", "", ()),
+    )),
+    ("a limit of memory", {"calls.c0": CALLS, "output.c0": LINES, "heap.c0": CELLS, "array.c0": ARRAY, "a.c0": SEVEN}, (
+        ("run --memory 64 calls.c0", 3, "out of memory\n", "program 0: calls took more than 64 MiB\n", ()),
+        ("run --where --memory 64 calls.c0", 3, "out of memory\n", "calls.c0:1:5: the last call was of f\nprogram 0: calls took more than 64 MiB\n", ()),
+        ("run --live --memory 64 a.c0", 0, "result: 7\n", "", ()),
+        ("mean --where --memory 64 --turns 100000000 calls.c0", 3, "", "out of memory\nprogram 0: calls took more than 64 MiB\ncalls.c0:1:5: the last call was of f\n", ()),
+        ("mean --memory 4 --turns 100000000 output.c0", 3, "", "out of memory\nprogram 0: output took more than 4 MiB\n", ()),
+        ("mean --memory 64 --turns 100000000 heap.c0", 3, "", "out of memory\nprogram 0: heap took more than 64 MiB\n", ()),
+        ("mean --memory 64 --turns 9 array.c0", 3, "", "out of memory\nprogram 0: heap took more than 64 MiB\n", ()),
+        ("mean --memory 64 --turns 9 a.c0", 0, "result: 7\n", "", ()),
+        ("build -o calls.c0i calls.c0", 0, "", "", ("calls.c0i",)),
+        ("run --where --memory 64 a.c0 calls.c0i", 3, "program 0:\nresult: 7\nprogram 1:\nout of memory\n", "program 1: calls took more than 64 MiB\n", ()),
     )),
     ("an image is built, and used", {"p.c0": PRINTS, "c.c0": CONTRACT}, (
         ("build -o p.c0i p.c0", 0, "", "", ("p.c0i",)),
@@ -305,6 +321,15 @@ def calls_that_nest(it):
     it.write("a.c0", f"int down(int n) {{ if (n == 0) {{ return 0; }} return 1 + down(n - 1); }}\nint main() {{ return down({depth}); }}\n")
     it.check("mean", "--turns", str(depth + 2), "a.c0", out=f"result: {depth}\n")
     it.check("run", "a.c0", out=f"result: {depth}\n")
+
+
+def what_a_limit_keeps(it):
+    """Under a limit of 64 MiB an endless recursion takes that and what lists set aside to grow, and no gigabytes."""
+    it.write("calls.c0", CALLS)
+    room = 1200 * MEBIBYTE
+    for words in ("run --memory 64 calls.c0", "mean --memory 64 --turns 100000000 calls.c0"):
+        status, _, err = it.run(*words.split(), memory=room)
+        want((status, err.splitlines()[-1]) == (3, b"program 0: calls took more than 64 MiB"), f"{words} within {room} bytes gave {status}, {err}")
 
 
 def movers(it):
@@ -509,6 +534,7 @@ TESTS = [
     many_programs,
     many_instructions,
     calls_that_nest,
+    what_a_limit_keeps,
     movers,
     a_limit_of_the_size_of_files,
     what_cannot_be_written_to_a_store,

@@ -87,6 +87,9 @@ impl<'p> PlainRun<'p> {
     ) -> Result<(), Halt>
         ensures { PerformsCall context.now (callee.Library output) (values_of (texts_in context.now) given) self.old result self.new }
     {
+        if !self.room.allows_output(self.state.output.len()) {
+            return Err(Halt::Memory);
+        }
         let value = self
             .state
             .print(context.alloc, context.program, output, given)?;
@@ -105,6 +108,11 @@ impl<'p> PlainRun<'p> {
         if self.depth == 0 {
             return Err(Halt::Cut);
         }
+        let waiting = self.waiting();
+        if !self.room.allows_call(waiting) {
+            self.refused = Some(function);
+            return Err(Halt::Memory);
+        }
         self.state.take_turn()?;
         let Some(function) = context.program.functions.get(function) else {
             return self.give(Value::Void);
@@ -113,6 +121,7 @@ impl<'p> PlainRun<'p> {
             return Err(Halt::Memory);
         };
         let outer = mem::replace(&mut self.state.locals, locals);
+        self.locals = self.locals.wrapping_add(outer.len() as u64);
         let end = Task::EndCall(outer, self.depth);
         self.depth -= 1;
         self.then_two(Task::Check(&function.postconditions), end)?;
@@ -128,6 +137,7 @@ impl<'p> PlainRun<'p> {
         ensures { (c : ContextOf) → Performs c (task.EndCall locals depth) self.old result self.new }
     {
         let value = self.state.local(0);
+        self.locals = self.locals.wrapping_sub(locals.len() as u64);
         self.state.locals = locals;
         self.depth = depth;
         self.give(value)

@@ -12,10 +12,11 @@ mod pending;
 mod perform;
 mod places;
 mod plain_state;
+mod room;
 mod run;
 mod statements;
 mod task;
 mod value;
 
 pub use pending::Numbers;
-pub use run::{Meant, Placed, mean, mean_placed};
+pub use run::{Meant, NoRoom, Placed, mean, mean_placed};

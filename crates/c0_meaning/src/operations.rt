@@ -87,6 +87,9 @@ impl<'p> PlainRun<'p> {
         ensures { (a : Exp) → Combines context.now (AllocArray (type_of ty.now) a) self.old result self.new }
     {
         let count = self.take()?;
+        if !self.room.takes(ty, count.size().unwrap_or(0)) {
+            return Err(Halt::Memory);
+        }
         let structs = &context.program.structs;
         match self.state.allocate_many(context.alloc, structs, ty, count) {
             Ok(value) => self.give(value),
@@ -114,6 +117,9 @@ impl<'p> PlainRun<'p> {
     ) -> Result<(), Halt>
         ensures { AllocatesOne context.now ty.now self.old result self.new }
     {
+        if !self.room.takes(ty, 1) {
+            return Err(Halt::Memory);
+        }
         let value = self
             .state
             .allocate_one(context.alloc, &context.program.structs, ty)?;

@@ -5,6 +5,7 @@ ghost use Rattle.c0_meaning.specs.PlainStates.{Texts, opening, state_of};
 
 use crate::heap::Spot;
 use crate::plain_state::{Halt, PlainState};
+use crate::room::{Room, Waiting};
 use crate::task::Task;
 use crate::value::Value;
 use c0_typed::Site;
@@ -20,7 +21,8 @@ pub enum Numbers {
 }
 
 /// What is to be done, the next task last; the values and the places that tasks gave and none has taken, how many calls may still be under way, where in the
-/// text the last task stands, if it may stop the program, by which numbers it did, and the state.
+/// text the last task stands, if it may stop the program, by which numbers it did, how many values the locals of the calls are that wait, the room that is left
+/// within the limit of memory, the number of the function for whose call there was none, and the state.
 #[derive(Drop)]
 pub(crate) struct PlainRun<'p> {
     tasks: Vec<Task<'p>>,
@@ -29,12 +31,15 @@ pub(crate) struct PlainRun<'p> {
     pub(crate) depth: u64,
     pub(crate) site: Option<Site>,
     pub(crate) numbers: Option<Numbers>,
+    pub(crate) locals: u64,
+    pub(crate) room: Room,
+    pub(crate) refused: Option<usize>,
     pub(crate) state: PlainState,
 }
 
 impl<'p> PlainRun<'p> {
-    /// A run of so many turns, with nothing to do.
-    pub(crate) fn begin(alloc: Global, turns: u64) -> PlainRun<'p>
+    /// A run of so many turns in this room, with nothing to do.
+    pub(crate) fn begin(alloc: Global, turns: u64, room: Room) -> PlainRun<'p>
         ensures empty { ((pending_of result).tasks ≡ []) × ((pending_of result).values ≡ []) }
         ensures turns { result.depth ≡ turns }
         ensures state { (texts : Texts) → state_of texts result.state ≡ opening turns }
@@ -46,7 +51,20 @@ impl<'p> PlainRun<'p> {
             depth: turns,
             site: None,
             numbers: None,
+            locals: 0,
+            room,
+            refused: None,
             state: PlainState::begin(alloc, turns),
+        }
+    }
+
+    /// How much waits.
+    pub(crate) fn waiting(&self) -> Waiting {
+        Waiting {
+            tasks: self.tasks.len(),
+            values: self.values.len(),
+            places: self.places.len(),
+            locals: self.locals,
         }
     }
 

@@ -3,4 +3,4 @@
 
 mod plain;
 
-pub use plain::{mean_text, mean_text_placed};
+pub use plain::{Untold, mean_text, mean_text_placed};

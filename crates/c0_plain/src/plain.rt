@@ -12,11 +12,11 @@ ghost use Rattle.c0_front.specs.Texts.{IsRefusedText, IsTypedAs};
 ghost use Rattle.c0_plain.specs.Plain.{IsMeant};
 
 use c0_front::check_text;
-use c0_meaning::{Meant, Placed, mean_placed};
+use c0_meaning::{Meant, NoRoom, Placed, mean_placed};
 use c0_source::fault::Fault;
 use c0_syntax::level::Level;
 use c0_typed::Typed;
-use cells::Want;
+use memory_limit::{MemoryLimit, MemoryUse};
 use std::alloc::Global;
 use std::snapshot::Snapshot;
 use std::thread::{Builder, Promise, Threads};
@@ -33,8 +33,17 @@ struct MeaningOf {
     turns: u64,
 }
 
-impl Promise<Result<Placed, Want>> for MeaningOf {
+impl Promise<Result<Placed, NoRoom>> for MeaningOf {
     ghost kept_by = { λ p r. IsMeant p.program.value p.checks p.turns r };
+}
+
+/// Why it is not told what a text means: by this fault. Where that is want of memory, it may be that the limit was passed, by a call of the function of number `call`,
+/// counted from 0 in the order of their definitions, or otherwise.
+#[derive(Clone, Copy, Debug, PartialEq, Eq)]
+pub struct Untold {
+    pub fault: Fault,
+    pub passed: Option<MemoryUse>,
+    pub call: Option<usize>,
 }
 
 /// The bounded meaning of a program, by a thread of its own.
@@ -44,7 +53,8 @@ fn mean_apart<R: Threads>(
     program: Typed,
     checks: bool,
     turns: u64,
-) -> Result<Placed, Want>
+    limit: MemoryLimit,
+) -> Result<Placed, NoRoom>
     ensures { IsMeant program checks turns result }
 {
     let promise = MeaningOf {
@@ -52,17 +62,18 @@ fn mean_apart<R: Threads>(
         checks,
         turns,
     };
-    let run = move || mean_placed(alloc, &program, checks, turns);
+    let run = move || mean_placed(alloc, &program, checks, turns, limit);
     let builder = Builder::new().stack_size(STACK);
     match builder.spawn_with(rt, promise, run) {
         Ok(thread) => thread.join(rt),
-        Err(_refused) => Err(Want::OutOfMemory),
+        Err(_refused) => Err(NoRoom::of_the_system()),
     }
 }
 
 /// What the program of a text means within this many turns: how it ends, what it prints, and where in the text that stands which stopped it, otherwise than by a
 /// result. `checks` tells whether contracts are checked, and `level` which statements are in the language. The fault is of the first stage that refuses the
-/// text, or 50, where memory runs out, or where the thread can't be made. Of the place no clause tells.
+/// text, or 50, where memory runs out, or where the thread can't be made, or where what the calls, the output or the heap hold passes the limit: then it is told which.
+/// Of the place, and of what passed the limit, no clause tells.
 pub fn mean_text_placed<R: Threads>(
     alloc: Global,
     rt: &R,
@@ -70,22 +81,36 @@ pub fn mean_text_placed<R: Threads>(
     checks: bool,
     level: Level,
     turns: u64,
-) -> Result<Placed, Fault>
+    limit: MemoryLimit,
+) -> Result<Placed, Untold>
     ensures meant { IfOk result (λ m. (p : y.Program) × IsTypedAs (has_loops level) text.now p × (meant_of m.meant ≡ mean_of p checks turns)) }
-    ensures refused { IfErr result (λ f. (f.kind ≡ OutOfMemory) ⊎ IsRefusedText (has_loops level) text.now f) }
+    ensures refused { IfErr result (λ u. (u.fault.kind ≡ OutOfMemory) ⊎ IsRefusedText (has_loops level) text.now u.fault) }
     // Want of memory is told with an empty span, at the beginning of the text.
-    ensures place { IfErr result (λ f. f.kind ≡ OutOfMemory → f ≡ memory_fault) }
+    ensures place { IfErr result (λ u. u.fault.kind ≡ OutOfMemory → u.fault ≡ memory_fault) }
     // A text of a well-typed program is run as that program, and as no other, unless memory runs out.
-    ensures every { (p : y.Program) → IsTypedAs (has_loops level) text.now p → MatchResult result (λ m. meant_of m.meant ≡ mean_of p checks turns) (λ f. f.kind ≡ OutOfMemory) }
+    ensures every { (p : y.Program) → IsTypedAs (has_loops level) text.now p → MatchResult result (λ m. meant_of m.meant ≡ mean_of p checks turns) (λ u. u.fault.kind ≡ OutOfMemory) }
 {
-    let program = check_text(alloc, text, level)?;
-    match mean_apart(alloc, rt, program, checks, turns) {
+    let program = match check_text(alloc, text, level) {
+        Ok(program) => program,
+        Err(fault) => {
+            return Err(Untold {
+                fault,
+                passed: None,
+                call: None,
+            });
+        }
+    };
+    match mean_apart(alloc, rt, program, checks, turns, limit) {
         Ok(placed) => Ok(placed),
-        Err(_) => Err(Fault::out_of_memory()),
+        Err(refused) => Err(Untold {
+            fault: Fault::out_of_memory(),
+            passed: refused.passed,
+            call: refused.call,
+        }),
     }
 }
 
-/// The same, but for the place.
+/// The same without a limit, but for the place.
 pub fn mean_text<R: Threads>(
     alloc: Global,
     rt: &R,
@@ -99,8 +124,9 @@ pub fn mean_text<R: Threads>(
     ensures place { IfErr result (λ f. f.kind ≡ OutOfMemory → f ≡ memory_fault) }
     ensures every { (p : y.Program) → IsTypedAs (has_loops level) text.now p → MatchResult result (λ m. meant_of m ≡ mean_of p checks turns) (λ f. f.kind ≡ OutOfMemory) }
 {
-    match mean_text_placed(alloc, rt, text, checks, level, turns) {
+    let limit = MemoryLimit::of_mebibytes(0);
+    match mean_text_placed(alloc, rt, text, checks, level, turns, limit) {
         Ok(placed) => Ok(placed.meant),
-        Err(fault) => Err(fault),
+        Err(untold) => Err(untold.fault),
     }
 }

@@ -1,11 +1,12 @@
 -- Where programs stopped, as it is told.
 use Rattle.std.proofs.Common.{◌≡◌, ◌⊎◌, ◌++◌, ◌∙◌, ◌≤◌, Bor, ℕ, List, [], Option, Some, Result, Ok, Err, drop, get_or, inl, inr, length, map, ap, arith, refl, subst}
 use Rattle.std.specs.Io.KnownBytes.{Appends}
-use Rattle.std.specs.Prelude.{IfOk, MatchResult, Bool, true, ◌∷◌}
+use Rattle.std.specs.Prelude.{IfOk, MatchResult, Bool, true, false, ◌∷◌}
 use Rattle.cells.specs.Stops.{stop_of}
 use Rattle.cells.specs.declared.ending.Run.{Run}
-use Rattle.cells.specs.declared.ending.Run.TheVariants.{Stopped}
+use Rattle.cells.specs.declared.ending.Run.TheVariants.{Stopped, Wanted}
 use Rattle.cells.specs.declared.ending.Stop.{Stop}
+use Rattle.cells.specs.declared.ending.Want.TheVariants.{OutOfMemory}
 use Rattle.c0_meaning.specs.Run.{ended_of}
 use Rattle.c0_meaning.specs.declared.pending.Numbers.{Numbers}
 use Rattle.executor.specs.declared.counts.MoverCounts.{MoverCounts}
@@ -15,7 +16,7 @@ use Rattle.streams.specs.Streams.{IsWritten, NoneFailed, Says, Writes, writes}
 use Rattle.streams.specs.declared.stream.Failed.{Failed}
 use Rattle.c0far.specs.FileTexts.{HasText, Known}
 use Rattle.c0far.specs.Places.{ArePlaces, IsPlace, TellsBeside}
-use Rattle.c0far.specs.Shown.{StandsAt, TellsPlace, shown_stop}
+use Rattle.c0far.specs.Shown.{StandsAt, TellsCall, TellsPlace, call_line, shown_stop}
 use Rattle.c0far.specs.Statuses.{ended_status, run_status}
 use Rattle.c0far.specs.Wants.{TellsMore}
 
@@ -40,7 +41,7 @@ pub written_at : (file : List ℕ) (held : Known) (run : Run) (stop : Stop) (tex
     → IfOk r (λ u. (bytes : List ℕ) × IsPlace file held run bytes × Appends err.before.contents err.after.contents bytes × NoneFailed err)
 written_at file held run stop text at line column numbers err (Ok u) is other read stands written = (
   shown_stop file line column (stop_of stop) numbers,
-  inr (record {
+  inr (inl (record {
     stop = stop;
     is = is;
     other = other;
@@ -52,11 +53,38 @@ written_at file held run stop text at line column numbers err (Ok u) is other re
     stands = stands;
     by = numbers;
     line_is = refl;
-  }),
+  })),
   written.0,
   written.1,
 )
 written_at file held run stop text at line column numbers err (Err e) is other read stands written = tt
+
+-- a run that wanted memory, of which the line was written
+pub called_at : (file : List ℕ) (held : Known) (run : Run) (text : List ℕ) (at line column : ℕ) (name : List ℕ) (err : Writes) (r : Result (Unit {0}) Failed) → run ≡ Wanted OutOfMemory → HasText held text
+    → StandsAt text at line column → IsWritten err (call_line file line column name) r → IfOk r (λ u. (bytes : List ℕ) × IsPlace file held run bytes × Appends err.before.contents err.after.contents bytes × NoneFailed err)
+called_at file held run text at line column name err (Ok u) is read stands written = (
+  call_line file line column name,
+  inr (inr (record {
+    is = is;
+    text = text;
+    read = read;
+    at = at;
+    line = line;
+    column = column;
+    stands = stands;
+    name = name;
+    line_is = refl;
+  })),
+  written.0,
+  written.1,
+)
+called_at file held run text at line column name err (Err e) is read stands written = tt
+
+-- the function that a plain run called last, of which the line was told
+pub call_told : (explains : Bool) (file text : List ℕ) (at line column : ℕ) (name : List ℕ) (err : Writes) (status result : ℕ) → explains ≡ true → StandsAt text at line column
+    → Says err (call_line file line column name) status result → TellsCall explains file text err status result
+call_told false file text at line column name err status result is stands told = cc is
+call_told true file text at line column name err status result is stands told = inr (record { at = at; line = line; column = column; stands = stands; name = name; told = told })
 
 -- bytes were written, and the command answers so
 pub said : (w : Writes) (bytes : List ℕ) (status result : ℕ) (r : Result (Unit {0}) Failed) → IsWritten w bytes r → MatchResult r (λ _. result ≡ status) (λ _. result ≡ 2) → Says w bytes status result
@@ -97,9 +125,9 @@ module _ {S : Type 0} (contents : S → Option (List ℕ)) (failures : S → ℕ
   places_behind (n ∷ ns) others (f ∷ fs) rest file name one now later a b c (Err z) some any kept first named item more o e = tt
 
   -- and what is told behind that
-  pub told_beside : (stats : Bool) (held : List ℕ → Known) (files : List (List ℕ)) (share : ℕ) (ends : List Finished) (movers : List MoverCounts) (a b c : S) (status result : ℕ) → AllPlaces held files ends a b
-      → TellsMore true stats share ends movers (writes contents failures b c) status result → TellsBeside true stats held files share ends movers (writes contents failures a c) status result
-  told_beside stats held files share ends movers a b c status result all more = inl (record {
+  pub told_beside : (stats : Bool) (limit : ℕ) (held : List ℕ → Known) (files : List (List ℕ)) (share : ℕ) (ends : List Finished) (movers : List MoverCounts) (a b c : S) (status result : ℕ) → AllPlaces held files ends a b
+      → TellsMore true stats limit share ends movers (writes contents failures b c) status result → TellsBeside true stats limit held files share ends movers (writes contents failures a c) status result
+  told_beside stats limit held files share ends movers a b c status result all more = inl (record {
     places = all.0;
     are = all.1;
     middle = record { contents = contents b; failures = failures b };

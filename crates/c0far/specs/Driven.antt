@@ -7,18 +7,21 @@ use Rattle.code_form.specs.Form.{Image}
 use Rattle.clap.specs.Words.{Text}
 use Rattle.image_bytes.specs.Bytes.{image_bytes}
 use Rattle.image_listing.specs.Listing.{listing}
+use Rattle.memory_limit.specs.declared.limit.MemoryUse.{MemoryUse}
 use Rattle.c0far.specs.FileCode.{HoldsCode, names_image, unchecked}
 use Rattle.c0far.specs.FileTexts.{HasText, Known}
 use Rattle.c0far.specs.Lives.{RunsLive}
 use Rattle.c0far.specs.NoCode.{HasFailed, HasNoCode, IsUnread, LacksMemory}
 use Rattle.c0far.specs.Replays.{Replays}
 use Rattle.c0far.specs.Runs.{Runs}
-use Rattle.c0far.specs.Shown.{TellsWhere, newline, shown_meaning}
+use Rattle.c0far.specs.Places.{since, until}
+use Rattle.c0far.specs.Shown.{TellsCall, TellsWhere, newline, shown_meaning}
+use Rattle.c0far.specs.Wants.{passed_line}
 use Rattle.command_line.specs.Help.{asks_version, behind, help_text, version_text}
-use Rattle.command_line.specs.Shell.{Check, Command, Compiling, Live, Mean, Names, Replay, Run, Texts}
+use Rattle.command_line.specs.Shell.{Bounded, Check, Command, Compiling, Live, Mean, Names, Replay, Run}
 use Rattle.command_line.specs.Shell as shell
 use Rattle.c0far.specs.Statuses.{ended_status}
-use Rattle.streams.specs.Streams.{IsQuiet, Says, Writes}
+use Rattle.streams.specs.Streams.{Held, IsQuiet, Says, Writes}
 
 -- the program of the file's text keeps the static rules of this level
 pub record HasPassed (loops : Bool) (held : Known) (out err : Writes) (result : ℕ) : Type 0 where
@@ -81,19 +84,33 @@ HasNotBuilt loops file target held before now out err result = (now ≡ before) 
 abbrev pub Builds : Text → Compiling → Text → (held before now : Known) → Writes → Writes → ℕ → Type 0
 Builds file compiling target held before now out err result = HasBuilt file compiling held now out err result ⊎ HasNotBuilt compiling.texts.loops file target held before now out err result
 
--- the program of the file's text, taken so, means this within so many turns: what it printed and its end are shown, and where it stopped, if that was asked for
-pub record HasMeant (file : Text) (texts : Texts) (turns : ℕ) (explains : Bool) (held : Known) (out err : Writes) (result : ℕ) : Type 0 where
+-- the program of the file's text, taken so, means this within its turns: what it printed and its end are shown, and where it stopped, if that was asked for
+pub record HasMeant (asked : Bounded) (file : Text) (held : Known) (out err : Writes) (result : ℕ) : Type 0 where
   pub text : List ℕ
   pub read : HasText held text
   pub typed : y.Program
-  pub accepted : IsTypedAs texts.loops text typed
+  pub accepted : IsTypedAs asked.texts.loops text typed
   pub status : ℕ
-  pub shown : Says out (shown_meaning (mean typed texts.checks turns)) (ended_status (mean typed texts.checks turns).stop) status
-  pub told : TellsWhere explains file text (mean typed texts.checks turns).stop err status result
+  pub shown : Says out (shown_meaning (mean typed asked.texts.checks asked.turns)) (ended_status (mean typed asked.texts.checks asked.turns).stop) status
+  pub told : TellsWhere asked.explains file text (mean typed asked.texts.checks asked.turns).stop err status result
+
+-- there is a limit, and the plain run of the program of the file's text passed it: it is told what did, and which function was called last, if that was asked for; and
+-- nothing of what it printed
+pub record IsOverLimit (asked : Bounded) (file : Text) (held : Known) (out err : Writes) (result : ℕ) : Type 0 where
+  pub limited : asked.limit ≡ 0 → ⊥
+  pub text : List ℕ
+  pub read : HasText held text
+  pub taker : MemoryUse
+  pub middle : Held
+  pub status : ℕ
+  pub shown : Says (until middle err) ((codes "out of memory" ++ newline) ++ passed_line 0 taker asked.limit) 3 status
+  pub call : TellsCall asked.explains file text (since middle err) status result
+  pub quiet : IsQuiet out
 
 -- the command `mean` of this file, which holds this
-abbrev pub Means : Text → Texts → (turns : ℕ) → (explains : Bool) → Known → Writes → Writes → ℕ → Type 0
-Means file texts turns explains held out err result = HasMeant file texts turns explains held out err result ⊎ (HasFailed texts.loops file held out err result ⊎ (IsUnread file held out err result ⊎ LacksMemory out err result))
+abbrev pub Means : Bounded → Text → Known → Writes → Writes → ℕ → Type 0
+Means asked file held out err result =
+    HasMeant asked file held out err result ⊎ (HasFailed asked.texts.loops file held out err result ⊎ (IsUnread file held out err result ⊎ (LacksMemory out err result ⊎ IsOverLimit asked file held out err result)))
 
 -- all files but the one that is written hold what they held, and that of the text does
 pub record WritesOnly (file target : Text) (held now : Text → Known) : Type 0 where
@@ -109,7 +126,7 @@ abbrev pub Does : Type 0 → (held now : Text → Known) → Command → Writes 
 Does honest held now (shell.Build compiling target file) out err result = Builds file compiling target (held file) (held target) (now target) out err result × WritesOnly file target held now
 Does honest held now (Check loops file) out err result = Checks loops file (held file) out err result × KeepsFiles held now
 Does honest held now (shell.Lists loops piece file) out err result = Lists loops piece file (held file) out err result × KeepsFiles held now
-Does honest held now (Mean texts turns explains file) out err result = Means file texts turns explains (held file) out err result × KeepsFiles held now
+Does honest held now (Mean asked file) out err result = Means asked file (held file) out err result × KeepsFiles held now
 Does honest held now (Replay asked files) out err result = Replays honest asked files held out err result × KeepsFiles held now
 Does honest held now (Run asked files) out err result = Runs honest asked files held out err result × KeepsFiles held now
 Does honest held now (Live asked file) out err result = RunsLive honest asked file held out err result × KeepsFiles held now

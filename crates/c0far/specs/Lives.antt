@@ -45,13 +45,13 @@ pub record IsShownLive (honest : Type 0) (memory : Memory) (end : Ended) (out : 
   pub own : status ≡ run_status end.run
 
 -- The program of a file ran to its end, as it is asked for: it was shown as it came, or one write failed; and where it was asked for it is told where it stopped at most,
--- what it wanted, and what was counted of it
+-- what it wanted, whether it passed the limit, and what was counted of it
 pub record IsEndedLive (honest : Type 0) (asked : Started) (file : Text) (held : Text → Known) (programs : List Verified) (out err : Writes) (result : ℕ) : Type 0 where
   pub finished : Finished
   pub executed : RanOver honest asked.memory programs (finished ∷ [])
   pub status : ℕ
   pub shown : IsShownLive honest asked.memory finished.end out status ⊎ ((status ≡ 2) × OneFailed out)
-  pub told : TellsBeside asked.explains asked.stats held (file ∷ []) (share_of asked.memory.objects (length programs)) (finished ∷ []) [] err status result
+  pub told : TellsBeside asked.explains asked.stats asked.limit held (file ∷ []) (share_of asked.memory.objects (length programs)) (finished ∷ []) [] err status result
 
 -- in what follows folders are honest where h holds, this is asked for this file, and files hold this
 module _ (h : Type 0) (asked : Started) (file : Text) (held : Text → Known) where

@@ -41,7 +41,7 @@ SaysFault admit.OutOfMemory err result = Says err (codes "out of memory" ++ newl
 -- in what follows folders are honest where h holds, this is asked for these files, and files hold this
 module _ (h : Type 0) (asked : Started) (files : List Text) (held : Text → Known) where
   -- the codes of the files are admitted to this memory, and ran side by side: of each is shown what it printed and how it ended, and where it was asked for it is
-  -- told where each stopped at most, what each wanted that wanted something, and what was counted of each, and of some movers
+  -- told where each stopped at most, what each wanted that wanted something, which passed the limit, and what was counted of each, and of some movers
   pub record HasRun (out err : Writes) (result : ℕ) : Type 0 where
     pub programs : List Verified
     pub codes : AreCodes asked.compiling held files programs
@@ -51,7 +51,7 @@ module _ (h : Type 0) (asked : Started) (files : List Text) (held : Text → Kno
     pub executed : RanOver h asked.memory programs finished
     pub status : ℕ
     pub shown : Says out (shown_ends (map end_of finished)) (ends_status (map end_of finished)) status
-    pub told : TellsBeside asked.explains asked.stats held files (share_of asked.memory.objects (length programs)) finished movers err status result
+    pub told : TellsBeside asked.explains asked.stats asked.limit held files (share_of asked.memory.objects (length programs)) finished movers err status result
 
   -- the programs of the files are not admitted to this memory: it is told why; or they are, and memory was wanted
   pub record IsNotRun (out err : Writes) (result : ℕ) : Type 0 where

@@ -100,3 +100,21 @@ TellsPlace file text stop err status result = ((result ≡ status) × IsQuiet er
 abbrev pub TellsWhere : (explains : Bool) → Text → List ℕ → Option Stop → Writes → (status result : ℕ) → Type 0
 TellsWhere false file text stop err status result = (result ≡ status) × IsQuiet err
 TellsWhere true file text stop err status result = TellsPlace file text stop err status result
+
+-- the line of the function that was called last where calls passed the limit of memory: FILE:LINE:COLUMN: and its name
+abbrev pub call_line : Text → ℕ → ℕ → Text → List ℕ
+call_line file line column name = file ++ (codes ":" ++ (decimal line ++ (codes ":" ++ (decimal column ++ (codes ": the last call was of " ++ (name ++ newline))))))
+
+-- that line is told, by the line and column of a place; and the command answers so, or one write failed, and it answers 2
+pub record IsCalled (file : Text) (text : List ℕ) (err : Writes) (status result : ℕ) : Type 0 where
+  pub at : ℕ
+  pub line : ℕ
+  pub column : ℕ
+  pub stands : StandsAt text at line column
+  pub name : List ℕ
+  pub told : Says err (call_line file line column name) status result
+
+-- where it is asked for, it may be told which function was called last, and else nothing is
+abbrev pub TellsCall : (explains : Bool) → Text → List ℕ → Writes → (status result : ℕ) → Type 0
+TellsCall false file text err status result = (result ≡ status) × IsQuiet err
+TellsCall true file text err status result = ((result ≡ status) × IsQuiet err) ⊎ IsCalled file text err status result

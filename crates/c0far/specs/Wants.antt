@@ -1,9 +1,11 @@
 -- What is told of programs that wanted something.
-use Rattle.std.specs.Prelude.{◌≡◌, ℕ, suc, ◌==◌, ◌/◌, Bool, true, false, cond, List, [], ◌∷◌, ◌++◌, Option, Some, None, codes, decimal}
+use Rattle.std.specs.Prelude.{◌≡◌, ℕ, suc, ◌==◌, ◌/◌, Bool, true, false, not, ◌||◌, cond, List, [], ◌∷◌, ◌++◌, Option, Some, None, codes, decimal}
 use Rattle.cells.specs.declared.ending.Run.{Run}
 use Rattle.cells.specs.declared.ending.Run.TheVariants.{Running, Stopped, Wanted}
 use Rattle.cells.specs.declared.ending.Want.TheVariants.{OutOfMemory, NoObjects, StoreFailed}
 use Rattle.executor.specs.declared.counts.MoverCounts.{MoverCounts}
+use Rattle.memory_limit.specs.Limits.{use_word}
+use Rattle.memory_limit.specs.declared.limit.MemoryUse.{MemoryUse}
 use Rattle.program_run.specs.declared.run.Finished.{Finished}
 use Rattle.remote_store.specs.declared.port.Cause.{Cause}
 use Rattle.remote_store.specs.declared.port.Cause.TheVariants as cause
@@ -53,39 +55,67 @@ failure_line k last = (codes "program " ++ (decimal k ++ codes ": store: ")) ++ 
 abbrev pub objects_line : (k share used : ℕ) → List ℕ
 objects_line k share used = codes "program " ++ (decimal k ++ (codes ": no objects: " ++ (decimal used ++ (codes " of " ++ (decimal share ++ (codes " are in use" ++ newline))))))
 
--- the line of program number k, for which memory was refused
+-- the line of program number k, for which the system refused memory
 abbrev pub memory_line : ℕ → List ℕ
 memory_line k = codes "program " ++ (decimal k ++ (codes ": out of memory: the system refused more" ++ newline))
 
+-- the line of program number k, of which this took more than so many MiB
+abbrev pub passed_line : ℕ → MemoryUse → (limit : ℕ) → List ℕ
+passed_line k taker limit = codes "program " ++ (decimal k ++ (codes ": " ++ (use_word taker ++ (codes " took more than " ++ (decimal limit ++ (codes " MiB" ++ newline))))))
+
+-- the line of program number k, for which memory was refused: because this passed the limit, or by the system
+abbrev pub refused_line : (k limit : ℕ) → Option MemoryUse → List ℕ
+refused_line k limit None = memory_line k
+refused_line k limit (Some taker) = passed_line k taker limit
+
+-- the line of program number k, where it passed the limit
+abbrev pub limit_line : (k limit : ℕ) → Option MemoryUse → List ℕ
+limit_line k limit None = []
+limit_line k limit (Some taker) = passed_line k taker limit
+
 -- the line of program number k, of whose share so many objects are in use, where it ended so: none, where it wants nothing
-abbrev pub shown_want : (k share used : ℕ) → Option RefusedCall → Run → List ℕ
-shown_want k share used last Running = []
-shown_want k share used last (Stopped x) = []
-shown_want k share used last (Wanted OutOfMemory) = memory_line k
-shown_want k share used last (Wanted NoObjects) = objects_line k share used
-shown_want k share used last (Wanted StoreFailed) = failure_line k last
+abbrev pub shown_want : (k limit share used : ℕ) → Option RefusedCall → Option MemoryUse → Run → List ℕ
+shown_want k limit share used last passed Running = []
+shown_want k limit share used last passed (Stopped x) = []
+shown_want k limit share used last passed (Wanted OutOfMemory) = refused_line k limit passed
+shown_want k limit share used last passed (Wanted NoObjects) = objects_line k share used
+shown_want k limit share used last passed (Wanted StoreFailed) = failure_line k last
 
 -- the line of program number k
-unfoldable pub want_line : (k share : ℕ) → Finished → List ℕ
-want_line k share f = shown_want k share f.counts.objects f.refusals.last f.end.run
+unfoldable pub want_line : (k limit share : ℕ) → Finished → List ℕ
+want_line k limit share f = shown_want k limit share f.counts.objects f.refusals.last f.counts.passed f.end.run
 
 -- the lines of several, from number k on
-abbrev pub want_lines : (k share : ℕ) → List Finished → List ℕ
-want_lines k share [] = []
-want_lines k share (f ∷ fs) = want_line k share f ++ want_lines (suc k) share fs
+abbrev pub want_lines : (k limit share : ℕ) → List Finished → List ℕ
+want_lines k limit share [] = []
+want_lines k limit share (f ∷ fs) = want_line k limit share f ++ want_lines (suc k) limit share fs
 
--- a line for each program that wanted something
-abbrev pub wants_text : ℕ → List Finished → List ℕ
-wants_text share programs = want_lines 0 share programs
+-- the lines of those among several that passed the limit
+abbrev pub limit_lines : (k limit : ℕ) → List Finished → List ℕ
+limit_lines k limit [] = []
+limit_lines k limit (f ∷ fs) = limit_line k limit f.counts.passed ++ limit_lines (suc k) limit fs
+
+-- a line for each program that wanted something, where that is asked for, else for each that passed the limit
+abbrev pub wants_text : (explains : Bool) → (limit share : ℕ) → List Finished → List ℕ
+wants_text true limit share programs = want_lines 0 limit share programs
+wants_text false limit share programs = limit_lines 0 limit programs
+
+-- lines of programs are told where that is asked for, or there is a limit
+abbrev pub has_lines : (explains : Bool) → (limit : ℕ) → Bool
+has_lines explains limit = explains || not (limit == 0)
 
 -- how many objects each of so many programs has
 abbrev pub share_of : (objects count : ℕ) → ℕ
 share_of objects count = cond (count == 0) 0 (objects / count)
 
--- What was asked for beside the ends was told, first what programs wanted and then the table, and the command answers so, or one write failed, and it answers 2;
--- where nothing was asked for, nothing was told
-abbrev pub TellsMore : (wants stats : Bool) → ℕ → List Finished → List MoverCounts → Writes → ℕ → ℕ → Type 0
-TellsMore false false share programs movers err status result = (result ≡ status) × IsQuiet err
-TellsMore false true share programs movers err status result = Says err (stats_text programs movers) status result
-TellsMore true false share programs movers err status result = Says err (wants_text share programs) status result
-TellsMore true true share programs movers err status result = Says err (wants_text share programs ++ stats_text programs movers) status result
+-- These lines and this table were told, if they were to be, and the command answers so, or one write failed, and it answers 2; where neither was, nothing was told
+abbrev pub TellsLines : (lines stats : Bool) → (text table : List ℕ) → Writes → ℕ → ℕ → Type 0
+TellsLines false false text table err status result = (result ≡ status) × IsQuiet err
+TellsLines false true text table err status result = Says err table status result
+TellsLines true false text table err status result = Says err text status result
+TellsLines true true text table err status result = Says err (text ++ table) status result
+
+-- what was asked for beside the ends was told, first what programs wanted, or that they passed the limit of so many MiB, and then the table
+abbrev pub TellsMore : (explains stats : Bool) → (limit share : ℕ) → List Finished → List MoverCounts → Writes → ℕ → ℕ → Type 0
+TellsMore explains stats limit share programs movers err status result =
+    TellsLines (has_lines explains limit) stats (wants_text explains limit share programs) (stats_text programs movers) err status result

@@ -11,7 +11,7 @@ use crate::code::{code_of, is_image_name, unchecked};
 use crate::files::{FileError, Files};
 use crate::images::{build, list};
 use crate::lives::run_live;
-use crate::plain::{Bound, mean};
+use crate::plain::mean;
 use crate::replays::replay;
 use crate::runs::run;
 use crate::say::{REFUSED, after, say_memory, say_refused, say_unread};
@@ -160,26 +160,7 @@ pub fn drive<W: Wait + Threads + Clock + Sync, F: Files, O: Stream, E: Stream>(
         ) => build(alloc, compiling, target, file, files, out, err),
         Ok(Line::Check { level, file }) => check(alloc, level, file, files, out, err),
         Ok(Line::List { level, piece, file }) => list(alloc, level, piece, file, files, out, err),
-        Ok(
-            Line::Mean {
-                texts,
-                turns,
-                explains,
-                file,
-            },
-        ) => mean(
-            alloc,
-            rt,
-            Bound {
-                texts,
-                turns,
-                explains,
-            },
-            file,
-            files,
-            out,
-            err,
-        ),
+        Ok(Line::Mean { asked, file }) => mean(alloc, rt, asked, file, files, out, err),
         Ok(
             Line::Replay {
                 asked,

@@ -5,6 +5,7 @@ mod code;
 pub mod drive;
 pub mod files;
 mod images;
+mod last_calls;
 mod laws;
 mod lives;
 mod places;

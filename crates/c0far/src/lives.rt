@@ -17,6 +17,7 @@ use crate::wants::share_of;
 use command_line::words::Run;
 use file_store::FileStores;
 use live_run::{Finished, LiveError, run_live_counted};
+use memory_limit::MemoryLimit;
 use region::{AdmitFault, piece_of};
 use remote_store::{Config, FarHeap, FaultPlan, FaultStores, Stores};
 use scope_verifier::Verified;
@@ -50,7 +51,8 @@ fn live_with<W: Wait, M: Stores + Drop, O: Stream>(
         quantum: asked.work.quantum,
         stores,
     };
-    run_live_counted(alloc, rt, programs, config, out)
+    let limit = MemoryLimit::of_mebibytes(asked.limit);
+    run_live_counted(alloc, rt, programs, config, limit, out)
 }
 
 /// Runs the one program over these stores, whose calls fail from the one on that is asked for.

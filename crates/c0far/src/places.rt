@@ -1,4 +1,4 @@
-//! Where programs stopped, which is told by the plain run of their texts.
+//! Where programs stopped, and which function they called last where calls passed the limit of memory: it is told by the plain run of their texts.
 ghost use Rattle.std.specs.Prelude.{◌≡◌, ℕ, IfErr, IfOk, IfSome, List, map};
 ghost use Rattle.std.specs.Io.KnownBytes.{Appends};
 ghost use Rattle.c0far.specs.FileTexts.{HasText, Known};
@@ -9,19 +9,29 @@ ghost use Rattle.streams.specs.Streams.{IsWritten, NoneFailed, OneFailed, writes
 
 use crate::code::is_image_name;
 use crate::files::Files;
+use crate::last_calls::{called, write_call};
 use crate::plain::write_stop;
 use crate::say::{REFUSED, STOPPED, status_of};
 use crate::wants::say_more;
-use c0_meaning::Numbers;
-use c0_plain::mean_text_placed;
+use c0_meaning::{Numbers, Placed};
+use c0_plain::{Untold, mean_text_placed};
 use c0_source::position::line_column;
+use c0_syntax::name::Name;
 use c0_typed::Site;
-use cells::{Run, Stop};
-use command_line::words::{Run as Asked, Texts};
+use cells::{Run, Stop, Want};
+use command_line::words::Run as Asked;
 use executor::{Finished, MoverCounts};
+use memory_limit::MemoryLimit;
 use std::alloc::Global;
 use std::thread::Threads;
 use streams::{Failed, Stream};
+
+/// What the plain run of a text came to.
+#[derive(Drop)]
+struct PlainEnd {
+    text: Vec<u8>,
+    came: Result<Placed, Untold>,
+}
 
 /// Where in a text its program stops, and by which numbers.
 #[derive(Drop)]
@@ -31,14 +41,22 @@ struct StopSite {
     numbers: Option<Numbers>,
 }
 
-/// Where the program of a file stops that is run plainly. A program reads no input, so it stops there however it is run. Nothing is told of an image.
-fn stop_site<R: Threads, F: Files>(
+/// Which function of a text was called last.
+#[derive(Drop)]
+struct LastCall {
+    text: Vec<u8>,
+    name: Name,
+}
+
+/// The plain run of the text of a file, within the limit of memory. A program reads no input, so it ends as it does however it is run, but for want of memory. There is none
+/// of an image.
+fn run_plainly<R: Threads, F: Files>(
     alloc: Global,
     rt: &R,
-    texts: Texts,
+    asked: Asked<'_>,
     file: &str,
     files: &mut F,
-) -> Option<StopSite>
+) -> Option<PlainEnd>
     ensures files { (name : List ℕ) → F.holds files.new name ≡ F.holds files.old name }
     ensures text { IfSome result (λ r. HasText (F.holds files.old file.now) r.text.items) }
 {
@@ -48,16 +66,59 @@ fn stop_site<R: Threads, F: Files>(
     let Ok(text) = files.read_text(alloc, file) else {
         return None;
     };
-    match mean_text_placed(alloc, rt, &text, texts.checks, texts.level, u64::MAX) {
-        Ok(placed) => match placed.place {
-            Some(site) => Some(StopSite {
-                text,
-                site,
-                numbers: placed.numbers,
-            }),
-            None => None,
-        },
-        Err(_) => None,
+    let limit = MemoryLimit::of_mebibytes(asked.limit);
+    let texts = asked.compiling.texts;
+    let came = mean_text_placed(alloc, rt, &text, texts.checks, texts.level, u64::MAX, limit);
+    Some(PlainEnd { text, came })
+}
+
+/// Where the program of a file stops that is run plainly.
+fn stop_site<R: Threads, F: Files>(
+    alloc: Global,
+    rt: &R,
+    asked: Asked<'_>,
+    file: &str,
+    files: &mut F,
+) -> Option<StopSite>
+    ensures files { (name : List ℕ) → F.holds files.new name ≡ F.holds files.old name }
+    ensures text { IfSome result (λ r. HasText (F.holds files.old file.now) r.text.items) }
+{
+    let Some(PlainEnd { text, came }) = run_plainly(alloc, rt, asked, file, files) else {
+        return None;
+    };
+    let Ok(placed) = came else {
+        return None;
+    };
+    match placed.place {
+        Some(site) => Some(StopSite {
+            text,
+            site,
+            numbers: placed.numbers,
+        }),
+        None => None,
+    }
+}
+
+/// Which function the program of a file calls last that is run plainly, where its calls pass the limit.
+fn last_call<R: Threads, F: Files>(
+    alloc: Global,
+    rt: &R,
+    asked: Asked<'_>,
+    file: &str,
+    files: &mut F,
+) -> Option<LastCall>
+    ensures files { (name : List ℕ) → F.holds files.new name ≡ F.holds files.old name }
+    ensures text { IfSome result (λ r. HasText (F.holds files.old file.now) r.text.items) }
+{
+    let Some(PlainEnd { text, came }) = run_plainly(alloc, rt, asked, file, files) else {
+        return None;
+    };
+    let Err(untold) = came else {
+        return None;
+    };
+    match called(alloc, &text, asked.compiling.texts.level, untold.call) {
+        Some(name) => Some(LastCall { text, name }),
+        None => None,
     }
 }
 
@@ -76,10 +137,10 @@ fn write_found<E: Stream>(
 }
 
 /// Writes where the program of a file stopped, which ended so, if it is known.
-fn write_place<R: Threads, F: Files, E: Stream>(
+fn write_stopped<R: Threads, F: Files, E: Stream>(
     alloc: Global,
     rt: &R,
-    texts: Texts,
+    asked: Asked<'_>,
     file: &str,
     files: &mut F,
     run: &Run,
@@ -95,9 +156,53 @@ fn write_place<R: Threads, F: Files, E: Stream>(
     if status_of(run) != STOPPED {
         return Ok(());
     }
-    match stop_site(alloc, rt, texts, file, files) {
+    match stop_site(alloc, rt, asked, file, files) {
         Some(found) => write_found(err, file, stop, &found),
         None => Ok(()),
+    }
+}
+
+/// Writes which function the program of a file called last, which ended so, if it is known.
+fn write_wanted<R: Threads, F: Files, E: Stream>(
+    alloc: Global,
+    rt: &R,
+    asked: Asked<'_>,
+    file: &str,
+    files: &mut F,
+    run: &Run,
+    err: &mut E,
+) -> Result<(), Failed>
+    ensures files { (name : List ℕ) → F.holds files.new name ≡ F.holds files.old name }
+    ensures written { IfOk result (λ u. (bytes : List ℕ) × IsPlace file.now (F.holds files.old file.now) run.now bytes × Appends (E.contents err.old) (E.contents err.new) bytes × NoneFailed (writes E.contents E.failures err.old err.new)) }
+    ensures failed { IfErr result (λ u. OneFailed (writes E.contents E.failures err.old err.new)) }
+{
+    let Run::Wanted(Want::OutOfMemory) = run else {
+        return Ok(());
+    };
+    match last_call(alloc, rt, asked, file, files) {
+        Some(found) => write_call(err, file, &found.text, &found.name),
+        None => Ok(()),
+    }
+}
+
+/// Writes where the program of a file stopped, or which function it called last, which ended so, if that is known.
+fn write_place<R: Threads, F: Files, E: Stream>(
+    alloc: Global,
+    rt: &R,
+    asked: Asked<'_>,
+    file: &str,
+    files: &mut F,
+    run: &Run,
+    err: &mut E,
+) -> Result<(), Failed>
+    ensures files { (name : List ℕ) → F.holds files.new name ≡ F.holds files.old name }
+    ensures written { IfOk result (λ u. (bytes : List ℕ) × IsPlace file.now (F.holds files.old file.now) run.now bytes × Appends (E.contents err.old) (E.contents err.new) bytes × NoneFailed (writes E.contents E.failures err.old err.new)) }
+    ensures failed { IfErr result (λ u. OneFailed (writes E.contents E.failures err.old err.new)) }
+{
+    if let Run::Wanted(_) = run {
+        write_wanted(alloc, rt, asked, file, files, run, err)
+    } else {
+        write_stopped(alloc, rt, asked, file, files, run, err)
     }
 }
 
@@ -105,7 +210,7 @@ fn write_place<R: Threads, F: Files, E: Stream>(
 fn write_places<R: Threads, F: Files, E: Stream>(
     alloc: Global,
     rt: &R,
-    texts: Texts,
+    asked: Asked<'_>,
     names: &[&str],
     files: &mut F,
     programs: &[Finished],
@@ -121,8 +226,8 @@ fn write_places<R: Threads, F: Files, E: Stream>(
         [name, others @ ..] => match programs {
             [] => Ok(()),
             [one, rest @ ..] => {
-                write_place(alloc, rt, texts, name, files, &one.end.run, err)?;
-                write_places(alloc, rt, texts, others, files, rest, err)
+                write_place(alloc, rt, asked, name, files, &one.end.run, err)?;
+                write_places(alloc, rt, asked, others, files, rest, err)
             }
         },
     }
@@ -143,13 +248,12 @@ pub(crate) fn say_beside<R: Threads, F: Files, E: Stream>(
 ) -> u8
     ensures files { (name : List ℕ) → F.holds files.new name ≡ F.holds files.old name }
     ensures told { (held : List ℕ → Known) → ((name : List ℕ) → F.holds files.old name ≡ held name)
-        → TellsBeside asked.entry.explains asked.entry.stats held (map (λ n. n.now) names.now) share programs.now movers.now (writes E.contents E.failures err.old err.new) status result }
+        → TellsBeside asked.entry.explains asked.entry.stats asked.entry.limit held (map (λ n. n.now) names.now) share programs.now movers.now (writes E.contents E.failures err.old err.new) status result }
 {
     if !asked.explains {
         return say_more(err, asked, share, programs, movers, status);
     }
-    let texts = asked.compiling.texts;
-    match write_places(alloc, rt, texts, names, files, programs, err) {
+    match write_places(alloc, rt, asked, names, files, programs, err) {
         Ok(()) => say_more(err, asked, share, programs, movers, status),
         Err(Failed) => REFUSED,
     }

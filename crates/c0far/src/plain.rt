@@ -1,34 +1,31 @@
 //! The command `mean`: what the program of a text means within some turns.
-ghost use Rattle.std.specs.Prelude.{◌≡◌, ◌++◌, ℕ, List};
+ghost use Rattle.std.specs.Prelude.{◌≡◌, ◌≢◌, ◌⊎◌, ◌++◌, ℕ, List, codes};
 ghost use Rattle.cells.specs.Stops.{stop_of};
 ghost use Rattle.c0_meaning.specs.Run.{ended_of, meant_of};
-ghost use Rattle.command_line.specs.Shell.{texts_of};
-ghost use Rattle.c0far.specs.Driven.{Means};
-ghost use Rattle.c0far.specs.Shown.{StandsAt, TellsPlace, TellsWhere, newline, shown_meaning, shown_numbers, shown_stop};
+ghost use Rattle.command_line.specs.Shell.{bound_of};
+ghost use Rattle.c0far.specs.Driven.{IsOverLimit, Means};
+ghost use Rattle.c0far.specs.NoCode.{LacksMemory};
+ghost use Rattle.c0far.specs.Shown.{StandsAt, TellsCall, TellsPlace, TellsWhere, newline, shown_meaning, shown_numbers, shown_stop};
 ghost use Rattle.c0far.specs.FileTexts.{HasText, Known};
 ghost use Rattle.c0far.specs.Statuses.{ended_status};
-ghost use Rattle.streams.specs.Streams.{IsWritten, Says, writes};
+ghost use Rattle.c0far.specs.Wants.{passed_line};
+ghost use Rattle.streams.specs.Streams.{IsQuiet, IsWritten, Says, Writes, writes};
 
 use crate::files::{FileError, Files};
-use crate::say::{REFUSED, STOPPED, after, say_memory, say_refused, say_unread, write_output};
+use crate::last_calls::{called, write_call};
+use crate::say::{REFUSED, STOPPED, WANTED, after, say_memory, say_refused, say_unread, write_output};
+use crate::wants::write_passed;
 use c0_meaning::{Meant, Numbers, Placed};
-use c0_plain::mean_text_placed;
+use c0_plain::{Untold, mean_text_placed};
 use c0_source::fault::FaultKind;
 use c0_source::position::{Position, line_column};
 use c0_typed::Site;
 use cells::Stop;
-use command_line::words::Texts;
+use command_line::words::Bound;
+use memory_limit::{MemoryLimit, MemoryUse};
 use std::alloc::Global;
 use std::thread::Threads;
 use streams::{Failed, Stream};
-
-/// How a program's text is taken, how far it is run, and whether it is told where it stopped.
-#[derive(Clone, Copy, Debug, PartialEq, Eq)]
-pub struct Bound {
-    pub texts: Texts,
-    pub turns: u64,
-    pub explains: bool,
-}
 
 /// The status of a program that has stopped so, or was cut.
 fn status_of(stop: &Option<Stop>) -> u8
@@ -136,6 +133,72 @@ fn say_placed<O: Stream, E: Stream>(
     }
 }
 
+/// Writes that memory ran out, and what passed the limit of so many MiB.
+fn write_over<E: Stream>(err: &mut E, limit: u32, taker: MemoryUse) -> Result<(), Failed>
+    ensures { IsWritten (writes E.contents E.failures err.old err.new) ((codes "out of memory" ++ newline) ++ passed_line 0 taker limit) result }
+{
+    writeln!(err, "out of memory")?;
+    write_passed(err, 0, taker, limit)
+}
+
+/// Says which function was called last in the plain run of a file's text, if that is asked for and known; the status is this one, unless the write failed.
+fn say_call<E: Stream>(
+    alloc: Global,
+    err: &mut E,
+    bound: Bound,
+    file: &str,
+    text: &[u8],
+    call: Option<usize>,
+    status: u8,
+) -> u8
+    ensures { TellsCall bound.explains file.now text.now (writes E.contents E.failures err.old err.new) status result }
+{
+    if !bound.explains || status != WANTED {
+        return status;
+    }
+    match called(alloc, text, bound.texts.level, call) {
+        Some(name) => after(write_call(err, file, text, &name), status),
+        None => status,
+    }
+}
+
+/// Says that the plain run of a file's text passed the limit, by this use of memory.
+fn say_over<E: Stream>(
+    alloc: Global,
+    err: &mut E,
+    bound: Bound,
+    file: &str,
+    text: &[u8],
+    taker: MemoryUse,
+    call: Option<usize>,
+) -> u8
+    requires { bound.limit ≢ 0 }
+    ensures { (held : Known) (out : Writes) → HasText held text.now → IsQuiet out → IsOverLimit (bound_of bound) file.now held out (writes E.contents E.failures err.old err.new) result }
+{
+    let status = after(write_over(err, bound.limit, taker), WANTED);
+    say_call(alloc, err, bound, file, text, call, status)
+}
+
+/// Says that memory was refused to the plain run of a file's text.
+fn say_no_room<E: Stream>(
+    alloc: Global,
+    err: &mut E,
+    bound: Bound,
+    file: &str,
+    text: &[u8],
+    untold: Untold,
+) -> u8
+    ensures { (held : Known) (out : Writes) → HasText held text.now → IsQuiet out
+        → LacksMemory out (writes E.contents E.failures err.old err.new) result ⊎ IsOverLimit (bound_of bound) file.now held out (writes E.contents E.failures err.old err.new) result }
+{
+    match untold.passed {
+        Some(taker) if bound.limit != 0 => {
+            say_over(alloc, err, bound, file, text, taker, untold.call)
+        }
+        _ => say_memory(err),
+    }
+}
+
 /// The plain run of a text, which stands in this file.
 fn mean_named<R: Threads, O: Stream, E: Stream>(
     alloc: Global,
@@ -146,7 +209,7 @@ fn mean_named<R: Threads, O: Stream, E: Stream>(
     out: &mut O,
     err: &mut E,
 ) -> u8
-    ensures { (held : Known) → HasText held text.now → Means file.now (texts_of bound.texts) bound.turns bound.explains held (writes O.contents O.failures out.old out.new) (writes E.contents E.failures err.old err.new) result }
+    ensures { (held : Known) → HasText held text.now → Means (bound_of bound) file.now held (writes O.contents O.failures out.old out.new) (writes E.contents E.failures err.old err.new) result }
 {
     match mean_text_placed(
         alloc,
@@ -155,10 +218,13 @@ fn mean_named<R: Threads, O: Stream, E: Stream>(
         bound.texts.checks,
         bound.texts.level,
         bound.turns,
+        MemoryLimit::of_mebibytes(bound.limit),
     ) {
         Ok(placed) => say_placed(out, err, bound.explains, file, text, &placed),
-        Err(fault) if fault.kind == FaultKind::OutOfMemory => say_memory(err),
-        Err(fault) => say_refused(err, file, text, bound.texts.level, fault),
+        Err(untold) if untold.fault.kind == FaultKind::OutOfMemory => {
+            say_no_room(alloc, err, bound, file, text, untold)
+        }
+        Err(untold) => say_refused(err, file, text, bound.texts.level, untold.fault),
     }
 }
 
@@ -173,7 +239,7 @@ pub fn mean<R: Threads, F: Files, O: Stream, E: Stream>(
     err: &mut E,
 ) -> u8
     ensures files { (name : List ℕ) → F.holds files.new name ≡ F.holds files.old name }
-    ensures done { Means file.now (texts_of bound.texts) bound.turns bound.explains (F.holds files.old file.now) (writes O.contents O.failures out.old out.new) (writes E.contents E.failures err.old err.new) result }
+    ensures done { Means (bound_of bound) file.now (F.holds files.old file.now) (writes O.contents O.failures out.old out.new) (writes E.contents E.failures err.old err.new) result }
 {
     match files.read_text(alloc, file) {
         Ok(text) => mean_named(alloc, rt, bound, file, &text, out, err),

@@ -15,6 +15,7 @@ use crate::wants::share_of;
 use command_line::words::Run;
 use executor::{Counted, OpenGate, run_all_counted};
 use file_store::FileStores;
+use memory_limit::MemoryLimit;
 use region::{AdmitFault, fits, piece_of};
 use remote_store::{Config, FarHeap, FaultPlan, FaultStores, Stores};
 use scope_verifier::Verified;
@@ -45,7 +46,8 @@ fn run_with<W: Wait + Threads + Clock + Sync, M: Stores + Drop>(
         quantum: asked.work.quantum,
         stores,
     };
-    run_all_counted(alloc, rt, programs, config, &OpenGate)
+    let limit = MemoryLimit::of_mebibytes(asked.limit);
+    run_all_counted(alloc, rt, programs, config, limit, &OpenGate)
 }
 
 /// Runs these programs over these stores, whose calls fail from the one on that is asked for.

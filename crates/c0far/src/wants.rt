@@ -1,7 +1,7 @@
 //! What is told on the standard error beside the ends of programs, where it is asked for: what they wanted, and the table of what was counted.
 ghost use Rattle.std.specs.Prelude.{◌≡◌, ◌+◌, ◌++◌, ◌<◌, ◌^◌, length};
 ghost use Rattle.c0far.specs.Stats.{stats_text};
-ghost use Rattle.c0far.specs.Wants.{TellsMore, share_of as equal_share, failure_line, memory_line, objects_line, shown_call, shown_cause, shown_failure, shown_get, shown_last, shown_put, want_line, want_lines, wants_text};
+ghost use Rattle.c0far.specs.Wants.{TellsMore, share_of as equal_share, failure_line, has_lines as lines_of, limit_line, limit_lines, memory_line, objects_line, passed_line, refused_line, shown_call, shown_cause, shown_failure, shown_get, shown_last, shown_put, want_line, want_lines, wants_text};
 ghost use Rattle.streams.specs.Streams.{IsWritten, writes};
 
 use crate::say::after;
@@ -9,6 +9,7 @@ use crate::stats::write_stats;
 use cells::{Run, Want};
 use command_line::words::Run as Asked;
 use executor::{Finished, MoverCounts};
+use memory_limit::MemoryUse;
 use remote_store::{Cause, RefusedCall};
 use streams::{Failed, Stream};
 
@@ -95,7 +96,19 @@ fn write_objects<E: Stream>(err: &mut E, number: u64, share: usize, used: u64) -
     )
 }
 
-/// Writes the line of a program for which memory was refused.
+/// Writes the line of a program of which this took more than so many MiB.
+pub(crate) fn write_passed<E: Stream>(
+    err: &mut E,
+    number: u64,
+    taker: MemoryUse,
+    limit: u32,
+) -> Result<(), Failed>
+    ensures { IsWritten (writes E.contents E.failures err.old err.new) (passed_line number taker limit) result }
+{
+    writeln!(err, "program {number}: {taker} took more than {limit} MiB")
+}
+
+/// Writes the line of a program for which the system refused memory.
 fn write_memory<E: Stream>(err: &mut E, number: u64) -> Result<(), Failed>
     ensures { IsWritten (writes E.contents E.failures err.old err.new) (memory_line number) result }
 {
@@ -105,19 +118,50 @@ fn write_memory<E: Stream>(err: &mut E, number: u64) -> Result<(), Failed>
     )
 }
 
+/// Writes the line of a program for which memory was refused, because this passed the limit, or by the system.
+fn write_refused<E: Stream>(
+    err: &mut E,
+    number: u64,
+    limit: u32,
+    passed: Option<MemoryUse>,
+) -> Result<(), Failed>
+    ensures { IsWritten (writes E.contents E.failures err.old err.new) (refused_line number limit passed) result }
+{
+    match passed {
+        Some(taker) => write_passed(err, number, taker, limit),
+        None => write_memory(err, number),
+    }
+}
+
+/// Writes the line of a program, if it passed the limit.
+fn write_limit<E: Stream>(
+    err: &mut E,
+    number: u64,
+    limit: u32,
+    passed: Option<MemoryUse>,
+) -> Result<(), Failed>
+    ensures { IsWritten (writes E.contents E.failures err.old err.new) (limit_line number limit passed) result }
+{
+    match passed {
+        Some(taker) => write_passed(err, number, taker, limit),
+        None => Ok(()),
+    }
+}
+
 /// Writes the line of a program, if it wanted something.
 #[tactic(auto, unfolding(crate::specs::Wants::want_line))]
 fn write_want<E: Stream>(
     err: &mut E,
     number: u64,
+    limit: u32,
     share: usize,
     one: &Finished,
 ) -> Result<(), Failed>
-    ensures { IsWritten (writes E.contents E.failures err.old err.new) (want_line number share one.now) result }
+    ensures { IsWritten (writes E.contents E.failures err.old err.new) (want_line number limit share one.now) result }
 {
     match one.end.run {
         Run::Running | Run::Stopped(_) => Ok(()),
-        Run::Wanted(Want::OutOfMemory) => write_memory(err, number),
+        Run::Wanted(Want::OutOfMemory) => write_refused(err, number, limit, one.counts.passed),
         Run::Wanted(Want::NoObjects) => write_objects(err, number, share, one.counts.objects),
         Run::Wanted(Want::StoreFailed) => write_store(err, number, one.refusals.last),
     }
@@ -127,32 +171,76 @@ fn write_want<E: Stream>(
 fn write_wants<E: Stream>(
     err: &mut E,
     number: u64,
+    limit: u32,
     share: usize,
     programs: &[Finished],
 ) -> Result<(), Failed>
     requires { number + length programs.now < 2 ^ 64 }
-    ensures { IsWritten (writes E.contents E.failures err.old err.new) (want_lines number share programs.now) result }
+    ensures { IsWritten (writes E.contents E.failures err.old err.new) (want_lines number limit share programs.now) result }
 {
     match programs {
         [] => Ok(()),
         [one, rest @ ..] => {
-            write_want(err, number, share, one)?;
-            write_wants(err, number + 1, share, rest)
+            write_want(err, number, limit, share, one)?;
+            write_wants(err, number + 1, limit, share, rest)
         }
     }
 }
 
-/// Writes what programs wanted, and then the table.
+/// Writes the lines of those among several programs that passed the limit, whose numbers are those from this one on.
+fn write_limits<E: Stream>(
+    err: &mut E,
+    number: u64,
+    limit: u32,
+    programs: &[Finished],
+) -> Result<(), Failed>
+    requires { number + length programs.now < 2 ^ 64 }
+    ensures { IsWritten (writes E.contents E.failures err.old err.new) (limit_lines number limit programs.now) result }
+{
+    match programs {
+        [] => Ok(()),
+        [one, rest @ ..] => {
+            write_limit(err, number, limit, one.counts.passed)?;
+            write_limits(err, number + 1, limit, rest)
+        }
+    }
+}
+
+/// Writes what programs wanted, where that is asked for, else which passed the limit.
+fn write_lines<E: Stream>(
+    err: &mut E,
+    asked: Asked<'_>,
+    share: usize,
+    programs: &[Finished],
+) -> Result<(), Failed>
+    ensures { IsWritten (writes E.contents E.failures err.old err.new) (wants_text asked.entry.explains asked.entry.limit share programs.now) result }
+{
+    if asked.explains {
+        write_wants(err, 0, asked.limit, share, programs)
+    } else {
+        write_limits(err, 0, asked.limit, programs)
+    }
+}
+
+/// Writes these lines, and then the table.
 fn write_both<E: Stream>(
     err: &mut E,
+    asked: Asked<'_>,
     share: usize,
     programs: &[Finished],
     movers: &[MoverCounts],
 ) -> Result<(), Failed>
-    ensures { IsWritten (writes E.contents E.failures err.old err.new) (wants_text share programs.now ++ stats_text programs.now movers.now) result }
+    ensures { IsWritten (writes E.contents E.failures err.old err.new) (wants_text asked.entry.explains asked.entry.limit share programs.now ++ stats_text programs.now movers.now) result }
 {
-    write_wants(err, 0, share, programs)?;
+    write_lines(err, asked, share, programs)?;
     write_stats(err, programs, movers)
+}
+
+/// Whether lines of programs are told.
+fn has_lines(asked: Asked<'_>) -> bool
+    ensures { result ≡ lines_of asked.entry.explains asked.entry.limit }
+{
+    asked.explains || asked.limit != 0
 }
 
 /// How many objects each of so many programs has.
@@ -175,12 +263,12 @@ pub(crate) fn say_more<E: Stream>(
     movers: &[MoverCounts],
     status: u8,
 ) -> u8
-    ensures { TellsMore asked.entry.explains asked.entry.stats share programs.now movers.now (writes E.contents E.failures err.old err.new) status result }
+    ensures { TellsMore asked.entry.explains asked.entry.stats asked.entry.limit share programs.now movers.now (writes E.contents E.failures err.old err.new) status result }
 {
-    match (asked.explains, asked.stats) {
+    match (has_lines(asked), asked.stats) {
         (false, false) => status,
         (false, true) => after(write_stats(err, programs, movers), status),
-        (true, false) => after(write_wants(err, 0, share, programs), status),
-        (true, true) => after(write_both(err, share, programs, movers), status),
+        (true, false) => after(write_lines(err, asked, share, programs), status),
+        (true, true) => after(write_both(err, asked, share, programs, movers), status),
     }
 }

@@ -1,5 +1,5 @@
 //! The execution of an image up to its heap.
-ghost use Rattle.cells.specs.Stops.{stop_of as stop_read};
+ghost use Rattle.cells.specs.Stops.{Stop as Stopped, stop_of as stop_read};
 ghost use Rattle.code_execution.specs.Decisions.{decided, growth_touch, is_simple, makes, refuses, uses_scope};
 ghost use Rattle.code_execution.specs.Plain.{ArePassed, EndsPlain, plain_run};
 ghost use Rattle.code_execution.specs.Planning.{Plans, touch_planned};
@@ -22,6 +22,7 @@ use crate::plan::Plan;
 use cells::Stop;
 use code_form::{Block, Function, Image, Touch};
 use code_operations::{Allocations, Command, are_small, number};
+use memory_limit::{MemoryLimit, MemoryUse};
 use std::alloc::{AllocError, Global};
 use std::marker::Model;
 
@@ -162,7 +163,7 @@ impl<'a> Status<'a> {
             Command::Sets { to, value } => calls.write(to, value),
             Command::Makes { .. } => (),
             Command::Prints(printed) => {
-                printed.print(alloc, output)?;
+                calls.print(alloc, output, printed)?;
                 calls.advance();
             }
             Command::Stops(fault) => *self = Status::Stopped(Halt::Failed(fault)),
@@ -304,6 +305,26 @@ impl<'a> Execution<'a> {
             return;
         };
         calls.complete(loaded);
+    }
+
+    /// Has its calls and its output keep within a limit, from now on: a call, or an instruction that prints, is refused memory where all calls, or all that was
+    /// printed, come to more before it. At first there is none.
+    pub fn bound(&mut self, limit: MemoryLimit)
+        ensures { self.new ≡ self.old }
+    {
+        if let Status::Running(calls) = &mut self.status {
+            calls.limit = limit;
+        }
+    }
+
+    /// What was refused memory as it came to more than the limit. Where the program has stopped, nothing was.
+    pub fn passed(&self) -> Option<MemoryUse>
+        ensures { (x : Stopped) → stop_of self.now.core ≡ Some x → result ≡ None }
+    {
+        match &self.status {
+            Status::Running(calls) => calls.limit.passed,
+            _ => None,
+        }
     }
 
     /// What was printed.

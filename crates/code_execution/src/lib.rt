@@ -13,6 +13,7 @@ mod inside;
 mod places;
 mod plan;
 mod registers;
+mod room;
 mod scopes;
 
 pub use execution::Execution;

@@ -18,7 +18,7 @@ use Rattle.clap.specs.declared.parser.matches.SubCommand.{SubCommand}
 use Rattle.command_line.specs.declared.words.Line.{Line}
 use Rattle.command_line.specs.declared.words.Usage.{Usage}
 use Rattle.command_line.specs.declared.words.Usage.TheVariants as usage
-use Rattle.command_line.specs.Shell.{Build, Command, Compiling, Lists, Names, command_of, Mean, Memory, Replay, Replayed, Run, build_command, command_in, compiling_in, has_checks, has_flag, Started, Texts, level_in, list_command, live_command, live_of, mean_command, memory_in, named_command, number_in, number_or, piece_in, replay_command, replayed_in, run_command, shell, short_option, started_in, texts_in, whole_command, Work, work_in}
+use Rattle.command_line.specs.Shell.{Bounded, Build, Command, Compiling, Lists, Names, bound_in, command_of, limit_in, turns_in, Memory, Replay, Replayed, Run, build_command, command_in, compiling_in, has_checks, has_flag, Started, Texts, level_in, list_command, live_command, live_of, memory_in, named_command, number_in, number_or, piece_in, replay_command, replayed_in, run_command, shell, short_option, started_in, texts_in, whole_command, Work, work_in}
 use Rattle.clap.specs.declared.parser.matches.Found.{Found}
 use Rattle.clap.specs.declared.parser.matches.MatchedArg.{MatchedArg}
 
@@ -68,14 +68,20 @@ pub list_is : (f : Found) (loops : Bool) (o : Option ℕ) (file : Text) → Some
 list_is f loops o file of_level of_piece =
     ap (option_map (λ p. Lists loops p file)) of_piece ∙ ap (option_and_then (λ l. option_map (λ p. Lists l p file) (piece_in (rows_of f)))) of_level
 
--- what was found of the turns tells the plain run
-pub run_is : (f : Found) (t : Texts) (o : Option Text) (n : Option ℕ) (b : Bool) (file : Text) → Some t ≡ texts_in (rows_of f) → o ≡ first_value f (codes "turns") → n ≡ option_and_then number_in o
-    → b ≡ has_flag (codes "where") (rows_of f) → option_map (λ turns. Mean t turns b file) n ≡ mean_command (rows_of f) file
-run_is f t o n b file of_texts e told of_explains =
-    let turns : Option ℕ = option_and_then number_in (first_of (codes "turns") (rows_of f)) in
-    ap (option_map (λ turns. Mean t turns b file)) (told ∙ ap (option_and_then number_in) (e ∙ sym (first_is f (codes "turns"))))
-    ∙ ap (λ x. option_map (λ n. Mean t n x file) turns) of_explains
-    ∙ ap (option_and_then (λ t. option_map (λ n. Mean t n (has_flag (codes "where") (rows_of f)) file) turns)) of_texts
+-- how a text is run plainly
+abbrev pub bounded : Texts → (turns : ℕ) → (explains : Bool) → (limit : ℕ) → Bounded
+bounded texts turns explains limit = record { texts = texts; turns = turns; explains = explains; limit = limit }
+
+-- what was found of its options tells how a text is run plainly
+pub bound_is : (f : Found) (t : Texts) (n m : ℕ) (b : Bool) → Some t ≡ texts_in (rows_of f) → Some n ≡ turns_in (rows_of f) → Some m ≡ limit_in (rows_of f) → b ≡ has_flag (codes "where") (rows_of f)
+    → Some (bounded t n b m) ≡ bound_in (rows_of f)
+bound_is f t n m b of_texts of_turns of_limit of_explains =
+    let rows : List Row = rows_of f in
+    let why : Bool = has_flag (codes "where") rows in
+    ap (λ (x : Bool). Some (bounded t n x m)) of_explains
+    ∙ ap (option_map (λ l. bounded t n why l)) of_limit
+    ∙ ap (option_and_then (λ k. option_map (λ l. bounded t k why l) (limit_in rows))) of_turns
+    ∙ ap (option_and_then (λ x. option_and_then (λ k. option_map (λ l. bounded x k why l) (limit_in rows)) (turns_in rows))) of_texts
 
 -- what was found of the file to write tells the writing of an image
 pub build_is : (f : Found) (x : Compiling) (o : Option Text) (file : Text) → Some x ≡ compiling_in (rows_of f) → o ≡ first_value f (codes "out") → option_map (λ out. Build x out file) o ≡ build_command (rows_of f) file
@@ -111,8 +117,8 @@ memory_is f frames objects from o of_frames of_objects of_from told =
     ∙ ap (option_and_then (λ m. option_and_then (λ n. option_map (λ k. over m n k store) calls) many)) of_frames
 
 -- a run
-abbrev pub started : Compiling → Memory → (evacuators fetchers : ℕ) → Work → (stats explains : Bool) → Started
-started compiling memory evacuators fetchers work stats explains = record { compiling = compiling; memory = memory; evacuators = evacuators; fetchers = fetchers; work = work; stats = stats; explains = explains }
+abbrev pub started : Compiling → Memory → (evacuators fetchers : ℕ) → Work → (stats explains : Bool) → (limit : ℕ) → Started
+started compiling memory evacuators fetchers work stats explains limit = record { compiling = compiling; memory = memory; evacuators = evacuators; fetchers = fetchers; work = work; stats = stats; explains = explains; limit = limit }
 
 -- what was found of its options tells the work
 pub work_is : (f : Found) (workers quantum : ℕ) → Some workers ≡ short_option (codes "workers") 4 (rows_of f) → Some quantum ≡ short_option (codes "quantum") 1000 (rows_of f)
@@ -122,24 +128,26 @@ work_is f workers quantum of_workers of_quantum =
     ∙ ap (option_and_then (λ w. option_map (λ n. record { workers = w; quantum = n }) (short_option (codes "quantum") 1000 (rows_of f)))) of_workers
 
 -- what was found of its options tells the run
-pub started_is : (f : Found) (t : Compiling) (memory : Memory) (evacuators fetchers : ℕ) (work : Work) (stats explains : Bool) → Some t ≡ compiling_in (rows_of f) → Some memory ≡ memory_in (rows_of f) → Some evacuators ≡ short_option (codes "evacuators") 1 (rows_of f)
-    → Some fetchers ≡ short_option (codes "fetchers") 1 (rows_of f) → Some work ≡ work_in (rows_of f) → stats ≡ has_flag (codes "stats") (rows_of f) → explains ≡ has_flag (codes "where") (rows_of f)
-    → Some (started t memory evacuators fetchers work stats explains) ≡ started_in (rows_of f)
-started_is f t memory evacuators fetchers work stats explains of_compiling of_memory of_evacuators of_fetchers of_work of_stats of_explains =
+pub started_is : (f : Found) (t : Compiling) (memory : Memory) (evacuators fetchers : ℕ) (work : Work) (stats explains : Bool) (limit : ℕ) → Some t ≡ compiling_in (rows_of f) → Some memory ≡ memory_in (rows_of f) → Some evacuators ≡ short_option (codes "evacuators") 1 (rows_of f)
+    → Some fetchers ≡ short_option (codes "fetchers") 1 (rows_of f) → Some work ≡ work_in (rows_of f) → stats ≡ has_flag (codes "stats") (rows_of f) → explains ≡ has_flag (codes "where") (rows_of f) → Some limit ≡ limit_in (rows_of f)
+    → Some (started t memory evacuators fetchers work stats explains limit) ≡ started_in (rows_of f)
+started_is f t memory evacuators fetchers work stats explains limit of_compiling of_memory of_evacuators of_fetchers of_work of_stats of_explains of_limit =
     let rows : List Row = rows_of f in
+    let most : Option ℕ = limit_in rows in
     let ahead : Option ℕ = short_option (codes "fetchers") 1 rows in
     let out : Option ℕ = short_option (codes "evacuators") 1 rows in
     let turns : Option Work = work_in rows in
     let over : Option Memory = memory_in rows in
     let told : Bool = has_flag (codes "stats") rows in
     let why : Bool = has_flag (codes "where") rows in
-    ap (λ (b : Bool). Some (started t memory evacuators fetchers work b explains)) of_stats
-    ∙ ap (λ (b : Bool). Some (started t memory evacuators fetchers work told b)) of_explains
-    ∙ ap (option_map (λ w. started t memory evacuators fetchers w told why)) of_work
-    ∙ ap (option_and_then (λ q. option_map (λ w. started t memory evacuators q w told why) turns)) of_fetchers
-    ∙ ap (option_and_then (λ e. option_and_then (λ q. option_map (λ w. started t memory e q w told why) turns) ahead)) of_evacuators
-    ∙ ap (option_and_then (λ m. option_and_then (λ e. option_and_then (λ q. option_map (λ w. started t m e q w told why) turns) ahead) out)) of_memory
-    ∙ ap (option_and_then (λ x. option_and_then (λ m. option_and_then (λ e. option_and_then (λ q. option_map (λ w. started x m e q w told why) turns) ahead) out) over)) of_compiling
+    ap (λ (b : Bool). Some (started t memory evacuators fetchers work b explains limit)) of_stats
+    ∙ ap (λ (b : Bool). Some (started t memory evacuators fetchers work told b limit)) of_explains
+    ∙ ap (option_map (λ l. started t memory evacuators fetchers work told why l)) of_limit
+    ∙ ap (option_and_then (λ w. option_map (λ l. started t memory evacuators fetchers w told why l) most)) of_work
+    ∙ ap (option_and_then (λ q. option_and_then (λ w. option_map (λ l. started t memory evacuators q w told why l) most) turns)) of_fetchers
+    ∙ ap (option_and_then (λ e. option_and_then (λ q. option_and_then (λ w. option_map (λ l. started t memory e q w told why l) most) turns) ahead)) of_evacuators
+    ∙ ap (option_and_then (λ m. option_and_then (λ e. option_and_then (λ q. option_and_then (λ w. option_map (λ l. started t m e q w told why l) most) turns) ahead) out)) of_memory
+    ∙ ap (option_and_then (λ x. option_and_then (λ m. option_and_then (λ e. option_and_then (λ q. option_and_then (λ w. option_map (λ l. started x m e q w told why l) most) turns) ahead) out) over)) of_compiling
 
 -- a replay
 abbrev pub by : Compiling → Memory → (evacuators fetchers : ℕ) → Work → (schedule : Text) → Replayed

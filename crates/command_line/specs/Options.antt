@@ -28,7 +28,8 @@ named name =
     (cond (bytes_eq name (codes "--schedule")) (Some o.Schedule)
     (cond (bytes_eq name (codes "--live")) (Some o.Live)
     (cond (bytes_eq name (codes "--stats")) (Some o.Stats)
-    (cond (bytes_eq name (codes "--where")) (Some o.Where) None))))))))))))))))
+    (cond (bytes_eq name (codes "--where")) (Some o.Where)
+    (cond (bytes_eq name (codes "--memory")) (Some o.Memory) None)))))))))))))))))
 
 -- the name of an option
 abbrev pub name_text : Choice → Text
@@ -49,6 +50,7 @@ name_text o.Schedule = codes "--schedule"
 name_text o.Live = codes "--live"
 name_text o.Stats = codes "--stats"
 name_text o.Where = codes "--where"
+name_text o.Memory = codes "--memory"
 
 -- what an option wants behind it, in words
 abbrev pub wanted_text : Choice → Text
@@ -69,6 +71,7 @@ wanted_text o.Schedule = codes "a file"
 wanted_text o.Live = codes "no value"
 wanted_text o.Stats = codes "no value"
 wanted_text o.Where = codes "no value"
+wanted_text o.Memory = codes "a number below 4,294,967,296"
 
 -- an option has a value, but for `-d`, `--live`, `--stats` and `--where`
 abbrev pub takes_value : Choice → Bool
@@ -105,6 +108,7 @@ accepts o.Schedule text = true
 accepts o.Live text = false
 accepts o.Stats text = false
 accepts o.Where text = false
+accepts o.Memory text = is_some (short_number_in text)
 
 -- the command of this name takes the options of a run, and several files
 abbrev pub is_run_name : Text → Bool
@@ -133,6 +137,7 @@ has_choice name o.Schedule = bytes_eq name (codes "replay")
 has_choice name o.Live = bytes_eq name (codes "run")
 has_choice name o.Stats = bytes_eq name (codes "run")
 has_choice name o.Where = bytes_eq name (codes "run") || bytes_eq name (codes "mean")
+has_choice name o.Memory = bytes_eq name (codes "run") || bytes_eq name (codes "mean")
 
 -- the option without which the command of this name does nothing
 abbrev pub required_in : Text → Option Choice

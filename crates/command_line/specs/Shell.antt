@@ -11,6 +11,7 @@ use Rattle.clap.specs.declared.builder.command.Command.{Command as Built}
 use Rattle.clap.specs.declared.builder.command.Command.TheViews.{out-Command}
 use Rattle.c0_syntax.specs.Levels.{has_loops}
 use Rattle.cells.specs.Pieces.{cells_in, is_piece}
+use Rattle.command_line.specs.declared.words.Bound.{Bound as AskedBound}
 use Rattle.command_line.specs.declared.words.Memory.{Memory as Written}
 use Rattle.command_line.specs.declared.words.Replay.{Replay as Asked}
 use Rattle.command_line.specs.declared.words.Run.{Run as AskedRun}
@@ -93,15 +94,15 @@ check_shape = (with_rule (of_texts (codes "check")) file_rule).top
 abbrev pub list_shape : Shape
 list_shape = (with_rule (with_rule (of_texts (codes "list")) (option_rule (codes "piece"))) file_rule).top
 
--- mean [--level L] [-d] --turns N [--where] FILE
+-- mean [--level L] [-d] --turns N [--where] [--memory M] FILE
 abbrev pub mean_shape : Shape
-mean_shape = (with_rule (with_rule (with_rule (of_checked_texts (codes "mean")) turns_rule) where_rule) file_rule).top
+mean_shape = (with_rule (with_rule (with_rule (with_rule (of_checked_texts (codes "mean")) turns_rule) where_rule) (option_rule (codes "memory"))) file_rule).top
 
 -- run [--level L] [-d] [--piece C] [--frames F] [--objects N] [--store DIR] [--fail-from K] [--evacuators E] [--fetchers Q] [--workers W] [--quantum N]
--- [--live] [--stats] [--where] FILE...
+-- [--live] [--stats] [--where] [--memory M] FILE...
 abbrev pub run_shape : Shape
 run_shape =
-    (with_rule (with_rule (with_rule (with_rule (with_work (with_rule (with_rule (with_memory (of_code (codes "run"))) (option_rule (codes "evacuators"))) (option_rule (codes "fetchers")))) live_rule) stats_rule) where_rule) files_rule).top
+    (with_rule (with_rule (with_rule (with_rule (with_rule (with_work (with_rule (with_rule (with_memory (of_code (codes "run"))) (option_rule (codes "evacuators"))) (option_rule (codes "fetchers")))) live_rule) stats_rule) where_rule) (option_rule (codes "memory"))) files_rule).top
 
 -- replay [--level L] [-d] [--piece C] [--frames F] [--objects N] [--store DIR] [--fail-from K] [--evacuators E] [--fetchers Q] [--workers W]
 -- [--quantum N] --schedule S FILE...
@@ -144,7 +145,16 @@ pub record Work : Type 0 where
   pub workers : ℕ
   pub quantum : ℕ
 
--- how programs are run, and whether it is told what was counted, and what each program wanted that wanted something
+-- how a text is run plainly: it is taken so, for so many turns; whether it is told where the program stopped; and to how many MiB what its calls, its output and its heap
+-- hold may come each, or 0
+pub record Bounded : Type 0 where
+  pub texts : Texts
+  pub turns : ℕ
+  pub explains : Bool
+  pub limit : ℕ
+
+-- how programs are run; whether it is told what was counted, and where each program stopped and what it wanted; and to how many MiB what the calls and the output of each
+-- hold may come each, or 0
 pub record Started : Type 0 where
   pub compiling : Compiling
   pub memory : Memory
@@ -153,6 +163,7 @@ pub record Started : Type 0 where
   pub work : Work
   pub stats : Bool
   pub explains : Bool
+  pub limit : ℕ
 
 -- how programs are replayed
 pub record Replayed : Type 0 where
@@ -170,7 +181,7 @@ pub data Command : Type 0 where
   Build : Compiling → (out file : Text) → Command
   Check : (loops : Bool) → Text → Command
   Lists : (loops : Bool) → (piece : ℕ) → Text → Command
-  Mean : Texts → (turns : ℕ) → (explains : Bool) → Text → Command
+  Mean : Bounded → Text → Command
   Replay : Replayed → List Text → Command
   Run : Started → List Text → Command
   Live : Started → Text → Command
@@ -228,9 +239,23 @@ piece_in rows = option_and_then (λ n. cond (is_piece n) (Some n) None) (short_o
 abbrev pub compiling_in : List Row → Option Compiling
 compiling_in rows = option_and_then (λ t. option_map (λ p. record { texts = t; piece = p }) (piece_in rows)) (texts_in rows)
 
--- the plain run of this file, within the turns of the rows
+-- the turns of the rows
+abbrev pub turns_in : List Row → Option ℕ
+turns_in rows = option_and_then number_in (first_of (codes "turns") rows)
+
+-- the MiB of the rows, 0 where they tell none
+abbrev pub limit_in : List Row → Option ℕ
+limit_in rows = short_option (codes "memory") 0 rows
+
+-- how the rows say that a text is run plainly
+abbrev pub bound_in : List Row → Option Bounded
+bound_in rows =
+    option_and_then (λ t. option_and_then (λ n. option_map (λ m. record { texts = t; turns = n; explains = has_flag (codes "where") rows; limit = m })
+    (limit_in rows)) (turns_in rows)) (texts_in rows)
+
+-- the plain run of this file
 abbrev pub mean_command : List Row → Text → Option Command
-mean_command rows file = option_and_then (λ t. option_map (λ turns. Mean t turns (has_flag (codes "where") rows) file) (option_and_then number_in (first_of (codes "turns") rows))) (texts_in rows)
+mean_command rows file = option_map (λ asked. Mean asked file) (bound_in rows)
 
 -- the image of this file, written to the file of the rows
 abbrev pub build_command : List Row → Text → Option Command
@@ -253,8 +278,8 @@ work_in rows = option_and_then (λ w. option_map (λ n. record { workers = w; qu
 -- how the rows say that programs are run: beside one evacuator and one fetcher where they tell no other number
 abbrev pub started_in : List Row → Option Started
 started_in rows =
-    option_and_then (λ c. option_and_then (λ m. option_and_then (λ e. option_and_then (λ q. option_map (λ w. record { compiling = c; memory = m; evacuators = e; fetchers = q; work = w; stats = has_flag (codes "stats") rows; explains = has_flag (codes "where") rows })
-    (work_in rows)) (short_option (codes "fetchers") 1 rows)) (short_option (codes "evacuators") 1 rows)) (memory_in rows)) (compiling_in rows)
+    option_and_then (λ c. option_and_then (λ m. option_and_then (λ e. option_and_then (λ q. option_and_then (λ w. option_map (λ l. record { compiling = c; memory = m; evacuators = e; fetchers = q; work = w; stats = has_flag (codes "stats") rows; explains = has_flag (codes "where") rows; limit = l })
+    (limit_in rows)) (work_in rows)) (short_option (codes "fetchers") 1 rows)) (short_option (codes "evacuators") 1 rows)) (memory_in rows)) (compiling_in rows)
 
 -- the run of the files of the rows, whose output is written when all have ended
 abbrev pub whole_command : List Row → Option Command
@@ -315,9 +340,13 @@ memory_of m = record { frames = m.frames; objects = m.objects; store = option_ma
 abbrev pub work_of : AskedWork → Work
 work_of w = record { workers = w.workers; quantum = w.quantum }
 
+-- how a text is run plainly, as code has it
+abbrev pub bound_of : AskedBound → Bounded
+bound_of b = record { texts = texts_of b.texts; turns = b.turns; explains = b.explains; limit = b.limit }
+
 -- a run as code has it
 abbrev pub started_of : AskedRun → Started
-started_of r = record { compiling = compiling_of r.compiling; memory = memory_of r.memory; evacuators = r.evacuators; fetchers = r.fetchers; work = work_of r.work; stats = r.stats; explains = r.explains }
+started_of r = record { compiling = compiling_of r.compiling; memory = memory_of r.memory; evacuators = r.evacuators; fetchers = r.fetchers; work = work_of r.work; stats = r.stats; explains = r.explains; limit = r.limit }
 
 -- a replay as code has it
 abbrev pub replayed_of : Asked → Replayed
@@ -328,7 +357,7 @@ abbrev pub command_of : Line → Command
 command_of (line.Build compiling out file) = Build (compiling_of compiling) out.now file.now
 command_of (line.Check level file) = Check (has_loops level) file.now
 command_of (line.List level piece file) = Lists (has_loops level) (cells_in piece) file.now
-command_of (line.Mean texts turns explains file) = Mean (texts_of texts) turns explains file.now
+command_of (line.Mean asked file) = Mean (bound_of asked) file.now
 command_of (line.Replay asked files) = Replay (replayed_of asked) (map (λ f. f.now) files.items)
 command_of (line.Run asked files) = Run (started_of asked) (map (λ f. f.now) files.items)
 command_of (line.Live asked file) = Live (started_of asked) file.now

@@ -3,9 +3,9 @@ ghost use Rattle.std.specs.Prelude.{◌≡◌, ◌≢◌, [], codes, false, IfEr
 ghost use Rattle.clap.specs.Words.{all_of, app_of, first_of, found_of, kind_of, rows_of, rule_of, subcommand_rows_of};
 ghost use Rattle.c0_syntax.specs.Levels.{has_loops};
 ghost use Rattle.cells.specs.Pieces.{cells_in};
-ghost use Rattle.command_line.specs.Shell.{Check, Command as Asked, IsLocal, Names, build_command, build_shape, check_shape, command_in, command_of, compiling_in, compiling_of, has_checks, has_flag, is_signed, level_in, list_command, list_shape, live_command, live_of as live_run, live_rule, mean_command, mean_shape, memory_in, memory_of, named_command, number_in, number_or, of_checked_texts as checked_texts_app, of_code as code_app, of_texts as texts_app, option_rule, piece_in, replay_command, replay_shape, replayed_in, replayed_of, run_command, run_shape, shell, short_number_in, short_option, started_in, started_of, stats_rule, texts_in, texts_of, where_rule, whole_command, with_memory, with_work, work_in, work_of};
+ghost use Rattle.command_line.specs.Shell.{Check, Command as Asked, IsLocal, Names, bound_in, bound_of, build_command, build_shape, check_shape, command_in, command_of, compiling_in, compiling_of, files_rule, has_checks, has_flag, is_signed, level_in, limit_in, list_command, list_shape, live_command, live_of as live_run, live_rule, mean_command, mean_shape, memory_in, memory_of, named_command, number_in, number_or, of_checked_texts as checked_texts_app, of_code as code_app, of_texts as texts_app, option_rule, piece_in, replay_command, replay_shape, replayed_in, replayed_of, run_command, run_shape, shell, short_number_in, short_option, started_in, started_of, stats_rule, texts_in, texts_of, turns_in, where_rule, whole_command, with_memory, with_work, work_in, work_of};
 
-use crate::words::{Compiling, Line, Memory, Replay, Run, Texts, Usage, Work};
+use crate::words::{Bound, Compiling, Line, Memory, Replay, Run, Texts, Usage, Work};
 use c0_syntax::level::Level;
 use cells::Piece;
 use clap::error::ErrorKind;
@@ -101,6 +101,7 @@ fn mean<'a>(alloc: Global) -> Result<Command<'a>, AllocError>
     of_checked_texts(alloc, "mean")?
         .arg(turns)?
         .arg(explains(alloc))?
+        .arg(option(alloc, "memory"))?
         .arg(file)
 }
 
@@ -156,14 +157,21 @@ fn explains<'a>(alloc: Global) -> Arg<'a>
         .action(ArgAction::SetTrue)
 }
 
+/// The files, one or more.
+fn files<'a>(alloc: Global) -> Arg<'a>
+    ensures rule { rule_of result ≡ files_rule }
+    ensures own { result.global ≡ false }
+{
+    Arg::new(alloc, "file")
+        .required(true)
+        .action(ArgAction::Append)
+}
+
 /// The run, with its options and its files.
 fn run<'a>(alloc: Global) -> Result<Command<'a>, AllocError>
     ensures shape { IfOk result (λ c. app_of c ≡ record { top = run_shape; subs = [] }) }
     ensures local { IfOk result IsLocal }
 {
-    let files = Arg::new(alloc, "file")
-        .required(true)
-        .action(ArgAction::Append);
     let command = of_code(alloc, "run")?;
     with_workers(
         alloc,
@@ -174,7 +182,8 @@ fn run<'a>(alloc: Global) -> Result<Command<'a>, AllocError>
     .arg(live(alloc))?
     .arg(stats(alloc))?
     .arg(explains(alloc))?
-    .arg(files)
+    .arg(option(alloc, "memory"))?
+    .arg(files(alloc))
 }
 
 /// The replay of a schedule, with its options and its files.
@@ -182,9 +191,6 @@ fn replay<'a>(alloc: Global) -> Result<Command<'a>, AllocError>
     ensures shape { IfOk result (λ c. app_of c ≡ record { top = replay_shape; subs = [] }) }
     ensures local { IfOk result IsLocal }
 {
-    let files = Arg::new(alloc, "file")
-        .required(true)
-        .action(ArgAction::Append);
     let command = of_code(alloc, "replay")?;
     with_workers(
         alloc,
@@ -193,7 +199,7 @@ fn replay<'a>(alloc: Global) -> Result<Command<'a>, AllocError>
             .arg(option(alloc, "fetchers"))?,
     )?
     .arg(option(alloc, "schedule").required(true))?
-    .arg(files)
+    .arg(files(alloc))
 }
 
 /// The commands that there are.
@@ -359,25 +365,52 @@ fn compiling(matches: &ArgMatches<'_>) -> Option<Compiling>
     }
 }
 
-/// The plain run of this file, with the options that clap found.
-fn plain_run<'a>(matches: &ArgMatches<'a>, file: &'a str) -> Option<Line<'a>>
-    ensures { option_map command_of result ≡ mean_command (rows_of (found_of matches.now)) file.now }
+/// The turns of the options. None where they tell none, or that is no number.
+fn turns(matches: &ArgMatches<'_>) -> Option<u64>
+    ensures { result ≡ turns_in (rows_of (found_of matches.now)) }
+{
+    match matches.get_str("turns") {
+        Some(text) => number(text),
+        None => None,
+    }
+}
+
+/// How many MiB the options let each use of memory take, or 0. None where they tell no number.
+fn limit(matches: &ArgMatches<'_>) -> Option<u32>
+    ensures { result ≡ limit_in (rows_of (found_of matches.now)) }
+{
+    short_option(matches, "memory", 0)
+}
+
+/// How a text is run plainly, by the options that clap found.
+fn bound(matches: &ArgMatches<'_>) -> Option<Bound>
+    ensures { option_map bound_of result ≡ bound_in (rows_of (found_of matches.now)) }
 {
     let Some(texts) = texts(matches) else {
         return None;
     };
-    let Some(text) = matches.get_str("turns") else {
+    let Some(turns) = turns(matches) else {
         return None;
     };
-    let Some(turns) = number(text) else {
+    let Some(limit) = limit(matches) else {
         return None;
     };
-    Some(Line::Mean {
+    Some(Bound {
         texts,
         turns,
         explains: flag(matches, "where"),
-        file,
+        limit,
     })
+}
+
+/// The plain run of this file, with the options that clap found.
+fn plain_run<'a>(matches: &ArgMatches<'a>, file: &'a str) -> Option<Line<'a>>
+    ensures { option_map command_of result ≡ mean_command (rows_of (found_of matches.now)) file.now }
+{
+    match bound(matches) {
+        Some(asked) => Some(Line::Mean { asked, file }),
+        None => None,
+    }
 }
 
 /// The writing of this file's image, with the options that clap found.
@@ -429,6 +462,9 @@ fn started<'a>(matches: &ArgMatches<'a>) -> Option<Run<'a>>
     let Some(work) = work(matches) else {
         return None;
     };
+    let Some(limit) = limit(matches) else {
+        return None;
+    };
     let stats = flag(matches, "stats");
     let explains = flag(matches, "where");
     Some(Run {
@@ -439,6 +475,7 @@ fn started<'a>(matches: &ArgMatches<'a>) -> Option<Run<'a>>
         work,
         stats,
         explains,
+        limit,
     })
 }
 

@@ -26,6 +26,7 @@ pub enum Choice {
     Live,
     Stats,
     Where,
+    Memory,
 }
 
 /// The option of this name.
@@ -50,6 +51,7 @@ pub(crate) fn named(name: &str) -> Option<Choice>
         "--live" => Some(Choice::Live),
         "--stats" => Some(Choice::Stats),
         "--where" => Some(Choice::Where),
+        "--memory" => Some(Choice::Memory),
         _ => None,
     }
 }
@@ -76,6 +78,7 @@ pub(crate) fn name_of(choice: Choice) -> &'static str
         Choice::Live => "--live",
         Choice::Stats => "--stats",
         Choice::Where => "--where",
+        Choice::Memory => "--memory",
     }
 }
 
@@ -95,7 +98,8 @@ pub(crate) fn wanted(choice: Choice) -> &'static str
         | Choice::Evacuators
         | Choice::Fetchers
         | Choice::Workers
-        | Choice::Quantum => "a number below 4,294,967,296",
+        | Choice::Quantum
+        | Choice::Memory => "a number below 4,294,967,296",
     }
 }
 
@@ -144,7 +148,8 @@ pub(crate) fn accepts(choice: Choice, text: &str) -> bool
         | Choice::Evacuators
         | Choice::Fetchers
         | Choice::Workers
-        | Choice::Quantum => short_number(text).is_some(),
+        | Choice::Quantum
+        | Choice::Memory => short_number(text).is_some(),
     }
 }
 
@@ -174,7 +179,7 @@ pub(crate) fn has(name: &str, choice: Choice) -> bool
         Choice::Turns => name == "mean",
         Choice::Schedule => name == "replay",
         Choice::Live | Choice::Stats => name == "run",
-        Choice::Where => name == "run" || name == "mean",
+        Choice::Where | Choice::Memory => name == "run" || name == "mean",
         Choice::Frames
         | Choice::Objects
         | Choice::Store

@@ -90,12 +90,13 @@ status: 0 where it is printed; 2 where the text or the image is refused, or
 docs/IMAGES.md tells what each instruction does";
 
 /// The page of `mean`.
-pub const MEAN_PAGE: &str = "usage: c0far mean [-d] [--level L] --turns N [--where] FILE
+pub const MEAN_PAGE: &str = "usage: c0far mean [-d] [--level L] --turns N [--where] [--memory M] FILE
 
 Runs the program of the text in FILE plainly, as the language defines it, and
 prints its output and then how it ended: `result: N`, `assertion failed`,
 `error: TEXT`, `null fault`, `bounds fault`, `length fault`,
-`arithmetic fault`, or `cut` where it wanted more turns.
+`arithmetic fault`, or `cut` where it wanted more turns. Where memory runs out,
+`out of memory` stands on the standard error, and nothing else is printed.
 
 options:
   -d           checks contracts while it runs (it does not)
@@ -106,6 +107,10 @@ options:
   --where      tells on the standard error where the program stopped otherwise
                than by a result: FILE:LINE:COLUMN of the expression, or of the
                condition of an assertion or a contract, and how it stopped
+  --memory M   ends it with `out of memory` where its calls, its output or what
+               it has allocated take more than M MiB, and tells on the standard
+               error which did, with --where also which function was called
+               last; no limit where M is 0 (0)
 
 status: 0 where it ended with a result, or was cut; 1 where it stopped
   otherwise; 2 where the text is refused, or cannot be read; 3 where memory ran
@@ -162,6 +167,11 @@ options:
                   FILE:LINE:COLUMN, and how; and why a program wanted
                   something: which call of the store was refused, of which
                   object, or how many objects were in use
+  --memory M      ends a program with `out of memory` where its calls, or its
+                  output, take more than M MiB, and tells on the standard error
+                  which did, with --where also which function was called last;
+                  no limit where M is 0 (0). What its objects take is bounded by
+                  --frames and --objects
 
 status: 0 where each ended with a result; 1 where one stopped otherwise; 2 where
   a text or an image is refused, or cannot be read, or there are too few frames
@@ -179,7 +189,8 @@ that the file S lists, one a line, for programs that share local memory and its
 movers. Then it prints of each program its output and how it ended, as run does,
 or `running`; where there are several, behind a line `program K:`.
 
-options, besides those of run but for --live, --stats and --where:
+options, besides those of run but for --live, --stats, --where
+and --memory:
   --schedule S    the steps; it has no default
   --workers W     not used, but within the limits of run (4)
   --quantum N     not used, but within the limits of run (1000)
@@ -209,7 +220,8 @@ arithmetic fault  / or % by 0, or of the least int by -1; or a shift by less
 
 Of run and replay alone:
 out of memory     a growth was refused: a recursion without an end, or more
-                  output, objects or calls than the machine has memory for
+                  output, objects or calls than the machine has memory for, or
+                  than --memory lets them take
 no objects        an allocation wanted more objects than the program has left;
                   none is given back before the end: give it more by --objects N
 store failed      the store could not be written or read: see that the folder of

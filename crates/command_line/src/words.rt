@@ -34,8 +34,19 @@ pub struct Work {
     pub quantum: u32,
 }
 
+/// How a text is taken that is run plainly, and for how many turns. `explains` says whether it is told, on the standard error, where the program stopped. What its
+/// calls, its output and its heap hold may come to `limit` MiB each; there is no limit where it is 0.
+#[derive(Clone, Copy, Debug, PartialEq, Eq)]
+pub struct Bound {
+    pub texts: Texts,
+    pub turns: u64,
+    pub explains: bool,
+    pub limit: u32,
+}
+
 /// How programs are run: with code that is made so, over this memory, beside so many evacuators and fetchers, by turns of workers. `stats` says whether it is told
-/// what was counted. `explains` says whether it is told, on the standard error, what each program wanted that wanted something.
+/// what was counted. `explains` says whether it is told, on the standard error, where each program stopped and what it wanted. What the calls and the output of each
+/// hold may come to `limit` MiB each; there is no limit where it is 0.
 #[derive(Clone, Copy, Debug, PartialEq, Eq)]
 pub struct Run<'a> {
     pub compiling: Compiling,
@@ -45,6 +56,7 @@ pub struct Run<'a> {
     pub work: Work,
     pub stats: bool,
     pub explains: bool,
+    pub limit: u32,
 }
 
 /// How programs are replayed: with code that is made so, over this memory, with so many evacuators and fetchers, by the schedule of this file. The
@@ -79,12 +91,9 @@ pub enum Line<'a> {
         piece: Piece,
         file: &'a str,
     },
-    /// The plain run of a text that is taken so: what its program means within so many turns. `explains` says whether it is told, on the standard error,
-    /// where the program stopped.
+    /// The plain run of a text: what its program means within so many turns.
     Mean {
-        texts: Texts,
-        turns: u64,
-        explains: bool,
+        asked: Bound,
         file: &'a str,
     },
     /// Replays a schedule of the programs of these files, each an image or a text.

@@ -13,6 +13,7 @@ use crate::places::run_beside;
 use crate::starting::{begin_all, enqueue, start_movers, start_workers};
 use cells::Ended;
 use fetcher::Hints;
+use memory_limit::MemoryLimit;
 use object_lock::{MoverSeat, OwnerSeat};
 use program_run::Gate;
 use region::{AdmitFault, Region, admit, fits};
@@ -36,6 +37,7 @@ fn run_region<S: RawStore + Send, G: Gate, R: Threads + Wait + Clock + Sync>(
     share: usize,
     workers: usize,
     quantum: u64,
+    limit: MemoryLimit,
 ) -> Result<Counted, AllocError>
     requires numbers { AreNumbered 1 (length region.now.programs) owners.items }
     requires owners { All (IsFreshOwner region.now.table share) owners.items }
@@ -50,7 +52,7 @@ fn run_region<S: RawStore + Send, G: Gate, R: Threads + Wait + Clock + Sync>(
     let count = region.programs();
     let ends = Vec::with_capacity(alloc, count)?;
     let counts = Vec::with_capacity(alloc, movers.len())?;
-    let tasks = begin_all(alloc, region, &hints, &mut passes, owners, share)?;
+    let tasks = begin_all(alloc, region, &hints, &mut passes, owners, share, limit)?;
     let (queue, mut pass) = enqueue(alloc, rt, region, share, tasks)?;
     let places = no_ends(alloc, &queue, count)?;
     let workers = start_workers(alloc, &queue, &mut pass, workers, count)?;
@@ -64,7 +66,8 @@ fn run_region<S: RawStore + Send, G: Gate, R: Threads + Wait + Clock + Sync>(
 
 /// Runs the programs as `run_all` does, and tells beside each end how many calls of the store were refused through the program's own port, modulo 2^64: over an
 /// honest store one where the program wants the store, and else none. So what fails through other ports, those of other programs, evacuators and fetchers, ends no
-/// program. It tells what else was counted of each program and of each mover, too, of which no contract speaks. The faults are those of `run_all`.
+/// program. It tells what else was counted of each program and of each mover, too, of which no contract speaks. The calls of each program, and its output, keep within
+/// a limit of memory: where one comes to more, the program wants memory. The faults are those of `run_all`.
 pub fn run_all_counted<
     S: RawStore + Send,
     M: Stores<S = S> + Drop,
@@ -75,6 +78,7 @@ pub fn run_all_counted<
     rt: &R,
     programs: Vec<Verified>,
     config: Config<M>,
+    limit: MemoryLimit,
     gate: &G,
 ) -> Result<Counted, AdmitFault>
     requires { M.makes config.stores (piece_of (image_at programs.items) + 3) }
@@ -89,7 +93,7 @@ pub fn run_all_counted<
     let (region, owners, movers) = admit(alloc, programs, config)?;
     let share = objects / region.programs().max(1);
     match run_region(
-        alloc, rt, gate, &region, owners, evacuators, movers, share, workers, quantum,
+        alloc, rt, gate, &region, owners, evacuators, movers, share, workers, quantum, limit,
     ) {
         Ok(counted) => Ok(counted),
         Err(_refused) => Err(AdmitFault::OutOfMemory),
@@ -124,6 +128,7 @@ pub fn run_all<
     let Ok(ends) = Vec::with_capacity(alloc, programs.len()) else {
         return Err(AdmitFault::OutOfMemory);
     };
-    let counted = run_all_counted(alloc, rt, programs, config, gate)?;
+    let limit = MemoryLimit::of_mebibytes(0);
+    let counted = run_all_counted(alloc, rt, programs, config, limit, gate)?;
     Ok(without_numbers(counted.programs, ends))
 }

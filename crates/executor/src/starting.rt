@@ -8,6 +8,7 @@ ghost use Rattle.task_queue.specs.Tasked.{IsTask, roster};
 use crate::movers::{Evacuator, Fetcher, Mover};
 use crate::workers::Worker;
 use fetcher::{HintPass, Hints};
+use memory_limit::MemoryLimit;
 use object_lock::{MoverSeat, OwnerSeat};
 use program_run::ProgramRun;
 use region::Region;
@@ -30,7 +31,7 @@ fn take_pass(hints: &Hints, passes: &mut Vec<HintPass>) -> HintPass
     }
 }
 
-/// The region's programs, each at its beginning and at its seat, in their order, and each with a pass of its own.
+/// The region's programs, each at its beginning and at its seat, in their order, each with a pass of its own and within the limit of memory.
 pub(crate) fn begin_all<'a, S: RawStore>(
     alloc: Global,
     region: &'a Region<S>,
@@ -38,6 +39,7 @@ pub(crate) fn begin_all<'a, S: RawStore>(
     passes: &mut Vec<HintPass>,
     seats: Vec<OwnerSeat<S>>,
     share: usize,
+    limit: MemoryLimit,
 ) -> Result<Vec<ProgramRun<'a, S>>, AllocError>
     requires numbers { AreNumbered 1 (length region.now.programs) seats.items }
     requires seats { All (IsFreshOwner region.now.table share) seats.items }
@@ -54,9 +56,10 @@ pub(crate) fn begin_all<'a, S: RawStore>(
     let mut runs = Vec::with_capacity(alloc, region.programs())?;
     for seat in seats {
         let pass = take_pass(hints, passes);
-        let Ok(run) = ProgramRun::new(alloc, region, hints, pass, seat) else {
+        let Ok(mut run) = ProgramRun::new(alloc, region, hints, pass, seat) else {
             return Err(AllocError);
         };
+        run.bound(limit);
         runs.push_reserved(run);
     }
     Ok(runs)

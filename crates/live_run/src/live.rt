@@ -10,6 +10,7 @@ ghost use Rattle.world_semantics.specs.Pieces.{piece_of};
 use crate::turns::go_on;
 use cells::Ended;
 use hint_queue::Hints;
+use memory_limit::MemoryLimit;
 use object_lock::OwnerSeat;
 use program_run::{Finished, ProgramRun};
 use region::{AdmitFault, Region, admit};
@@ -28,13 +29,14 @@ pub enum LiveError {
     Unwritten,
 }
 
-/// Runs the region's program of this seat, and writes behind each turn of so many instructions what it printed there.
+/// Runs the region's program of this seat within a limit of memory, and writes behind each turn of so many instructions what it printed there.
 fn run_region<S: RawStore, O: Stream, R: Wait>(
     alloc: Global,
     rt: &R,
     region: &Region<S>,
     seat: OwnerSeat<S>,
     quantum: u64,
+    limit: MemoryLimit,
     out: &mut O,
 ) -> Result<Finished, LiveError>
     requires fresh { IsFresh region.now.table seat }
@@ -54,6 +56,7 @@ fn run_region<S: RawStore, O: Stream, R: Wait>(
     let Ok(mut program) = ProgramRun::new(alloc, region, &hints, pass, seat) else {
         return Err(LiveError::NotRun(AdmitFault::OutOfMemory));
     };
+    program.bound(limit);
     match go_on(rt, &mut program, quantum, out) {
         Ok(()) => Ok(program.into_finished()),
         Err(Failed) => Err(LiveError::Unwritten),
@@ -61,12 +64,14 @@ fn run_region<S: RawStore, O: Stream, R: Wait>(
 }
 
 /// Runs the program as `run_live` does, and tells beside its end how many calls of the store were refused through its own port, modulo 2^64: over an honest store one
-/// where it wants the store, and else none. It tells what else was counted of it, too, of which no contract speaks.
+/// where it wants the store, and else none. It tells what else was counted of it, too, of which no contract speaks. Its calls, and its output, keep within a limit of
+/// memory: where one comes to more, it wants memory.
 pub fn run_live_counted<S: RawStore, M: Stores<S = S> + Drop, O: Stream, R: Wait>(
     alloc: Global,
     rt: &R,
     programs: Vec<Verified>,
     config: Config<M>,
+    limit: MemoryLimit,
     out: &mut O,
 ) -> Result<Finished, LiveError>
     requires one { length programs.items ≡ 1 }
@@ -84,7 +89,7 @@ pub fn run_live_counted<S: RawStore, M: Stores<S = S> + Drop, O: Stream, R: Wait
     let Some(seat) = owners.pop() else {
         unreachable!()
     };
-    run_region(alloc, rt, &region, seat, quantum, out)
+    run_region(alloc, rt, &region, seat, quantum, limit, out)
 }
 
 /// Runs one program to its end on the calling thread, over a region of these numbers, and writes what it prints as it comes: behind each turn of the quantum's
@@ -104,7 +109,8 @@ pub fn run_live<S: RawStore, M: Stores<S = S> + Drop, O: Stream, R: Wait>(
     ensures admitted { IfOk result (λ _. IsAdmitted programs.items config.frames config.objects config.evacuators config.fetchers × IsWithinWork config.workers config.quantum) }
     ensures left { IfErr result (λ error. IsNotShown programs.items config.frames config.objects config.evacuators config.fetchers config.workers config.quantum (writes O.contents O.failures out.old out.new) error) }
 {
-    match run_live_counted(alloc, rt, programs, config, out) {
+    let limit = MemoryLimit::of_mebibytes(0);
+    match run_live_counted(alloc, rt, programs, config, limit, out) {
         Ok(finished) => Ok(finished.end),
         Err(error) => Err(error),
     }

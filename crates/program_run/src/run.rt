@@ -15,6 +15,7 @@ use crate::gate::Gate;
 use cells::{Ended, Run, Want};
 use code_form::run_laws;
 use hint_queue::{HintPass, Hints};
+use memory_limit::MemoryLimit;
 use object_lock::OwnerSeat;
 use region::Region;
 use remote_store::{RawStore, Refusals};
@@ -118,6 +119,14 @@ impl<'a, S: RawStore> ProgramRun<'a, S> {
             }),
             Err(_refused) => Err(Want::OutOfMemory),
         }
+    }
+
+    /// Has its calls and its output keep within a limit of memory, from now on: where one comes to more, the next call, or the next instruction that prints, wants
+    /// memory. At first there is no limit.
+    pub fn bound(&mut self, limit: MemoryLimit)
+        ensures { self.new ≡ self.old }
+    {
+        self.session.bound(limit);
     }
 
     /// Its number, counted from 0.

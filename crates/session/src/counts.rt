@@ -1,4 +1,5 @@
 //! What a session did beside its instructions.
+use memory_limit::MemoryUse;
 
 /// How often a session, or the thread that ran it, did something beside completing instructions. Each count but that of objects goes round behind 2^64 - 1, and
 /// no contract of a step speaks of it.
@@ -20,4 +21,6 @@ pub struct Counts {
     pub hints: u64,
     /// Those of its hints that were dropped, as the queue was full.
     pub dropped: u64,
+    /// What was refused memory as it came to more than the limit, if anything was.
+    pub passed: Option<MemoryUse>,
 }

@@ -22,6 +22,7 @@ use crate::scale::Scale;
 use cells::{Stop, Want};
 use code_execution::{Execution, Hinted, Plan};
 use code_form::{Cell, Image, Touch, heap_laws};
+use memory_limit::MemoryLimit;
 use object_lock::{ObjectTable, OwnerSeat};
 use object_moves::{Moves, take};
 use pointer_word::{Word, WordState};
@@ -144,7 +145,15 @@ impl<'a, S: RawStore> Program<'a, S> {
             calls,
             hints: self.hints,
             dropped: self.dropped,
+            passed: self.execution.passed(),
         }
+    }
+
+    /// Has its calls and its output keep within a limit, from now on.
+    pub(crate) fn bound(&mut self, limit: MemoryLimit)
+        ensures { self.new ≡ self.old }
+    {
+        self.execution.bound(limit);
     }
 
     pub(crate) fn output(&self) -> &[u8]

@@ -17,6 +17,7 @@ use crate::program::Program;
 use cells::{Run, Want};
 use code_form::{effect_laws, heap_laws, run_laws};
 use hint_queue::{HintPass, Hints};
+use memory_limit::MemoryLimit;
 use object_lock::{ObjectTable, OwnerSeat};
 use region::Region;
 use remote_store::{RawStore, Refusals};
@@ -89,6 +90,14 @@ impl<'a, S: RawStore> Session<'a, S> {
             Ok(program) => Ok(Session { program }),
             Err(_) => Err(Want::OutOfMemory),
         }
+    }
+
+    /// Has the program's calls and its output keep within a limit of memory, from now on: where one comes to more, the next call, or the next instruction that
+    /// prints, wants memory. At first there is no limit.
+    pub fn bound(&mut self, limit: MemoryLimit)
+        ensures { self.new ≡ self.old }
+    {
+        self.program.bound(limit);
     }
 
     /// Completes `limit` instructions, unless the program stops or wants something; it may wait. Having answered a stop or a want it

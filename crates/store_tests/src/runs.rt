@@ -6,6 +6,7 @@ ghost use Rattle.world_semantics.specs.Pieces.{piece_of as first_piece};
 use crate::counted::{Calls, CountedStores};
 use crate::rows::{Plan, Row};
 use executor::{Finished, OpenGate, run_all_counted};
+use memory_limit::MemoryLimit;
 use file_store::{FileStores, MemFolder};
 use image_reader::decode;
 use region::piece_of;
@@ -51,7 +52,8 @@ fn run_over<R: Threads + Wait + Clock + Sync, M: Stores + Drop>(
         quantum: 1_000,
         stores,
     };
-    match run_all_counted(alloc, rt, programs, config, &OpenGate) {
+    let limit = MemoryLimit::of_mebibytes(0);
+    match run_all_counted(alloc, rt, programs, config, limit, &OpenGate) {
         Ok(counted) => Some(counted.programs),
         Err(_refused) => None,
     }

@@ -9,8 +9,8 @@ use Rattle.c0_meaning.specs.declared.plain_state.PlainState.{PlainState}
 use Rattle.c0_meaning.proofs.Steps.{mean_is, told_along}
 use Rattle.c0_meaning.proofs.run.mean_placed.Goals as goal
 
-pub returns-clause-meant : goal.returns-clause-meant
-returns-clause-meant c =
+pub returns-in-Ok-tell : goal.returns-in-Ok-tell
+returns-in-Ok-tell c =
     let texts = texts_of c.args.program.now in
     let p = program_of c.args.program.now in
     let structs = struct_defaults [] p.structs in
@@ -19,5 +19,5 @@ returns-clause-meant c =
     let whole = turned ∙ mean_is c.args.checks p c.args.turns structs [] begun refl refl (c.begin-run.ensures.state texts) in
     let ended = state_of texts c.run_main-came.new.self.state in
     let printed = ap (λ (s : PlainState). s.output.items) (sym c.into_state-state.ensures) in
-    let said = c.in_ok-meant.ensures.told texts _ ended printed (c.run_main-came.ensures c.begin-run.ensures.empty.0 c.begin-run.ensures.empty.1) in
-    told_along {E = Want} meant_of (Ok c.in_ok-meant.meant) _ _ whole said
+    let said = c.in-Ok-tell.ensures.told texts _ ended printed (c.run_main-came.ensures c.begin-run.ensures.empty.0 c.begin-run.ensures.empty.1) in
+    told_along {E = Want} meant_of (Ok c.in-Ok-tell.meant) _ _ whole said

@@ -11,10 +11,12 @@ returns-clause-shape c =
     let file : rule_of c.action-file.result ≡ file_rule = search rules in
     let second = c.in_ok-arg.ensures.shape (search rules) ∙ ap₂ with_rule c.in_ok-of_checked_texts.ensures.shape turns in
     let third = c.in_ok-arg-2.ensures.shape c.explains.ensures.own ∙ ap₂ with_rule second c.explains.ensures.rule in
-    IfOk-weaker c.arg-3.result _ _ (λ r h. h.shape (search rules) ∙ ap₂ with_rule third file) c.arg-3.ensures
+    let fourth = c.in_ok-arg-3.ensures.shape c.option.ensures.own ∙ ap₂ with_rule third c.option.ensures.rule in
+    IfOk-weaker c.arg-4.result _ _ (λ r h. h.shape (search rules) ∙ ap₂ with_rule fourth file) c.arg-4.ensures
 
 pub returns-clause-local : goal.returns-clause-local
 returns-clause-local c =
     let second = still_local _ _ _ c.in_ok-arg.ensures.globals c.in_ok-of_checked_texts.ensures.local (search rules) in
     let third = still_local _ _ _ c.in_ok-arg-2.ensures.globals second c.explains.ensures.own in
-    IfOk-weaker c.arg-3.result _ _ (λ r h. still_local _ _ _ h.globals third (search rules)) c.arg-3.ensures
+    let fourth = still_local _ _ _ c.in_ok-arg-3.ensures.globals third c.option.ensures.own in
+    IfOk-weaker c.arg-4.result _ _ (λ r h. still_local _ _ _ h.globals fourth (search rules)) c.arg-4.ensures

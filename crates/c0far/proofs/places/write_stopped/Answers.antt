@@ -3,7 +3,7 @@ use Rattle.cells.specs.declared.ending.Run.TheVariants.{Stopped}
 use Rattle.c0far.proofs.Placed.{written_at}
 use Rattle.c0far.specs.Statuses.{run_status}
 use Rattle.streams.specs.Streams.{writes}
-use Rattle.c0far.proofs.places.write_place.Goals as goal
+use Rattle.c0far.proofs.places.write_stopped.Goals as goal
 
 pub returns-in-Some-clause-written : goal.returns-in-Some-clause-written
 returns-in-Some-clause-written g c =
