@@ -61,10 +61,7 @@ fn write_name<E: Stream>(
 {
     let line = position.line;
     let column = position.column;
-    writeln!(
-        err,
-        "{file}:{line}:{column}: the last call was of {name}"
-    )
+    writeln!(err, "{file}:{line}:{column}: the last call was of {name}")
 }
 
 /// Writes that the function of this name was called last, of a text that stands in this file.

@@ -13,7 +13,9 @@ ghost use Rattle.streams.specs.Streams.{IsQuiet, IsWritten, Says, Writes, writes
 
 use crate::files::{FileError, Files};
 use crate::last_calls::{called, write_call};
-use crate::say::{REFUSED, STOPPED, WANTED, after, say_memory, say_refused, say_unread, write_output};
+use crate::say::{
+    REFUSED, STOPPED, WANTED, after, say_memory, say_refused, say_unread, write_output,
+};
 use crate::wants::write_passed;
 use c0_meaning::{Meant, Numbers, Placed};
 use c0_plain::{Untold, mean_text_placed};

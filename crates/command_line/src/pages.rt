@@ -90,7 +90,8 @@ status: 0 where it is printed; 2 where the text or the image is refused, or
 docs/IMAGES.md tells what each instruction does";
 
 /// The page of `mean`.
-pub const MEAN_PAGE: &str = "usage: c0far mean [-d] [--level L] --turns N [--where] [--memory M] FILE
+pub const MEAN_PAGE: &str =
+    "usage: c0far mean [-d] [--level L] --turns N [--where] [--memory M] FILE
 
 Runs the program of the text in FILE plainly, as the language defines it, and
 prints its output and then how it ended: `result: N`, `assertion failed`,
