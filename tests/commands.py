@@ -5,6 +5,7 @@ the line says.
 """
 
 import os
+import re
 import resource
 import shutil
 import signal
@@ -247,7 +248,9 @@ def an_array_in_files(it):
 def table_of(told):
     """What `--stats` told, line by line: of each program and mover the numbers by their names."""
     table = {}
-    for line in told.decode().splitlines():
+    *lines, last = told.decode().splitlines()
+    want(re.fullmatch(r"time: \d+ ms", last) is not None, f"the last line is {last}")
+    for line in lines:
         of, numbers = line.split(": ")
         named = dict(number.split(" ") for number in numbers.split(", "))
         want(tuple(named) == COUNTED[of.split(" ")[0]], f"the line of {of} has {numbers}")

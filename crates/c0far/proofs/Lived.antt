@@ -117,6 +117,7 @@ shows_the_same h asked file held out err result honest ran = elim ran.ended [
     admitted = ran.admitted;
     finished = s.finished ∷ [];
     movers = [];
+    took = s.took;
     executed = s.executed;
     status = s.status;
     shown = same_shown h asked.memory out s.finished.end s.status honest s.shown;

@@ -125,9 +125,9 @@ module _ {S : Type 0} (contents : S → Option (List ℕ)) (failures : S → ℕ
   places_behind (n ∷ ns) others (f ∷ fs) rest file name one now later a b c (Err z) some any kept first named item more o e = tt
 
   -- and what is told behind that
-  pub told_beside : (stats : Bool) (limit : ℕ) (held : List ℕ → Known) (files : List (List ℕ)) (share : ℕ) (ends : List Finished) (movers : List MoverCounts) (a b c : S) (status result : ℕ) → AllPlaces held files ends a b
-      → TellsMore true stats limit share ends movers (writes contents failures b c) status result → TellsBeside true stats limit held files share ends movers (writes contents failures a c) status result
-  told_beside stats limit held files share ends movers a b c status result all more = inl (record {
+  pub told_beside : (stats : Bool) (limit : ℕ) (held : List ℕ → Known) (files : List (List ℕ)) (share : ℕ) (ends : List Finished) (movers : List MoverCounts) (took : Option ℕ) (a b c : S) (status result : ℕ) → AllPlaces held files ends a b
+      → TellsMore true stats limit share ends movers took (writes contents failures b c) status result → TellsBeside true stats limit held files share ends movers took (writes contents failures a c) status result
+  told_beside stats limit held files share ends movers took a b c status result all more = inl (record {
     places = all.0;
     are = all.1;
     middle = record { contents = contents b; failures = failures b };

@@ -1,5 +1,5 @@
 -- What `run --live` does.
-use Rattle.std.specs.Prelude.{◌≡◌, ◌⊎◌, ℕ, List, [], ◌∷◌, ◌++◌, length}
+use Rattle.std.specs.Prelude.{◌≡◌, ◌⊎◌, ℕ, List, [], ◌∷◌, ◌++◌, Option, length}
 use Rattle.std.specs.Io.KnownBytes.{Appends}
 use Rattle.cells.specs.declared.ending.Ended.{Ended}
 use Rattle.clap.specs.Words.{Text}
@@ -48,10 +48,11 @@ pub record IsShownLive (honest : Type 0) (memory : Memory) (end : Ended) (out : 
 -- what it wanted, whether it passed the limit, and what was counted of it
 pub record IsEndedLive (honest : Type 0) (asked : Started) (file : Text) (held : Text → Known) (programs : List Verified) (out err : Writes) (result : ℕ) : Type 0 where
   pub finished : Finished
+  pub took : Option ℕ
   pub executed : RanOver honest asked.memory programs (finished ∷ [])
   pub status : ℕ
   pub shown : IsShownLive honest asked.memory finished.end out status ⊎ ((status ≡ 2) × OneFailed out)
-  pub told : TellsBeside asked.explains asked.stats asked.limit held (file ∷ []) (share_of asked.memory.objects (length programs)) (finished ∷ []) [] err status result
+  pub told : TellsBeside asked.explains asked.stats asked.limit held (file ∷ []) (share_of asked.memory.objects (length programs)) (finished ∷ []) [] took err status result
 
 -- in what follows folders are honest where h holds, this is asked for this file, and files hold this
 module _ (h : Type 0) (asked : Started) (file : Text) (held : Text → Known) where

@@ -61,16 +61,16 @@ ArePlaces held (file ∷ files) [] bytes = bytes ≡ []
 ArePlaces held (file ∷ files) (f ∷ fs) bytes = (first : List ℕ) × (rest : List ℕ) × IsPlace file (held file) f.end.run first × ArePlaces held files fs rest × (bytes ≡ first ++ rest)
 
 -- it was written where programs of these files stopped, which hold this, and then it is told what they wanted, and what was counted if that was asked for
-pub record HasTold (stats : Bool) (limit : ℕ) (held : Text → Known) (files : List Text) (share : ℕ) (ends : List Finished) (movers : List MoverCounts) (err : Writes) (status result : ℕ) : Type 0 where
+pub record HasTold (stats : Bool) (limit : ℕ) (held : Text → Known) (files : List Text) (share : ℕ) (ends : List Finished) (movers : List MoverCounts) (took : Option ℕ) (err : Writes) (status result : ℕ) : Type 0 where
   pub places : List ℕ
   pub are : ArePlaces held files ends places
   pub middle : Held
   pub written : Appends err.before.contents middle.contents places
   pub sound : NoneFailed (until middle err)
-  pub more : TellsMore true stats limit share ends movers (since middle err) status result
+  pub more : TellsMore true stats limit share ends movers took (since middle err) status result
 
 -- What is told beside the ends of the programs of these files, which hold this: where they stopped and what they wanted, where that was asked for, which passed the limit of
 -- so many MiB, if there is one, and what was counted; or one write failed, and the command answers 2
-abbrev pub TellsBeside : (explains stats : Bool) → (limit : ℕ) → (held : Text → Known) → List Text → ℕ → List Finished → List MoverCounts → Writes → ℕ → ℕ → Type 0
-TellsBeside false stats limit held files share ends movers err status result = TellsMore false stats limit share ends movers err status result
-TellsBeside true stats limit held files share ends movers err status result = HasTold stats limit held files share ends movers err status result ⊎ ((result ≡ 2) × OneFailed err)
+abbrev pub TellsBeside : (explains stats : Bool) → (limit : ℕ) → (held : Text → Known) → List Text → ℕ → List Finished → List MoverCounts → (took : Option ℕ) → Writes → ℕ → ℕ → Type 0
+TellsBeside false stats limit held files share ends movers took err status result = TellsMore false stats limit share ends movers took err status result
+TellsBeside true stats limit held files share ends movers took err status result = HasTold stats limit held files share ends movers took err status result ⊎ ((result ≡ 2) × OneFailed err)

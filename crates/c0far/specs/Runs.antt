@@ -48,10 +48,11 @@ module _ (h : Type 0) (asked : Started) (files : List Text) (held : Text → Kno
     pub admitted : IsAdmitted programs asked.memory.frames asked.memory.objects asked.evacuators asked.fetchers × IsWithinWork asked.work.workers asked.work.quantum
     pub finished : List Finished
     pub movers : List MoverCounts
+    pub took : Option ℕ
     pub executed : RanOver h asked.memory programs finished
     pub status : ℕ
     pub shown : Says out (shown_ends (map end_of finished)) (ends_status (map end_of finished)) status
-    pub told : TellsBeside asked.explains asked.stats asked.limit held files (share_of asked.memory.objects (length programs)) finished movers err status result
+    pub told : TellsBeside asked.explains asked.stats asked.limit held files (share_of asked.memory.objects (length programs)) finished movers took err status result
 
   -- the programs of the files are not admitted to this memory: it is told why; or they are, and memory was wanted
   pub record IsNotRun (out err : Writes) (result : ℕ) : Type 0 where

@@ -1,5 +1,5 @@
 -- The table of what was counted.
-use Rattle.std.specs.Prelude.{ℕ, suc, List, [], ◌∷◌, ◌++◌, codes, decimal}
+use Rattle.std.specs.Prelude.{ℕ, suc, List, [], ◌∷◌, ◌++◌, Option, Some, None, codes, decimal}
 use Rattle.executor.specs.declared.counts.Evacuated.{Evacuated}
 use Rattle.executor.specs.declared.counts.Fetched.{Fetched}
 use Rattle.executor.specs.declared.counts.MoverCounts.{MoverCounts}
@@ -47,6 +47,11 @@ mover_lines e q [] = []
 mover_lines e q (mover.Evacuates x ∷ ms) = evacuator_line e x ++ mover_lines (suc e) q ms
 mover_lines e q (mover.Fetches x ∷ ms) = fetcher_line q x ++ mover_lines e (suc q) ms
 
--- the table: a line for each program, and then one for each mover
-abbrev pub stats_text : List Finished → List MoverCounts → List ℕ
-stats_text programs movers = program_lines 0 programs ++ mover_lines 0 0 movers
+-- the line of how many milliseconds the run took, if a clock told it
+abbrev pub time_line : Option ℕ → List ℕ
+time_line None = []
+time_line (Some took) = codes "time: " ++ (decimal took ++ (codes " ms" ++ newline))
+
+-- the table: a line for each program, then one for each mover, and then the time
+abbrev pub stats_text : List Finished → List MoverCounts → Option ℕ → List ℕ
+stats_text programs movers took = program_lines 0 programs ++ (mover_lines 0 0 movers ++ time_line took)

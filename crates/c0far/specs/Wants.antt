@@ -116,6 +116,6 @@ TellsLines true false text table err status result = Says err text status result
 TellsLines true true text table err status result = Says err (text ++ table) status result
 
 -- what was asked for beside the ends was told, first what programs wanted, or that they passed the limit of so many MiB, and then the table
-abbrev pub TellsMore : (explains stats : Bool) → (limit share : ℕ) → List Finished → List MoverCounts → Writes → ℕ → ℕ → Type 0
-TellsMore explains stats limit share programs movers err status result =
-    TellsLines (has_lines explains limit) stats (wants_text explains limit share programs) (stats_text programs movers) err status result
+abbrev pub TellsMore : (explains stats : Bool) → (limit share : ℕ) → List Finished → List MoverCounts → (took : Option ℕ) → Writes → ℕ → ℕ → Type 0
+TellsMore explains stats limit share programs movers took err status result =
+    TellsLines (has_lines explains limit) stats (wants_text explains limit share programs) (stats_text programs movers took) err status result

@@ -13,6 +13,7 @@ use crate::files::Files;
 use crate::places::say_beside;
 use crate::runs::fits_asked;
 use crate::say::{REFUSED, say_admission, say_rest};
+use crate::stats::{milliseconds, passed_since};
 use crate::wants::share_of;
 use command_line::words::Run;
 use file_store::FileStores;
@@ -25,6 +26,7 @@ use std::alloc::Global;
 use std::slice::from_ref;
 use std::sync::Wait;
 use std::thread::Threads;
+use std::time::Clock;
 use streams::Stream;
 
 /// Runs the one program over these stores.
@@ -125,7 +127,7 @@ fn live_asked<W: Wait, F: Files, O: Stream>(
 }
 
 /// Runs the code of this file by itself, and writes what it prints as it comes.
-pub fn run_live<W: Wait + Threads, F: Files, O: Stream, E: Stream>(
+pub fn run_live<W: Wait + Threads + Clock, F: Files, O: Stream, E: Stream>(
     alloc: Global,
     rt: &W,
     asked: Run<'_>,
@@ -142,8 +144,10 @@ pub fn run_live<W: Wait + Threads, F: Files, O: Stream, E: Stream>(
         Err(status) => return status,
     };
     let share = share_of(asked.memory.objects, programs.len());
+    let begun = milliseconds(rt);
     match live_asked(alloc, rt, programs, asked, files, out) {
         Ok(finished) => {
+            let took = passed_since(rt, begun);
             let status = say_rest(out, &finished.end);
             say_beside(
                 alloc,
@@ -154,6 +158,7 @@ pub fn run_live<W: Wait + Threads, F: Files, O: Stream, E: Stream>(
                 files,
                 from_ref(&finished),
                 &[],
+                took,
                 err,
                 status,
             )

@@ -243,18 +243,19 @@ pub(crate) fn say_beside<R: Threads, F: Files, E: Stream>(
     files: &mut F,
     programs: &[Finished],
     movers: &[MoverCounts],
+    took: Option<u64>,
     err: &mut E,
     status: u8,
 ) -> u8
     ensures files { (name : List ℕ) → F.holds files.new name ≡ F.holds files.old name }
     ensures told { (held : List ℕ → Known) → ((name : List ℕ) → F.holds files.old name ≡ held name)
-        → TellsBeside asked.entry.explains asked.entry.stats asked.entry.limit held (map (λ n. n.now) names.now) share programs.now movers.now (writes E.contents E.failures err.old err.new) status result }
+        → TellsBeside asked.entry.explains asked.entry.stats asked.entry.limit held (map (λ n. n.now) names.now) share programs.now movers.now took (writes E.contents E.failures err.old err.new) status result }
 {
     if !asked.explains {
-        return say_more(err, asked, share, programs, movers, status);
+        return say_more(err, asked, share, programs, movers, took, status);
     }
     match write_places(alloc, rt, asked, names, files, programs, err) {
-        Ok(()) => say_more(err, asked, share, programs, movers, status),
+        Ok(()) => say_more(err, asked, share, programs, movers, took, status),
         Err(Failed) => REFUSED,
     }
 }

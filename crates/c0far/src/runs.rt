@@ -11,6 +11,7 @@ use crate::code::codes_of;
 use crate::files::Files;
 use crate::places::say_beside;
 use crate::say::{say_admission, say_finished};
+use crate::stats::{milliseconds, passed_since};
 use crate::wants::share_of;
 use command_line::words::Run;
 use executor::{Counted, OpenGate, run_all_counted};
@@ -146,8 +147,10 @@ pub fn run<W: Wait + Threads + Clock + Sync, F: Files, O: Stream, E: Stream>(
         Err(status) => return status,
     };
     let share = share_of(asked.memory.objects, programs.len());
+    let begun = milliseconds(rt);
     match run_asked(alloc, rt, programs, asked, files) {
         Ok(counted) => {
+            let took = passed_since(rt, begun);
             let status = say_finished(out, &counted.programs);
             say_beside(
                 alloc,
@@ -158,6 +161,7 @@ pub fn run<W: Wait + Threads + Clock + Sync, F: Files, O: Stream, E: Stream>(
                 files,
                 &counted.programs,
                 &counted.movers,
+                took,
                 err,
                 status,
             )

@@ -1,9 +1,10 @@
 //! The table of what was counted, which is told on the standard error where it is asked for.
-ghost use Rattle.std.specs.Prelude.{◌+◌, ◌<◌, ◌^◌, length};
-ghost use Rattle.c0far.specs.Stats.{evacuator_line, fetcher_line, mover_lines, program_line, program_lines, shown_calls, shown_moves, shown_others, shown_work, stats_text};
+ghost use Rattle.std.specs.Prelude.{◌+◌, ◌++◌, ◌<◌, ◌^◌, length};
+ghost use Rattle.c0far.specs.Stats.{evacuator_line, fetcher_line, mover_lines, program_line, program_lines, shown_calls, shown_moves, shown_others, shown_work, stats_text, time_line};
 ghost use Rattle.streams.specs.Streams.{IsWritten, writes};
 
 use executor::{Evacuated, Fetched, Finished, MoverCounts};
+use std::time::Clock;
 use streams::{Failed, Stream};
 
 /// Writes how many instructions program number `number` completed, how many turns it had, and how many objects it allocated.
@@ -133,14 +134,53 @@ fn write_movers<E: Stream>(
     }
 }
 
+/// The milliseconds that a clock tells, if it does.
+pub(crate) fn milliseconds<R: Clock>(rt: &R) -> Option<u64> {
+    match rt.monotonic() {
+        Ok(time) => u64::try_from(time.as_millis()).ok(),
+        Err(_untold) => None,
+    }
+}
+
+/// How many milliseconds have passed since then, if a clock told both times.
+pub(crate) fn passed_since<R: Clock>(rt: &R, begun: Option<u64>) -> Option<u64> {
+    match (begun, milliseconds(rt)) {
+        (Some(begun), Some(ended)) => Some(ended.saturating_sub(begun)),
+        _ => None,
+    }
+}
+
+/// Writes the line of the time.
+fn write_time<E: Stream>(err: &mut E, took: Option<u64>) -> Result<(), Failed>
+    ensures { IsWritten (writes E.contents E.failures err.old err.new) (time_line took) result }
+{
+    match took {
+        Some(took) => writeln!(err, "time: {took} ms"),
+        None => Ok(()),
+    }
+}
+
+/// Writes the lines of movers, and then that of the time.
+fn write_rest<E: Stream>(
+    err: &mut E,
+    movers: &[MoverCounts],
+    took: Option<u64>,
+) -> Result<(), Failed>
+    ensures { IsWritten (writes E.contents E.failures err.old err.new) (mover_lines 0 0 movers.now ++ time_line took) result }
+{
+    write_movers(err, 0, 0, movers)?;
+    write_time(err, took)
+}
+
 /// Writes the table.
 pub(crate) fn write_stats<E: Stream>(
     err: &mut E,
     programs: &[Finished],
     movers: &[MoverCounts],
+    took: Option<u64>,
 ) -> Result<(), Failed>
-    ensures { IsWritten (writes E.contents E.failures err.old err.new) (stats_text programs.now movers.now) result }
+    ensures { IsWritten (writes E.contents E.failures err.old err.new) (stats_text programs.now movers.now took) result }
 {
     write_programs(err, 0, programs)?;
-    write_movers(err, 0, 0, movers)
+    write_rest(err, movers, took)
 }

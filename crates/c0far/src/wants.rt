@@ -229,11 +229,12 @@ fn write_both<E: Stream>(
     share: usize,
     programs: &[Finished],
     movers: &[MoverCounts],
+    took: Option<u64>,
 ) -> Result<(), Failed>
-    ensures { IsWritten (writes E.contents E.failures err.old err.new) (wants_text asked.entry.explains asked.entry.limit share programs.now ++ stats_text programs.now movers.now) result }
+    ensures { IsWritten (writes E.contents E.failures err.old err.new) (wants_text asked.entry.explains asked.entry.limit share programs.now ++ stats_text programs.now movers.now took) result }
 {
     write_lines(err, asked, share, programs)?;
-    write_stats(err, programs, movers)
+    write_stats(err, programs, movers, took)
 }
 
 /// Whether lines of programs are told.
@@ -261,14 +262,15 @@ pub(crate) fn say_more<E: Stream>(
     share: usize,
     programs: &[Finished],
     movers: &[MoverCounts],
+    took: Option<u64>,
     status: u8,
 ) -> u8
-    ensures { TellsMore asked.entry.explains asked.entry.stats asked.entry.limit share programs.now movers.now (writes E.contents E.failures err.old err.new) status result }
+    ensures { TellsMore asked.entry.explains asked.entry.stats asked.entry.limit share programs.now movers.now took (writes E.contents E.failures err.old err.new) status result }
 {
     match (has_lines(asked), asked.stats) {
         (false, false) => status,
-        (false, true) => after(write_stats(err, programs, movers), status),
+        (false, true) => after(write_stats(err, programs, movers, took), status),
         (true, false) => after(write_lines(err, asked, share, programs), status),
-        (true, true) => after(write_both(err, asked, share, programs, movers), status),
+        (true, true) => after(write_both(err, asked, share, programs, movers, took), status),
     }
 }

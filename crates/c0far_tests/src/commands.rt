@@ -167,6 +167,23 @@ fn first_line(bytes: &[u8]) -> &[u8] {
     }
 }
 
+/// Tells these bytes, but of a line of the time, which is another each time, that it is there.
+fn tell_untimed<O: Write>(bytes: &[u8], told: &mut O) -> io::Result<()> {
+    let mut behind = false;
+    for line in bytes.split(|byte| *byte == b'\n') {
+        if behind {
+            told.write_all(b"\n")?;
+        }
+        behind = true;
+        if line.starts_with(b"time: ") && line.ends_with(b" ms") {
+            told.write_all(b"time: .. ms")?;
+        } else {
+            told.write_all(line)?;
+        }
+    }
+    Ok(())
+}
+
 /// Tells what was written to a stream, or the first line of that, behind the stream's name. Of the whole it tells where its last line has no end.
 fn tell<O: Write>(
     name: &str,
@@ -184,7 +201,7 @@ fn tell<O: Write>(
         held.as_slice()
     };
     write!(told, "{name}")?;
-    told.write_all(shown)?;
+    tell_untimed(shown, told)?;
     if shown.last() == Some(&b'\n') {
         return Ok(());
     }

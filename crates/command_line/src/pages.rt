@@ -162,7 +162,8 @@ options:
                   store and how many failed, hints and how many were dropped.
                   An evacuator: rounds, objects that left, that were used
                   meanwhile, and that the store refused. A fetcher: objects
-                  brought in, hints let go, and gets that failed
+                  brought in, hints let go, and gets that failed. And the time
+                  that the run took, if a clock tells
   --where         when all have ended, tells on the standard error where the
                   program of a text stopped otherwise than by a result:
                   FILE:LINE:COLUMN, and how; and why a program wanted

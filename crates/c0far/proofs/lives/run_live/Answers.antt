@@ -30,13 +30,14 @@ returns-in-Ok-live_asked-clause-done g c =
       admitted = c.in-Ok-live_asked.ensures.admitted;
       ended = inl (record {
         finished = c.in-Ok-live_asked.finished;
+        took = c.passed_since-took.result;
         executed = c.in-Ok-live_asked.ensures.ended.executed;
         status = c.say_rest-status.result;
         shown = shown_live g.O.Stream.contents g.O.Stream.failures g.F.Place.Folder.honest (memory_of c.args.asked.memory) c.in-Ok.programs.items c.args.out.now c.live_asked.new.out c.say_rest-status.new.out c.in-Ok-live_asked.finished
             c.say_rest-status.result c.in-Ok-live_asked.ensures.ended c.say_rest-status.ensures;
-        told = subst (λ (x : ℕ × List Finished). TellsBeside c.args.asked.explains c.args.asked.stats c.args.asked.limit held (c.args.name.now ∷ []) x.0 x.1 [] (writes g.E.Stream.contents g.E.Stream.failures c.args.err.now c.say_beside.new.err) c.say_rest-status.result c.say_beside.result)
+        told = subst (λ (x : ℕ × List Finished). TellsBeside c.args.asked.explains c.args.asked.stats c.args.asked.limit held (c.args.name.now ∷ []) x.0 x.1 [] c.passed_since-took.result (writes g.E.Stream.contents g.E.Stream.failures c.args.err.now c.say_beside.new.err) c.say_rest-status.result c.say_beside.result)
             (λ i. (share i, c.from_ref.ensures.value i))
-            (subst (λ (w : Writes). TellsBeside c.args.asked.explains c.args.asked.stats c.args.asked.limit held (c.args.name.now ∷ []) c.share_of-share.result c.from_ref.result.now [] w c.say_rest-status.result c.say_beside.result)
+            (subst (λ (w : Writes). TellsBeside c.args.asked.explains c.args.asked.stats c.args.asked.limit held (c.args.name.now ∷ []) c.share_of-share.result c.from_ref.result.now [] c.passed_since-took.result w c.say_rest-status.result c.say_beside.result)
             (after_quiet g.E.Stream.contents g.E.Stream.failures c.args.err.now c.codes_of.new.err c.say_beside.new.err c.in-Ok.ensures.quiet) (c.say_beside.ensures.told held c.codes_of.ensures.files));
       });
     })
