@@ -5,7 +5,7 @@ Six programs, each with all of its objects in frames, and then with three quarte
 evacuator and one fetcher, over the store in memory and over files of a folder below FOLDER. Each time is the least of RUNS runs (5), less that of a
 program that does nothing, and stands beside that with all objects in frames and no mover, and beside what `--stats` counts in the fastest run. Into FOLDER go
 `local_memory.csv`, with all of this, `local_memory.svg`, the picture: the store in memory, with movers, and `local_memory.md`, the table of `README.md` here. Each run has
-to print the answer that is computed here. It takes a quarter of an hour.
+to print the answer that is computed here. It takes eight to fifteen minutes.
 """
 import csv
 import math
