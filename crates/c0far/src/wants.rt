@@ -271,6 +271,9 @@ pub(crate) fn say_more<E: Stream>(
         (false, false) => status,
         (false, true) => after(write_stats(err, programs, movers, took), status),
         (true, false) => after(write_lines(err, asked, share, programs), status),
-        (true, true) => after(write_both(err, asked, share, programs, movers, took), status),
+        (true, true) => after(
+            write_both(err, asked, share, programs, movers, took),
+            status,
+        ),
     }
 }

@@ -8,8 +8,7 @@ pub returns : goal.returns
 returns g c =
     let at = c.line_column-position in
     let err = writes g.E.Stream.contents g.E.Stream.failures c.args.err.now c.write_name.new.err in
-    let same : c.deref.result.now ≡ string_bytes c.args.name.now.text = search rules in
-    (
+    let same : c.deref.result.now ≡ string_bytes c.args.name.now.text = search rules in (
       at.result.line,
       at.result.column,
       (at.ensures.line, at.ensures.column),
