@@ -21,7 +21,7 @@ use c0_typed::Site;
 use cells::{Run, Stop, Want};
 use command_line::words::Run as Asked;
 use executor::{Finished, MoverCounts};
-use memory_limit::MemoryLimit;
+use memory_limit::{MemoryLimit, MemoryUse};
 use std::alloc::Global;
 use std::thread::Threads;
 use streams::{Failed, Stream};
@@ -162,7 +162,8 @@ fn write_stopped<R: Threads, F: Files, E: Stream>(
     }
 }
 
-/// Writes which function the program of a file called last, which ended so, if it is known.
+/// Writes which function the program of a file called last, which ended so, if its calls passed the limit and that is known. Where the system refused memory, the text is
+/// not run once more.
 fn write_wanted<R: Threads, F: Files, E: Stream>(
     alloc: Global,
     rt: &R,
@@ -170,12 +171,16 @@ fn write_wanted<R: Threads, F: Files, E: Stream>(
     file: &str,
     files: &mut F,
     run: &Run,
+    passed: Option<MemoryUse>,
     err: &mut E,
 ) -> Result<(), Failed>
     ensures files { (name : List ℕ) → F.holds files.new name ≡ F.holds files.old name }
     ensures written { IfOk result (λ u. (bytes : List ℕ) × IsPlace file.now (F.holds files.old file.now) run.now bytes × Appends (E.contents err.old) (E.contents err.new) bytes × NoneFailed (writes E.contents E.failures err.old err.new)) }
     ensures failed { IfErr result (λ u. OneFailed (writes E.contents E.failures err.old err.new)) }
 {
+    let Some(MemoryUse::Calls) = passed else {
+        return Ok(());
+    };
     let Run::Wanted(Want::OutOfMemory) = run else {
         return Ok(());
     };
@@ -193,6 +198,7 @@ fn write_place<R: Threads, F: Files, E: Stream>(
     file: &str,
     files: &mut F,
     run: &Run,
+    passed: Option<MemoryUse>,
     err: &mut E,
 ) -> Result<(), Failed>
     ensures files { (name : List ℕ) → F.holds files.new name ≡ F.holds files.old name }
@@ -200,7 +206,7 @@ fn write_place<R: Threads, F: Files, E: Stream>(
     ensures failed { IfErr result (λ u. OneFailed (writes E.contents E.failures err.old err.new)) }
 {
     if let Run::Wanted(_) = run {
-        write_wanted(alloc, rt, asked, file, files, run, err)
+        write_wanted(alloc, rt, asked, file, files, run, passed, err)
     } else {
         write_stopped(alloc, rt, asked, file, files, run, err)
     }
@@ -226,7 +232,8 @@ fn write_places<R: Threads, F: Files, E: Stream>(
         [name, others @ ..] => match programs {
             [] => Ok(()),
             [one, rest @ ..] => {
-                write_place(alloc, rt, asked, name, files, &one.end.run, err)?;
+                let passed = one.counts.passed;
+                write_place(alloc, rt, asked, name, files, &one.end.run, passed, err)?;
                 write_places(alloc, rt, asked, others, files, rest, err)
             }
         },
