@@ -46,7 +46,7 @@ PLACES = {"null": (36, ""), "bounds": (52, " (index 3, length 3)"), "length": (4
 FILLED = 40 * "-"
 READ_AGAIN = f'#use <conio>\nint main() {{ int[] a = alloc_array(int, 65); a[0] = 1; a[64] = 2; println("put"); for (int i = 0; i < 4000; i++) {{ println("{FILLED}"); }} return a[0]; }}\n'
 # what is counted, by whose it is
-PROGRAM = ("instructions", "turns", "objects", "opened", "brought", "written", "left", "calls", "failed", "hints", "dropped")
+PROGRAM = ("instructions", "turns", "objects", "frames", "opened", "brought", "written", "left", "calls", "failed", "hints", "dropped")
 COUNTED = {"program": PROGRAM, "evacuator": ("rounds", "left", "aborted", "failed"), "fetcher": ("brought", "dropped", "failed")}
 # of SEVEN: the number, its move to the result, and the return
 SCHEDULE = "p0\np0\np0\n"
@@ -267,21 +267,21 @@ def told_beside(it, words, out, status=0):
 
 
 def what_is_counted(it):
-    """Of 16 objects that are written in turn 12 are put to make room in four frames. Two pieces that are written and read again in one frame are both put, come back, and
+    """Of 16 objects that are written in turn 12 are put to make room in four frames, and four are in them at last. Two pieces that are written and read again in one frame are both put, come back, and
     the first of them leaves clean. Hints of which no fetcher takes any stay in a queue of 256."""
     it.write("a.c0", counted(16))
     alone = "--frames 4 --evacuators 0 --fetchers 0 --workers 1"
     found = told_beside(it, f"run {alone} a.c0", "result: 7\n")
     want(list(found) == ["program 0"], f"the table has {list(found)}")
     whole = found["program 0"]
-    want({name: whole[name] for name in PROGRAM[2:]} == dict(zip(PROGRAM[2:], (16, 16, 16, 12, 0, 12, 0, 0, 0))), f"of 16 objects {whole} is told")
+    want({name: whole[name] for name in PROGRAM[2:]} == dict(zip(PROGRAM[2:], (16, 4, 16, 16, 12, 0, 12, 0, 0, 0))), f"of 16 objects {whole} is told")
     want(told_beside(it, f"run --live {alone} a.c0", "result: 7\n") == found, "run --live tells another table")
     for first in range(1, 13):
         failed = told_beside(it, f"run {alone} --fail-from {first} a.c0", "store failed\n", status=3)["program 0"]
         want((failed["written"], failed["calls"], failed["failed"]) == (first - 1, first, 1), f"where call {first} fails {failed} is told")
     it.write("b.c0", scan(2))
     twice = told_beside(it, "run --frames 1 --evacuators 0 --fetchers 0 --workers 1 b.c0", f"result: {sum(range(128))}\n")["program 0"]
-    want(tuple(twice[name] for name in PROGRAM[2:9]) == (2, 4, 4, 2, 1, 4, 0), f"of two pieces {twice} is told")
+    want(tuple(twice[name] for name in PROGRAM[2:10]) == (2, 1, 4, 4, 2, 1, 4, 0), f"of two pieces {twice} is told")
     it.write("c.c0", scan(400))
     many = told_beside(it, "run --frames 8 --evacuators 0 --fetchers 0 c.c0", f"result: {sum(range(25600))}\n")["program 0"]
     want(many["hints"] > 256 and many["dropped"] == many["hints"] - 256, f"of 400 pieces {many} is told")
@@ -298,6 +298,7 @@ def what_is_counted_beside_movers(it):
     left = sum(numbers.get("written", 0) + numbers.get("left", 0) for numbers in found.values())
     want(0 <= brought - left <= 16, f"{brought} objects were brought in and {left} left: {found}")
     for program in ("program 0", "program 1"):
+        want(0 < found[program]["frames"] <= 16, f"{program} was in {found[program]['frames']} of 16 frames")
         for name in ("instructions", "turns", "objects", "failed"):
             want(found[program][name] == alone[program][name], f"{program} tells {found[program]}, and alone {alone[program]}")
 

@@ -7,9 +7,9 @@ use Rattle.executor.specs.declared.counts.MoverCounts.TheVariants as mover
 use Rattle.program_run.specs.declared.run.Finished.{Finished}
 use Rattle.c0far.specs.Shown.{newline}
 
--- of program number k: how many instructions it completed, how many turns it had, how many objects it allocated
+-- of program number k: how many instructions it completed, how many turns it had, how many objects it allocated, and in how many frames these were seen at most
 abbrev pub shown_work : ℕ → Finished → List ℕ
-shown_work k f = codes "program " ++ (decimal k ++ (codes ": instructions " ++ (decimal f.end.completed ++ (codes ", turns " ++ (decimal f.turns ++ (codes ", objects " ++ decimal f.counts.objects))))))
+shown_work k f = codes "program " ++ (decimal k ++ (codes ": instructions " ++ (decimal f.end.completed ++ (codes ", turns " ++ (decimal f.turns ++ (codes ", objects " ++ (decimal f.counts.objects ++ (codes ", frames " ++ decimal f.counts.frames))))))))
 
 -- how many pieces its scopes opened, how many objects it brought in by itself, and how many it moved out, which it put into the store, or which were clean
 abbrev pub shown_moves : Finished → List ℕ

@@ -7,16 +7,17 @@ use executor::{Evacuated, Fetched, Finished, MoverCounts};
 use std::time::Clock;
 use streams::{Failed, Stream};
 
-/// Writes how many instructions program number `number` completed, how many turns it had, and how many objects it allocated.
+/// Writes how many instructions program number `number` completed, how many turns it had, how many objects it allocated, and in how many frames these were seen.
 fn write_work<E: Stream>(err: &mut E, number: u64, one: &Finished) -> Result<(), Failed>
     ensures { IsWritten (writes E.contents E.failures err.old err.new) (shown_work number one.now) result }
 {
     let instructions = one.end.completed;
     let turns = one.turns;
     let objects = one.counts.objects;
+    let frames = one.counts.frames;
     write!(
         err,
-        "program {number}: instructions {instructions}, turns {turns}, objects {objects}"
+        "program {number}: instructions {instructions}, turns {turns}, objects {objects}, frames {frames}"
     )
 }
 

@@ -157,10 +157,11 @@ options:
                   to suffice for these, too
   --stats         when all have ended, tells on the standard error what each
                   did, in a line for each. A program: instructions, turns,
-                  objects allocated, pieces opened, objects that it brought in,
-                  put into the store, and left as they were clean, calls of the
-                  store and how many failed, hints and how many were dropped.
-                  An evacuator: rounds, objects that left, that were used
+                  objects allocated, frames that these were seen in at most,
+                  pieces opened, objects that it brought in, put into the
+                  store, and left as they were clean, calls of the store and
+                  how many failed, hints and how many were dropped. An
+                  evacuator: rounds, objects that left, that were used
                   meanwhile, and that the store refused. A fetcher: objects
                   brought in, hints let go, and gets that failed. And the time
                   that the run took, if a clock tells

@@ -50,6 +50,11 @@ fn run_on<S: RawStore, W: Wait>(rt: &W, session: &mut Session<'_, S>, quantum: u
     session.run(rt, quantum)
 }
 
+/// Whether the frames, of which there are so many, are looked at behind this turn: so seldom that a turn pays for looking at some four of them.
+fn is_time_to_look(turn: u64, frames: usize) -> bool {
+    turn % (frames / 4).max(1) as u64 == 0
+}
+
 /// How a program ended, and what was refused through its own port to the store; and how many turns it had, modulo 2^64, with what its session did in them beside
 /// instructions.
 #[derive(Drop)]
@@ -159,8 +164,14 @@ impl<'a, S: RawStore> ProgramRun<'a, S> {
         }
         self.turns = self.turns.wrapping_add(1);
         match run_on(rt, &mut self.session, quantum) {
-            Run::Running => Turn::Ran,
+            Run::Running => {
+                if is_time_to_look(self.turns, self.region.table().frames()) {
+                    self.session.look_at_frames();
+                }
+                Turn::Ran
+            }
             run => {
+                self.session.look_at_frames();
                 self.run = run;
                 gate.stopped(self.number);
                 Turn::Ended

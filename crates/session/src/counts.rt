@@ -7,6 +7,8 @@ use memory_limit::MemoryUse;
 pub struct Counts {
     /// Objects that its instructions allocated.
     pub objects: u64,
+    /// Frames that were seen to hold objects of its own, at most at once. Other threads move some of them while they are looked at one by one.
+    pub frames: u64,
     /// Pieces of which a scope took hold anew.
     pub opened: u64,
     /// Objects that it brought into frames by itself.

@@ -53,6 +53,7 @@ pub(crate) struct Program<'a, S: RawStore> {
     opened: u64,
     hints: u64,
     dropped: u64,
+    frames: u64,
     moves: Moves,
 }
 
@@ -100,6 +101,7 @@ impl<'a, S: RawStore> Program<'a, S> {
             opened: 0,
             hints: 0,
             dropped: 0,
+            frames: 0,
             moves: Moves::none(),
         })
     }
@@ -138,6 +140,7 @@ impl<'a, S: RawStore> Program<'a, S> {
         } = self.moves;
         Counts {
             objects: self.next.saturating_sub(self.owner.low() as u64),
+            frames: self.frames,
             opened: self.opened,
             brought,
             written,
@@ -147,6 +150,29 @@ impl<'a, S: RawStore> Program<'a, S> {
             dropped: self.dropped,
             passed: self.execution.passed(),
         }
+    }
+
+    /// Whether a look at the frame finds it claimed for an object of its own.
+    fn is_own(&mut self, frame: usize) -> bool
+        requires { frame < self.old.view.sizes.frames }
+        ensures { self.new ≡ self.old }
+    {
+        let own = self.owner.low()..self.owner.high();
+        match self.table.look(&mut self.owner, frame) {
+            Some(object) => own.contains(&object),
+            None => false,
+        }
+    }
+
+    /// Looks at each frame once, and keeps how many were claimed for objects of its own, where that is the most so far.
+    pub(crate) fn look_at_frames(&mut self)
+        ensures { self.new ≡ self.old }
+    {
+        let mut found = 0;
+        for frame in 0..self.table.frames() {
+            found += u64::from(self.is_own(frame));
+        }
+        self.frames = self.frames.max(found);
     }
 
     /// Has its calls and its output keep within a limit, from now on.

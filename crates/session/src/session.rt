@@ -156,6 +156,13 @@ impl<'a, S: RawStore> Session<'a, S> {
         self.program.refusals()
     }
 
+    /// Looks at each frame once, and counts those that hold objects of its own. `counts` tells the most that were found so.
+    pub fn look_at_frames(&mut self)
+        ensures { self.new ≡ self.old }
+    {
+        self.program.look_at_frames();
+    }
+
     /// What it did beside completing instructions.
     pub fn counts(&self) -> Counts
         ensures { result.objects ≡ self.now.next - self.now.view.low }
