@@ -50,9 +50,14 @@ fn run_on<S: RawStore, W: Wait>(rt: &W, session: &mut Session<'_, S>, quantum: u
     session.run(rt, quantum)
 }
 
-/// Whether the frames, of which there are so many, are looked at behind this turn: so seldom that a turn pays for looking at some four of them.
-fn is_time_to_look(turn: u64, frames: usize) -> bool {
-    turn % (frames / 4).max(1) as u64 == 0
+/// Has the session look at the frames, of which there are so many, behind some of its turns: so seldom that each of them pays for a look at four.
+fn look_now_and_then<S: RawStore>(session: &mut Session<'_, S>, turn: u64, frames: usize)
+    ensures { session.new ≡ session.old }
+{
+    let between = (frames / 4).max(1) as u64;
+    if turn % between == 0 {
+        session.look_at_frames();
+    }
 }
 
 /// How a program ended, and what was refused through its own port to the store; and how many turns it had, modulo 2^64, with what its session did in them beside
@@ -163,15 +168,11 @@ impl<'a, S: RawStore> ProgramRun<'a, S> {
             return Turn::Held;
         }
         self.turns = self.turns.wrapping_add(1);
-        match run_on(rt, &mut self.session, quantum) {
-            Run::Running => {
-                if is_time_to_look(self.turns, self.region.table().frames()) {
-                    self.session.look_at_frames();
-                }
-                Turn::Ran
-            }
+        let run = run_on(rt, &mut self.session, quantum);
+        look_now_and_then(&mut self.session, self.turns, self.region.table().frames());
+        match run {
+            Run::Running => Turn::Ran,
             run => {
-                self.session.look_at_frames();
                 self.run = run;
                 gate.stopped(self.number);
                 Turn::Ended
@@ -189,11 +190,12 @@ impl<'a, S: RawStore> ProgramRun<'a, S> {
         ensures completed { result.end.completed ≡ self.entry.completed }
     {
         let ProgramRun {
-            session,
+            mut session,
             run,
             turns,
             ..
         } = self;
+        session.look_at_frames();
         let completed = session.completed();
         let refusals = session.refusals();
         let counts = session.counts();

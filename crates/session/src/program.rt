@@ -152,26 +152,11 @@ impl<'a, S: RawStore> Program<'a, S> {
         }
     }
 
-    /// Whether a look at the frame finds it claimed for an object of its own.
-    fn is_own(&mut self, frame: usize) -> bool
-        requires { frame < self.old.view.sizes.frames }
-        ensures { self.new ≡ self.old }
-    {
-        let own = self.owner.low()..self.owner.high();
-        match self.table.look(&mut self.owner, frame) {
-            Some(object) => own.contains(&object),
-            None => false,
-        }
-    }
-
     /// Looks at each frame once, and keeps how many were claimed for objects of its own, where that is the most so far.
     pub(crate) fn look_at_frames(&mut self)
         ensures { self.new ≡ self.old }
     {
-        let mut found = 0;
-        for frame in 0..self.table.frames() {
-            found += u64::from(self.is_own(frame));
-        }
+        let found = own_frames(self.table, &mut self.owner);
         self.frames = self.frames.max(found);
     }
 
@@ -602,6 +587,32 @@ impl<'a, S: RawStore> Program<'a, S> {
     {
         self.holds.len()
     }
+}
+
+/// Whether a look at the frame finds it claimed for an object of the seat's own.
+fn is_own<S: RawStore>(table: &ObjectTable<S>, owner: &mut OwnerSeat<S>, frame: usize) -> bool
+    requires table { IsSeat table.now owner.old }
+    requires low { frame < table.now.sizes.frames }
+    ensures { owner.new ≡ owner.old }
+{
+    match table.look(owner, frame) {
+        Some(object) => object >= owner.low() && object < owner.high(),
+        None => false,
+    }
+}
+
+/// How many frames a look at each of them finds claimed for objects of the seat's own.
+fn own_frames<S: RawStore>(table: &ObjectTable<S>, owner: &mut OwnerSeat<S>) -> u64
+    requires table { IsSeat table.now owner.old }
+    ensures { owner.new ≡ owner.old }
+{
+    let mut found = 0u64;
+    for frame in 0..table.frames() {
+        if is_own(table, owner, frame) {
+            found = found.wrapping_add(1);
+        }
+    }
+    found
 }
 
 /// How many of these holds are of the object.
