@@ -17,7 +17,7 @@ use Rattle.world_semantics.specs.Programs.{Wanted}
 use Rattle.world_semantics.specs.Worlds.{Event, Follows, Sizes, World, start}
 use Rattle.c0_image.specs.Compiled.{OneImage}
 use Rattle.c0_image.specs.Correct.{Behaves}
-use Rattle.c0far_headline.specs.Headline.{EndsSo, IsRun, Promised, Headline}
+use Rattle.c0far_headline.specs.Headline.{EndsSo, Headline, IsRun, Promised, StopsAt}
 
 -- what the compiler, the meaning, the code's run and the world promise
 pub record Laws : Type 0 where
@@ -84,8 +84,7 @@ stopped_is (Stuck al o) e = absurd (cc e)
 
 -- the code of this image is stopped so at so many completed instructions, and not before; they leave each program of it stopped so
 abbrev SettledAt : ℕ → Image → Stop → List ℕ → Type 0
-SettledAt j C s o = ((i : ℕ) → i < j → stop_of (code_run (code C) i).0 ≡ None)
-    × ((al : List Allocation) × ((code_run (code C) j).0 ≡ Stopped s al o))
+SettledAt j C s o = StopsAt C j s o
     × ((z : Sizes) (images : ℕ → Image) (events : List Event) (v : World) (k : ℕ) → IsRun z images events v → images k ≡ C
     → j ≤ (v.programs k).completed → (al : List Allocation) × ((v.programs k).core ≡ Stopped s al o))
 
@@ -145,8 +144,7 @@ module _ (laws : Laws) where
         let first = first_stop C b.0 s there.0 o (there.1 ∙ ap (λ (m : Meant). Stopped s there.0 m.output) meant) in (
           first.0,
           (
-            first.2,
-            (there.0, first.1),
+            (first.2, (there.0, first.1)),
             λ z images events v k run is le.
                 (there.0, run_of z images events v k run is ∙ stays_stopped C first.0 (v.programs k).completed s there.0 o le first.1),
           ),

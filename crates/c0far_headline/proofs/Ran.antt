@@ -110,12 +110,13 @@ settled headline loops text checks cells meant means s o ends C compiled =
     let by = (headline loops text checks cells C compiled meant means).1 s o ends in
     let stops = by.1 C compiled in (
       by.0,
+      stops.0,
       λ programs frames objects evacuators fetchers admits z is schedule es told k e at same.
           let some : 0 < z.cells = subst (λ (y : _). 0 < y.cells) (sym is) (some_cells (slice_get programs 0)) in
           let from_zero : 0 + k ≡ k = omega arith in
-          told_settled (told.world.programs k) by.0 s o e (stops.2 z (image_at programs) told.events told.world k (some, told.leads.follows) same)
+          told_settled (told.world.programs k) by.0 s o e (stops.1 z (image_at programs) told.events told.world k (some, told.leads.follows) same)
           (subst (λ (n : ℕ). IsEnded (told.world.programs n) e) from_zero (ended_at told.world.programs 0 k es e told.ended at)),
       λ reliable objects programs es all k v e is too same.
           let executed : IsExecutedOver (NeverFails reliable) objects C e = subst (λ (D : Image). IsExecutedOver (NeverFails reliable) objects D e) same (zipped_at _ programs es k v e all is too tt) in
-          ran_settled (NeverFails reliable) objects C by.0 s stops.1.0 o e stops.1.1 executed,
+          ran_settled (NeverFails reliable) objects C by.0 s stops.0.1.0 o e stops.0.1.1 executed,
     )

@@ -32,14 +32,17 @@ pub record Promised (P : Typed) (checks : Bool) (p : Program) (HasCauseOf : Want
   -- where it wants something the cause is among the events
   pub wanting : (want : Want) → p.mode ≡ Wanted want → HasCauseOf want
 
+-- the code of the image is stopped so when this many instructions are completed, with this output, and not before
+abbrev pub StopsAt : Image → ℕ → Stop → List ℕ → Type 0
+StopsAt C j s o = ((i : ℕ) → i < j → stop_of (code_run (code C) i).0 ≡ None) × ((al : List Allocation) × ((code_run (code C) j).0 ≡ Stopped s al o))
+
 -- Where the meaning ends, some number of completed instructions, at which the code of the text is stopped so, and before which it has not
 -- stopped, leaves the program stopped so. The number is that of the text, its level, `checks` and the size of pieces: the same whatever image the text was compiled to, and in every run of
 -- whatever world, beside whatever other programs.
 abbrev pub Settles : (loops : Bool) → (text : List ℕ) → (checks : Bool) → (cells : ℕ) → Typed → Type 0
 Settles loops text checks cells P = (s : Stop) (o : List ℕ) → EndsSo P checks s o
     → (j : ℕ) × ((D : Image) → IsCompiled loops text checks cells D
-    → ((i : ℕ) → i < j → stop_of (code_run (code D) i).0 ≡ None)
-    × ((al : List Allocation) × ((code_run (code D) j).0 ≡ Stopped s al o))
+    → StopsAt D j s o
     × ((z : Sizes) (images : ℕ → Image) (events : List Event) (v : World) (k : ℕ) → IsRun z images events v → images k ≡ D
     → j ≤ (v.programs k).completed → (al : List Allocation) × ((v.programs k).core ≡ Stopped s al o)))
 

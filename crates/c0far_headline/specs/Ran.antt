@@ -19,7 +19,7 @@ use Rattle.world.specs.Opened.{sizes_of}
 use Rattle.world_semantics.specs.Pieces.{piece_of}
 use Rattle.world_semantics.specs.Worlds.{Sizes}
 use Rattle.c0far_headline.specs.Admitted.{PromisedEnd}
-use Rattle.c0far_headline.specs.Headline.{EndsSo}
+use Rattle.c0far_headline.specs.Headline.{EndsSo, StopsAt}
 
 -- a store that never fails, or one that may
 abbrev pub NeverFails : Bool → Type 0
@@ -49,8 +49,8 @@ abbrev pub RunsSettle : Image → ℕ → Stop → List ℕ → Type 0
 RunsSettle C j s o = (reliable : Bool) (objects : ℕ) (programs : List Verified) (ends : List Ended) → AreEnds (Unit {0}) (NeverFails reliable) objects programs ends
     → (k : ℕ) (v : Verified) (e : Ended) → slice_get programs k ≡ Some v → slice_get ends k ≡ Some e → image_of v.image ≡ C → IsSettledBy j s o e
 
--- Where the meaning of a text ends, some number of completed instructions, the text's at its level, with or without checks, and for pieces of that size, settles each end
--- of its image, in every replay and in every run on threads, beside whatever other programs
+-- Where the meaning of a text ends, the number of completed instructions at which the code of its image is stopped so, and not before, settles each end of that image, in
+-- every replay and in every run on threads, beside whatever other programs
 abbrev pub EndsSettle : Type 0
 EndsSettle = (loops : Bool) (text : List ℕ) (checks : Bool) (cells : ℕ) (meant : Typed) → IsTypedAs loops text meant → (s : Stop) (o : List ℕ) → EndsSo meant checks s o
-    → (C : Image) → IsCompiled loops text checks cells C → (j : ℕ) × ReplaysSettle C j s o × RunsSettle C j s o
+    → (C : Image) → IsCompiled loops text checks cells C → (j : ℕ) × StopsAt C j s o × ReplaysSettle C j s o × RunsSettle C j s o

@@ -41,7 +41,7 @@ pub fn headline_of_replays()
 
 /// The same of the ends that `run_all` answers, program by program, whatever its threads do: what was printed is a beginning of what the text means,
 /// a stop is the meaning's with its whole output, and a want has its cause. And where the meaning ends, each end of a replay or of a run on
-/// threads that completed a certain number of instructions, which is the text's, or more, is that stop.
+/// threads that completed as many instructions as the code has when it is stopped, or more, is that stop.
 pub fn headline_of_ends()
     ensures ends { RunHeadline }
     ensures settled { EndsSettle }
