@@ -8,7 +8,7 @@ use Rattle.code_form.specs.Effects.{upd}
 use Rattle.code_form.specs.Known.{KnownShut}
 use Rattle.middle_form.specs.Scoped.{Code, Loop}
 use Rattle.middle_form.specs.Discipline.{IsDisciplined, Table, after, at_entry, writes}
-use Rattle.scope_placement.specs.Placed.{in_order}
+use Rattle.scoped_building.specs.Building.{in_order}
 use Rattle.guard_hoisting.specs.declared.ways.Way.{Way}
 use Rattle.guard_hoisting.specs.declared.ways.Way.TheVariants.{Fixed, Own, Shared}
 use Rattle.guard_hoisting.specs.Ways.{is_quiet, most_left}

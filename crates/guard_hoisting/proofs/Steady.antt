@@ -10,12 +10,13 @@ use Rattle.code_form.specs.Effects.{upd}
 use Rattle.code_form.specs.Known.{Knows, Unknown, KnownShut, KnownAimed, forget, written_by}
 use Rattle.middle_form.specs.Scoped.{Code, Nothing, Do, Load, Store, LoadBy, StoreBy, Aim, Leave, Loose, Call, Fail, Then, Choose, Loop, Block, Exit}
 use Rattle.middle_form.specs.Discipline.{Brings, IsDisciplined, IsKnownAs, Table, after, is_lost, join, stays, touches, writes, wrote}
-use Rattle.scope_placement.specs.Placed.{in_order}
+use Rattle.scoped_building.proofs.Tests.{or_false}
+use Rattle.scoped_building.specs.Building.{in_order}
 use Rattle.guard_hoisting.specs.declared.ways.Way.{Way}
 use Rattle.guard_hoisting.specs.declared.ways.Way.TheVariants.{Fixed, Own, Shared}
 use Rattle.guard_hoisting.specs.Ways.{is_quiet, most_left, scope_in, serves, way_at}
 use Rattle.guard_hoisting.specs.Hoisted.{load_as, moved, store_as}
-use Rattle.guard_hoisting.proofs.Tests.{and_left, and_right, flip, not_both, or_both, or_false, or_left, or_right}
+use Rattle.guard_hoisting.proofs.Tests.{and_left, and_right, flip, not_both, or_both, or_left, or_right}
 
 -- what is known of a scope that serves in this way
 abbrev pub held : Way → Knows

@@ -12,7 +12,8 @@ use Rattle.code_form.specs.Known.{Knows, Unknown, KnownShut, forget, written_by}
 use Rattle.middle_form.specs.Form as m
 use Rattle.middle_form.specs.Scoped.{Code, Do, Call, Choose, Loop, Block, Exit}
 use Rattle.middle_form.specs.Discipline.{Brings, IsDisciplined, IsScoped, IsScopedFunction, Table, after, at_entry, wrote}
-use Rattle.scope_placement.specs.Placed.{Open, in_order, leaves, leaves_from, most_open, open_among, open_behind, open_with, placed, placed_function, placed_program, scope_among, scope_for, whole}
+use Rattle.scoped_building.specs.Building.{in_order}
+use Rattle.scope_placement.specs.Placed.{Open, leaves, leaves_from, most_open, open_among, open_behind, open_with, placed, placed_function, placed_program, scope_among, scope_for, whole}
 
 -- what is known in a run: nothing of the scopes that are open, and that the others are shut
 abbrev pub at : Open → Table

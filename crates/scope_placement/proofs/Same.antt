@@ -11,7 +11,8 @@ use Rattle.middle_form.specs.Form.{Function, Program}
 use Rattle.middle_form.specs.Form as m
 use Rattle.middle_form.specs.Meaning.{Outcome, Done, Stopped, Cut, Stuck, Registers, State, Left, behind, call, called, entered, falls, first_registers, loop, means, on, opening, result_of, run, then_do, told, turn, where_so}
 use Rattle.middle_form.specs.Scoped.{Code, Do, Load, Store, Call, Fail, Choose, Loop, Block, Exit, plain, plain_function, plain_program}
-use Rattle.scope_placement.specs.Placed.{Open, in_order, leaves, leaves_from, open_behind, placed, placed_function, placed_program, scope_for, whole}
+use Rattle.scoped_building.specs.Building.{in_order}
+use Rattle.scope_placement.specs.Placed.{Open, leaves, leaves_from, open_behind, placed, placed_function, placed_program, scope_for, whole}
 
 -- what code does
 abbrev pub Run : Type 0
