@@ -195,7 +195,7 @@ pub fn prefetch(alloc: Global, scoped: Scoped, piece: Piece) -> Result<Scoped, A
     let functions = map_functions(
         alloc,
         functions,
-        |function|
+        move |function|
             ensures { IfOk result (λ g. scoped_function_of g ≡ prefetched_function ahead (scoped_function_of function)) }
         { prefetch_function(alloc, function, ahead) },
     )?;
