@@ -1,7 +1,5 @@
 -- Code whose first part was looked at, and code that has no other code in it.
-use Rattle.std.proofs.Common.{◌≡◌, ℕ, max, true, Option, List, [], ◌∷◌, ◌++◌, refl, sym, ap, ◌∙◌, arith, append_assoc, rules}
-use Rattle.std.specs.declared.vec.Vec.{Vec}
-use Rattle.std.specs.declared.alloc.Global.{Global}
+use Rattle.std.proofs.Common.{◌≡◌, ℕ, max, true, Option, List, [], ◌∷◌, ◌++◌, refl, sym, ap, ◌∙◌, arith, append_assoc}
 use Rattle.code_form.specs.declared.form.Kind.{Kind}
 use Rattle.middle_form.specs.Scoped as s
 use Rattle.middle_form.specs.ScopedViews.{scoped_code_of, scoped_sequence_of}

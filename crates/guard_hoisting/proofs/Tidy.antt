@@ -1,16 +1,16 @@
 -- Code of the middle form with nothing between its parts. It means what the code means, names what it names, and asks for the same checks.
-use Rattle.std.proofs.Common.{◌≡◌, ℕ, zero, suc, Bool, true, false, Option, Some, None, List, [], ◌∷◌, ◌++◌, length, refl, ap, ◌∙◌}
-use Rattle.std.specs.Prelude.{◌&&◌, map, nat_lt, slice_get, slice_index}
+use Rattle.std.proofs.Common.{◌≡◌, ℕ, zero, suc, Bool, Option, Some, None, List, [], ◌∷◌, ◌++◌, length, refl, ap, ◌∙◌}
+use Rattle.std.specs.Prelude.{◌&&◌, map, nat_lt, slice_get}
 use Rattle.std.specs.List.{list_all}
 use Rattle.std.specs.Option.{option_map}
 use Rattle.std.proofs.lemmas.Option.{slice_get-map}
 use Rattle.code_form.specs.declared.form.Fact.{Fact}
 use Rattle.code_form.specs.declared.form.Kind.{Kind}
 use Rattle.code_form.specs.declared.form.Kind.TheVariants as kind
-use Rattle.code_form.specs.Code.{has, if_zero}
+use Rattle.code_form.specs.Code.{has}
 use Rattle.middle_form.specs.Form.{Code, Nothing, Do, Load, Store, Call, Fail, Then, Choose, Loop, Block, Exit, Function, Program}
 use Rattle.middle_form.specs.Guarded.{asks, is_guarded, is_guarded_function, is_guarded_program, is_nothing_asked, joined, uses_pointers}
-use Rattle.middle_form.specs.Meaning.{Outcome, Done, Stopped, Cut, Stuck, Registers, State, Left, behind, call, called, entered, falls, first_registers, loop, means, on, opening, result_of, run, then_do, told, turn, where_so}
+use Rattle.middle_form.specs.Meaning.{Outcome, State, Left, call, called, entered, first_registers, means, opening, result_of, run, then_do, told}
 use Rattle.middle_form.specs.Samples.{in_order}
 use Rattle.middle_form.specs.WellFormed.{all_fit, callee_fits, code_fits, function_fits, is_well_formed, main_fits, result_fits}
 use Rattle.scoped_building.proofs.Runs.{Run, block_same, choose_same, loop_same, then_nothing, then_regroup, then_run, then_same, turn_same}

@@ -11,7 +11,7 @@ use Rattle.code_form.specs.Effects.{with_cell}
 use Rattle.code_form.specs.Code.{Fails, Tells, can_use, cell_kind, has, if_zero, offset, on_kind, place_fits, wanted}
 use Rattle.middle_form.specs.Form as m
 use Rattle.middle_form.specs.Guarded.{asks, is_guarded, is_guarded_function, is_guarded_program, is_nothing_asked, joined, uses_pointers}
-use Rattle.middle_form.specs.Meaning.{Outcome, Registers, State, Left, behind, call, called, cell_at, entered, falls, first_registers, loop, means, on, opening, operated, result_of, run, then_do, told, turn, where_so}
+use Rattle.middle_form.specs.Meaning.{Outcome, Registers, State, Left, behind, call, called, cell_at, entered, falls, first_registers, loop, means, on, opening, operated, result_of, run, then_do, told, where_so}
 use Rattle.middle_form.specs.Scoped.{Code, Nothing, Do, Load, Store, LoadBy, StoreBy, Aim, Leave, Loose, Call, Fail, Then, Choose, Loop, Block, Exit, Function, Program, plain, plain_function, plain_program}
 use Rattle.middle_form.specs.WellFormed.{all_fit, callee_fits, code_fits, function_fits, is_well_formed, main_fits, result_fits}
 use Rattle.scoped_building.proofs.Runs.{Run, turn_same}

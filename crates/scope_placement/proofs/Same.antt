@@ -1,15 +1,14 @@
 -- Code in which scopes are placed means without them what it did.
 use Rattle.std.proofs.Common.{◌≡◌, ℕ, zero, suc, Bool, true, false, cond, Option, Some, None, List, [], ◌∷◌, ◌++◌, refl, ap, ◌∙◌}
-use Rattle.std.specs.Prelude.{map, slice_get, slice_index}
+use Rattle.std.specs.Prelude.{map, slice_get}
 use Rattle.std.specs.Option.{option_map}
 use Rattle.code_form.specs.declared.form.Kind.{Kind}
-use Rattle.code_form.specs.declared.form.Kind.TheVariants as kind
 use Rattle.code_form.specs.declared.form.Operation.{Operation}
 use Rattle.code_form.specs.Form.{Simple}
-use Rattle.code_form.specs.Code.{has, if_zero, needs_shut}
+use Rattle.code_form.specs.Code.{needs_shut}
 use Rattle.middle_form.specs.Form.{Function, Program}
 use Rattle.middle_form.specs.Form as m
-use Rattle.middle_form.specs.Meaning.{Outcome, Done, Stopped, Cut, Stuck, Registers, State, Left, behind, call, called, entered, falls, first_registers, loop, means, on, opening, result_of, run, then_do, told, turn, where_so}
+use Rattle.middle_form.specs.Meaning.{Outcome, State, Left, call, called, entered, first_registers, means, on, opening, result_of, run, then_do, told}
 use Rattle.middle_form.specs.Scoped.{Code, Do, Load, Store, Call, Fail, Choose, Loop, Block, Exit, plain, plain_function, plain_program}
 use Rattle.scoped_building.specs.Building.{in_order}
 use Rattle.scoped_building.proofs.Runs.{Run, block_same, choose_same, loop_same, then_nothing, then_regroup, then_run, then_same, turn_same}
