@@ -1,4 +1,4 @@
--- Code of a few loops in which scopes are placed, and what comes in place of it, written out.
+-- Code of a few loops in which scopes are placed, and what `hoist` puts in its place, written out.
 use Rattle.std.specs.Prelude.{List, [], ◌∷◌, Some, None}
 use Rattle.cells.specs.declared.int32.Int32Op.TheVariants.{Add}
 use Rattle.code_form.specs.declared.form.Kind.{Kind}

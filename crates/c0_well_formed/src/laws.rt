@@ -68,7 +68,7 @@ pub fn worked_images()
     ensures fact { IsConsistent missing_scope → ⊥ }
 {}
 
-/// What comes in place of eight programs' code, behind `place`: a scan leaves no scope in its body; a pointer is aimed before its loop, and before the
+/// What `hoist` puts in place of eight programs' code, behind `place`: a scan leaves no scope in its body; a pointer is aimed before its loop, and before the
 /// outermost of two, and its check stays in the body; one that the loop assigns is aimed at each load; a loop with a call or a return stays as it is; one
 /// that an error may stop, or that is left in its middle, leaves its scope behind it; and of five arrays the one that is used most has the first scope.
 pub fn worked_passes()
