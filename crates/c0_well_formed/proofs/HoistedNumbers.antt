@@ -5,7 +5,7 @@ use Rattle.middle_form.specs.Form as f
 use Rattle.middle_form.specs.Samples as sample
 use Rattle.middle_form.specs.Scoped as s
 use Rattle.middle_form.specs.Scoped.{plain}
-use Rattle.scope_placement.specs.Placed.{in_order}
+use Rattle.scoped_building.specs.Building.{in_order}
 use Rattle.guard_hoisting.specs.Hoisted.{hoisted, most_served}
 use Rattle.guard_hoisting.proofs.Hoists.{few_in}
 use Rattle.guard_hoisting.proofs.Same.{hoisted_parts}

@@ -11,8 +11,9 @@ use Rattle.code_form.specs.Counts.{is_few}
 use Rattle.middle_form.specs.Form as f
 use Rattle.middle_form.specs.Scoped as s
 use Rattle.middle_form.specs.WellFormed.{access_fits, code_fits}
-use Rattle.scope_placement.specs.Placed.{Open, in_order, leaves, leaves_from, open_behind, placed, whole}
-use Rattle.guard_hoisting.specs.Laws.{AllPlaces}
+use Rattle.scoped_building.specs.Building.{in_order}
+use Rattle.scoped_building.specs.Places.{AllPlaces}
+use Rattle.scope_placement.specs.Placed.{Open, leaves, leaves_from, open_behind, placed, whole}
 use Rattle.scope_verifier_laws.proofs.Ranges.{on_there}
 use Rattle.c0_well_formed.proofs.CellKinds.{Each, each_append}
 use Rattle.c0_well_formed.proofs.Tests.{both_true}

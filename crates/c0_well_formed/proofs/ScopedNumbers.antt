@@ -8,7 +8,8 @@ use Rattle.code_form.specs.Code.{needs_shut}
 use Rattle.middle_form.specs.Form as f
 use Rattle.middle_form.specs.Scoped as s
 use Rattle.middle_form.specs.Scoped.{plain}
-use Rattle.scope_placement.specs.Placed.{Open, in_order, leaves, leaves_from, open_behind, placed, whole}
+use Rattle.scoped_building.specs.Building.{in_order}
+use Rattle.scope_placement.specs.Placed.{Open, leaves, leaves_from, open_behind, placed, whole}
 use Rattle.codegen.specs.Generated as g
 use Rattle.codegen.specs.Generated.{blocks, exit_from, extra, first, is_passed, last, onward, tested}
 use Rattle.c0_well_formed.specs.Laws.{NamesNumbers}

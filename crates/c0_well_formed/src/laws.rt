@@ -3,7 +3,10 @@
 ghost use Rattle.c0_well_formed.specs.Laws.{ImagesAreConsistent, ImagesAreVerified, ImagesHaveNoFault, IsConsistent, LoweredIsGuarded, LoweredIsWellFormed};
 ghost use Rattle.c0_well_formed.specs.Passes.{PassesAreAccepted};
 ghost use Rattle.c0_well_formed.specs.Worked.{consistent_image, far_aim, far_fact, five_scopes, large_byte, large_character, large_displacement, large_number, missing_scope, offset_as_parameter, offset_in_layout, with_pieces, with_texts, without_layout};
-ghost use Rattle.std.specs.Prelude.{◌^◌, ◌≤◌, ℕ};
+ghost use Rattle.c0_well_formed.specs.WorkedPasses.{behind_place, calling, calling_hoisted, failing, failing_hoisted, many, many_hoisted, nested, nested_hoisted, returning, returning_hoisted, scan, scan_hoisted, setting, setting_hoisted, walking, walking_hoisted};
+ghost use Rattle.middle_form.specs.Scoped.{Block};
+ghost use Rattle.scoped_building.specs.Building.{in_order};
+ghost use Rattle.std.specs.Prelude.{◌≡◌, ◌∷◌, ◌^◌, ◌≤◌, [], ℕ};
 
 use scope_verifier_laws::verified_is_accepted;
 
@@ -63,4 +66,18 @@ pub fn worked_images()
     ensures aim { IsConsistent far_aim → ⊥ }
     ensures told { IsConsistent far_fact → ⊥ }
     ensures fact { IsConsistent missing_scope → ⊥ }
+{}
+
+/// What `hoist` puts in place of eight programs' code, behind `place`: a scan leaves no scope in its body; a pointer is aimed before its loop, and before the
+/// outermost of two, and its check stays in the body; one that the loop assigns is aimed at each load; a loop with a call or a return stays as it is; one
+/// that an error may stop, or that is left in its middle, leaves its scope behind it; and of five arrays the one that is used most has the first scope.
+pub fn worked_passes()
+    ensures scan { behind_place scan ≡ scan_hoisted }
+    ensures setting { behind_place setting ≡ setting_hoisted }
+    ensures nested { behind_place nested ≡ nested_hoisted }
+    ensures walking { behind_place walking ≡ walking_hoisted }
+    ensures calling { behind_place calling ≡ calling_hoisted }
+    ensures returning { behind_place returning ≡ Block (in_order (returning_hoisted ∷ [])) ∷ [] }
+    ensures failing { behind_place failing ≡ failing_hoisted }
+    ensures many { behind_place many ≡ many_hoisted }
 {}

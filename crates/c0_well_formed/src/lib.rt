@@ -5,5 +5,5 @@ mod laws;
 
 pub use laws::{
     images_are_accepted, images_are_consistent, images_are_verified, lowered_is_guarded,
-    lowered_is_well_formed, passes_are_accepted, worked_images,
+    lowered_is_well_formed, passes_are_accepted, worked_images, worked_passes,
 };

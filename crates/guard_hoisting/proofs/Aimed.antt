@@ -4,13 +4,13 @@ use Rattle.std.specs.Prelude.{◌&&◌, ◌||◌, length, map, nat_lt}
 use Rattle.code_form.specs.declared.form.Kind.{Kind}
 use Rattle.code_form.specs.Code.{place_fits}
 use Rattle.middle_form.specs.Scoped.{Code, Nothing, Do, Load, Store, LoadBy, StoreBy, Aim, Leave, Loose, Call, Fail, Then, Choose, Loop, Block, Exit}
-use Rattle.scope_placement.specs.Placed.{in_order}
+use Rattle.scoped_building.specs.Building.{in_order}
+use Rattle.scoped_building.specs.Places.{AllPlaces}
 use Rattle.guard_hoisting.specs.declared.ways.Way.{Way}
 use Rattle.guard_hoisting.specs.declared.ways.Way.TheVariants.{Fixed, Own, Shared}
 use Rattle.guard_hoisting.specs.declared.ways.Use.{Use}
 use Rattle.guard_hoisting.specs.Ways.{assigns, chosen, first_way, fitting, has_loop, is_closed, is_through, scope_in, serves, settled, settled_way, used_again, uses_with, way_at, ways_for, with_use}
 use Rattle.guard_hoisting.specs.Hoisted.{closings, hoisted, inside, lifted, lifted_or, load_as, moved, open_behind, opening, openings, store_as, ways_behind}
-use Rattle.guard_hoisting.specs.Laws.{AllPlaces}
 use Rattle.guard_hoisting.proofs.Serving.{EachUse, chosen_each}
 use Rattle.guard_hoisting.proofs.Steady.{EachWay}
 

@@ -10,12 +10,12 @@ use Rattle.code_form.specs.Effects.{upd}
 use Rattle.code_form.specs.Known.{Knows, Unknown, KnownShut, KnownAimed, forget, written_by}
 use Rattle.middle_form.specs.Scoped.{Code, Nothing, Do, Load, Store, LoadBy, StoreBy, Aim, Leave, Loose, Call, Fail, Then, Choose, Loop, Block, Exit, Function, Program}
 use Rattle.middle_form.specs.Discipline.{AreShut, Brings, IsDisciplined, IsScoped, IsScopedFunction, Table, after, at_entry, join, stays, touches, writes, wrote}
-use Rattle.scope_placement.specs.Placed.{in_order}
+use Rattle.scoped_building.specs.Building.{in_order}
+use Rattle.scoped_building.proofs.Orders.{after_append, append_kept}
 use Rattle.guard_hoisting.specs.declared.ways.Way.{Way}
 use Rattle.guard_hoisting.specs.Ways.{ways_for}
 use Rattle.guard_hoisting.specs.Hoisted.{hoisted, hoisted_function, hoisted_program, lifted_or, most_served, open_behind, served_inside, served_or}
 use Rattle.guard_hoisting.proofs.Tests.{or_left, or_right}
-use Rattle.guard_hoisting.proofs.Steady.{after_append, append_kept}
 use Rattle.guard_hoisting.proofs.Lifts.{lifted_after, lifted_kept}
 use Rattle.guard_hoisting.proofs.Serving.{ways_serve}
 

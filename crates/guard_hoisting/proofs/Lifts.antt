@@ -8,13 +8,14 @@ use Rattle.code_form.specs.Effects.{upd}
 use Rattle.code_form.specs.Known.{KnownShut}
 use Rattle.middle_form.specs.Scoped.{Code, Loop}
 use Rattle.middle_form.specs.Discipline.{IsDisciplined, Table, after, at_entry, writes}
-use Rattle.scope_placement.specs.Placed.{in_order}
+use Rattle.scoped_building.specs.Building.{in_order}
+use Rattle.scoped_building.proofs.Orders.{after_append, append_kept}
 use Rattle.guard_hoisting.specs.declared.ways.Way.{Way}
 use Rattle.guard_hoisting.specs.declared.ways.Way.TheVariants.{Fixed, Own, Shared}
 use Rattle.guard_hoisting.specs.Ways.{is_quiet, most_left}
 use Rattle.guard_hoisting.specs.Hoisted.{closings, lifted, moved, opening, openings}
 use Rattle.guard_hoisting.proofs.Tests.{or_left, or_right}
-use Rattle.guard_hoisting.proofs.Steady.{AllReach, Calm, Fits, FitsWay, IsServed, after_append, ahead_more, append_kept, calm_less, held, holding, loop_kept, moved_kept, steady}
+use Rattle.guard_hoisting.proofs.Steady.{AllReach, Calm, Fits, FitsWay, IsServed, ahead_more, calm_less, held, holding, loop_kept, moved_kept, steady}
 
 -- ---- openings
 

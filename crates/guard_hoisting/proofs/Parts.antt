@@ -1,28 +1,13 @@
--- The parts of a sequence as a list, and code whose first part was looked at.
-use Rattle.std.proofs.Common.{◌≡◌, ℕ, max, true, Option, List, [], ◌∷◌, ◌++◌, refl, sym, ap, ◌∙◌, arith, append_assoc, rules}
-use Rattle.std.specs.declared.vec.Vec.{Vec}
-use Rattle.std.specs.declared.alloc.Global.{Global}
+-- Code whose first part was looked at, and code that has no other code in it.
+use Rattle.std.proofs.Common.{◌≡◌, ℕ, max, true, Option, List, [], ◌∷◌, ◌++◌, refl, sym, ap, ◌∙◌, arith, append_assoc}
 use Rattle.code_form.specs.declared.form.Kind.{Kind}
 use Rattle.middle_form.specs.Scoped as s
-use Rattle.middle_form.specs.ScopedViews.{scoped_code_of, scoped_row_of, scoped_sequence_of}
-use Rattle.middle_form.specs.declared.scoped.ScopedCode.{ScopedCode, Row_of-ScopedCode, end_of-ScopedCode, more_of-ScopedCode, items-the_row-ScopedCode, Sequence', Do, Load, Store, LoadBy, StoreBy, Aim, Leave, Loose, Call, Fail, Choose', Loop', Block', Exit, the_lemmas as code_lemmas}
-use Rattle.middle_form.specs.declared.scoped.ScopedCode.TheViews.{Sequence}
-use Rattle.scope_placement.specs.Building.{codes}
-use Rattle.scope_placement.specs.Placed.{in_order}
+use Rattle.middle_form.specs.ScopedViews.{scoped_code_of, scoped_sequence_of}
+use Rattle.middle_form.specs.declared.scoped.ScopedCode.{ScopedCode, Sequence', Do, Load, Store, LoadBy, StoreBy, Aim, Leave, Loose, Call, Fail, Choose', Loop', Block', Exit}
+use Rattle.scoped_building.specs.Building.{codes, in_order, is_straight}
+use Rattle.scoped_building.proofs.Rows.{row_is_not_straight}
 use Rattle.guard_hoisting.specs.declared.ways.Way.{Way}
-use Rattle.guard_hoisting.specs.Building.{is_straight}
 use Rattle.guard_hoisting.specs.Hoisted.{hoisted, inside, most_served, moved, open_behind}
-
-parts_row : {n : _} (k : Row_of-ScopedCode n) → scoped_row_of k ≡ scoped_sequence_of (items-the_row-ScopedCode n k)
-parts_row end_of-ScopedCode = refl
-parts_row (more_of-ScopedCode a rest) = ap (s.Then (scoped_code_of a)) (parts_row rest)
-
-pub sequence_is : (all : Vec ScopedCode Global) → scoped_code_of (Sequence all) ≡ scoped_sequence_of all.items
-sequence_is all = search (rules, code_lemmas, parts_row)
-
-pub sequence_in_order : (all : List ScopedCode) → scoped_sequence_of all ≡ in_order (codes all)
-sequence_in_order [] = refl
-sequence_in_order (a ∷ rest) = ap (s.Then (scoped_code_of a)) (sequence_in_order rest)
 
 -- ---- a loop with its scopes
 
@@ -61,10 +46,6 @@ rest_most ks before behind x all rest o p whole e m r h =
     omega (arith, first, last, m, h)
 
 -- ---- code that has no other code in it
-
-row_is_not_straight : {n : _} (k : Row_of-ScopedCode n) → is_straight (scoped_row_of k) ≡ true → ⊥
-row_is_not_straight end_of-ScopedCode e = cc e
-row_is_not_straight (more_of-ScopedCode a rest) e = cc e
 
 -- it stays as it is in a loop, but for loads, stores and leaves
 pub moved_alone : (ws : List Way) (a : ScopedCode) → ((to z r : ℕ) (off : Option ℕ) (disp : ℕ) → a ≡ Load to z r off disp → ⊥) → ((z r : ℕ) (off : Option ℕ) (disp from : ℕ) → a ≡ Store z r off disp from → ⊥)

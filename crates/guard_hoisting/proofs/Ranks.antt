@@ -7,14 +7,14 @@ use Rattle.middle_form.specs.declared.scoped.ScopedCode.{ScopedCode}
 use Rattle.middle_form.specs.declared.scoped.ScopedCode as scoped
 use Rattle.middle_form.specs.Scoped.{Code, Leave}
 use Rattle.middle_form.specs.ScopedViews.{scoped_code_of}
-use Rattle.scope_placement.specs.Building.{codes}
-use Rattle.scope_placement.proofs.Opening.{codes_push}
+use Rattle.scoped_building.proofs.Rows.{codes_push}
+use Rattle.scoped_building.proofs.Tests.{nil_right}
+use Rattle.scoped_building.specs.Building.{codes}
 use Rattle.guard_hoisting.specs.declared.ways.Use.{Use}
 use Rattle.guard_hoisting.specs.declared.ways.Way.{Way}
 use Rattle.guard_hoisting.specs.Building.{place_below, place_through}
 use Rattle.guard_hoisting.specs.Hoisted.{closings, opening, openings}
 use Rattle.guard_hoisting.specs.Ways.{first_use, first_way, is_through, ranked_in, ranked_with, scope_in, serves, used_again, with_use}
-use Rattle.guard_hoisting.proofs.Tests.{nil_right}
 
 -- ---- the scope that serves a cell
 

@@ -9,7 +9,7 @@ use Rattle.middle_form.specs.Meaning.{means}
 use Rattle.middle_form.specs.Samples as sample
 use Rattle.middle_form.specs.Scoped.{Code, Nothing, Do, Load, Store, LoadBy, StoreBy, Aim, Leave, Loose, Call, Fail, Then, Choose, Loop, Block, Exit, Function, Program, plain, plain_function, plain_program}
 use Rattle.middle_form.specs.WellFormed.{is_well_formed}
-use Rattle.scope_placement.specs.Placed.{in_order}
+use Rattle.scoped_building.specs.Building.{in_order}
 use Rattle.guard_hoisting.specs.declared.ways.Way.{Way}
 use Rattle.guard_hoisting.specs.declared.ways.Way.TheVariants.{Fixed, Own, Shared}
 use Rattle.guard_hoisting.specs.Ways.{scope_in, way_at}

@@ -10,12 +10,14 @@ use Rattle.code_form.specs.Effects.{upd}
 use Rattle.code_form.specs.Known.{Knows, Unknown, KnownShut, KnownAimed, forget, written_by}
 use Rattle.middle_form.specs.Scoped.{Code, Nothing, Do, Load, Store, LoadBy, StoreBy, Aim, Leave, Loose, Call, Fail, Then, Choose, Loop, Block, Exit}
 use Rattle.middle_form.specs.Discipline.{Brings, IsDisciplined, IsKnownAs, Table, after, is_lost, join, stays, touches, writes, wrote}
-use Rattle.scope_placement.specs.Placed.{in_order}
+use Rattle.scoped_building.specs.Building.{in_order}
+use Rattle.scoped_building.proofs.Orders.{after_append, append_kept}
+use Rattle.scoped_building.proofs.Tests.{or_false}
 use Rattle.guard_hoisting.specs.declared.ways.Way.{Way}
 use Rattle.guard_hoisting.specs.declared.ways.Way.TheVariants.{Fixed, Own, Shared}
 use Rattle.guard_hoisting.specs.Ways.{is_quiet, most_left, scope_in, serves, way_at}
 use Rattle.guard_hoisting.specs.Hoisted.{load_as, moved, store_as}
-use Rattle.guard_hoisting.proofs.Tests.{and_left, and_right, flip, not_both, or_both, or_false, or_left, or_right}
+use Rattle.guard_hoisting.proofs.Tests.{and_left, and_right, flip, not_both, or_both, or_left, or_right}
 
 -- what is known of a scope that serves in this way
 abbrev pub held : Way → Knows
@@ -262,10 +264,6 @@ part_joined ws x t c = hold_joined ws x (λ u h. or_left (touches x u) false (t 
 
 -- ---- what is known behind moved code
 
-pub after_append : (xs ys : List Code) (k : Table) → ◌≡◌ {A = Table} (after (in_order (xs ++ ys)) k) (after (in_order ys) (after (in_order xs) k))
-after_append [] ys k = refl
-after_append (x ∷ xs) ys k = after_append xs ys (after x k)
-
 calm_moved : (ws : List Way) (a : Code) → Calm (writes a) ws → Calm (writes (in_order (moved ws a))) ws
 calm_moved ws a c = calm_less (writes a) (writes (in_order (moved ws a))) (λ r h. write_moved ws a r h) ws c
 
@@ -316,10 +314,6 @@ ahead_more d fs k h (suc j) e l q = h j e (omega arith) q
 module _ (ks : List Kind) (n : ℕ) where
   abbrev D : List Table → Code → Table → Type 0
   D fs a k = IsDisciplined ks n fs a k
-
-  pub append_kept : (fs : List Table) (xs ys : List Code) (k : Table) → D fs (in_order xs) k → D fs (in_order ys) (after (in_order xs) k) → D fs (in_order (xs ++ ys)) k
-  append_kept fs [] ys k p q = q
-  append_kept fs (x ∷ xs) ys k p q = (p.0, append_kept fs xs ys (after x k) p.1 q)
 
   load_kept : (w : Way) (ws : List Way) (fs : List Table) (to s r : ℕ) (off : Option ℕ) (disp : ℕ) → serves w r off disp ≡ true → holding ws s ≡ held w → FitsWay ks w → s < n
       → D fs (load_as w to s r off disp) (holding ws)
@@ -383,7 +377,7 @@ module _ (ks : List Kind) (n : ℕ) where
         let cb = calm_less (writes (Then a b)) (writes b) (λ r e. or_right (writes a r) (writes b r) e) ws c in
         let la : most_left a ≤ d = omega (arith, l) in
         let lb : most_left b ≤ d = omega (arith, l) in
-        append_kept fs (moved ws a) (moved ws b) (holding ws) (moved_kept a d fs qa v.0 ca la h)
+        append_kept ks n fs (moved ws a) (moved ws b) (holding ws) (moved_kept a d fs qa v.0 ca la h)
         (subst (D fs (in_order (moved ws b))) (sym (steady ws a qa v.0 ca)) (moved_kept b d fs qb v.1 cb lb h))
     moved_kept (Choose r a b) d fs q v c l h =
         let qa = and_left (is_quiet a) (is_quiet b) q in

@@ -1,5 +1,5 @@
 -- Tests, and what an equation of numbers says.
-use Rattle.std.proofs.Common.{◌≡◌, ℕ, Bool, true, false, List, [], ◌∷◌, ◌++◌, refl, sym}
+use Rattle.std.proofs.Common.{◌≡◌, ℕ, Bool, true, false, refl, sym}
 use Rattle.std.specs.Prelude.{◌==◌, ◌&&◌, ◌||◌, not}
 use Rattle.std.proofs.lemmas.Bool.{eqb-false, ne_eqb}
 
@@ -23,17 +23,9 @@ pub or_both : (a b : Bool) → a ≡ false → b ≡ false → (a || b) ≡ fals
 or_both true b h k = absurd (cc h)
 or_both false b h k = k
 
-pub or_false : (a : Bool) → (a || false) ≡ a
-or_false true = refl
-or_false false = refl
-
 pub not_both : {P : Type 0} (a : Bool) → not a ≡ true → a ≡ true → P
 not_both true h k = absurd (cc h)
 not_both false h k = absurd (cc k)
 
 pub flip : (a b : ℕ) → (a == b) ≡ false → (b == a) ≡ false
 flip a b h = ne_eqb b a (λ e. eqb-false a b h (sym e))
-
-pub nil_right : {A : Type 0} (xs : List A) → xs ++ [] ≡ xs
-nil_right [] = refl
-nil_right (x ∷ xs) = λ i. x ∷ nil_right xs i

@@ -1,18 +1,20 @@
 -- Code of the middle form with nothing between its parts. It means what the code means, names what it names, and asks for the same checks.
-use Rattle.std.proofs.Common.{◌≡◌, ℕ, zero, suc, Bool, true, false, Option, Some, None, List, [], ◌∷◌, ◌++◌, length, refl, ap, ◌∙◌}
-use Rattle.std.specs.Prelude.{◌&&◌, map, nat_lt, slice_get, slice_index}
+use Rattle.std.proofs.Common.{◌≡◌, ℕ, zero, suc, Bool, Option, Some, None, List, [], ◌∷◌, ◌++◌, length, refl, ap, ◌∙◌}
+use Rattle.std.specs.Prelude.{◌&&◌, map, nat_lt, slice_get}
 use Rattle.std.specs.List.{list_all}
 use Rattle.std.specs.Option.{option_map}
 use Rattle.std.proofs.lemmas.Option.{slice_get-map}
 use Rattle.code_form.specs.declared.form.Fact.{Fact}
 use Rattle.code_form.specs.declared.form.Kind.{Kind}
 use Rattle.code_form.specs.declared.form.Kind.TheVariants as kind
-use Rattle.code_form.specs.Code.{has, if_zero}
+use Rattle.code_form.specs.Code.{has}
 use Rattle.middle_form.specs.Form.{Code, Nothing, Do, Load, Store, Call, Fail, Then, Choose, Loop, Block, Exit, Function, Program}
 use Rattle.middle_form.specs.Guarded.{asks, is_guarded, is_guarded_function, is_guarded_program, is_nothing_asked, joined, uses_pointers}
-use Rattle.middle_form.specs.Meaning.{Outcome, Done, Stopped, Cut, Stuck, Registers, State, Left, behind, call, called, entered, falls, first_registers, loop, means, on, opening, result_of, run, then_do, told, turn, where_so}
+use Rattle.middle_form.specs.Meaning.{Outcome, State, Left, call, called, entered, first_registers, means, opening, result_of, run, then_do, told}
 use Rattle.middle_form.specs.Samples.{in_order}
 use Rattle.middle_form.specs.WellFormed.{all_fit, callee_fits, code_fits, function_fits, is_well_formed, main_fits, result_fits}
+use Rattle.scoped_building.proofs.Runs.{Run, block_same, choose_same, loop_same, then_nothing, then_regroup, then_run, then_same, turn_same}
+use Rattle.scoped_building.proofs.Tests.{and_regroup, and_true}
 
 -- the parts of code
 abbrev pub parts : Code → List Code
@@ -38,53 +40,6 @@ abbrev pub tidy_program : Program → Program
 tidy_program P = record { head = P.head; functions = map tidy_function P.functions }
 
 -- ---- what it means
-
-abbrev Run : Type 0
-Run = Registers → State → Outcome Left
-
-abbrev then_run : Run → Run → Run
-then_run f g rs t = then_do (f rs t) (falls g)
-
-then_on : (o : Outcome Left) → then_do o (falls on) ≡ o
-then_on (Done (zero, rs) t) = refl
-then_on (Done (suc k, rs) t) = refl
-then_on (Stopped x out) = refl
-then_on (Cut out) = refl
-then_on Stuck = refl
-
-then_nothing : (f : Run) → ◌≡◌ {A = Run} (then_run f on) f
-then_nothing f = λ i rs t. then_on (f rs t) i
-
-then_again : (o : Outcome Left) (f g : Run) → then_do o (falls (then_run f g)) ≡ then_do (then_do o (falls f)) (falls g)
-then_again (Done (zero, rs) t) f g = refl
-then_again (Done (suc k, rs) t) f g = refl
-then_again (Stopped x out) f g = refl
-then_again (Cut out) f g = refl
-then_again Stuck f g = refl
-
-then_regroup : (e f g : Run) → ◌≡◌ {A = Run} (then_run e (then_run f g)) (then_run (then_run e f) g)
-then_regroup e f g = λ i rs t. then_again (e rs t) f g i
-
-then_same : (f f' g g' : Run) → ◌≡◌ {A = Run} f f' → ◌≡◌ {A = Run} g g' → ◌≡◌ {A = Run} (then_run f g) (then_run f' g')
-then_same f f' g g' p q = λ i. then_run (p i) (q i)
-
-abbrev choose_run : List Kind → ℕ → Run → Run → Run
-choose_run ks c f g rs t = where_so (has ks c kind.Bool) (if_zero (slice_index rs c) (g rs t) (f rs t))
-
-choose_same : (ks : List Kind) (c : ℕ) (f f' g g' : Run) → ◌≡◌ {A = Run} f f' → ◌≡◌ {A = Run} g g' → ◌≡◌ {A = Run} (choose_run ks c f g) (choose_run ks c f' g')
-choose_same ks c f f' g g' p q = λ i. choose_run ks c (p i) (q i)
-
-abbrev loop_run : List Kind → ℕ → Run → Run → Run
-loop_run ks c f g rs t = where_so (has ks c kind.Bool) (then_do (loop f c g t.turns rs t) behind)
-
-loop_same : (ks : List Kind) (c : ℕ) (f f' g g' : Run) → ◌≡◌ {A = Run} f f' → ◌≡◌ {A = Run} g g' → ◌≡◌ {A = Run} (loop_run ks c f g) (loop_run ks c f' g')
-loop_same ks c f f' g g' p q = λ i. loop_run ks c (p i) (q i)
-
-abbrev block_run : Run → Run
-block_run f rs t = then_do (f rs t) behind
-
-block_same : (f f' : Run) → ◌≡◌ {A = Run} f f' → ◌≡◌ {A = Run} (block_run f) (block_run f')
-block_same f f' p = λ i. block_run (p i)
 
 module _ (P : Program) (make : ℕ → List ℕ → State → Outcome ℕ) (ks : List Kind) where
   abbrev Q : Program
@@ -140,9 +95,6 @@ module _ (P : Program) where
       ap body (tidy_same P make g.kinds g.body)
       ∙ ap (λ (f : Left → State → Outcome ℕ). then_do (run P make g.kinds g.body rs t) f) (results_same g)
 
-  turn_same : (t : State) (f g : State → Outcome ℕ) → ((u : State) → f u ≡ g u) → turn t f ≡ turn t g
-  turn_same t f g h = let p : ◌≡◌ {A = State → Outcome ℕ} f g = λ i u. h u i in ap (turn t) p
-
   call_same : (d f : ℕ) (args : List ℕ) (t : State) → call (tidy_program P) d f args t ≡ call P d f args t
   call_same zero f args t = refl
   call_same (suc d) f args t =
@@ -155,14 +107,6 @@ pub tidy_means : (P : Program) (n : ℕ) → means (tidy_program P) n ≡ means 
 tidy_means P n = ap told (call_same P n 0 [] (opening n))
 
 -- ---- all that it names
-
-and_true : (b : Bool) → (b && true) ≡ b
-and_true true = refl
-and_true false = refl
-
-and_regroup : (a b c : Bool) → (a && (b && c)) ≡ ((a && b) && c)
-and_regroup true b c = refl
-and_regroup false b c = refl
 
 module _ (P : Program) (ks : List Kind) where
   abbrev S : Program

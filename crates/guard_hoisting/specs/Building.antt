@@ -1,12 +1,12 @@
--- Scoped code under construction, in the words of the definitions.
-use Rattle.std.specs.Prelude.{◌≡◌, ℕ, suc, nat_eq, nat_lt, Bool, true, false, cond, List, [], ◌∷◌, length, Option, Some, None}
+-- Tables over the registers of a loop, in the words of the definitions.
+use Rattle.std.specs.Prelude.{◌≡◌, ℕ, suc, nat_eq, nat_lt, cond, List, [], ◌∷◌, length, Option, Some, None}
 use Rattle.std.specs.HashMap.{HashMap, get}
 use Rattle.std.specs.HashSet.{HashSet, contains}
 use Rattle.std.specs.declared.hash.FoldHasher.{FoldHasher}
 use Rattle.std.specs.declared.hash.BuildHasherDefault.{BuildHasherDefault}
 use Rattle.std.specs.declared.vec.Vec.{Vec}
 use Rattle.std.specs.declared.alloc.Global.{Global}
-use Rattle.middle_form.specs.Scoped.{Code, Do, Load, Store, LoadBy, StoreBy, Aim, Leave, Loose, Call, Fail, Exit}
+use Rattle.middle_form.specs.Scoped.{Code}
 use Rattle.guard_hoisting.specs.declared.ways.Use.{Use}
 use Rattle.guard_hoisting.specs.declared.ways.Way.{Way}
 use Rattle.guard_hoisting.specs.Ways.{assigns, is_through}
@@ -15,21 +15,6 @@ use Rattle.guard_hoisting.specs.Ways.{assigns, is_through}
 abbrev pub listed : Option (Vec Way Global) → Option (List Way)
 listed None = None
 listed (Some v) = Some v.items
-
--- code that has no other code in it
-abbrev pub is_straight : Code → Bool
-is_straight (Do o) = true
-is_straight (Load to s r off disp) = true
-is_straight (Store s r off disp from) = true
-is_straight (LoadBy to s r off disp) = true
-is_straight (StoreBy s r off disp from) = true
-is_straight (Aim s r off disp) = true
-is_straight (Leave s) = true
-is_straight (Loose s) = true
-is_straight (Call to f args) = true
-is_straight (Fail a) = true
-is_straight (Exit k) = true
-is_straight _ = false
 
 -- the place of the first of these uses that is of register r, or that behind them
 abbrev pub place_through : ℕ → List Use → ℕ

@@ -1,14 +1,15 @@
 -- What is promised of programs out of whose loops guards were taken.
-use Rattle.std.specs.Prelude.{◌≡◌, ◌≤◌, ℕ, Bool, true, List, [], Option, All}
+use Rattle.std.specs.Prelude.{◌≡◌, ◌≤◌, ℕ, Bool, List, [], Option, All}
 use Rattle.code_form.specs.declared.form.Fact.{Fact}
 use Rattle.code_form.specs.declared.form.Kind.{Kind}
 use Rattle.middle_form.specs.Discipline.{IsScoped}
 use Rattle.middle_form.specs.Guarded.{asks, is_guarded_program}
 use Rattle.middle_form.specs.Meaning.{means}
-use Rattle.middle_form.specs.Scoped.{Code, Load, Store, LoadBy, StoreBy, Aim, Then, Choose, Loop, Block, Function, Program, plain, plain_program}
+use Rattle.middle_form.specs.Scoped.{Code, Function, Program, plain, plain_program}
 use Rattle.middle_form.specs.ScopedMeaning.{scoped_means}
 use Rattle.middle_form.specs.WellFormed.{is_well_formed}
-use Rattle.scope_placement.specs.Placed.{in_order}
+use Rattle.scoped_building.specs.Building.{in_order}
+use Rattle.scoped_building.specs.Places.{AllPlaces}
 use Rattle.guard_hoisting.specs.Hoisted.{hoisted, hoisted_program}
 
 -- without its scopes it means what it did, within every number of turns
@@ -35,20 +36,7 @@ StaysGuarded = (P : Program) → is_guarded_program (plain_program (hoisted_prog
 abbrev pub AsksTheSame : Type 0
 AsksTheSame = (ks : List Kind) (a : Code) (w : List Fact) → asks (plain (in_order (hoisted ks a []))) w ≡ asks (plain a) w
 
--- what holds of each place that code loads, stores or aims at: a register, where it has one that of the offset, and the displacement
-abbrev pub AllPlaces : (ℕ → Option ℕ → ℕ → Bool) → Code → Type 0
-AllPlaces Q (Load to s r off disp) = Q r off disp ≡ true
-AllPlaces Q (Store s r off disp from) = Q r off disp ≡ true
-AllPlaces Q (LoadBy to s r off disp) = Q r off disp ≡ true
-AllPlaces Q (StoreBy s r off disp from) = Q r off disp ≡ true
-AllPlaces Q (Aim s r off disp) = Q r off disp ≡ true
-AllPlaces Q (Then a b) = AllPlaces Q a × AllPlaces Q b
-AllPlaces Q (Choose c a b) = AllPlaces Q a × AllPlaces Q b
-AllPlaces Q (Loop test c body) = AllPlaces Q test × AllPlaces Q body
-AllPlaces Q (Block a) = AllPlaces Q a
-AllPlaces Q _ = Unit {0}
-
--- it holds of what comes in place of the code: nothing is aimed at that was not
+-- what holds of each place that code loads, stores or aims at holds of what comes in place of the code: nothing is aimed at that was not
 abbrev pub KeepsThePlaces : Type 0
 KeepsThePlaces = (Q : ℕ → Option ℕ → ℕ → Bool) (ks : List Kind) (a : Code) → AllPlaces Q a → AllPlaces Q (in_order (hoisted ks a []))
 

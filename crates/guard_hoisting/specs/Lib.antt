@@ -2,4 +2,3 @@ pub mod Building
 pub mod Hoisted
 pub mod Laws
 pub mod Ways
-pub mod Worked

@@ -1,19 +1,19 @@
 //! The program out of whose loops guards are taken.
 ghost use Rattle.code_form.specs.declared.form.Kind.{Kind as KindForm};
-ghost use Rattle.guard_hoisting.specs.Building.{is_straight, listed};
+ghost use Rattle.scoped_building.specs.Building.{codes, in_order, is_straight};
+ghost use Rattle.guard_hoisting.specs.Building.{listed};
 ghost use Rattle.guard_hoisting.specs.Hoisted.{hoisted, hoisted_function, hoisted_program, inside, most_served, open_behind, served_inside, ways_behind as ways_behind_of};
 ghost use Rattle.middle_form.specs.Scoped.{Loop as ScopedLoop};
 ghost use Rattle.middle_form.specs.ScopedViews.{scoped_code_of, scoped_function_of, scoped_program_of};
-ghost use Rattle.scope_placement.specs.Building.{codes};
-ghost use Rattle.scope_placement.specs.Placed.{in_order};
 ghost use Rattle.std.specs.List.{filter};
 ghost use Rattle.std.specs.Prelude.{◌≡◌, ◌≤◌, ◌++◌, ◌==◌, ℕ, [], IfOk, IfSome, List, OnOk, length, map, max, not, true};
 
 use crate::choosing::ways_for;
-use crate::moving::{choice, lift, put, repetition};
+use crate::moving::lift;
 use crate::ways::Way;
 use code_form::Kind;
 use middle_form::{Scoped, ScopedCode, ScopedFunction};
+use scoped_building::{choice, map_functions, put, repetition};
 use std::alloc::{AllocError, Global};
 
 /// The scopes of a function while its loops are looked at.
@@ -200,20 +200,6 @@ fn hoist_function(alloc: Global, function: ScopedFunction) -> Result<ScopedFunct
     })
 }
 
-/// All functions.
-fn hoist_functions(
-    alloc: Global,
-    functions: Vec<ScopedFunction>,
-) -> Result<Vec<ScopedFunction>, AllocError>
-    ensures { IfOk result (λ v. map scoped_function_of v.items ≡ map hoisted_function (map scoped_function_of functions.items)) }
-{
-    let mut made = Vec::new(alloc);
-    for function in functions {
-        made.push(hoist_function(alloc, function)?)?;
-    }
-    Ok(made)
-}
-
 /// The program with the scopes of its loops opened before them and left behind them; the page of this crate says which loops, and which scope serves
 /// what. It means what it did, and keeps the discipline of scopes where it did; a function has at most four scopes where it had no more. The only error
 /// is that of memory, and nothing is kept behind it.
@@ -225,7 +211,13 @@ pub fn hoist(alloc: Global, scoped: Scoped) -> Result<Scoped, AllocError>
         layouts,
         functions,
     } = scoped;
-    let functions = hoist_functions(alloc, functions)?;
+    let functions = map_functions(
+        alloc,
+        functions,
+        |function|
+            ensures { IfOk result (λ g. scoped_function_of g ≡ hoisted_function (scoped_function_of function)) }
+        { hoist_function(alloc, function) },
+    )?;
     Ok(Scoped {
         texts,
         layouts,

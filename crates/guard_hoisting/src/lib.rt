@@ -18,7 +18,6 @@ mod ways;
 
 pub use hoisting::hoist;
 pub use laws::{
-    computed, hoisted_has_few_scopes, hoisted_is_guarded, hoisted_is_scoped,
-    hoisted_is_well_formed, hoisted_keeps_the_meaning, hoisted_keeps_the_places,
-    hoisted_means_the_same,
+    hoisted_has_few_scopes, hoisted_is_guarded, hoisted_is_scoped, hoisted_is_well_formed,
+    hoisted_keeps_the_meaning, hoisted_keeps_the_places, hoisted_means_the_same,
 };

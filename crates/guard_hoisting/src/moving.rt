@@ -1,49 +1,13 @@
 //! A loop with its scopes, opened before it and left behind it.
-ghost use Rattle.guard_hoisting.specs.Building.{is_straight};
+ghost use Rattle.scoped_building.specs.Building.{codes, in_order, is_straight};
 ghost use Rattle.guard_hoisting.specs.Hoisted.{closings, lifted, load_as, moved, opening as opening_of, openings, store_as};
-ghost use Rattle.middle_form.specs.Scoped.{Choose as ScopedChoose, Loop as ScopedLoop};
 ghost use Rattle.middle_form.specs.ScopedViews.{scoped_code_of};
-ghost use Rattle.scope_placement.specs.Building.{codes};
-ghost use Rattle.scope_placement.specs.Placed.{in_order};
 ghost use Rattle.std.specs.Prelude.{◌≡◌, ◌≤◌, ◌++◌, ◌∷◌, [], IfOk, OnOk, length, true};
 
 use crate::ways::{Way, scope_for, way_at};
 use middle_form::ScopedCode;
+use scoped_building::{choice, put, repetition};
 use std::alloc::{AllocError, Global};
-
-/// One part more.
-pub(crate) fn put(parts: &mut Vec<ScopedCode>, part: ScopedCode) -> Result<(), AllocError>
-    ensures { OnOk result (codes parts.new.items ≡ codes parts.old.items ++ scoped_code_of part ∷ []) }
-{
-    parts.push(part)?;
-    Ok(())
-}
-
-/// A choice.
-pub(crate) fn choice(
-    condition: u32,
-    then_code: Box<ScopedCode>,
-    else_code: Box<ScopedCode>,
-) -> ScopedCode
-    ensures { scoped_code_of result ≡ ScopedChoose condition (scoped_code_of then_code.value) (scoped_code_of else_code.value) }
-{
-    ScopedCode::Choose {
-        condition,
-        then_code,
-        else_code,
-    }
-}
-
-/// A loop.
-pub(crate) fn repetition(test: Box<ScopedCode>, condition: u32, body: Box<ScopedCode>) -> ScopedCode
-    ensures { scoped_code_of result ≡ ScopedLoop (scoped_code_of test.value) condition (scoped_code_of body.value) }
-{
-    ScopedCode::Loop {
-        test,
-        condition,
-        body,
-    }
-}
 
 /// A load by a scope that serves in this way.
 fn load(

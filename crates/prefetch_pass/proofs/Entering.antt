@@ -14,14 +14,11 @@ use Rattle.code_form.specs.declared.form.Operation.TheVariants.{Binary, CheckInd
 use Rattle.code_form.specs.Code.{is_register}
 use Rattle.code_form.specs.Known.{written_by}
 use Rattle.middle_form.specs.Scoped.{Code, Do, Load, LoadBy, Call, Then, Choose, Loop, Block}
+use Rattle.scoped_building.proofs.Tests.{or_false}
 use Rattle.prefetch_pass.specs.Gathered.{AreRaised, HasJust, Marks, each_of, has_checks, is_check}
 use Rattle.prefetch_pass.specs.Raised.{changes_of, changes_with, is_among, is_each, is_raise, is_raised, is_raised_by, is_step, is_sum, noted_where, offsets_with, raised_in, summands_with, with_offset, with_summand}
 
 -- ---- registers among others
-
-or_false : (b : Bool) → b || false ≡ b
-or_false true = refl
-or_false false = refl
 
 or_assoc : (a b c : Bool) → a || (b || c) ≡ (a || b) || c
 or_assoc true b c = refl

@@ -1,10 +1,10 @@
 -- Hints in code in order, and in code that has no other code in it.
 use Rattle.std.proofs.Common.{◌≡◌, ℕ, true, Option, List, [], ◌∷◌, map, refl, ap}
 use Rattle.middle_form.specs.Scoped as s
-use Rattle.middle_form.specs.ScopedViews.{scoped_code_of, scoped_row_of}
-use Rattle.middle_form.specs.declared.scoped.ScopedCode.{ScopedCode, Row_of-ScopedCode, end_of-ScopedCode, more_of-ScopedCode, Sequence', Do, Load, Store, LoadBy, StoreBy, Aim, Leave, Loose, Call, Fail, Choose', Loop', Block', Exit}
-use Rattle.scope_placement.specs.Placed.{in_order}
-use Rattle.guard_hoisting.specs.Building.{is_straight}
+use Rattle.middle_form.specs.ScopedViews.{scoped_code_of}
+use Rattle.middle_form.specs.declared.scoped.ScopedCode.{ScopedCode, Sequence', Do, Load, Store, LoadBy, StoreBy, Aim, Leave, Loose, Call, Fail, Choose', Loop', Block', Exit}
+use Rattle.scoped_building.specs.Building.{in_order, is_straight}
+use Rattle.scoped_building.proofs.Rows.{row_is_not_straight}
 use Rattle.prefetch_pass.specs.Prefetched.{hinted}
 
 pub hinted_in_order : (cells : ℕ) (ds : List ℕ) (cs : List s.Code) → in_order (map (hinted cells ds) cs) ≡ hinted cells ds (in_order cs)
@@ -14,10 +14,6 @@ hinted_in_order cells ds (x ∷ rest) = ap (s.Then (hinted cells ds x)) (hinted_
 pub map_same : {A : Type 0} (xs : List A) → map (λ (y : A). y) xs ≡ xs
 map_same [] = refl
 map_same (x ∷ xs) = ap (λ rest. x ∷ rest) (map_same xs)
-
-row_is_not_straight : {n : _} (k : Row_of-ScopedCode n) → is_straight (scoped_row_of k) ≡ true → ⊥
-row_is_not_straight end_of-ScopedCode e = cc e
-row_is_not_straight (more_of-ScopedCode a rest) e = cc e
 
 -- it stays as it is, but for loads and stores
 pub hinted_alone : (cells : ℕ) (ds : List ℕ) (a : ScopedCode) → ((to z r : ℕ) (off : Option ℕ) (disp : ℕ) → a ≡ Load to z r off disp → ⊥) → ((z r : ℕ) (off : Option ℕ) (disp from : ℕ) → a ≡ Store z r off disp from → ⊥)

@@ -11,16 +11,15 @@ use Rattle.code_form.specs.Effects.{with_cell}
 use Rattle.code_form.specs.Code.{Fails, Tells, can_use, cell_kind, has, if_zero, offset, on_kind, place_fits, wanted}
 use Rattle.middle_form.specs.Form as m
 use Rattle.middle_form.specs.Guarded.{asks, is_guarded, is_guarded_function, is_guarded_program, is_nothing_asked, joined, uses_pointers}
-use Rattle.middle_form.specs.Meaning.{Outcome, Registers, State, Left, behind, call, called, cell_at, entered, falls, first_registers, loop, means, on, opening, operated, result_of, run, then_do, told, turn, where_so}
+use Rattle.middle_form.specs.Meaning.{Outcome, Registers, State, Left, behind, call, called, cell_at, entered, falls, first_registers, loop, means, on, opening, operated, result_of, run, then_do, told, where_so}
 use Rattle.middle_form.specs.Scoped.{Code, Nothing, Do, Load, Store, LoadBy, StoreBy, Aim, Leave, Loose, Call, Fail, Then, Choose, Loop, Block, Exit, Function, Program, plain, plain_function, plain_program}
 use Rattle.middle_form.specs.WellFormed.{all_fit, callee_fits, code_fits, function_fits, is_well_formed, main_fits, result_fits}
+use Rattle.scoped_building.proofs.Runs.{Run, turn_same}
+use Rattle.scoped_building.proofs.Tests.{and_true}
 use Rattle.prefetch_pass.specs.Prefetched.{hinted, hinted_for, prefetched_function, prefetched_program, with_hint}
 use Rattle.prefetch_pass.specs.Raised.{is_among, offsets_with}
 
 -- ---- what it means
-
-abbrev Run : Type 0
-Run = Registers → State → Outcome Left
 
 -- a hint behind an access, whose place fits where the access is not stuck
 hint_idle : (b c : Bool) (w : Registers → State → Option (ℕ × ℕ)) (rs : Registers) (t : State)
@@ -28,10 +27,6 @@ hint_idle : (b c : Bool) (w : Registers → State → Option (ℕ × ℕ)) (rs :
 hint_idle true true w rs t = refl
 hint_idle true false w rs t = refl
 hint_idle false c w rs t = refl
-
-and_true : (b : Bool) → (b && true) ≡ b
-and_true true = refl
-and_true false = refl
 
 and_idle : (b c : Bool) → ((b && c) && (b && true)) ≡ (b && c)
 and_idle true true = refl
@@ -146,9 +141,6 @@ module _ (cells : ℕ) where
         let body : Run → Outcome ℕ = λ f. then_do (f rs t) (result_of (is g)) in
         ap body (hints_same P make g.kinds _ g.body)
         ∙ ap (λ (f : Left → State → Outcome ℕ). then_do (run before make g.kinds (plain g.body) rs t) f) (results_same g)
-
-    turn_same : (t : State) (f g : State → Outcome ℕ) → ((u : State) → f u ≡ g u) → turn t f ≡ turn t g
-    turn_same t f g h = let p : ◌≡◌ {A = State → Outcome ℕ} f g = λ i u. h u i in ap (turn t) p
 
     call_same : (d f : ℕ) (args : List ℕ) (t : State) → call hints d f args t ≡ call before d f args t
     call_same zero f args t = refl

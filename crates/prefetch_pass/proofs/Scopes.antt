@@ -5,8 +5,8 @@ use Rattle.std.proofs.lemmas.List.Elements.{All-map}
 use Rattle.code_form.specs.declared.form.Kind.{Kind}
 use Rattle.middle_form.specs.Discipline.{AreShut, Brings, IsDisciplined, IsScoped, IsScopedFunction, Table, after, at_entry, join, stays, touches, writes}
 use Rattle.middle_form.specs.Scoped.{Code, Nothing, Do, Load, Store, LoadBy, StoreBy, Aim, Leave, Loose, Call, Fail, Then, Choose, Loop, Block, Exit, Function, Program}
-use Rattle.guard_hoisting.specs.Laws.{AllPlaces}
-use Rattle.guard_hoisting.proofs.Tests.{or_false}
+use Rattle.scoped_building.proofs.Tests.{or_false}
+use Rattle.scoped_building.specs.Places.{AllPlaces}
 use Rattle.prefetch_pass.specs.Prefetched.{hinted, hinted_for, prefetched_function, prefetched_program, with_hint}
 use Rattle.prefetch_pass.specs.Raised.{is_among}
 

@@ -7,7 +7,7 @@ use Rattle.middle_form.specs.Meaning.{means}
 use Rattle.middle_form.specs.Scoped.{Code, Function, Program, plain, plain_program}
 use Rattle.middle_form.specs.ScopedMeaning.{scoped_means}
 use Rattle.middle_form.specs.WellFormed.{is_well_formed}
-use Rattle.guard_hoisting.specs.Laws.{AllPlaces}
+use Rattle.scoped_building.specs.Places.{AllPlaces}
 use Rattle.prefetch_pass.specs.Prefetched.{hinted, prefetched_program}
 
 -- without its scopes it means what it did, within every number of turns

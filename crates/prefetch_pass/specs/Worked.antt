@@ -4,7 +4,7 @@ use Rattle.cells.specs.declared.int32.Int32Op.TheVariants.{Add, Sub}
 use Rattle.code_form.specs.declared.form.Operation.TheVariants.{Binary, CheckIndex, Compare, Const, Move, Prefetch}
 use Rattle.code_form.specs.declared.form.Relation.TheVariants as relation
 use Rattle.middle_form.specs.Scoped.{Code, Do, Load, Loop, Store}
-use Rattle.scope_placement.specs.Placed.{in_order}
+use Rattle.scoped_building.specs.Building.{in_order}
 use Rattle.prefetch_pass.specs.Prefetched.{hinted}
 use Rattle.prefetch_pass.specs.Raised.{offsets_with}
 

@@ -2,7 +2,7 @@
 ghost use Rattle.cells.specs.Pieces.{cells_in};
 ghost use Rattle.middle_form.specs.ScopedViews.{scoped_code_of, scoped_function_of, scoped_program_of};
 ghost use Rattle.prefetch_pass.specs.Prefetched.{hinted, hinted_for, prefetched_function, prefetched_program, with_hint as with_hint_of};
-ghost use Rattle.guard_hoisting.specs.Building.{is_straight};
+ghost use Rattle.scoped_building.specs.Building.{is_straight};
 ghost use Rattle.std.specs.Prelude.{◌≡◌, ◌<◌, ◌+◌, IfOk, map, true};
 
 use crate::members::{Members, is_among, members_of};
@@ -10,6 +10,7 @@ use crate::offsets::offsets_of;
 use cells::Piece;
 use code_form::Operation;
 use middle_form::{Scoped, ScopedCode, ScopedFunction};
+use scoped_building::map_functions;
 use std::alloc::{AllocError, Global};
 
 /// A load or a store, and behind it a hint for the cell so many further on.
@@ -179,21 +180,6 @@ fn prefetch_function(
     })
 }
 
-/// All functions.
-fn prefetch_functions(
-    alloc: Global,
-    functions: Vec<ScopedFunction>,
-    ahead: u32,
-) -> Result<Vec<ScopedFunction>, AllocError>
-    ensures { IfOk result (λ v. map scoped_function_of v.items ≡ map (prefetched_function ahead) (map scoped_function_of functions.items)) }
-{
-    let mut made = Vec::new(alloc);
-    for function in functions {
-        made.push(prefetch_function(alloc, function, ahead)?)?;
-    }
-    Ok(made)
-}
-
 /// The program with a hint for the cell one piece further on behind each load and each store of an element at an index that is only raised in its loop; the
 /// page of this crate says which those are. It means what it did, and keeps the discipline of scopes where it did. The only error is that of memory, and
 /// nothing is kept behind it.
@@ -205,7 +191,14 @@ pub fn prefetch(alloc: Global, scoped: Scoped, piece: Piece) -> Result<Scoped, A
         layouts,
         functions,
     } = scoped;
-    let functions = prefetch_functions(alloc, functions, piece.cells() as u32)?;
+    let ahead = piece.cells() as u32;
+    let functions = map_functions(
+        alloc,
+        functions,
+        move |function|
+            ensures { IfOk result (λ g. scoped_function_of g ≡ prefetched_function ahead (scoped_function_of function)) }
+        { prefetch_function(alloc, function, ahead) },
+    )?;
     Ok(Scoped {
         texts,
         layouts,

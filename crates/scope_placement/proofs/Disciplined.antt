@@ -12,7 +12,9 @@ use Rattle.code_form.specs.Known.{Knows, Unknown, KnownShut, forget, written_by}
 use Rattle.middle_form.specs.Form as m
 use Rattle.middle_form.specs.Scoped.{Code, Do, Call, Choose, Loop, Block, Exit}
 use Rattle.middle_form.specs.Discipline.{Brings, IsDisciplined, IsScoped, IsScopedFunction, Table, after, at_entry, wrote}
-use Rattle.scope_placement.specs.Placed.{Open, in_order, leaves, leaves_from, most_open, open_among, open_behind, open_with, placed, placed_function, placed_program, scope_among, scope_for, whole}
+use Rattle.scoped_building.specs.Building.{in_order}
+use Rattle.scoped_building.proofs.Orders.{after_append, append_kept}
+use Rattle.scope_placement.specs.Placed.{Open, leaves, leaves_from, most_open, open_among, open_behind, open_with, placed, placed_function, placed_program, scope_among, scope_for, whole}
 
 -- what is known in a run: nothing of the scopes that are open, and that the others are shut
 abbrev pub at : Open → Table
@@ -156,10 +158,6 @@ at_shut (q ∷ rs) (suc u) = more (at_shut rs u)
 ended : (rs : Open) → ◌≡◌ {A = Table} (after (in_order (leaves rs)) (at rs)) at_entry
 ended rs = λ i u. left_shut rs 0 (at rs) u (at_shut rs u) i
 
-after_append : (xs ys : List Code) (k : Table) → ◌≡◌ {A = Table} (after (in_order (xs ++ ys)) k) (after (in_order ys) (after (in_order xs) k))
-after_append [] ys k = refl
-after_append (x ∷ xs) ys k = after_append xs ys (after x k)
-
 after_leaves : (rs : Open) (c : Code) → ◌≡◌ {A = Table} (after (in_order (leaves rs ++ c ∷ [])) (at rs)) (after c at_entry)
 after_leaves rs c = after_append (leaves rs) (c ∷ []) (at rs) ∙ ap (after c) (ended rs)
 
@@ -206,22 +204,18 @@ module _ (ks : List Kind) (n : ℕ) where
   abbrev D : List Table → Code → Table → Type 0
   D fs a k = IsDisciplined ks n fs a k
 
-  append_kept : (fs : List Table) (xs ys : List Code) (k : Table) → D fs (in_order xs) k → D fs (in_order ys) (after (in_order xs) k) → D fs (in_order (xs ++ ys)) k
-  append_kept fs [] ys k p q = q
-  append_kept fs (x ∷ xs) ys k p q = (p.0, append_kept fs xs ys (after x k) p.1 q)
-
   leaves_kept : (fs : List Table) (s : ℕ) (rs : Open) (k : Table) → s + length rs ≤ n → D fs (in_order (leaves_from s rs)) k
   leaves_kept fs s [] k l = tt
   leaves_kept fs s (q ∷ rs) k l = (omega arith, leaves_kept fs (suc s) rs (upd k s KnownShut) (omega arith))
 
   behind_kept : (fs : List Table) (rs : Open) (c : Code) → length rs ≤ n → D fs c at_entry → D fs (in_order (leaves rs ++ c ∷ [])) (at rs)
   behind_kept fs rs c l p =
-      append_kept fs (leaves rs) (c ∷ []) (at rs) (leaves_kept fs 0 rs (at rs) (omega arith)) (subst (D fs (in_order (c ∷ []))) (sym (ended rs)) (p, tt))
+      append_kept ks n fs (leaves rs) (c ∷ []) (at rs) (leaves_kept fs 0 rs (at rs) (omega arith)) (subst (D fs (in_order (c ∷ []))) (sym (ended rs)) (p, tt))
 
   whole_kept : (fs : List Table) (a : m.Code) → most_open a [] ≤ n → D fs (in_order (placed a [])) at_entry → D fs (whole a) at_entry
   whole_kept fs a h p =
       let l : length (open_behind a []) ≤ n = within a [] n (omega arith) h in
-      append_kept fs (placed a []) (leaves (open_behind a [])) at_entry p (leaves_kept fs 0 (open_behind a []) (after (in_order (placed a [])) at_entry) (omega arith))
+      append_kept ks n fs (placed a []) (leaves (open_behind a [])) at_entry p (leaves_kept fs 0 (open_behind a []) (after (in_order (placed a [])) at_entry) (omega arith))
 
   placed_kept : (a : m.Code) (rs : Open) (fs : List Table) → length rs ≤ 4 → length rs ≤ n → most_open a rs ≤ n → AskShut fs → D fs (in_order (placed a rs)) (at rs)
   placed_kept m.Nothing rs fs f l h e = tt
@@ -237,7 +231,7 @@ module _ (ks : List Kind) (n : ℕ) where
   placed_kept (m.Then a b) rs fs f l h e =
       let x : most_open a rs ≤ n = omega arith in
       let y : most_open b (open_behind a rs) ≤ n = omega arith in
-      append_kept fs (placed a rs) (placed b (open_behind a rs)) (at rs) (placed_kept a rs fs f l x e)
+      append_kept ks n fs (placed a rs) (placed b (open_behind a rs)) (at rs) (placed_kept a rs fs f l x e)
       (subst (D fs (in_order (placed b (open_behind a rs)))) (sym (after_placed a rs f)) (placed_kept b (open_behind a rs) fs (few_behind a rs f) (within a rs n l x) y e))
   placed_kept (m.Choose c a b) rs fs f l h e =
       let x : most_open a [] ≤ n = omega arith in

@@ -14,16 +14,10 @@ use Rattle.middle_form.specs.Form as m
 use Rattle.middle_form.specs.Guarded.{asks, is_guarded, is_guarded_function, is_guarded_program, is_nothing_asked, joined, uses_pointers}
 use Rattle.middle_form.specs.Scoped.{Code, Do, Load, Store, Call, Fail, Choose, Loop, Block, Exit, plain, plain_function, plain_program}
 use Rattle.middle_form.specs.WellFormed.{all_fit, callee_fits, code_fits, function_fits, is_well_formed, main_fits, result_fits}
-use Rattle.scope_placement.specs.Placed.{Open, in_order, leaves, leaves_from, open_behind, placed, placed_function, placed_program, scope_for, whole}
+use Rattle.scoped_building.specs.Building.{in_order}
+use Rattle.scoped_building.proofs.Tests.{and_regroup, and_true}
+use Rattle.scope_placement.specs.Placed.{Open, leaves, leaves_from, open_behind, placed, placed_function, placed_program, scope_for, whole}
 use Rattle.scope_placement.proofs.Same.{again, get_again}
-
-and_true : (b : Bool) → (b && true) ≡ b
-and_true true = refl
-and_true false = refl
-
-and_regroup : (a b c : Bool) → (a && (b && c)) ≡ ((a && b) && c)
-and_regroup true b c = refl
-and_regroup false b c = refl
 
 -- ---- all that it names
 

@@ -2,12 +2,12 @@
 use Rattle.std.proofs.Common.{◌≡◌, ◌≢◌, ℕ, zero, suc, ◌+◌, ◌-◌, ◌<◌, ◌≤◌, Bool, true, false, cond, List, [], ◌∷◌, ◌++◌, length, get_or, drop, refl, sym, ap, ◌∙◌, arith, append_assoc}
 use Rattle.std.specs.Prelude.{◌==◌, slice_set}
 use Rattle.std.proofs.lemmas.Bool.{eq-eqb, eqb-true, ne_eqb}
-use Rattle.std.proofs.lemmas.List.{map-append}
 use Rattle.middle_form.specs.declared.scoped.ScopedCode.{ScopedCode}
 use Rattle.middle_form.specs.declared.scoped.ScopedCode as scoped
 use Rattle.middle_form.specs.Scoped.{Code, Leave}
-use Rattle.middle_form.specs.ScopedViews.{scoped_code_of}
-use Rattle.scope_placement.specs.Building.{codes}
+use Rattle.scoped_building.specs.Building.{codes}
+use Rattle.scoped_building.proofs.Rows.{codes_push}
+use Rattle.scoped_building.proofs.Tests.{nil_right}
 use Rattle.scope_placement.specs.Placed.{Open, leaves_from, open_among, scope_among}
 
 -- ---- the register at place i, for which k scopes and one more are left
@@ -81,9 +81,6 @@ open_new (suc k) r (q ∷ rs) le = by_test (λ l. open_new k r rs l) (r == q) le
 
 -- ---- the leaves of a run
 
-pub codes_push : (parts : List ScopedCode) (part : ScopedCode) → codes (parts ++ part ∷ []) ≡ codes parts ++ scoped_code_of part ∷ []
-codes_push parts part = map-append scoped_code_of parts (part ∷ [])
-
 leaves_at : (s : ℕ) (rs : Open) (i : ℕ) → i < length rs → leaves_from s (drop i rs) ≡ Leave s ∷ leaves_from (suc s) (drop (suc i) rs)
 leaves_at s [] i lt = absurd (let z : ⊥ = omega arith in z)
 leaves_at s (q ∷ rs) zero lt = refl
@@ -102,10 +99,6 @@ leaves_past s [] zero le = refl
 leaves_past s [] (suc i) le = refl
 leaves_past s (q ∷ rs) zero le = absurd (let z : ⊥ = omega arith in z)
 leaves_past s (q ∷ rs) (suc i) le = leaves_past s rs i (omega arith)
-
-nil_right : (xs : List Code) → xs ++ [] ≡ xs
-nil_right [] = refl
-nil_right (x ∷ xs) = ap (λ (ys : List Code). x ∷ ys) (nil_right xs)
 
 pub leave_last : (rs : Open) (i : ℕ) (parts : List ScopedCode) (all : List Code) → length rs ≤ i → codes parts ++ leaves_from i (drop i rs) ≡ all → codes parts ≡ all
 leave_last rs i parts all le e = sym (nil_right (codes parts)) ∙ (ap (λ xs. codes parts ++ xs) (sym (leaves_past i rs i le)) ∙ e)

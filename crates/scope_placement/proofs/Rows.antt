@@ -8,11 +8,10 @@ use Rattle.middle_form.specs.Views.{code_of, row_of, sequence_of}
 use Rattle.middle_form.specs.declared.form.Code.{Code, Row_of-Code, end_of-Code, more_of-Code, items-the_row-Code, Sequence', Do, Load, Store, Call, Fail, Choose', Loop', Block', Exit, the_lemmas as code_lemmas}
 use Rattle.middle_form.specs.declared.form.Code.TheViews.{Sequence}
 use Rattle.middle_form.specs.Scoped as s
-use Rattle.middle_form.specs.ScopedViews.{scoped_code_of, scoped_row_of}
-use Rattle.middle_form.specs.declared.scoped.ScopedCode.{ScopedCode, Row_of-ScopedCode, end_of-ScopedCode, more_of-ScopedCode, items-the_row-ScopedCode, the_lemmas as scoped_lemmas}
-use Rattle.middle_form.specs.declared.scoped.ScopedCode.TheViews.{Sequence as ScopedSequence}
-use Rattle.scope_placement.specs.Building.{codes, is_straight}
-use Rattle.scope_placement.specs.Placed.{Open, in_order, leaves, most_open, open_behind, placed, whole}
+use Rattle.middle_form.specs.declared.scoped.ScopedCode.{ScopedCode}
+use Rattle.scoped_building.specs.Building.{codes, in_order}
+use Rattle.scope_placement.specs.Building.{is_straight}
+use Rattle.scope_placement.specs.Placed.{Open, leaves, most_open, open_behind, placed, whole}
 
 parts_row : {n : _} (k : Row_of-Code n) → row_of k ≡ sequence_of (items-the_row-Code n k)
 parts_row end_of-Code = refl
@@ -20,13 +19,6 @@ parts_row (more_of-Code a rest) = ap (m.Then (code_of a)) (parts_row rest)
 
 pub sequence_is : (all : Vec Code Global) → code_of (Sequence all) ≡ sequence_of all.items
 sequence_is all = search (rules, code_lemmas, parts_row)
-
-scoped_row : {n : _} (k : Row_of-ScopedCode n) → scoped_row_of k ≡ in_order (codes (items-the_row-ScopedCode n k))
-scoped_row end_of-ScopedCode = refl
-scoped_row (more_of-ScopedCode a rest) = ap (s.Then (scoped_code_of a)) (scoped_row rest)
-
-pub scoped_sequence_is : (all : Vec ScopedCode Global) → scoped_code_of (ScopedSequence all) ≡ in_order (codes all.items)
-scoped_sequence_is all = search (rules, scoped_lemmas, scoped_row)
 
 -- ---- code in order, of which the first part is placed
 

@@ -1,66 +1,18 @@
 -- Code in which scopes are placed means without them what it did.
 use Rattle.std.proofs.Common.{◌≡◌, ℕ, zero, suc, Bool, true, false, cond, Option, Some, None, List, [], ◌∷◌, ◌++◌, refl, ap, ◌∙◌}
-use Rattle.std.specs.Prelude.{map, slice_get, slice_index}
+use Rattle.std.specs.Prelude.{map, slice_get}
 use Rattle.std.specs.Option.{option_map}
 use Rattle.code_form.specs.declared.form.Kind.{Kind}
-use Rattle.code_form.specs.declared.form.Kind.TheVariants as kind
 use Rattle.code_form.specs.declared.form.Operation.{Operation}
 use Rattle.code_form.specs.Form.{Simple}
-use Rattle.code_form.specs.Code.{has, if_zero, needs_shut}
+use Rattle.code_form.specs.Code.{needs_shut}
 use Rattle.middle_form.specs.Form.{Function, Program}
 use Rattle.middle_form.specs.Form as m
-use Rattle.middle_form.specs.Meaning.{Outcome, Done, Stopped, Cut, Stuck, Registers, State, Left, behind, call, called, entered, falls, first_registers, loop, means, on, opening, result_of, run, then_do, told, turn, where_so}
+use Rattle.middle_form.specs.Meaning.{Outcome, State, Left, call, called, entered, first_registers, means, on, opening, result_of, run, then_do, told}
 use Rattle.middle_form.specs.Scoped.{Code, Do, Load, Store, Call, Fail, Choose, Loop, Block, Exit, plain, plain_function, plain_program}
-use Rattle.scope_placement.specs.Placed.{Open, in_order, leaves, leaves_from, open_behind, placed, placed_function, placed_program, scope_for, whole}
-
--- what code does
-abbrev pub Run : Type 0
-Run = Registers → State → Outcome Left
-
-abbrev then_run : Run → Run → Run
-then_run f g rs t = then_do (f rs t) (falls g)
-
-then_on : (o : Outcome Left) → then_do o (falls on) ≡ o
-then_on (Done (zero, rs) t) = refl
-then_on (Done (suc k, rs) t) = refl
-then_on (Stopped x out) = refl
-then_on (Cut out) = refl
-then_on Stuck = refl
-
--- nothing behind
-then_nothing : (f : Run) → ◌≡◌ {A = Run} (then_run f on) f
-then_nothing f = λ i rs t. then_on (f rs t) i
-
-then_again : (o : Outcome Left) (f g : Run) → then_do o (falls (then_run f g)) ≡ then_do (then_do o (falls f)) (falls g)
-then_again (Done (zero, rs) t) f g = refl
-then_again (Done (suc k, rs) t) f g = refl
-then_again (Stopped x out) f g = refl
-then_again (Cut out) f g = refl
-then_again Stuck f g = refl
-
-then_regroup : (e f g : Run) → ◌≡◌ {A = Run} (then_run e (then_run f g)) (then_run (then_run e f) g)
-then_regroup e f g = λ i rs t. then_again (e rs t) f g i
-
-then_same : (f f' g g' : Run) → ◌≡◌ {A = Run} f f' → ◌≡◌ {A = Run} g g' → ◌≡◌ {A = Run} (then_run f g) (then_run f' g')
-then_same f f' g g' p q = λ i. then_run (p i) (q i)
-
-abbrev choose_run : List Kind → ℕ → Run → Run → Run
-choose_run ks c f g rs t = where_so (has ks c kind.Bool) (if_zero (slice_index rs c) (g rs t) (f rs t))
-
-choose_same : (ks : List Kind) (c : ℕ) (f f' g g' : Run) → ◌≡◌ {A = Run} f f' → ◌≡◌ {A = Run} g g' → ◌≡◌ {A = Run} (choose_run ks c f g) (choose_run ks c f' g')
-choose_same ks c f f' g g' p q = λ i. choose_run ks c (p i) (q i)
-
-abbrev loop_run : List Kind → ℕ → Run → Run → Run
-loop_run ks c f g rs t = where_so (has ks c kind.Bool) (then_do (loop f c g t.turns rs t) behind)
-
-loop_same : (ks : List Kind) (c : ℕ) (f f' g g' : Run) → ◌≡◌ {A = Run} f f' → ◌≡◌ {A = Run} g g' → ◌≡◌ {A = Run} (loop_run ks c f g) (loop_run ks c f' g')
-loop_same ks c f f' g g' p q = λ i. loop_run ks c (p i) (q i)
-
-abbrev block_run : Run → Run
-block_run f rs t = then_do (f rs t) behind
-
-block_same : (f f' : Run) → ◌≡◌ {A = Run} f f' → ◌≡◌ {A = Run} (block_run f) (block_run f')
-block_same f f' p = λ i. block_run (p i)
+use Rattle.scoped_building.specs.Building.{in_order}
+use Rattle.scoped_building.proofs.Runs.{Run, block_same, choose_same, loop_same, then_nothing, then_regroup, then_run, then_same, turn_same}
+use Rattle.scope_placement.specs.Placed.{Open, leaves, leaves_from, open_behind, placed, placed_function, placed_program, scope_for, whole}
 
 -- a function with its scopes, without them again
 abbrev pub again : Function → Function
@@ -148,9 +100,6 @@ module _ (P : Program) where
       let body : Run → Outcome ℕ = λ f. then_do (f rs t) (result_of (again g)) in
       ap body (whole_same P make g.kinds g.body (placed_same P make g.kinds g.body []))
       ∙ ap (λ (f : Left → State → Outcome ℕ). then_do (run P make g.kinds g.body rs t) f) (results_same g)
-
-  turn_same : (t : State) (f g : State → Outcome ℕ) → ((u : State) → f u ≡ g u) → turn t f ≡ turn t g
-  turn_same t f g h = let p : ◌≡◌ {A = State → Outcome ℕ} f g = λ i u. h u i in ap (turn t) p
 
   call_same : (d f : ℕ) (args : List ℕ) (t : State) → call (plain_program (placed_program P)) d f args t ≡ call P d f args t
   call_same zero f args t = refl

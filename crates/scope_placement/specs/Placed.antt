@@ -6,7 +6,8 @@ use Rattle.std.specs.Prelude.{ℕ, zero, suc, ◌==◌, max, cond, List, [], ◌
 use Rattle.code_form.specs.Form.{Simple}
 use Rattle.code_form.specs.Code.{needs_shut}
 use Rattle.middle_form.specs.Form as m
-use Rattle.middle_form.specs.Scoped.{Code, Nothing, Do, Load, Store, Leave, Call, Fail, Then, Choose, Loop, Block, Exit, Function, Program}
+use Rattle.middle_form.specs.Scoped.{Code, Do, Load, Store, Leave, Call, Fail, Choose, Loop, Block, Exit, Function, Program}
+use Rattle.scoped_building.specs.Building.{in_order}
 
 -- the registers for which scopes are open in a run: scope 0 for the first, and so on
 abbrev pub Open : Type 0
@@ -46,11 +47,6 @@ abbrev pub leaves : Open → List Code
 leaves rs = leaves_from 0 rs
 
 -- ---- code
-
--- code in order
-abbrev pub in_order : List Code → Code
-in_order [] = Nothing
-in_order (a ∷ rest) = Then a (in_order rest)
 
 -- for which registers scopes are open behind code
 abbrev pub open_behind : m.Code → Open → Open

@@ -3,7 +3,7 @@ use Rattle.std.specs.Prelude.{[], ◌∷◌, None}
 use Rattle.middle_form.specs.Form as m
 use Rattle.middle_form.specs.Samples as sample
 use Rattle.middle_form.specs.Scoped.{Code, Call, Leave, Load}
-use Rattle.scope_placement.specs.Placed.{in_order}
+use Rattle.scoped_building.specs.Building.{in_order}
 
 -- two loads through register 3: one scope, and one leave
 abbrev pub shared : m.Code

@@ -2,25 +2,18 @@
 ghost use Rattle.code_form.specs.Code.{needs_shut};
 ghost use Rattle.code_form.specs.Form.{Simple};
 ghost use Rattle.middle_form.specs.Form.{Do, Load, Store};
-ghost use Rattle.middle_form.specs.Scoped.{Choose as ScopedChoose, Loop as ScopedLoop};
 ghost use Rattle.middle_form.specs.ScopedViews.{scoped_code_of, scoped_function_of, scoped_program_of};
 ghost use Rattle.middle_form.specs.Views.{code_of, function_of, program_of};
-ghost use Rattle.scope_placement.specs.Building.{codes, is_straight};
+ghost use Rattle.scoped_building.specs.Building.{codes};
+ghost use Rattle.scope_placement.specs.Building.{is_straight};
 ghost use Rattle.scope_placement.specs.Placed.{leaves, most_open, open_behind, placed, placed_function, placed_program, whole};
 ghost use Rattle.std.specs.Prelude.{◌≡◌, ◌≤◌, ◌++◌, ◌∷◌, [], IfOk, OnOk, length, map, max, true};
 
 use crate::runs::{Run, access, end};
 use code_form::Operation;
 use middle_form::{Code, Function, Middle, Scoped, ScopedCode, ScopedFunction};
+use scoped_building::{choice, map_functions, put, repetition};
 use std::alloc::{AllocError, Global};
-
-/// One part more.
-fn put(parts: &mut Vec<ScopedCode>, part: ScopedCode) -> Result<(), AllocError>
-    ensures { OnOk result (codes parts.new.items ≡ codes parts.old.items ++ scoped_code_of part ∷ []) }
-{
-    parts.push(part)?;
-    Ok(())
-}
 
 /// The end of a run, and one part more.
 fn end_with(parts: &mut Vec<ScopedCode>, run: &mut Run, part: ScopedCode) -> Result<(), AllocError>
@@ -154,28 +147,6 @@ fn place_straight(code: Code, parts: &mut Vec<ScopedCode>, run: &mut Run) -> Res
     }
 }
 
-/// A choice.
-fn choice(condition: u32, then_code: Box<ScopedCode>, else_code: Box<ScopedCode>) -> ScopedCode
-    ensures { scoped_code_of result ≡ ScopedChoose condition (scoped_code_of then_code.value) (scoped_code_of else_code.value) }
-{
-    ScopedCode::Choose {
-        condition,
-        then_code,
-        else_code,
-    }
-}
-
-/// A loop.
-fn repetition(test: Box<ScopedCode>, condition: u32, body: Box<ScopedCode>) -> ScopedCode
-    ensures { scoped_code_of result ≡ ScopedLoop (scoped_code_of test.value) condition (scoped_code_of body.value) }
-{
-    ScopedCode::Loop {
-        test,
-        condition,
-        body,
-    }
-}
-
 /// The parts that come in place of code are added.
 #[cycle(placing)]
 fn place_code(
@@ -267,20 +238,6 @@ fn place_function(alloc: Global, function: Function) -> Result<ScopedFunction, A
     })
 }
 
-/// All functions.
-fn place_functions(
-    alloc: Global,
-    functions: Vec<Function>,
-) -> Result<Vec<ScopedFunction>, AllocError>
-    ensures { IfOk result (λ v. map scoped_function_of v.items ≡ map placed_function (map function_of functions.items)) }
-{
-    let mut made = Vec::new(alloc);
-    for function in functions {
-        made.push(place_function(alloc, function)?)?;
-    }
-    Ok(made)
-}
-
 /// The program with its scopes: in a straight run of instructions one scope serves all loads and stores through one register.
 pub fn place(alloc: Global, middle: Middle) -> Result<Scoped, AllocError>
     ensures { IfOk result (λ s. scoped_program_of s ≡ placed_program (program_of middle)) }
@@ -290,7 +247,13 @@ pub fn place(alloc: Global, middle: Middle) -> Result<Scoped, AllocError>
         layouts,
         functions,
     } = middle;
-    let functions = place_functions(alloc, functions)?;
+    let functions = map_functions(
+        alloc,
+        functions,
+        |function|
+            ensures { IfOk result (λ g. scoped_function_of g ≡ placed_function (function_of function)) }
+        { place_function(alloc, function) },
+    )?;
     Ok(Scoped {
         texts,
         layouts,

@@ -1,5 +1,5 @@
 //! The scopes that are open in a straight run of instructions.
-ghost use Rattle.scope_placement.specs.Building.{codes};
+ghost use Rattle.scoped_building.specs.Building.{codes};
 ghost use Rattle.scope_placement.specs.Placed.{leaves, open_with, scope_for as scope_of};
 ghost use Rattle.std.specs.Prelude.{◌≡◌, ◌≤◌, ◌++◌, [], IfOk, OnOk, length, max};
 

@@ -2,11 +2,10 @@ use Rattle.std.proofs.Common.{◌≡◌, ◌+◌, ◌++◌, [], ◌∷◌, ◌�
 use Rattle.std.proofs.lemmas.Grind.{common_steps}
 use Rattle.std.specs.Vec.Iter.{into_iter_items, into_iter_len}
 use Rattle.middle_form.specs.ScopedViews.{scoped_code_of, scoped_sequence_of}
-use Rattle.scope_placement.specs.Building.{codes}
-use Rattle.scope_placement.specs.Placed.{in_order}
-use Rattle.scope_placement.proofs.Rows.{scoped_sequence_is}
+use Rattle.scoped_building.proofs.Rows.{scoped_sequence_is, sequence_is}
+use Rattle.scoped_building.specs.Building.{codes, in_order}
 use Rattle.guard_hoisting.specs.Hoisted.{hoisted, most_served, open_behind}
-use Rattle.guard_hoisting.proofs.Parts.{put_together, rest_hoisted, rest_most, rest_open, sequence_is, whole_inside}
+use Rattle.guard_hoisting.proofs.Parts.{put_together, rest_hoisted, rest_most, rest_open, whole_inside}
 use Rattle.guard_hoisting.proofs.Sizes.{size_all, size_code, size_of_sequence}
 use Rattle.guard_hoisting.proofs.hoisting.+hoisting.Goals as goal
 

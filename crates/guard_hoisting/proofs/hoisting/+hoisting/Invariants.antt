@@ -1,7 +1,7 @@
 use Rattle.std.proofs.Common.{◌≡◌, ◌<◌, ◌+◌, ◌*◌, ◌++◌, length, max}
 use Rattle.std.specs.Vec.Iter.{into_iter_items, into_iter_len}
 use Rattle.middle_form.specs.ScopedViews.{scoped_code_of, scoped_sequence_of}
-use Rattle.scope_placement.specs.Building.{codes}
+use Rattle.scoped_building.specs.Building.{codes}
 use Rattle.guard_hoisting.specs.Hoisted.{hoisted, most_served, open_behind}
 use Rattle.guard_hoisting.proofs.Sizes.{size_all, size_code}
 use Rattle.guard_hoisting.proofs.hoisting.+hoisting.Given as goal

@@ -1,8 +1,8 @@
 use Rattle.std.proofs.Common.{◌≡◌, ◌∙◌, [], max, ap}
 use Rattle.middle_form.specs.ScopedViews.{scoped_code_of}
 use Rattle.middle_form.specs.declared.scoped.ScopedCode.TheViews.{Sequence}
-use Rattle.scope_placement.specs.Placed.{in_order}
-use Rattle.scope_placement.proofs.Rows.{scoped_sequence_is}
+use Rattle.scoped_building.proofs.Rows.{scoped_sequence_is}
+use Rattle.scoped_building.specs.Building.{in_order}
 use Rattle.guard_hoisting.specs.Hoisted.{hoisted, most_served}
 use Rattle.guard_hoisting.proofs.Parts.{put_together}
 use Rattle.guard_hoisting.proofs.hoisting.hoist_function.Goals as goal

@@ -1,11 +1,10 @@
 use Rattle.std.proofs.Common.{◌≡◌, ◌+◌, ◌++◌, ◌∷◌, ◌∙◌, suc, ap, sym, arith, length, rules}
 use Rattle.std.specs.Vec.Iter.{into_iter_items, into_iter_len}
 use Rattle.middle_form.specs.ScopedViews.{scoped_code_of, scoped_sequence_of}
-use Rattle.scope_placement.specs.Building.{codes}
-use Rattle.scope_placement.specs.Placed.{in_order}
-use Rattle.scope_placement.proofs.Rows.{scoped_sequence_is}
+use Rattle.scoped_building.proofs.Rows.{scoped_sequence_is, sequence_is}
+use Rattle.scoped_building.specs.Building.{codes, in_order}
 use Rattle.guard_hoisting.specs.Hoisted.{moved}
-use Rattle.guard_hoisting.proofs.Parts.{put_together, rest_moved, sequence_is}
+use Rattle.guard_hoisting.proofs.Parts.{put_together, rest_moved}
 use Rattle.guard_hoisting.proofs.Sizes.{size_all, size_code, size_of_sequence}
 use Rattle.guard_hoisting.proofs.moving.+moving.Goals as goal
 

@@ -1,5 +1,5 @@
 use Rattle.std.proofs.Common.{◌+◌, ◌++◌, ◌∙◌, ap, drop}
-use Rattle.scope_placement.specs.Building.{codes}
+use Rattle.scoped_building.specs.Building.{codes}
 use Rattle.guard_hoisting.specs.Hoisted.{closings}
 use Rattle.guard_hoisting.proofs.Ranks.{closing_next}
 use Rattle.guard_hoisting.proofs.moving.leave_all.Goals as goal

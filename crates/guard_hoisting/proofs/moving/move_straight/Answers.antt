@@ -1,6 +1,6 @@
 use Rattle.std.proofs.Common.{List, ◌++◌, ◌∙◌, ap, sym}
 use Rattle.middle_form.specs.Scoped.{Code}
-use Rattle.scope_placement.specs.Building.{codes}
+use Rattle.scoped_building.specs.Building.{codes}
 use Rattle.guard_hoisting.proofs.Parts.{moved_alone}
 use Rattle.guard_hoisting.proofs.moving.move_straight.Goals as goal
 

@@ -1,5 +1,5 @@
 use Rattle.std.proofs.Common.{◌≡◌, ◌++◌, drop}
-use Rattle.scope_placement.specs.Building.{codes}
+use Rattle.scoped_building.specs.Building.{codes}
 use Rattle.guard_hoisting.specs.Hoisted.{openings}
 use Rattle.guard_hoisting.proofs.moving.open_all.Given as goal
 

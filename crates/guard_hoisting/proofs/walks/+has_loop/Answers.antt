@@ -1,7 +1,7 @@
 use Rattle.std.proofs.Common.{◌∙◌, ap, sym}
 use Rattle.middle_form.specs.ScopedViews.{scoped_code_of, scoped_sequence_of}
 use Rattle.guard_hoisting.specs.Ways.{has_loop}
-use Rattle.guard_hoisting.proofs.Parts.{sequence_is}
+use Rattle.scoped_building.proofs.Rows.{sequence_is}
 use Rattle.guard_hoisting.proofs.walks.+has_loop.Goals as goal
 
 pub loop-part-init : goal.loop-part-init

@@ -1,7 +1,7 @@
 use Rattle.std.proofs.Common.{◌≡◌, ◌∙◌, ap, arith, sym}
 use Rattle.middle_form.specs.ScopedViews.{scoped_code_of, scoped_sequence_of}
 use Rattle.guard_hoisting.specs.Ways.{most_left}
-use Rattle.guard_hoisting.proofs.Parts.{sequence_is}
+use Rattle.scoped_building.proofs.Rows.{sequence_is}
 use Rattle.guard_hoisting.proofs.walks.+most_left.Goals as goal
 
 pub loop-part-init : goal.loop-part-init

@@ -3,7 +3,7 @@ use Rattle.std.specs.Prelude.{nat_eq}
 use Rattle.std.specs.HashSet.{contains}
 use Rattle.middle_form.specs.Discipline.{writes}
 use Rattle.middle_form.specs.ScopedViews.{scoped_code_of, scoped_sequence_of}
-use Rattle.guard_hoisting.proofs.Parts.{sequence_is}
+use Rattle.scoped_building.proofs.Rows.{sequence_is}
 use Rattle.guard_hoisting.proofs.walks.+note_writes.Goals as goal
 
 pub loop-part-init : goal.loop-part-init

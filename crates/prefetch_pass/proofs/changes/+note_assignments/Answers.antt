@@ -2,7 +2,7 @@ use Rattle.std.proofs.Common.{◌∙◌, ap, sym}
 use Rattle.middle_form.specs.ScopedViews.{scoped_code_of, scoped_sequence_of}
 use Rattle.prefetch_pass.specs.Gathered.{changes_among}
 use Rattle.prefetch_pass.specs.Raised.{changes_with}
-use Rattle.guard_hoisting.proofs.Parts.{sequence_is}
+use Rattle.scoped_building.proofs.Rows.{sequence_is}
 use Rattle.prefetch_pass.proofs.changes.+note_assignments.Goals as goal
 
 pub loop-part-init : goal.loop-part-init

@@ -2,9 +2,8 @@ use Rattle.std.proofs.Common.{◌≡◌, ◌∙◌, ap, sym}
 use Rattle.std.proofs.lemmas.Iterator.Adapters.{YieldsList-from_vec}
 use Rattle.std.proofs.lemmas.Iterator.Consumers.{YieldsList-end}
 use Rattle.middle_form.specs.ScopedViews.{scoped_code_of}
-use Rattle.scope_placement.specs.Building.{codes}
-use Rattle.scope_placement.specs.Placed.{in_order}
-use Rattle.scope_placement.proofs.Rows.{scoped_sequence_is}
+use Rattle.scoped_building.proofs.Rows.{scoped_sequence_is}
+use Rattle.scoped_building.specs.Building.{codes, in_order}
 use Rattle.prefetch_pass.specs.Prefetched.{hinted}
 use Rattle.prefetch_pass.proofs.Ordered.{hinted_in_order, map_same}
 use Rattle.prefetch_pass.proofs.hints.+hinting.Goals as goal

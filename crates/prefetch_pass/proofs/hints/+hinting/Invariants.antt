@@ -1,5 +1,5 @@
 use Rattle.std.proofs.Common.{◌≡◌, map}
-use Rattle.scope_placement.specs.Building.{codes}
+use Rattle.scoped_building.specs.Building.{codes}
 use Rattle.prefetch_pass.specs.Prefetched.{hinted}
 use Rattle.prefetch_pass.proofs.hints.+hinting.Given as goal
 

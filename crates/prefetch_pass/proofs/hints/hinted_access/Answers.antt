@@ -1,9 +1,8 @@
 use Rattle.std.proofs.Common.{◌≡◌, ◌+◌, ◌∙◌, [], ◌∷◌, ◌++◌, Some, ap, List}
 use Rattle.code_form.specs.declared.form.Operation.TheVariants.{Prefetch}
 use Rattle.middle_form.specs.declared.scoped.ScopedCode.{ScopedCode, Do}
-use Rattle.scope_placement.specs.Building.{codes}
-use Rattle.scope_placement.specs.Placed.{in_order}
-use Rattle.scope_placement.proofs.Rows.{scoped_sequence_is}
+use Rattle.scoped_building.proofs.Rows.{scoped_sequence_is}
+use Rattle.scoped_building.specs.Building.{codes, in_order}
 use Rattle.prefetch_pass.proofs.hints.hinted_access.Goals as goal
 
 pub returns : goal.returns

@@ -2,7 +2,7 @@ use Rattle.std.proofs.Common.{◌≡◌, ◌∙◌, ap, false, refl, sym}
 use Rattle.middle_form.specs.Scoped as s
 use Rattle.middle_form.specs.ScopedViews.{scoped_code_of, scoped_sequence_of}
 use Rattle.middle_form.specs.declared.scoped.ScopedCode.{ScopedCode}
-use Rattle.guard_hoisting.proofs.Parts.{sequence_is}
+use Rattle.scoped_building.proofs.Rows.{sequence_is}
 use Rattle.prefetch_pass.specs.Gathered.{has_checks}
 use Rattle.prefetch_pass.specs.Raised.{offsets_with}
 use Rattle.prefetch_pass.proofs.Entering.{loop_offsets, no_offsets}

@@ -2,10 +2,11 @@ use Rattle.std.proofs.Common.{◌≡◌, ◌≤◌, ◌+◌, ◌++◌, ◌∷◌
 use Rattle.std.specs.Vec.Iter.{into_iter_items, into_iter_len}
 use Rattle.middle_form.specs.ScopedViews.{scoped_code_of}
 use Rattle.middle_form.specs.Views.{code_of, sequence_of}
-use Rattle.scope_placement.specs.Building.{codes}
+use Rattle.scoped_building.proofs.Rows.{scoped_sequence_is}
+use Rattle.scoped_building.specs.Building.{codes}
 use Rattle.scope_placement.specs.Placed.{most_open, open_behind, placed}
 use Rattle.scope_placement.proofs.Disciplined.{few_behind}
-use Rattle.scope_placement.proofs.Rows.{rest_most, rest_open, rest_parts, scoped_sequence_is, sequence_is, whole_is}
+use Rattle.scope_placement.proofs.Rows.{rest_most, rest_open, rest_parts, sequence_is, whole_is}
 use Rattle.scope_placement.proofs.Sizes.{size_all, size_code, size_of_sequence}
 use Rattle.scope_placement.proofs.placing.+placing.Goals as goal
 

@@ -1,7 +1,7 @@
 use Rattle.std.proofs.Common.{◌≡◌, ◌≤◌, ◌<◌, ◌+◌, ◌*◌, ◌++◌, length, max}
 use Rattle.std.specs.Vec.Iter.{into_iter_items, into_iter_len}
 use Rattle.middle_form.specs.Views.{code_of, sequence_of}
-use Rattle.scope_placement.specs.Building.{codes}
+use Rattle.scoped_building.specs.Building.{codes}
 use Rattle.scope_placement.specs.Placed.{most_open, open_behind, placed}
 use Rattle.scope_placement.proofs.Sizes.{size_all, size_code}
 use Rattle.scope_placement.proofs.placing.+placing.Given as goal

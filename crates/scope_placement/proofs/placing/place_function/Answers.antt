@@ -4,7 +4,8 @@ use Rattle.middle_form.specs.declared.scoped.ScopedCode.TheViews.{Sequence}
 use Rattle.middle_form.specs.Views.{code_of}
 use Rattle.scope_placement.specs.Placed.{most_open, open_behind, whole}
 use Rattle.scope_placement.proofs.Disciplined.{few_behind}
-use Rattle.scope_placement.proofs.Rows.{scoped_sequence_is, whole_is}
+use Rattle.scoped_building.proofs.Rows.{scoped_sequence_is}
+use Rattle.scope_placement.proofs.Rows.{whole_is}
 use Rattle.scope_placement.proofs.placing.place_function.Goals as goal
 
 pub end-requires : goal.end-requires

@@ -1,5 +1,5 @@
 use Rattle.std.proofs.Common.{◌+◌, ◌++◌, ◌∙◌, ap, drop}
-use Rattle.scope_placement.specs.Building.{codes}
+use Rattle.scoped_building.specs.Building.{codes}
 use Rattle.scope_placement.specs.Placed.{leaves_from}
 use Rattle.scope_placement.proofs.Opening.{leave_next}
 use Rattle.scope_placement.proofs.runs.leave_all.Goals as goal

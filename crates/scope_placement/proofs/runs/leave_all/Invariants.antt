@@ -1,5 +1,5 @@
 use Rattle.std.proofs.Common.{◌≡◌, ◌++◌, drop}
-use Rattle.scope_placement.specs.Building.{codes}
+use Rattle.scoped_building.specs.Building.{codes}
 use Rattle.scope_placement.specs.Placed.{leaves, leaves_from}
 use Rattle.scope_placement.proofs.runs.leave_all.Given as goal
 

@@ -1,4 +1,4 @@
--- Code of a few loops in which scopes are placed, and what comes in place of it, written out.
+-- Code of a few loops in which scopes are placed, and what `hoist` puts in its place, written out.
 use Rattle.std.specs.Prelude.{List, [], ◌∷◌, Some, None}
 use Rattle.cells.specs.declared.int32.Int32Op.TheVariants.{Add}
 use Rattle.code_form.specs.declared.form.Kind.{Kind}
@@ -9,7 +9,8 @@ use Rattle.code_form.specs.declared.form.Relation.TheVariants as relation
 use Rattle.middle_form.specs.Form as m
 use Rattle.middle_form.specs.Samples as sample
 use Rattle.middle_form.specs.Scoped.{Code, Aim, Choose, Call, Do, Exit, Fail, Leave, Load, LoadBy, Loop, Loose, Store, StoreBy}
-use Rattle.scope_placement.specs.Placed.{in_order, whole}
+use Rattle.scoped_building.specs.Building.{in_order}
+use Rattle.scope_placement.specs.Placed.{whole}
 use Rattle.guard_hoisting.specs.Hoisted.{hoisted}
 
 -- 0 a sum, 1 an index, 2 how many, 3 the condition, 4 an array, 5 an offset, 6 an element, 7 one, 8 a pointer, and arrays from 9 on
