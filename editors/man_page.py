@@ -1,5 +1,5 @@
 #!/usr/bin/env python3
-"""man_page.py [--check]: writes c0far.1 beside it, from the pages of help in crates/command_line/src/pages.rt and the newest number of CHANGELOG.md.
+"""man_page.py [--check]: writes c0far.1 beside it, from the pages of help in crates/help_pages/src/pages.rt and the newest number of CHANGELOG.md.
 With --check it writes nothing, and fails where c0far.1 is not what they make."""
 
 import os
@@ -19,7 +19,7 @@ def text_of(path):
 
 def pages():
     """The pages of help by their commands, that of all commands under the empty name."""
-    source = text_of(f"{ROOT}/crates/command_line/src/pages.rt")
+    source = text_of(f"{ROOT}/crates/help_pages/src/pages.rt")
     found = re.findall(r'pub const (?:([A-Z]+)_)?PAGE: &str =\s*"((?:[^"\\]|\\.)*)";', source)
     return {name.lower(): re.sub(r"\\(.)", r"\1", text) for name, text in found}
 
@@ -77,7 +77,7 @@ def blocks(page):
 def man_page():
     found = pages()
     number = re.search(r"(?m)^## (\S+)", text_of(f"{ROOT}/CHANGELOG.md"))[1]
-    made = ['.\\" Made by editors/man_page.py: change crates/command_line/src/pages.rt, and run it again.', f'.TH C0FAR 1 "" "c0far {number}" "User Commands"']
+    made = ['.\\" Made by editors/man_page.py: change crates/help_pages/src/pages.rt, and run it again.', f'.TH C0FAR 1 "" "c0far {number}" "User Commands"']
     made += [".SH NAME", "c0far \\- compiles programs of C0, and runs them over a heap that may be larger than local memory"]
     made += [".SH SYNOPSIS"]
     first, *others = blocks(found[""])

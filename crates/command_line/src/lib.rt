@@ -2,10 +2,8 @@
 #![tactic(auto)]
 
 pub mod complaint;
-pub mod faults;
 pub mod help;
 pub mod line;
 pub mod mistakes;
 pub mod options;
-pub mod pages;
 pub mod words;

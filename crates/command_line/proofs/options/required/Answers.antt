@@ -1,5 +1,5 @@
 use Rattle.std.proofs.Common.{ℕ, List, refl}
-use Rattle.command_line.proofs.Unlike.{unlike}
+use Rattle.help_pages.proofs.Unlike.{unlike}
 use Rattle.command_line.proofs.options.required.Goals as goal
 
 -- other commands want no option

@@ -1,6 +1,6 @@
 use Rattle.std.proofs.Common.{◌≡◌, length, map}
-use Rattle.command_line.specs.Help.{topic}
-use Rattle.command_line.proofs.help.topic_of.Given as goal
+use Rattle.help_pages.specs.Topics.{topic}
+use Rattle.help_pages.proofs.topics.topic_of.Given as goal
 
 -- none of the words so far names a command
 abbrev pub invariant-loop-rest : goal.invariant-loop-rest

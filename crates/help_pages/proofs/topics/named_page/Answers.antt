@@ -1,6 +1,6 @@
 use Rattle.std.proofs.Common.{ℕ, List, refl}
-use Rattle.command_line.proofs.Unlike.{unlike}
-use Rattle.command_line.proofs.help.named_page.Goals as goal
+use Rattle.help_pages.proofs.Unlike.{unlike}
+use Rattle.help_pages.proofs.topics.named_page.Goals as goal
 
 -- the page of all commands is shown of no command's name
 pub returns-in_default : goal.returns-in_default

@@ -1,6 +1,6 @@
 use Rattle.std.proofs.Common.{◌≡◌, length, map}
-use Rattle.command_line.specs.Help.{ask_flag}
-use Rattle.command_line.proofs.help.ask.Given as goal
+use Rattle.help_pages.specs.Topics.{ask_flag}
+use Rattle.help_pages.proofs.topics.ask.Given as goal
 
 -- none of the words so far asks for help
 abbrev pub invariant-loop-rest : goal.invariant-loop-rest

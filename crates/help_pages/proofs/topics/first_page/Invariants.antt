@@ -1,6 +1,6 @@
 use Rattle.std.proofs.Common.{◌≡◌, drop, map}
-use Rattle.command_line.specs.Help.{first_fault}
-use Rattle.command_line.proofs.help.first_page.Given as goal
+use Rattle.help_pages.specs.Topics.{first_fault}
+use Rattle.help_pages.proofs.topics.first_page.Given as goal
 
 -- none of the pages so far is on that fault
 abbrev pub invariant-loop-fault : goal.invariant-loop-fault
