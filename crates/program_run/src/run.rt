@@ -60,6 +60,15 @@ fn look_now_and_then<S: RawStore>(session: &mut Session<'_, S>, turn: u64, frame
     }
 }
 
+/// The session, behind a last look at the frames.
+fn looked_last<S: RawStore>(session: Session<'_, S>) -> Session<'_, S>
+    ensures { result ≡ session.entry }
+{
+    let mut session = session;
+    session.look_at_frames();
+    session
+}
+
 /// How a program ended, and what was refused through its own port to the store; and how many turns it had, modulo 2^64, with what its session did in them beside
 /// instructions.
 #[derive(Drop)]
@@ -190,12 +199,12 @@ impl<'a, S: RawStore> ProgramRun<'a, S> {
         ensures completed { result.end.completed ≡ self.entry.completed }
     {
         let ProgramRun {
-            mut session,
+            session,
             run,
             turns,
             ..
         } = self;
-        session.look_at_frames();
+        let session = looked_last(session);
         let completed = session.completed();
         let refusals = session.refusals();
         let counts = session.counts();
