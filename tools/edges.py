@@ -82,7 +82,9 @@ def direct(lines, rows, named):
         if not colon or line.startswith("#"):
             made.append(line)
         else:
-            made.append(" ".join([f"{head}:", *(name for name in rows[crate] if name in named[crate])]))
+            lacking = named[crate] - set(rows[crate])
+            uses = [name for name in rows[crate] if name in named[crate]] + [name for name in rows if name in lacking] + sorted(lacking - set(rows))
+            made.append(" ".join([f"{head}:", *uses]))
     return "\n".join(made) + "\n"
 
 

@@ -14,6 +14,7 @@ use Rattle.program_run.specs.declared.run.Finished.{Finished}
 use Rattle.streams.proofs.Written.{appends_more, none_failed_more}
 use Rattle.streams.specs.Streams.{IsWritten, NoneFailed, Says, Writes, writes}
 use Rattle.streams.specs.declared.stream.Failed.{Failed}
+use Rattle.c0far.specs.FileCode.{names_image}
 use Rattle.c0far.specs.FileTexts.{HasText, Known}
 use Rattle.c0far.specs.Places.{ArePlaces, IsPlace, TellsBeside}
 use Rattle.c0far.specs.Shown.{StandsAt, TellsCall, TellsPlace, call_line, shown_stop}
@@ -37,14 +38,15 @@ place_told file text o stop at line column numbers err status result is other st
 
 -- a run that stopped so, of which the line was written
 pub written_at : (file : List ℕ) (held : Known) (run : Run) (stop : Stop) (text : List ℕ) (at line column : ℕ) (numbers : Option Numbers) (err : Writes) (r : Result (Unit {0}) Failed) → run ≡ Stopped stop → run_status run ≡ 1
-    → HasText held text → StandsAt text at line column → IsWritten err (shown_stop file line column (stop_of stop) numbers) r
+    → names_image file ≡ false → HasText held text → StandsAt text at line column → IsWritten err (shown_stop file line column (stop_of stop) numbers) r
     → IfOk r (λ u. (bytes : List ℕ) × IsPlace file held run bytes × Appends err.before.contents err.after.contents bytes × NoneFailed err)
-written_at file held run stop text at line column numbers err (Ok u) is other read stands written = (
+written_at file held run stop text at line column numbers err (Ok u) is other named read stands written = (
   shown_stop file line column (stop_of stop) numbers,
   inr (inl (record {
     stop = stop;
     is = is;
     other = other;
+    of_text = named;
     text = text;
     read = read;
     at = at;
@@ -57,15 +59,16 @@ written_at file held run stop text at line column numbers err (Ok u) is other re
   written.0,
   written.1,
 )
-written_at file held run stop text at line column numbers err (Err e) is other read stands written = tt
+written_at file held run stop text at line column numbers err (Err e) is other named read stands written = tt
 
 -- a run that wanted memory, of which the line was written
-pub called_at : (file : List ℕ) (held : Known) (run : Run) (text : List ℕ) (at line column : ℕ) (name : List ℕ) (err : Writes) (r : Result (Unit {0}) Failed) → run ≡ Wanted OutOfMemory → HasText held text
+pub called_at : (file : List ℕ) (held : Known) (run : Run) (text : List ℕ) (at line column : ℕ) (name : List ℕ) (err : Writes) (r : Result (Unit {0}) Failed) → run ≡ Wanted OutOfMemory → names_image file ≡ false → HasText held text
     → StandsAt text at line column → IsWritten err (call_line file line column name) r → IfOk r (λ u. (bytes : List ℕ) × IsPlace file held run bytes × Appends err.before.contents err.after.contents bytes × NoneFailed err)
-called_at file held run text at line column name err (Ok u) is read stands written = (
+called_at file held run text at line column name err (Ok u) is named read stands written = (
   call_line file line column name,
   inr (inr (record {
     is = is;
+    of_text = named;
     text = text;
     read = read;
     at = at;
@@ -78,7 +81,7 @@ called_at file held run text at line column name err (Ok u) is read stands writt
   written.0,
   written.1,
 )
-called_at file held run text at line column name err (Err e) is read stands written = tt
+called_at file held run text at line column name err (Err e) is named read stands written = tt
 
 -- the function that a plain run called last, of which the line was told
 pub call_told : (explains : Bool) (file text : List ℕ) (at line column : ℕ) (name : List ℕ) (err : Writes) (status result : ℕ) → explains ≡ true → StandsAt text at line column

@@ -71,18 +71,20 @@ pub record HasBuilt (file : Text) (compiling : Compiling) (held now : Known) (ou
   pub silent : IsQuiet out
   pub quiet : IsQuiet err
 
--- the other file was not written
-pub record IsUnwritten (file : Text) (out err : Writes) (result : ℕ) : Type 0 where
-  pub shown : Says err (file ++ (codes ": cannot be written" ++ newline)) 2 result
+-- the file has code, and the other file was not written
+pub record IsUnwritten (file : Text) (compiling : Compiling) (target : Text) (held : Known) (out err : Writes) (result : ℕ) : Type 0 where
+  pub image : Image
+  pub code : HoldsCode file compiling held image
+  pub shown : Says err (target ++ (codes ": cannot be written" ++ newline)) 2 result
   pub quiet : IsQuiet out
 
 -- nothing is built: the file that was to be written holds what it held
-abbrev pub HasNotBuilt : (loops : Bool) → Text → Text → (held before now : Known) → Writes → Writes → ℕ → Type 0
-HasNotBuilt loops file target held before now out err result = (now ≡ before) × (HasNoCode loops file held out err result ⊎ IsUnwritten target out err result)
+abbrev pub HasNotBuilt : Text → Compiling → Text → (held before now : Known) → Writes → Writes → ℕ → Type 0
+HasNotBuilt file compiling target held before now out err result = (now ≡ before) × (HasNoCode compiling.texts.loops file held out err result ⊎ IsUnwritten file compiling target held out err result)
 
 -- the command `build` of this file, which holds this, into a file which held this and holds that now
 abbrev pub Builds : Text → Compiling → Text → (held before now : Known) → Writes → Writes → ℕ → Type 0
-Builds file compiling target held before now out err result = HasBuilt file compiling held now out err result ⊎ HasNotBuilt compiling.texts.loops file target held before now out err result
+Builds file compiling target held before now out err result = HasBuilt file compiling held now out err result ⊎ HasNotBuilt file compiling target held before now out err result
 
 -- the program of the file's text, taken so, means this within its turns: what it printed and its end are shown, and where it stopped, if that was asked for
 pub record HasMeant (asked : Bounded) (file : Text) (held : Known) (out err : Writes) (result : ℕ) : Type 0 where

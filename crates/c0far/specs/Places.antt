@@ -11,6 +11,7 @@ use Rattle.cells.specs.declared.ending.Want.TheVariants.{OutOfMemory}
 use Rattle.executor.specs.declared.counts.MoverCounts.{MoverCounts}
 use Rattle.program_run.specs.declared.run.Finished.{Finished}
 use Rattle.streams.specs.Streams.{Held, NoneFailed, OneFailed, Writes}
+use Rattle.c0far.specs.FileCode.{names_image}
 use Rattle.c0far.specs.FileTexts.{HasText, Known}
 use Rattle.c0far.specs.Shown.{StandsAt, call_line, shown_stop}
 use Rattle.c0far.specs.Statuses.{run_status}
@@ -24,11 +25,12 @@ until middle w = record { before = w.before; after = middle }
 abbrev pub since : Held → Writes → Writes
 since middle w = record { before = middle; after = w.after }
 
--- the program of a file, which holds this text, stopped so, and not by a result: this line tells a place of the text, and how it stopped
+-- the program of a file, which is no image and holds this text, stopped so, and not by a result: this line tells a place of the text, and how it stopped
 pub record IsStopLine (file : Text) (held : Known) (run : Run) (bytes : List ℕ) : Type 0 where
   pub stop : Stop
   pub is : run ≡ Stopped stop
   pub other : run_status run ≡ 1
+  pub of_text : names_image file ≡ false
   pub text : List ℕ
   pub read : HasText held text
   pub at : ℕ
@@ -38,9 +40,10 @@ pub record IsStopLine (file : Text) (held : Known) (run : Run) (bytes : List ℕ
   pub by : Option Numbers
   pub line_is : bytes ≡ shown_stop file line column (stop_of stop) by
 
--- the program of a file, which holds this text, wanted memory: this line tells a place of the text, and a name
+-- the program of a file, which is no image and holds this text, wanted memory: this line tells a place of the text, and a name
 pub record IsCallLine (file : Text) (held : Known) (run : Run) (bytes : List ℕ) : Type 0 where
   pub is : run ≡ Wanted OutOfMemory
+  pub of_text : names_image file ≡ false
   pub text : List ℕ
   pub read : HasText held text
   pub at : ℕ

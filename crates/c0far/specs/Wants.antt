@@ -68,10 +68,14 @@ abbrev pub refused_line : (k limit : ℕ) → Option MemoryUse → List ℕ
 refused_line k limit None = memory_line k
 refused_line k limit (Some taker) = passed_line k taker limit
 
--- the line of program number k, where it passed the limit
-abbrev pub limit_line : (k limit : ℕ) → Option MemoryUse → List ℕ
-limit_line k limit None = []
-limit_line k limit (Some taker) = passed_line k taker limit
+-- the line of program number k, where it wanted memory as it passed the limit
+abbrev pub limit_line : (k limit : ℕ) → Run → Option MemoryUse → List ℕ
+limit_line k limit Running passed = []
+limit_line k limit (Stopped x) passed = []
+limit_line k limit (Wanted OutOfMemory) None = []
+limit_line k limit (Wanted OutOfMemory) (Some taker) = passed_line k taker limit
+limit_line k limit (Wanted NoObjects) passed = []
+limit_line k limit (Wanted StoreFailed) passed = []
 
 -- the line of program number k, of whose share so many objects are in use, where it ended so: none, where it wants nothing
 abbrev pub shown_want : (k limit share used : ℕ) → Option RefusedCall → Option MemoryUse → Run → List ℕ
@@ -90,10 +94,10 @@ abbrev pub want_lines : (k limit share : ℕ) → List Finished → List ℕ
 want_lines k limit share [] = []
 want_lines k limit share (f ∷ fs) = want_line k limit share f ++ want_lines (suc k) limit share fs
 
--- the lines of those among several that passed the limit
+-- the lines of those among several that wanted memory as they passed the limit
 abbrev pub limit_lines : (k limit : ℕ) → List Finished → List ℕ
 limit_lines k limit [] = []
-limit_lines k limit (f ∷ fs) = limit_line k limit f.counts.passed ++ limit_lines (suc k) limit fs
+limit_lines k limit (f ∷ fs) = limit_line k limit f.end.run f.counts.passed ++ limit_lines (suc k) limit fs
 
 -- a line for each program that wanted something, where that is asked for, else for each that passed the limit
 abbrev pub wants_text : (explains : Bool) → (limit share : ℕ) → List Finished → List ℕ

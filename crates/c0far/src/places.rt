@@ -1,6 +1,7 @@
 //! Where programs stopped, and which function they called last where calls passed the limit of memory: it is told by the plain run of their texts.
-ghost use Rattle.std.specs.Prelude.{◌≡◌, ℕ, IfErr, IfOk, IfSome, List, map};
+ghost use Rattle.std.specs.Prelude.{◌≡◌, ℕ, IfErr, IfOk, IfSome, List, false, map};
 ghost use Rattle.std.specs.Io.KnownBytes.{Appends};
+ghost use Rattle.c0far.specs.FileCode.{names_image};
 ghost use Rattle.c0far.specs.FileTexts.{HasText, Known};
 ghost use Rattle.cells.specs.Stops.{stop_of};
 ghost use Rattle.c0far.specs.Places.{ArePlaces, IsPlace, TellsBeside};
@@ -59,6 +60,7 @@ fn run_plainly<R: Threads, F: Files>(
 ) -> Option<PlainEnd>
     ensures files { (name : List ℕ) → F.holds files.new name ≡ F.holds files.old name }
     ensures text { IfSome result (λ r. HasText (F.holds files.old file.now) r.text.items) }
+    ensures named { IfSome result (λ r. names_image file.now ≡ false) }
 {
     if is_image_name(file) {
         return None;
@@ -82,6 +84,7 @@ fn stop_site<R: Threads, F: Files>(
 ) -> Option<StopSite>
     ensures files { (name : List ℕ) → F.holds files.new name ≡ F.holds files.old name }
     ensures text { IfSome result (λ r. HasText (F.holds files.old file.now) r.text.items) }
+    ensures named { IfSome result (λ r. names_image file.now ≡ false) }
 {
     let Some(PlainEnd { text, came }) = run_plainly(alloc, rt, asked, file, files) else {
         return None;
@@ -109,6 +112,7 @@ fn last_call<R: Threads, F: Files>(
 ) -> Option<LastCall>
     ensures files { (name : List ℕ) → F.holds files.new name ≡ F.holds files.old name }
     ensures text { IfSome result (λ r. HasText (F.holds files.old file.now) r.text.items) }
+    ensures named { IfSome result (λ r. names_image file.now ≡ false) }
 {
     let Some(PlainEnd { text, came }) = run_plainly(alloc, rt, asked, file, files) else {
         return None;

@@ -133,15 +133,19 @@ fn write_refused<E: Stream>(
     }
 }
 
-/// Writes the line of a program, if it passed the limit.
+/// Writes the line of a program that ended so, if it wanted memory as it passed the limit.
 fn write_limit<E: Stream>(
     err: &mut E,
     number: u64,
     limit: u32,
+    run: &Run,
     passed: Option<MemoryUse>,
 ) -> Result<(), Failed>
-    ensures { IsWritten (writes E.contents E.failures err.old err.new) (limit_line number limit passed) result }
+    ensures { IsWritten (writes E.contents E.failures err.old err.new) (limit_line number limit run.now passed) result }
 {
+    let Run::Wanted(Want::OutOfMemory) = run else {
+        return Ok(());
+    };
     match passed {
         Some(taker) => write_passed(err, number, taker, limit),
         None => Ok(()),
@@ -200,7 +204,7 @@ fn write_limits<E: Stream>(
     match programs {
         [] => Ok(()),
         [one, rest @ ..] => {
-            write_limit(err, number, limit, one.counts.passed)?;
+            write_limit(err, number, limit, &one.end.run, one.counts.passed)?;
             write_limits(err, number + 1, limit, rest)
         }
     }

@@ -59,29 +59,25 @@ promised_end P checks p e HasCauseOf is so = record {
 abbrev pub EnoughFrames : Type 0
 EnoughFrames = (z : Sizes) (images : ℕ → Image) (events : List Event) (v : World) (k o : ℕ) → 0 < z.cells → Follows ⊥ z images (start images) events v → need z images ≤ z.frames → k < z.programs → (v.programs k).mode ≡ Bringing o → (f : ℕ) × (f < z.frames) × IsUnheld z v.lock f
 
--- a run over an honest store is a run
-weaker : (z : Sizes) (images : ℕ → Image) (w : World) (events : List Event) (v : World) → Follows (Unit {0}) z images w events v → Follows ⊥ z images w events v
-weaker z images w [] v led = led
-weaker z images w (e ∷ es) v led = (led.0, led.1, λ no. absurd no, weaker z images led.0 es v led.3)
-
-pub admitted : Headline → EnoughFrames → AdmittedHeadline
-admitted headline enough programs frames objects evacuators fetchers admits z is events v ran = (
-  λ k o low seeks.
-      let few : need z (image_at programs) ≤ z.frames = subst (λ (y : Sizes). need y (image_at programs) ≤ y.frames) (sym is) admits.1 in
-      let lower : k < z.programs = subst (λ (y : Sizes). k < y.programs) (sym is) low in
-      let found = enough z (image_at programs) events v k o ran.0 (weaker z (image_at programs) _ events v ran.1) few lower seeks in
-      (found.0, subst (λ (y : Sizes). found.0 < y.frames) is found.1, found.2),
-  λ loops text checks cells meant k compiled means. (headline loops text checks cells (image_at programs k) compiled meant means).0 z (image_at programs) events v k ran refl,
-)
-
 -- a piece has some cells, also that of no program
 pub some_cells : (o : Option Verified) → 0 < (image_by o).piece
 some_cells None = lit< tt
 some_cells (Some v) = piece_some (cells_in v.image.piece) (is_a_piece v.image.piece)
 
+pub admitted : Headline → EnoughFrames → AdmittedHeadline
+admitted headline enough programs frames objects evacuators fetchers admits z is = (
+  λ events v k o led low seeks.
+      let some : 0 < z.cells = subst (λ (y : Sizes). 0 < y.cells) (sym is) (some_cells (slice_get programs 0)) in
+      let few : need z (image_at programs) ≤ z.frames = subst (λ (y : Sizes). need y (image_at programs) ≤ y.frames) (sym is) admits.1 in
+      let lower : k < z.programs = subst (λ (y : Sizes). k < y.programs) (sym is) low in
+      let found = enough z (image_at programs) events v k o some led few lower seeks in
+      (found.0, subst (λ (y : Sizes). found.0 < y.frames) is found.1, found.2),
+  λ events v ran loops text checks cells meant k compiled means. (headline loops text checks cells (image_at programs k) compiled meant means).0 z (image_at programs) events v k ran refl,
+)
+
 pub replayed : AdmittedHeadline → ReplayedHeadline
 replayed holds programs frames objects evacuators fetchers admits z is schedule ends told k e at loops text checks cells meant compiled means =
     let some : 0 < z.cells = subst (λ (y : Sizes). 0 < y.cells) (sym is) (some_cells (slice_get programs 0)) in
-    let so = (holds programs frames objects evacuators fetchers admits z is told.events told.world (some, told.leads.follows)).1 loops text checks cells meant k compiled means in
+    let so = (holds programs frames objects evacuators fetchers admits z is).1 told.events told.world (some, told.leads.follows) loops text checks cells meant k compiled means in
     let from_zero : 0 + k ≡ k = omega arith in
     promised_end meant checks (told.world.programs k) e _ (subst (λ (n : ℕ). IsEnded (told.world.programs n) e) from_zero (ended_at told.world.programs 0 k ends e told.ended at)) so

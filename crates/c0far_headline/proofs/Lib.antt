@@ -1,3 +1,4 @@
 pub mod Ends
 pub mod Headlines
 pub mod Ran
+pub mod Shown

@@ -27,7 +27,7 @@ use Rattle.c0far_headline.proofs.Ends.{ended_at, ends_so, some_cells}
 use Rattle.c0far_headline.proofs.Headlines.{Laws, at_beginning, at_stop}
 
 -- what holds of the elements at each place holds of those at this one
-zipped_at : {A B : Type 0} (R : A → B → Type 0) (xs : List A) (ys : List B) (k : ℕ) (x : A) (y : B) → AllZip R xs ys → slice_get xs k ≡ Some x → slice_get ys k ≡ Some y → R x y
+pub zipped_at : {A B : Type 0} (R : A → B → Type 0) (xs : List A) (ys : List B) (k : ℕ) (x : A) (y : B) → AllZip R xs ys → slice_get xs k ≡ Some x → slice_get ys k ≡ Some y → R x y
 zipped_at R [] ys k x y all is too = absurd (let no : ⊥ = cc in no)
 zipped_at R (a ∷ xs) [] k x y all is too = absurd all
 zipped_at R (a ∷ xs) (b ∷ ys) zero x y all is too =
@@ -87,7 +87,7 @@ told_settled p j s o e stops is le =
 
 module _ (laws : Laws) where
   -- an end that is the code's own is as promised of the text
-  promised_end : (P : Typed) (checks : Bool) (C : Image) (reliable : Type 0) (objects : ℕ) (e : Ended) → Behaves P checks C → IsExecutedOver reliable objects C e
+  pub promised_end : (P : Typed) (checks : Bool) (C : Image) (reliable : Type 0) (objects : ℕ) (e : Ended) → Behaves P checks C → IsExecutedOver reliable objects C e
       → PromisedEnd P checks e (WantsFor reliable objects C (code_run (code C) e.completed).0)
   promised_end P checks C reliable objects e behaves is =
       let c : Core = (code_run (code C) e.completed).0 in

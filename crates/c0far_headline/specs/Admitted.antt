@@ -18,7 +18,7 @@ use Rattle.world_semantics.specs.Causes.{HasCause}
 use Rattle.world_semantics.specs.Enough.{IsUnheld}
 use Rattle.world_semantics.specs.Programs.{Bringing}
 use Rattle.world_semantics.specs.Pieces.{piece_of}
-use Rattle.world_semantics.specs.Worlds.{Event, Sizes, World, start}
+use Rattle.world_semantics.specs.Worlds.{Event, Follows, Sizes, World, start}
 use Rattle.c0far_headline.specs.Headline.{EndsSo, IsRun, Promised}
 
 -- What is promised of the end of a program that means P
@@ -30,13 +30,15 @@ pub record PromisedEnd (P : Typed) (checks : Bool) (e : Ended) (HasCauseOf : Wan
   -- where it wants something the cause is among the events
   pub wanting : (want : Want) → e.run ≡ run.Wanted want → HasCauseOf want
 
--- Of programs that `fits` or `admit` admitted, in every run of their world over an honest store: where one seeks a frame, there is a frame that is free,
--- or holds an object without holds that is in no mover's hands; and each whose image a text was compiled to is as promised of that text
+-- Of programs that `fits` or `admit` admitted, in every list of events of their world: where one seeks a frame, there is a frame that is free, or holds an object without holds
+-- that is in no mover's hands, over any store; and over an honest store each whose image a text was compiled to is as promised of that text
 abbrev pub AdmittedHeadline : Type 0
 AdmittedHeadline = (programs : List Verified) (frames objects evacuators fetchers : ℕ) → IsAdmitted programs frames objects evacuators fetchers
-    → (z : Sizes) → z ≡ sizes_of (length programs) frames objects evacuators fetchers (piece_of (image_at programs)) → (events : List Event) (v : World) → IsRun z (image_at programs) events v
-    → ((k o : ℕ) → k < length programs → (v.programs k).mode ≡ Bringing o → (f : ℕ) × (f < frames) × IsUnheld z v.lock f)
-    × ((loops : Bool) (text : List ℕ) (checks : Bool) (cells : ℕ) (meant : Typed) (k : ℕ) → IsCompiled loops text checks cells (image_at programs k) → IsTypedAs loops text meant
+    → (z : Sizes) → z ≡ sizes_of (length programs) frames objects evacuators fetchers (piece_of (image_at programs))
+    → ((events : List Event) (v : World) (k o : ℕ) → Follows ⊥ z (image_at programs) (start (image_at programs)) events v → k < length programs → (v.programs k).mode ≡ Bringing o
+    → (f : ℕ) × (f < frames) × IsUnheld z v.lock f)
+    × ((events : List Event) (v : World) → IsRun z (image_at programs) events v
+    → (loops : Bool) (text : List ℕ) (checks : Bool) (cells : ℕ) (meant : Typed) (k : ℕ) → IsCompiled loops text checks cells (image_at programs k) → IsTypedAs loops text meant
     → Promised meant checks (v.programs k) (λ want. HasCause (Unit {0}) z (image_at programs) k want (start (image_at programs)) events))
 
 -- Of the ends that the replay of a schedule over an honest store, which may fail, told: each, of a program whose image a text was compiled to, is as promised of that text

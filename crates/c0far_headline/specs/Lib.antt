@@ -1,3 +1,4 @@
 pub mod Admitted
 pub mod Headline
 pub mod Ran
+pub mod Shown

@@ -4,6 +4,7 @@
 ghost use Rattle.c0far_headline.specs.Admitted.{AdmittedHeadline, ReplayedHeadline};
 ghost use Rattle.c0far_headline.specs.Headline.{Headline};
 ghost use Rattle.c0far_headline.specs.Ran.{EndsSettle, RunHeadline};
+ghost use Rattle.c0far_headline.specs.Shown.{ReplayShows, RunShows};
 
 use c0_image::one_image;
 use c0_typed::more_turns;
@@ -47,6 +48,19 @@ pub fn headline_of_ends()
     ensures settled { EndsSettle }
 {
     headline();
+    one_image();
+    more_turns();
+    run_laws();
+    programs_follow();
+    wants();
+}
+
+/// The same of what the commands `run` and `replay` show, program by program.
+pub fn headline_of_commands()
+    ensures runs { RunShows }
+    ensures replays { ReplayShows }
+{
+    headline_of_replays();
     one_image();
     more_turns();
     run_laws();

@@ -12,4 +12,4 @@ returns-in-Some-clause-written g c =
     let is : c.args.run.now ≡ Stopped c.in-Stopped.stop = search rules in
     let other : run_status c.args.run.now ≡ 1 = search rules in
     written_at c.args.file.now (g.F.Files.holds c.args.files.now c.args.file.now) c.args.run.now c.in-Stopped.stop found.text.items found.site.offset told.0 told.1 found.numbers
-    (writes g.E.Stream.contents g.E.Stream.failures c.args.err.now c.write_found.new.err) c.write_found.result is other c.in-Some.ensures.text told.2 told.3
+    (writes g.E.Stream.contents g.E.Stream.failures c.args.err.now c.write_found.new.err) c.write_found.result is other c.in-Some.ensures.named c.in-Some.ensures.text told.2 told.3

@@ -14,4 +14,4 @@ returns-in-Some-clause-written g c =
     let is : c.args.run.now ≡ Wanted OutOfMemory = search rules in
     let stands = subst (λ (t : List ℕ). StandsAt t found.name.span.start told.0 told.1) c.deref.ensures.value told.2 in
     called_at c.args.file.now (g.F.Files.holds c.args.files.now c.args.file.now) c.args.run.now found.text.items found.name.span.start told.0 told.1 (string_bytes found.name.text)
-    (writes g.E.Stream.contents g.E.Stream.failures c.args.err.now c.write_call.new.err) c.write_call.result is c.in-Some.ensures.text stands told.3
+    (writes g.E.Stream.contents g.E.Stream.failures c.args.err.now c.write_call.new.err) c.write_call.result is c.in-Some.ensures.named c.in-Some.ensures.text stands told.3

@@ -1,0 +1,42 @@
+-- What is promised of what the commands `run` and `replay` show.
+use Rattle.std.specs.Prelude.{◌≡◌, ℕ, ◌/◌, Bool, List, length, Some, slice_get}
+use Rattle.cells.specs.declared.ending.Ended.{Ended}
+use Rattle.clap.specs.Words.{Text}
+use Rattle.c0_front.specs.Texts.{IsTypedAs}
+use Rattle.c0_image.specs.Compiled.{IsCompiled}
+use Rattle.c0_typed.specs.Trees.{Program as Typed}
+use Rattle.code_form.specs.Code.{code}
+use Rattle.code_form.specs.Effects.{code_run}
+use Rattle.code_form.specs.Form.{image_of}
+use Rattle.command_line.specs.Shell.{Replayed, Started}
+use Rattle.program_run.specs.Executed.{WantsFor}
+use Rattle.program_run.specs.declared.run.Finished.{Finished}
+use Rattle.region.specs.Admission.{image_at}
+use Rattle.scope_verifier.specs.declared.acceptance.Verified.{Verified}
+use Rattle.streams.specs.Streams.{Writes}
+use Rattle.world.specs.Opened.{sizes_of}
+use Rattle.world_semantics.specs.Causes.{HasCause}
+use Rattle.world_semantics.specs.Pieces.{piece_of}
+use Rattle.world_semantics.specs.Worlds.{start}
+use Rattle.c0far.specs.FileTexts.{Known}
+use Rattle.c0far.specs.Replays.{HasReplayed}
+use Rattle.c0far.specs.Runs.{HasRun, IsReliableIn}
+use Rattle.c0far_headline.specs.Admitted.{PromisedEnd}
+
+-- Of the ends that `run` shows, over the store in memory or over folders that are honest: each, of a program whose image a text was compiled to, is as promised of that text, and a
+-- want has its cause in the code's run, with an equal share of the objects
+abbrev pub RunShows : Type 0
+RunShows = (asked : Started) (files : List Text) (held : Text → Known) (out err : Writes) (result : ℕ) → (did : HasRun (Unit {0}) asked files held out err result)
+    → (k : ℕ) (v : Verified) (f : Finished) → slice_get did.programs k ≡ Some v → slice_get did.finished k ≡ Some f
+    → (loops : Bool) (text : List ℕ) (checks : Bool) (cells : ℕ) (meant : Typed) → IsCompiled loops text checks cells (image_of v.image) → IsTypedAs loops text meant
+    → PromisedEnd meant checks f.end (WantsFor (IsReliableIn asked.memory) (asked.memory.objects / length did.programs) (image_of v.image) (code_run (code (image_of v.image)) f.end.completed).0)
+
+-- Of the ends that `replay` shows, over the store in memory or over folders that are honest: each, of a program whose image a text was compiled to, is as promised of that text, and a
+-- want has its cause among the events of the schedule
+abbrev pub ReplayShows : Type 0
+ReplayShows = (asked : Replayed) (files : List Text) (held : Text → Known) (out err : Writes) (result : ℕ)
+    → (did : HasReplayed (Unit {0}) (IsReliableIn asked.memory) asked files held out err result) → (k : ℕ) (e : Ended) → slice_get did.ends k ≡ Some e
+    → (loops : Bool) (text : List ℕ) (checks : Bool) (cells : ℕ) (meant : Typed) → IsCompiled loops text checks cells (image_at did.programs k) → IsTypedAs loops text meant
+    → PromisedEnd meant checks e
+    (λ want. HasCause (Unit {0}) (sizes_of (length did.programs) asked.memory.frames asked.memory.objects asked.evacuators asked.fetchers (piece_of (image_at did.programs)))
+    (image_at did.programs) k want (start (image_at did.programs)) did.replayed.events)
