@@ -1,11 +1,14 @@
-use Rattle.std.proofs.Common.{List, ℕ, ap, inl, inr, refl, subst, sym, ◌∙◌}
+use Rattle.std.proofs.Common.{List, ℕ, ap, inl, inr, refl, rules, subst, sym, ◌≡◌, ◌∙◌, ◌++◌}
+use Rattle.std.specs.Prelude.{codes}
 use Rattle.code_form.specs.Form.{image_of}
 use Rattle.code_form.specs.declared.form.Image.{Image}
 use Rattle.image_bytes.specs.Bytes.{image_bytes}
 use Rattle.image_bytes.specs.Encodable.{IsEncodable}
 use Rattle.command_line.specs.Shell.{compiling_of}
-use Rattle.c0far.specs.FileTexts.{HasText}
-use Rattle.c0far.proofs.Codes.{code_is_encodable}
+use Rattle.c0far.specs.FileTexts.{HasText, Known}
+use Rattle.c0far.specs.Shown.{newline}
+use Rattle.streams.specs.Streams.{Says, Writes}
+use Rattle.c0far.proofs.Codes.{after_quiet, code_is_encodable}
 use Rattle.c0far.proofs.images.build.Goals as goal
 
 pub encode-requires : goal.encode-requires
@@ -25,3 +28,28 @@ returns-in-Ok-write-clause-done g c = inl (record {
   silent = refl;
   quiet = c.in-Ok.ensures.quiet;
 })
+
+pub returns-then-is_same-clause-done : goal.returns-then-is_same-clause-done
+returns-then-is_same-clause-done g c = inr (
+  c.in-Ok.ensures.files c.args.target.now,
+  inr (record {
+    image = image_of c.in-Ok.verified.image;
+    code = c.in-Ok.ensures.code;
+    shown = subst (λ (w : Writes). Says w (c.args.target.now ++ (codes ": cannot be written" ++ newline)) 2 c.say_unwritten.result)
+        (after_quiet g.E.Stream.contents g.E.Stream.failures c.args.err.now c.code_of.new.err c.say_unwritten.new.err c.in-Ok.ensures.quiet) c.say_unwritten.ensures;
+    quiet = refl;
+  }),
+)
+
+pub returns-in-Err-Cannot-clause-done : goal.returns-in-Err-Cannot-clause-done
+returns-in-Err-Cannot-clause-done g c =
+    let same : ◌≡◌ {A = Known} (g.F.Files.holds c.write.new.self c.args.target.now) (g.F.Files.holds c.args.files.now c.args.target.now) = search rules in inr (
+      same,
+      inr (record {
+        image = image_of c.in-Ok.verified.image;
+        code = c.in-Ok.ensures.code;
+        shown = subst (λ (w : Writes). Says w (c.args.target.now ++ (codes ": cannot be written" ++ newline)) 2 c.say_unwritten-in-Err-Cannot.result)
+            (after_quiet g.E.Stream.contents g.E.Stream.failures c.args.err.now c.code_of.new.err c.say_unwritten-in-Err-Cannot.new.err c.in-Ok.ensures.quiet) c.say_unwritten-in-Err-Cannot.ensures;
+        quiet = refl;
+      }),
+    )
