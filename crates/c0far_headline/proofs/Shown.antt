@@ -49,6 +49,7 @@ replayed_so r z images schedule ends told = record {
 }
 
 pub replay_shows : ReplayedHeadline → ReplayShows
+unfolding replayed_so
 replay_shows holds asked files held out err result did k e at =
     let z = sizes_of (length did.programs) asked.memory.frames asked.memory.objects asked.evacuators asked.fetchers (piece_of (image_at did.programs)) in
     holds did.programs asked.memory.frames asked.memory.objects asked.evacuators asked.fetchers did.admits.admitted z refl did.lines did.ends
