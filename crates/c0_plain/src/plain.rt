@@ -1,6 +1,6 @@
 //! From a text to what it means.
 
-ghost use Rattle.std.specs.Prelude.{◌≡◌, ◌⊎◌, ℕ, Bool, IfErr, IfOk, MatchResult};
+ghost use Rattle.std.specs.Prelude.{◌≡◌, ◌⊎◌, ℕ, Bool, IfErr, IfOk, IsSome, MatchResult};
 ghost use Rattle.c0_source.specs.declared.fault.FaultKind.TheVariants.{OutOfMemory};
 ghost use Rattle.c0_source.specs.FaultNumbers.{memory_fault};
 ghost use Rattle.c0_syntax.specs.Levels.{has_loops};
@@ -73,7 +73,7 @@ fn mean_apart<R: Threads>(
 /// What the program of a text means within this many turns: how it ends, what it prints, and where in the text that stands which stopped it, otherwise than by a
 /// result. `checks` tells whether contracts are checked, and `level` which statements are in the language. The fault is of the first stage that refuses the
 /// text, or 50, where memory runs out, or where the thread can't be made, or where what the calls, the output or the heap hold passes the limit: then it is told which.
-/// Of the place, and of what passed the limit, no clause tells.
+/// Of the place, and of which use of memory passed the limit, no clause tells.
 pub fn mean_text_placed<R: Threads>(
     alloc: Global,
     rt: &R,
@@ -87,6 +87,8 @@ pub fn mean_text_placed<R: Threads>(
     ensures refused { IfErr result (λ u. (u.fault.kind ≡ OutOfMemory) ⊎ IsRefusedText (has_loops level) text.now u.fault) }
     // Want of memory is told with an empty span, at the beginning of the text.
     ensures place { IfErr result (λ u. u.fault.kind ≡ OutOfMemory → u.fault ≡ memory_fault) }
+    // A limit was passed by a program alone: the text is that of a well-typed one.
+    ensures over { IfErr result (λ u. IsSome u.passed → (p : y.Program) × IsTypedAs (has_loops level) text.now p) }
     // A text of a well-typed program is run as that program, and as no other, unless memory runs out.
     ensures every { (p : y.Program) → IsTypedAs (has_loops level) text.now p → MatchResult result (λ m. meant_of m.meant ≡ mean_of p checks turns) (λ u. u.fault.kind ≡ OutOfMemory) }
 {

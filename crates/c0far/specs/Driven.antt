@@ -96,12 +96,14 @@ pub record HasMeant (asked : Bounded) (file : Text) (held : Known) (out err : Wr
   pub shown : Says out (shown_meaning (mean typed asked.texts.checks asked.turns)) (ended_status (mean typed asked.texts.checks asked.turns).stop) status
   pub told : TellsWhere asked.explains file text (mean typed asked.texts.checks asked.turns).stop err status result
 
--- there is a limit, and the plain run of the program of the file's text passed it: it is told what did, and which function was called last, if that was asked for; and
+-- there is a limit, and the file's text is that of a well-typed program, whose plain run passed it: it is told what did, and which function was called last, if that was asked for; and
 -- nothing of what it printed
 pub record IsOverLimit (asked : Bounded) (file : Text) (held : Known) (out err : Writes) (result : ℕ) : Type 0 where
   pub limited : asked.limit ≡ 0 → ⊥
   pub text : List ℕ
   pub read : HasText held text
+  pub typed : y.Program
+  pub accepted : IsTypedAs asked.texts.loops text typed
   pub taker : MemoryUse
   pub middle : Held
   pub status : ℕ

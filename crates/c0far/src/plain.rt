@@ -1,5 +1,8 @@
 //! The command `mean`: what the program of a text means within some turns.
-ghost use Rattle.std.specs.Prelude.{◌≡◌, ◌≢◌, ◌⊎◌, ◌++◌, ℕ, List, codes};
+ghost use Rattle.std.specs.Prelude.{◌≡◌, ◌≢◌, ◌⊎◌, ◌++◌, ℕ, IsSome, List, codes};
+ghost use Rattle.c0_front.specs.Texts.{IsTypedAs};
+ghost use Rattle.c0_syntax.specs.Levels.{has_loops};
+ghost use Rattle.c0_typed.specs.Trees as y;
 ghost use Rattle.cells.specs.Stops.{stop_of};
 ghost use Rattle.c0_meaning.specs.Run.{ended_of, meant_of};
 ghost use Rattle.command_line.specs.Shell.{bound_of};
@@ -175,7 +178,7 @@ fn say_over<E: Stream>(
     call: Option<usize>,
 ) -> u8
     requires { bound.limit ≢ 0 }
-    ensures { (held : Known) (out : Writes) → HasText held text.now → IsQuiet out → IsOverLimit (bound_of bound) file.now held out (writes E.contents E.failures err.old err.new) result }
+    ensures { (held : Known) (out : Writes) (p : y.Program) → IsTypedAs (has_loops bound.texts.level) text.now p → HasText held text.now → IsQuiet out → IsOverLimit (bound_of bound) file.now held out (writes E.contents E.failures err.old err.new) result }
 {
     let status = after(write_over(err, bound.limit, taker), WANTED);
     say_call(alloc, err, bound, file, text, call, status)
@@ -190,6 +193,7 @@ fn say_no_room<E: Stream>(
     text: &[u8],
     untold: Untold,
 ) -> u8
+    requires { IsSome untold.passed → (p : y.Program) × IsTypedAs (has_loops bound.texts.level) text.now p }
     ensures { (held : Known) (out : Writes) → HasText held text.now → IsQuiet out
         → LacksMemory out (writes E.contents E.failures err.old err.new) result ⊎ IsOverLimit (bound_of bound) file.now held out (writes E.contents E.failures err.old err.new) result }
 {

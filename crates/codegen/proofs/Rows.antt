@@ -8,22 +8,13 @@ use Rattle.middle_form.specs.Scoped as s
 use Rattle.middle_form.specs.ScopedViews.{scoped_code_of, scoped_row_of, scoped_sequence_of}
 use Rattle.middle_form.specs.declared.scoped.ScopedCode.{ScopedCode, Row_of-ScopedCode, end_of-ScopedCode, more_of-ScopedCode, items-the_row-ScopedCode, Sequence', Do, Load, Store, LoadBy, StoreBy, Aim, Leave, Loose, Call, Fail, Choose', Loop', Block', Exit, the_lemmas as code_lemmas}
 use Rattle.middle_form.specs.declared.scoped.ScopedCode.TheViews.{Sequence}
-use Rattle.codegen.specs.Building.{is_access, is_straight}
-
-parts_row : {n : _} (k : Row_of-ScopedCode n) → scoped_row_of k ≡ scoped_sequence_of (items-the_row-ScopedCode n k)
-parts_row end_of-ScopedCode = refl
-parts_row (more_of-ScopedCode a rest) = ap (s.Then (scoped_code_of a)) (parts_row rest)
-
-pub sequence_is : (all : Vec ScopedCode Global) → scoped_code_of (Sequence all) ≡ scoped_sequence_of all.items
-sequence_is all = search (rules, code_lemmas, parts_row)
+use Rattle.scoped_building.specs.Building.{is_straight}
+use Rattle.scoped_building.proofs.Rows.{row_is_not_straight}
+use Rattle.codegen.specs.Building.{is_access}
 
 -- a part, and those behind it
 pub sequence_at : (all : List ScopedCode) (i : ℕ) (a : ScopedCode) → i < length all → a ≡ get_or all i a → scoped_sequence_of (drop i all) ≡ s.Then (scoped_code_of a) (scoped_sequence_of (drop (i + 1) all))
 sequence_at all i a le e = ap scoped_sequence_of (drop_more all i a le) ∙ ap (λ x. s.Then (scoped_code_of x) (scoped_sequence_of (drop (i + 1) all))) (sym e)
-
-row_is_not_straight : {n : _} (k : Row_of-ScopedCode n) → is_straight (scoped_row_of k) ≡ true → ⊥
-row_is_not_straight end_of-ScopedCode e = cc e
-row_is_not_straight (more_of-ScopedCode a rest) e = cc e
 
 row_is_no_access : {n : _} (k : Row_of-ScopedCode n) → is_access (scoped_row_of k) ≡ true → ⊥
 row_is_no_access end_of-ScopedCode e = cc e

@@ -57,21 +57,6 @@ is_access (StoreBy s r off disp from) = true
 is_access (Aim s r off disp) = true
 is_access _ = false
 
--- code needs no more blocks, and is not in parts
-abbrev pub is_straight : Code → Bool
-is_straight (Do o) = true
-is_straight (Load to s r off disp) = true
-is_straight (Store s r off disp from) = true
-is_straight (LoadBy to s r off disp) = true
-is_straight (StoreBy s r off disp from) = true
-is_straight (Aim s r off disp) = true
-is_straight (Leave s) = true
-is_straight (Loose s) = true
-is_straight (Call to f args) = true
-is_straight (Fail a) = true
-is_straight (Exit k) = true
-is_straight _ = false
-
 -- What is known of scope s at the entry of each of the blocks that code needs beside its first instructions, the last block's first, where so much is
 -- known of it before the code
 abbrev pub known_back : ℕ → Code → known.Knows → List known.Knows

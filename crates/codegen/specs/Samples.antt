@@ -6,11 +6,7 @@ use Rattle.code_form.specs.declared.form.Relation.TheVariants as relation
 use Rattle.code_form.specs.declared.form.Operation.TheVariants.{Const, TextOf, Move, Binary, Compare, CheckNull, CheckIndex, Alloc, AllocArray, Null, Printint}
 use Rattle.middle_form.specs.Samples.{head}
 use Rattle.middle_form.specs.Scoped.{Code, Nothing, Do, Load, Store, LoadBy, Aim, Leave, Call, Fail, Then, Choose, Loop, Block, Exit, Function, Program}
-
--- code in order
-abbrev pub in_order : List Code → Code
-in_order [] = Nothing
-in_order (a ∷ rest) = Then a (in_order rest)
+use Rattle.scoped_building.specs.Building.{in_order}
 
 -- `main` with so many scopes, over a number, a truth value, a second number, a pointer, an array, an offset and a text
 abbrev pub main_of : ℕ → Code → Function

@@ -1,7 +1,7 @@
 //! Which checks scoped code asks for before it, and at the entry of each of its blocks.
 ghost use Rattle.codegen.specs.Building.{lists};
 ghost use Rattle.middle_form.specs.Guarded.{asked_before as before, asked_inside, asks as asks_of, is_same_check as is_same, joined as joined_of, place_check as check_of, with_check as with_one, without_check as without_one};
-ghost use Rattle.codegen.specs.Building.{is_straight};
+ghost use Rattle.scoped_building.specs.Building.{is_straight};
 ghost use Rattle.codegen.specs.Generated.{asked_of};
 ghost use Rattle.middle_form.specs.Scoped.{plain};
 ghost use Rattle.middle_form.specs.ScopedViews.{scoped_code_of, scoped_function_of};

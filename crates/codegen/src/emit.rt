@@ -1,6 +1,7 @@
 //! The blocks of scoped code. A block under construction holds its instructions last first.
 ghost use Rattle.code_form.specs.Form.{Aim, Branch, Call, Instruction as FormInstruction, Jump, Leave, Load, Store, instruction_of};
-ghost use Rattle.codegen.specs.Building.{back, backs, exits_of, is_access, is_straight, way_of};
+ghost use Rattle.codegen.specs.Building.{back, backs, exits_of, is_access, way_of};
+ghost use Rattle.scoped_building.specs.Building.{is_straight};
 ghost use Rattle.codegen.specs.Generated.{exit_from, extra, first, onward, target};
 ghost use Rattle.middle_form.specs.ScopedViews.{scoped_code_of};
 ghost use Rattle.std.specs.Prelude.{◌≡◌, ◌++◌, ◌∷◌, ℕ, [], IfOk, List, OnOk, length, true};

@@ -1,6 +1,7 @@
 //! What is known of each scope at the entries of the blocks of scoped code, and their entry facts.
 ghost use Rattle.code_form.specs.Known.{Unknown, forget as forget_of};
-ghost use Rattle.codegen.specs.Building.{in_front as front_of, is_straight, known_back, knows_of, lists, of_scope};
+ghost use Rattle.codegen.specs.Building.{in_front as front_of, known_back, knows_of, lists, of_scope};
+ghost use Rattle.scoped_building.specs.Building.{is_straight};
 ghost use Rattle.codegen.specs.Generated.{facts_of, known_of, scope_fact};
 ghost use Rattle.middle_form.specs.Discipline.{after, is_lost as is_lost_of, join, touches as touches_of, writes as writes_of, wrote};
 ghost use Rattle.middle_form.specs.ScopedViews.{scoped_code_of, scoped_function_of};

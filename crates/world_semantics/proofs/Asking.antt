@@ -23,18 +23,12 @@ use Rattle.world_semantics.specs.Programs.{Eviction, Copying, Stored, NotStored,
 use Rattle.world_semantics.specs.Turns.{Answer, Turn, NotEnabled, Alone, Calls, as_next, put_of, put_so, evicts, evacuator_idle, evacuator_turn, aims_at, loads_from, loads_by, stores_to, stores_by, leaves_by, ends_by, ready, seeks, brings, fetcher_idle, fetcher_claims, fetches, fetcher_turn, program_brings, gives_up, by_mode}
 use Rattle.world_semantics.specs.InHand.{MovesOut, FitsEviction, OnlyBrings, BringsInto, IsPromised, FitsMode, FitsEvacuator, FitsFetcher}
 use Rattle.world_semantics.specs.Holding.{one, count_of}
-use Rattle.world_semantics.specs.Enabled.{is_turn}
+use Rattle.world_semantics.specs.Enabled.{AsksTurn, is_turn}
 use Rattle.world_semantics.specs.Scopes.{IsNext, IsAiming, AimsIn}
 use Rattle.world_semantics.proofs.Able.{able}
 use Rattle.world_semantics.proofs.Counting.{one_same, first_at}
 use Rattle.world_semantics.proofs.Holding.{InShare, Holds1}
 use Rattle.world_semantics.proofs.Moving.{below, not_below}
-
--- the turn's call meets what is asked of its caller
-abbrev pub AsksTurn : {A : Type 0} → (ℕ → ℕ) → Type 0 → ℕ → State → ℕ → Turn A → Type 0
-AsksTurn owner h n s m NotEnabled = Unit {0}
-AsksTurn owner h n s m (Alone a) = Unit {0}
-AsksTurn owner h n s m (Calls c go) = Asked owner h n s m c
 
 -- such a turn leads somewhere wherever there is something to do
 pub asked_able : {A : Type 0} (owner : ℕ → ℕ) (h : Type 0) (n : ℕ) (s : State) (m : ℕ) (x : Turn A) → AsksTurn owner h n s m x → able n s x ≡ is_turn x

@@ -25,10 +25,10 @@ use Rattle.world_semantics.specs.Turns.{Answer, Turn, NotEnabled, Alone, Calls, 
 use Rattle.world_semantics.specs.Worlds.{Sizes, World, Event, share, mover_of, setting, start, in_range, is_actor, with_program, with_evacuator, with_fetcher, acted, event, Follows}
 use Rattle.world_semantics.specs.Steps.{IsSound}
 use Rattle.world_semantics.specs.Holding.{count_of, HoldsFit}
-use Rattle.world_semantics.specs.Enabled.{has_turn, is_enabled, owner_of, OneAsked}
+use Rattle.world_semantics.specs.Enabled.{AsksTurn, has_turn, is_enabled, owner_of, OneAsked, TriesAsked}
 use Rattle.world_semantics.specs.Scopes.{IsAiming, AimsIn, object_in, IsAsCode, IsShut, IsAimed, ScopeFits, IsFramed}
 use Rattle.world_semantics.proofs.Able.{actor_able, event_able}
-use Rattle.world_semantics.proofs.Asking.{AsksTurn, ToldFit, HoldTold, IsPending, asked_able, asks_program, asks_evacuator, asks_fetcher, counts_one}
+use Rattle.world_semantics.proofs.Asking.{ToldFit, HoldTold, IsPending, asked_able, asks_program, asks_evacuator, asks_fetcher, counts_one}
 use Rattle.world_semantics.proofs.Following.{Laws, Within1, goes_within}
 use Rattle.world_semantics.proofs.Going.{Goes, program_leads}
 use Rattle.world_semantics.proofs.Holding.{InShare, Held, Kept, Opened, Closed, Written, Holds1, aims_there, mode_h, holds_on}
@@ -350,6 +350,14 @@ module _ (laws : Laws) (h : Type 0) (z : Sizes) (images : ℕ → Image) (events
 
   pub reached_asked : (e : Event) (u : World) → event z images v e ≡ Some u → OneAsked h z v e.actor u
   reached_asked e u is = (fits_on laws h z images some v u e is reached_fit.0 reached_fit.1).0
+
+  -- so does each that is tried
+  pub reached_tries : (who : Actor) (c : Choice) (a : Answer) → is_actor z who ≡ true → TriesAsked h z images v who c a
+  reached_tries (actor.Program k) c a there = program_asks laws h z images some v k c a (below k z.programs there) reached_fit.0 reached_fit.1
+  reached_tries (actor.Evacuator k) c a there =
+      asks_evacuator (owner_of z) h z.cells v.lock (suc (z.programs + k)) (v.evacuators k) c a (reached_fit.0.hands.evacuator k (below k z.evacuators there))
+  reached_tries (actor.Fetcher k) c a there =
+      asks_fetcher (owner_of z) h z.cells v.lock (suc (z.programs + z.evacuators + k)) (v.fetchers k) c a (reached_fit.0.hands.fetcher k (below k z.fetchers there))
 
   -- each scope holds what that of the code's run does
   pub reached_scopes : (k s : ℕ) → ScopeFits (setting z images k) (v.programs k) (v.programs k).mode s

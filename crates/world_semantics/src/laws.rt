@@ -6,10 +6,12 @@ ghost use Rattle.cells.specs.declared.ending.Want.TheVariants.{StoreFailed};
 ghost use Rattle.code_form.specs.Code.{is_blocked, stop_of};
 ghost use Rattle.code_form.specs.Form.{Image};
 ghost use Rattle.pointer_word.specs.Sound.{IsSafe};
+ghost use Rattle.world_semantics.specs.declared.event.Actor.{Actor};
 ghost use Rattle.world_semantics.specs.declared.event.Actor.TheVariants.{Program};
+ghost use Rattle.world_semantics.specs.declared.event.Choice.{Choice};
 ghost use Rattle.world_semantics.specs.declared.event.Choice.TheVariants.{Next};
 ghost use Rattle.world_semantics.specs.Causes.{HasCause, HasFailed, IsCaused};
-ghost use Rattle.world_semantics.specs.Enabled.{CanGo, OneAsked, is_enabled};
+ghost use Rattle.world_semantics.specs.Enabled.{CanGo, OneAsked, TriesAsked, is_enabled};
 ghost use Rattle.world_semantics.specs.Enough.{IsUnheld, need};
 ghost use Rattle.world_semantics.specs.Following.{IsAt};
 ghost use Rattle.world_semantics.specs.Holding.{HoldsFit};
@@ -17,7 +19,7 @@ ghost use Rattle.world_semantics.specs.Programs.{Bringing, Hold, Ready, Wanted, 
 ghost use Rattle.world_semantics.specs.Scopes.{AimsIn, IsFramed, ScopeFits};
 ghost use Rattle.world_semantics.specs.Steps.{IsSound, IsStep};
 ghost use Rattle.world_semantics.specs.Turns.{Answer};
-ghost use Rattle.world_semantics.specs.Worlds.{Event, Follows, IsHonest, Sizes, World, event, setting, start};
+ghost use Rattle.world_semantics.specs.Worlds.{Event, Follows, IsHonest, Sizes, World, event, is_actor, setting, start};
 ghost use Rattle.world_semantics.specs.Rows.{NoPuts, NoReads, Reliable, begun_first, brought_back, brought_back_later, brought_by, e0, e0_leave, e0_mark, f0, f0_begin, failed_itself, faulty, fetch_failed, fetched_first, five, five_fetched, get_failed, given_up, held_meanwhile, holding_one, left_clean, left_itself, moved_itself, opened_first, p0, put_away, put_failed, read_meanwhile, row, times, two_objects, two_written, written};
 
 use code_form::{effect_laws, heap_laws, run_laws};
@@ -88,7 +90,7 @@ pub fn answers()
 
 /// After any events, over a store that is honest and over one that isn't, an event is enabled exactly where there are such an actor, object and
 /// frame, and its actor has something to do: the machine refuses no call. A program that is ready goes on wherever its code is neither stuck,
-/// stopped nor blocked, and aims none but its four scopes. Each call that is made meets what is asked of its caller: an
+/// stopped nor blocked, and aims none but its four scopes. Each call that is made, or tried and refused, meets what is asked of its caller: an
 /// owner names objects of its own, and a mover what it has in hand.
 pub fn enabled_calls()
     ensures enabled { (z : Sizes) (images : ℕ → Image) (events : List Event) (v : World) (e : Event) → 0 < z.cells → Follows (Unit {0}) z images (start images) events v → is_some (event z images v e) ≡ is_enabled z images v e }
@@ -96,6 +98,8 @@ pub fn enabled_calls()
     ensures goes_on { (z : Sizes) (images : ℕ → Image) (events : List Event) (v : World) (k : ℕ) (a : Answer) → 0 < z.cells → Follows ⊥ z images (start images) events v → k < z.programs → (v.programs k).mode ≡ Ready → is_blocked (v.programs k).core ≡ false → CanGo (next_touch (setting z images k) (v.programs k)) → is_some (event z images v (record { actor = Program k; choice = Next; answer = a })) ≡ true }
     ensures asked { (z : Sizes) (images : ℕ → Image) (events : List Event) (v u : World) (e : Event) → 0 < z.cells → Follows (Unit {0}) z images (start images) events v → event z images v e ≡ Some u → OneAsked (Unit {0}) z v e.actor u }
     ensures asked_unsound { (z : Sizes) (images : ℕ → Image) (events : List Event) (v u : World) (e : Event) → 0 < z.cells → Follows ⊥ z images (start images) events v → event z images v e ≡ Some u → OneAsked ⊥ z v e.actor u }
+    ensures tries { (z : Sizes) (images : ℕ → Image) (events : List Event) (v : World) (who : Actor) (c : Choice) (a : Answer) → 0 < z.cells → Follows (Unit {0}) z images (start images) events v → is_actor z who ≡ true → TriesAsked (Unit {0}) z images v who c a }
+    ensures tries_unsound { (z : Sizes) (images : ℕ → Image) (events : List Event) (v : World) (who : Actor) (c : Choice) (a : Answer) → 0 < z.cells → Follows ⊥ z images (start images) events v → is_actor z who ≡ true → TriesAsked ⊥ z images v who c a }
 {
     effect_laws();
     heap_laws();

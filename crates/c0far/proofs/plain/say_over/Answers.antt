@@ -7,10 +7,12 @@ use Rattle.streams.specs.Streams.{writes}
 use Rattle.c0far.proofs.plain.say_over.Goals as goal
 
 pub returns : goal.returns
-returns g c = λ held out read quiet. record {
+returns g c = λ held out typed accepted read quiet. record {
   limited = c.requires;
   text = c.args.text.now;
   read = read;
+  typed = typed;
+  accepted = accepted;
   taker = c.args.taker;
   middle = record { contents = g.E.Stream.contents c.write_over.new.err; failures = g.E.Stream.failures c.write_over.new.err };
   status = c.after-status.result;

@@ -5,7 +5,8 @@ use Rattle.middle_form.specs.ScopedViews.{scoped_code_of, scoped_sequence_of}
 use Rattle.codegen.specs.Building.{lists}
 use Rattle.middle_form.specs.Guarded.{asked_inside, asks as asks_of}
 use Rattle.codegen.proofs.Paired.{asks_then, inside_then}
-use Rattle.codegen.proofs.Rows.{sequence_at, sequence_is}
+use Rattle.scoped_building.proofs.Rows.{sequence_is}
+use Rattle.codegen.proofs.Rows.{sequence_at}
 use Rattle.codegen.proofs.asked.+asks.Goals as goal
 
 pub loop-i-preserved : goal.loop-i-preserved

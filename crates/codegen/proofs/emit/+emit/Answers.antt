@@ -5,7 +5,8 @@ use Rattle.middle_form.specs.ScopedViews.{scoped_code_of, scoped_sequence_of}
 use Rattle.codegen.specs.Building.{back, backs, exits_of}
 use Rattle.codegen.specs.Generated.{extra, first}
 use Rattle.codegen.proofs.Emits.{backs_set, choose_added, choose_first, head_inside, length_backs, loop_added, then_added, then_first}
-use Rattle.codegen.proofs.Rows.{sequence_at, sequence_is}
+use Rattle.scoped_building.proofs.Rows.{sequence_is}
+use Rattle.codegen.proofs.Rows.{sequence_at}
 use Rattle.codegen.proofs.emit.+emit.Goals as goal
 
 pub loop-i-preserved : goal.loop-i-preserved

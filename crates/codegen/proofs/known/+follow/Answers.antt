@@ -3,7 +3,8 @@ use Rattle.middle_form.specs.Scoped as m
 use Rattle.middle_form.specs.Discipline.{after}
 use Rattle.middle_form.specs.ScopedViews.{scoped_code_of, scoped_sequence_of}
 use Rattle.codegen.specs.Building.{known_back, knows_of}
-use Rattle.codegen.proofs.Rows.{sequence_at, sequence_is}
+use Rattle.scoped_building.proofs.Rows.{sequence_is}
+use Rattle.codegen.proofs.Rows.{sequence_at}
 use Rattle.codegen.proofs.ScopeFacts.{followed_added, followed_after, loop_followed}
 use Rattle.codegen.proofs.known.+follow.Goals as goal
 

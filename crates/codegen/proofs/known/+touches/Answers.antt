@@ -1,7 +1,7 @@
 use Rattle.std.proofs.Common.{◌∙◌, ap, sym}
 use Rattle.middle_form.specs.Discipline.{touches}
 use Rattle.middle_form.specs.ScopedViews.{scoped_code_of, scoped_sequence_of}
-use Rattle.codegen.proofs.Rows.{sequence_is}
+use Rattle.scoped_building.proofs.Rows.{sequence_is}
 use Rattle.codegen.proofs.known.+touches.Goals as goal
 
 pub loop-part-init : goal.loop-part-init
