@@ -1,13 +1,12 @@
 -- The parts of a sequence as a list.
-use Rattle.std.proofs.Common.{◌≡◌, ◌<◌, ◌+◌, ℕ, true, refl, Option, List, drop, get_or, length, sym, ap, ◌∙◌, rules}
+use Rattle.std.proofs.Common.{◌≡◌, ◌<◌, ◌+◌, ℕ, true, refl, Option, List, drop, get_or, length, sym, ap, ◌∙◌}
 use Rattle.std.proofs.lemmas.List.{drop_more}
 use Rattle.std.specs.declared.vec.Vec.{Vec}
 use Rattle.std.specs.declared.alloc.Global.{Global}
 use Rattle.code_form.specs.declared.form.Operation.{Operation}
 use Rattle.middle_form.specs.Scoped as s
 use Rattle.middle_form.specs.ScopedViews.{scoped_code_of, scoped_row_of, scoped_sequence_of}
-use Rattle.middle_form.specs.declared.scoped.ScopedCode.{ScopedCode, Row_of-ScopedCode, end_of-ScopedCode, more_of-ScopedCode, items-the_row-ScopedCode, Sequence', Do, Load, Store, LoadBy, StoreBy, Aim, Leave, Loose, Call, Fail, Choose', Loop', Block', Exit, the_lemmas as code_lemmas}
-use Rattle.middle_form.specs.declared.scoped.ScopedCode.TheViews.{Sequence}
+use Rattle.middle_form.specs.declared.scoped.ScopedCode.{ScopedCode, Row_of-ScopedCode, end_of-ScopedCode, more_of-ScopedCode, Sequence', Do, Load, Store, LoadBy, StoreBy, Aim, Leave, Loose, Call, Fail, Choose', Loop', Block', Exit}
 use Rattle.scoped_building.specs.Building.{is_straight}
 use Rattle.scoped_building.proofs.Rows.{row_is_not_straight}
 use Rattle.codegen.specs.Building.{is_access}

@@ -1,5 +1,5 @@
 -- Programs with their scopes, whose images are computed.
-use Rattle.std.specs.Prelude.{ℕ, List, [], ◌∷◌, Some, None, pos}
+use Rattle.std.specs.Prelude.{ℕ, [], ◌∷◌, Some, None, pos}
 use Rattle.cells.specs.declared.int32.Int32Op.TheVariants.{Add, Sub}
 use Rattle.code_form.specs.declared.form.Kind.TheVariants as kind
 use Rattle.code_form.specs.declared.form.Relation.TheVariants as relation

@@ -11,7 +11,7 @@ use Rattle.code_form.specs.Placed.{pieces}
 use Rattle.pointer_word.specs.Hands.{known, listed}
 use Rattle.pointer_word.specs.Machine.{State}
 use Rattle.pointer_word.specs.Calls.{Puts}
-use Rattle.pointer_word.specs.Asked.{Asked, HasNothing}
+use Rattle.pointer_word.specs.Asked.{HasNothing}
 use Rattle.pointer_word.specs.Ordered.{IsFilled}
 use Rattle.pointer_word.proofs.Asking.{asked_may}
 use Rattle.pointer_word.proofs.Legal.{may_legal}
