@@ -20,7 +20,7 @@ PROGRAM = "c0far_program"
 # Where a crate's code and contracts stand. Other proofs of the same leave the program as it is, and proved.
 SOURCES = ("src", "specs")
 LEFT_OUT = shutil.ignore_patterns("out", "must-fail", "further-edits")
-FIRST = "the first time takes 40 minutes on four slow processors, half that on fast ones, and 6.0 GB of disk; what rt has proved before is not proved again"
+FIRST = "the first time takes 40 minutes on four slow processors, half that on fast ones, and 6.3 GB of disk; what rt has proved before is not proved again"
 KEPT = "what is proved so far is kept beside the toolchain, where rt may write there, and the next start goes on from it"
 LIBC = ctypes.CDLL(None)
 PR_SET_PDEATHSIG = 1
