@@ -1,5 +1,6 @@
 -- What a round of an evacuator tells, and what it leaves of its seat.
-use Rattle.std.specs.Prelude.{◌≡◌, ℕ, ◌+◌, ◌%◌, ◌≤◌}
+use Rattle.std.specs.Prelude.{◌≡◌, ℕ, ◌+◌, ◌%◌, ◌≤◌, List, [], ◌∷◌, ◌++◌}
+use Rattle.pointer_word.specs.Hands.{Move, Marked, Committed, Aborted, Left, Released}
 use Rattle.object_lock.specs.Seats.{with_hand}
 use Rattle.object_lock.specs.SeatViews.{SeatView}
 use Rattle.object_moves.specs.declared.moved.Moved.{Moved}
@@ -20,6 +21,33 @@ one_of M.Failed = record { left = 0; aborted = 0; failed = 1 }
 abbrev pub both : Round → Round → Round
 both a b = record { left = a.left + b.left; aborted = a.aborted + b.aborted; failed = a.failed + b.failed }
 
+-- what a round did at a frame: an object was marked there, and this became of it; or one left that was clean
+pub data Visit : Type 0 where
+  MovesOut : (object frame : ℕ) → (became : Moved) → Visit
+  LetsLeave : (frame : ℕ) → Visit
+
+-- what the mover did then by calls that had their effect, in order, but the copies
+abbrev pub moves_at : Visit → List Move
+moves_at (MovesOut o f M.Left) = Marked o f ∷ Committed f ∷ Released ∷ []
+moves_at (MovesOut o f M.Stayed) = Marked o f ∷ Aborted ∷ []
+moves_at (MovesOut o f M.Failed) = Marked o f ∷ Aborted ∷ []
+moves_at (LetsLeave f) = Left f ∷ Released ∷ []
+
+-- the same of visits, one behind the other
+abbrev pub moves_in : List Visit → List Move
+moves_in [] = []
+moves_in (x ∷ xs) = moves_at x ++ moves_in xs
+
+-- the round of one visit
+abbrev pub round_at : Visit → Round
+round_at (MovesOut o f r) = one_of r
+round_at (LetsLeave f) = one_of M.Left
+
+-- the round of visits
+abbrev pub round_in : List Visit → Round
+round_in [] = record { left = 0; aborted = 0; failed = 0 }
+round_in (x ∷ xs) = both (round_at x) (round_in xs)
+
 -- A round of these counts: by the seat's view each object that left is a commit or left clean, each other one an abort, and all but those that left clean are marks; a
 -- call was refused through the port, modulo 2^64, for each that failed. Nothing else of the seat changed but its past, which frame was marked last, what was copied of it, the berth that
 -- was taken, and its way to the store
@@ -31,3 +59,9 @@ pub record Evacuates {W C : Type 0} (s t : SeatView W C) (r : Round) : Type 0 wh
   pub aborts : t.view.hand.aborts ≡ s.view.hand.aborts + (r.aborted + r.failed)
   pub refusals : t.refusals.count ≡ (s.refusals.count + r.failed) % 18446744073709551616
   pub same : t ≡ record s { view = with_hand s.view (record s.view.hand { source = t.view.hand.source; copied = t.view.hand.copied; marks = t.view.hand.marks; commits = t.view.hand.commits; aborts = t.view.hand.aborts; leaves = t.view.hand.leaves; past = t.view.hand.past }); taken = t.taken; store = t.store; refusals = t.refusals }
+
+-- a round of these counts is that of some visits, and what they did, one behind the other, is what the seat did
+pub record Visits {W C : Type 0} (s t : SeatView W C) (r : Round) : Type 0 where
+  pub visits : List Visit
+  pub did : t.view.hand.past ≡ s.view.hand.past ++ moves_in visits
+  pub counted : round_in visits ≡ r

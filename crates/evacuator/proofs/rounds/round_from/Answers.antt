@@ -1,7 +1,8 @@
-use Rattle.std.proofs.Common.{◌≡◌, ◌≤◌, ◌+◌, arith, sym, subst}
+use Rattle.std.proofs.Common.{◌≡◌, ◌≤◌, ◌+◌, arith, refl, rules, sym, subst}
 use Rattle.evacuator.specs.declared.counts.Round.{Round}
-use Rattle.evacuator.specs.Rounds.{Evacuates, moves_of}
+use Rattle.evacuator.specs.Rounds.{Evacuates, Visits, moves_of}
 use Rattle.evacuator.proofs.Adding.{evacuates_both, still_more}
+use Rattle.evacuator.proofs.Visits.{visits_both, visits_none}
 use Rattle.evacuator.proofs.rounds.round_from.Goals as goal
 
 pub loop-i-preserved : goal.loop-i-preserved
@@ -18,4 +19,8 @@ loop-i-preserved g c =
       subst (λ (r : Round). moves_of r ≤ c.loop-i.i + 1) sum (omega arith),
       λ sure. subst (λ (r : Round). r.failed ≡ 0) sum (let a = before.3 sure in let b = c.visit.ensures.sure sure in omega arith),
       subst (λ (r : Round). moves_of r ≡ 0 → u ≡ s) sum still,
+      subst (Visits s u) sum (visits_both s c.loop-i.seat u c.loop-i.round c.visit.result before.5 c.visit.ensures.visits),
     )
+
+pub loop-i-init : goal.loop-i-init
+loop-i-init g c = (search rules, search rules, search rules, search rules, search rules, visits_none c.args.seat.now c.args.seat.now c.none-round.result refl c.none-round.ensures)

@@ -1,0 +1,67 @@
+-- Visits of a round, one behind the other.
+use Rattle.std.proofs.Common.{◌≡◌, ℕ, List, [], ◌∷◌, ◌++◌, append_assoc, refl, sym, ap, ◌∙◌, arith}
+use Rattle.object_lock.specs.SeatViews.{SeatView}
+use Rattle.object_moves.specs.Moving.{hand_after}
+use Rattle.object_moves.specs.declared.moved.Moved.{Moved}
+use Rattle.object_moves.specs.declared.moved.Moved.TheVariants as M
+use Rattle.pointer_word.specs.Hands.{Hand, Move, leaving, marking, releasing}
+use Rattle.evacuator.specs.declared.counts.Round.{Round}
+use Rattle.evacuator.specs.Rounds.{LetsLeave, MovesOut, Visit, Visits, both, moves_at, moves_in, moves_of, round_at, round_in}
+
+abbrev counts : ℕ → ℕ → ℕ → Round
+counts a b c = record { left = a; aborted = b; failed = c }
+
+same_counts : (a b c d e f : ℕ) → a ≡ d → b ≡ e → c ≡ f → counts a b c ≡ counts d e f
+same_counts a b c d e f x y z = ap (λ n. counts n b c) x ∙ ap (λ n. counts d n c) y ∙ ap (counts d e) z
+
+pub nothing_counted : (r : Round) → moves_of r ≡ 0 → round_in [] ≡ r
+nothing_counted r h = same_counts 0 0 0 r.left r.aborted r.failed (omega arith) (omega arith) (omega arith)
+
+both_first : (r : Round) → both (round_in []) r ≡ r
+both_first r = same_counts _ _ _ r.left r.aborted r.failed (omega arith) (omega arith) (omega arith)
+
+both_in_order : (a b c : Round) → both (both a b) c ≡ both a (both b c)
+both_in_order a b c = same_counts _ _ _ _ _ _ (omega arith) (omega arith) (omega arith)
+
+pub one_counted : (x : Visit) → round_in (x ∷ []) ≡ round_at x
+one_counted x = same_counts _ _ _ (round_at x).left (round_at x).aborted (round_at x).failed (omega arith) (omega arith) (omega arith)
+
+pub rounds_in_order : (xs ys : List Visit) → round_in (xs ++ ys) ≡ both (round_in xs) (round_in ys)
+rounds_in_order [] ys = sym (both_first (round_in ys))
+rounds_in_order (x ∷ xs) ys = ap (both (round_at x)) (rounds_in_order xs ys) ∙ sym (both_in_order (round_at x) (round_in xs) (round_in ys))
+
+pub moves_in_order : (xs ys : List Visit) → moves_in (xs ++ ys) ≡ moves_in xs ++ moves_in ys
+moves_in_order [] ys = refl
+moves_in_order (x ∷ xs) ys = ap (λ ms. moves_at x ++ ms) (moves_in_order xs ys) ∙ sym (append_assoc (moves_at x) (moves_in xs) (moves_in ys))
+
+-- what was done before, then by some visits, and then by others
+pub then_more : (past between later : List Move) (xs ys : List Visit) → between ≡ past ++ moves_in xs → later ≡ between ++ moves_in ys → later ≡ past ++ moves_in (xs ++ ys)
+then_more past between later xs ys e f = f ∙ ap (λ ms. ms ++ moves_in ys) e ∙ append_assoc past (moves_in xs) (moves_in ys) ∙ ap (λ ms. past ++ ms) (sym (moves_in_order xs ys))
+
+-- nothing more was done
+pub nothing_more : (ms : List Move) → ms ≡ ms ++ moves_in []
+nothing_more [] = refl
+nothing_more (m ∷ ms) = ap (λ l. m ∷ l) (nothing_more ms)
+
+pub visits_none : {W C : Type 0} (s t : SeatView W C) (r : Round) → t ≡ s → moves_of r ≡ 0 → Visits s t r
+visits_none s t r e h = record { visits = []; did = ap (λ x. x.view.hand.past) e ∙ nothing_more s.view.hand.past; counted = nothing_counted r h }
+
+pub visits_both : {W C : Type 0} (s t u : SeatView W C) (a b : Round) → Visits s t a → Visits t u b → Visits s u (both a b)
+visits_both s t u a b x y = record {
+  visits = x.visits ++ y.visits;
+  did = then_more s.view.hand.past t.view.hand.past u.view.hand.past x.visits y.visits x.did y.did;
+  counted = rounds_in_order x.visits y.visits ∙ ap (λ r. both r (round_in y.visits)) x.counted ∙ ap (both a) y.counted;
+}
+
+-- the object that was clean in the frame f left it
+pub visits_clean : {W C : Type 0} (s t : SeatView W C) (f : ℕ) → t.view.hand.past ≡ (releasing (leaving s.view.hand f)).past → Visits s t (round_at (LetsLeave f))
+visits_clean s t f e = record { visits = LetsLeave f ∷ []; did = e ∙ append_assoc s.view.hand.past _ _; counted = one_counted (LetsLeave f) }
+
+moved_past : (x : Hand) (o f : ℕ) (r : Moved) (ps : List (ℕ × ℕ)) → (hand_after r (marking x o f) ps).past ≡ x.past ++ moves_in (MovesOut o f r ∷ [])
+moved_past x o f M.Left ps = append_assoc (x.past ++ _) _ _ ∙ append_assoc x.past _ _
+moved_past x o f M.Stayed ps = append_assoc x.past _ _
+moved_past x o f M.Failed ps = append_assoc x.past _ _
+
+-- the object o was marked in the frame f, and this became of it
+pub visits_marked : {W C : Type 0} (s t : SeatView W C) (o f : ℕ) (r : Moved) (ps : List (ℕ × ℕ)) → t.view.hand ≡ hand_after r (marking s.view.hand o f) ps → Visits s t (round_at (MovesOut o f r))
+visits_marked s t o f r ps e = record { visits = MovesOut o f r ∷ []; did = ap (λ x. x.past) e ∙ moved_past s.view.hand o f r ps; counted = one_counted (MovesOut o f r) }
