@@ -19,6 +19,7 @@ use lower_expressions::condition_code::conditions;
 use lower_expressions::context::Context;
 use lower_tables::gathering::gathered;
 use lower_tables::kinds::kind_of;
+use lower_tables::singles::Singles;
 use lower_tables::struct_layouts::{add_single_layouts, all_starts, struct_layouts};
 use lower_tables::texts::text_numbers;
 use middle_form::{Code, Middle};
@@ -148,7 +149,7 @@ fn copied(alloc: Global, texts: &[String]) -> Result<Vec<String>, AllocError>
 fn lowered_over(
     alloc: Global,
     typed: &Typed,
-    singles: &[Kind],
+    singles: &Singles,
     checks: bool,
 ) -> Result<Middle, AllocError>
     requires { length (structs_of typed.now) + length singles.now + 1 < 2 ^ 32 }

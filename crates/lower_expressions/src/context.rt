@@ -6,6 +6,7 @@ ghost use Rattle.std.specs.Prelude.{◌≡◌, ◌+◌, ◌<◌, ◌^◌, [], le
 
 use c0_typed::Typed;
 use code_form::Kind;
+use lower_tables::singles::Singles;
 use std::alloc::Global;
 use std::collections::BTreeMap;
 
@@ -15,7 +16,7 @@ use std::collections::BTreeMap;
 pub struct Context<'p> {
     pub alloc: Global,
     pub typed: &'p Typed,
-    pub singles: &'p [Kind],
+    pub singles: &'p Singles,
     pub layouts: &'p [Vec<Kind>],
     pub offsets: &'p [Vec<u32>],
     pub numbers: &'p BTreeMap<String, u32>,

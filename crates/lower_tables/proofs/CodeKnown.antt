@@ -33,7 +33,7 @@ kept_at : (k j : Kind) (js rest : List Kind) (b : Bool) → same_kind k j ≡ b 
 kept_at k j js rest true e more h = step k j (js ++ rest) true e ∙ sym (step k j js true e)
 kept_at k j js rest false e more h = step k j (js ++ rest) false e ∙ ap suc (more (omega (arith, step k j js false e))) ∙ sym (step k j js false e)
 
-position_kept : (k : Kind) (js rest : List Kind) → Has k js → position k (js ++ rest) ≡ position k js
+pub position_kept : (k : Kind) (js rest : List Kind) → Has k js → position k (js ++ rest) ≡ position k js
 position_kept k [] rest h = absurd (let q : ⊥ = omega arith in q)
 position_kept k (j ∷ js) rest h = kept_at k j js rest (same_kind k j) refl (position_kept k js rest) h
 

@@ -3,6 +3,7 @@ pub mod CodeKinds
 pub mod CodeKnown
 pub mod CodeOffsets
 pub mod CodeSizes
+pub mod Founds
 pub mod Positions
 pub mod SizeRows
 pub mod TextNumbers

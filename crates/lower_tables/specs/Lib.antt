@@ -1,4 +1,5 @@
 pub mod Gathered
+pub mod Indexed
 pub mod Kinds
 pub mod Known
 pub mod Tables

@@ -6,34 +6,35 @@ ghost use Rattle.lower_tables.specs.Known.{KnowsProgram};
 ghost use Rattle.lower_tables.specs.Tables.{structs_of};
 ghost use Rattle.std.specs.Prelude.{◌≡◌, ◌++◌, ◌+◌, ◌<◌, ◌^◌, IfOk, OnOk, length, map};
 
-use crate::kinds::{position, single_layout, struct_number};
+use crate::kinds::{single_layout, struct_number};
+use crate::singles::Singles;
 use c0_typed::{Expression, Function, Place, Statement, Typed, ValueType};
 use code_form::Kind;
 use std::alloc::{AllocError, Global};
 
 /// One more kind, where the list does not have it yet. More than have numbers of 32 bits can't be had.
-fn add_kind(structs: u32, singles: &mut Vec<Kind>, kind: Kind) -> Result<(), AllocError>
-    requires { structs + length singles.old.items + 1 < 2 ^ 32 }
-    ensures numbered { structs + length singles.new.items + 1 < 2 ^ 32 }
-    ensures learned { OnOk result (singles.new.items ≡ with_kind kind singles.old.items) }
+fn add_kind(structs: u32, singles: &mut Singles, kind: Kind) -> Result<(), AllocError>
+    requires { structs + length singles.old + 1 < 2 ^ 32 }
+    ensures numbered { structs + length singles.new + 1 < 2 ^ 32 }
+    ensures learned { OnOk result (singles.new ≡ with_kind kind singles.old) }
 {
-    if position(singles, kind) < singles.len() {
-        return Ok(());
+    if singles.len() + 2 + structs as usize <= u32::MAX as usize {
+        return singles.add(kind);
     }
-    if singles.len() + 2 + structs as usize > u32::MAX as usize {
-        return Err(AllocError);
+    if singles.position(kind) < singles.len() {
+        Ok(())
+    } else {
+        Err(AllocError)
     }
-    singles.push(kind)?;
-    Ok(())
 }
 
 /// What a type tells, and the number of its layout then.
 #[tactic(auto, using(crate::proofs::CodeKnown::number_kept))]
-fn learn(structs: u32, singles: &mut Vec<Kind>, ty: &ValueType) -> Result<u32, AllocError>
-    requires { structs + length singles.old.items + 1 < 2 ^ 32 }
-    ensures numbered { structs + length singles.new.items + 1 < 2 ^ 32 }
-    ensures learned { OnOk result (singles.new.items ≡ learned structs singles.old.items (type_of ty.now)) }
-    ensures layout { IfOk result (λ n. n ≡ layout_with structs singles.new.items (type_of ty.now)) }
+fn learn(structs: u32, singles: &mut Singles, ty: &ValueType) -> Result<u32, AllocError>
+    requires { structs + length singles.old + 1 < 2 ^ 32 }
+    ensures numbered { structs + length singles.new + 1 < 2 ^ 32 }
+    ensures learned { OnOk result (singles.new ≡ learned structs singles.old (type_of ty.now)) }
+    ensures layout { IfOk result (λ n. n ≡ layout_with structs singles.new (type_of ty.now)) }
 {
     let kind = match ty {
         ValueType::Void => return Ok(structs),
@@ -54,12 +55,12 @@ fn learn(structs: u32, singles: &mut Vec<Kind>, ty: &ValueType) -> Result<u32, A
 #[tactic(auto, using(crate::proofs::CodeGathered::all_learned_append))]
 fn from_expression(
     structs: u32,
-    singles: &mut Vec<Kind>,
+    singles: &mut Singles,
     whole: &Expression,
 ) -> Result<(), AllocError>
-    requires { structs + length singles.old.items + 1 < 2 ^ 32 }
-    ensures numbered { structs + length singles.new.items + 1 < 2 ^ 32 }
-    ensures learned { OnOk result (singles.new.items ≡ all_learned structs singles.old.items (types_in whole.now)) }
+    requires { structs + length singles.old + 1 < 2 ^ 32 }
+    ensures numbered { structs + length singles.new + 1 < 2 ^ 32 }
+    ensures learned { OnOk result (singles.new ≡ all_learned structs singles.old (types_in whole.now)) }
 {
     match whole {
         Expression::Constant(_) | Expression::Null(_) | Expression::Local(_) => Ok(()),
@@ -93,13 +94,13 @@ fn from_expression(
 #[tactic(auto, using(crate::proofs::CodeGathered::all_learned_append))]
 fn from_two(
     structs: u32,
-    singles: &mut Vec<Kind>,
+    singles: &mut Singles,
     left: &Expression,
     right: &Expression,
 ) -> Result<(), AllocError>
-    requires { structs + length singles.old.items + 1 < 2 ^ 32 }
-    ensures numbered { structs + length singles.new.items + 1 < 2 ^ 32 }
-    ensures learned { OnOk result (singles.new.items ≡ all_learned structs singles.old.items (types_in left.now ++ types_in right.now)) }
+    requires { structs + length singles.old + 1 < 2 ^ 32 }
+    ensures numbered { structs + length singles.new + 1 < 2 ^ 32 }
+    ensures learned { OnOk result (singles.new ≡ all_learned structs singles.old (types_in left.now ++ types_in right.now)) }
 {
     from_expression(structs, singles, left)?;
     from_expression(structs, singles, right)?;
@@ -111,12 +112,12 @@ fn from_two(
 #[tactic(auto, using(crate::proofs::CodeGathered::all_learned_append))]
 fn from_expressions(
     structs: u32,
-    singles: &mut Vec<Kind>,
+    singles: &mut Singles,
     all: &[Expression],
 ) -> Result<(), AllocError>
-    requires { structs + length singles.old.items + 1 < 2 ^ 32 }
-    ensures numbered { structs + length singles.new.items + 1 < 2 ^ 32 }
-    ensures learned { OnOk result (singles.new.items ≡ all_learned structs singles.old.items (types_in_all all.now)) }
+    requires { structs + length singles.old + 1 < 2 ^ 32 }
+    ensures numbered { structs + length singles.new + 1 < 2 ^ 32 }
+    ensures learned { OnOk result (singles.new ≡ all_learned structs singles.old (types_in_all all.now)) }
 {
     for part in all {
         from_expression(structs, singles, part)?;
@@ -127,10 +128,10 @@ fn from_expressions(
 /// What a place tells.
 #[cycle(gathering)]
 #[tactic(auto, using(crate::proofs::CodeGathered::all_learned_append))]
-fn from_place(structs: u32, singles: &mut Vec<Kind>, place: &Place) -> Result<(), AllocError>
-    requires { structs + length singles.old.items + 1 < 2 ^ 32 }
-    ensures numbered { structs + length singles.new.items + 1 < 2 ^ 32 }
-    ensures learned { OnOk result (singles.new.items ≡ all_learned structs singles.old.items (types_at place.now)) }
+fn from_place(structs: u32, singles: &mut Singles, place: &Place) -> Result<(), AllocError>
+    requires { structs + length singles.old + 1 < 2 ^ 32 }
+    ensures numbered { structs + length singles.new + 1 < 2 ^ 32 }
+    ensures learned { OnOk result (singles.new ≡ all_learned structs singles.old (types_at place.now)) }
 {
     match place {
         Place::Deref(ty, pointer) => {
@@ -150,12 +151,12 @@ fn from_place(structs: u32, singles: &mut Vec<Kind>, place: &Place) -> Result<()
 #[tactic(auto, using(crate::proofs::CodeGathered::all_learned_append))]
 fn from_statement(
     structs: u32,
-    singles: &mut Vec<Kind>,
+    singles: &mut Singles,
     whole: &Statement,
 ) -> Result<(), AllocError>
-    requires { structs + length singles.old.items + 1 < 2 ^ 32 }
-    ensures numbered { structs + length singles.new.items + 1 < 2 ^ 32 }
-    ensures learned { OnOk result (singles.new.items ≡ all_learned structs singles.old.items (types_of whole.now)) }
+    requires { structs + length singles.old + 1 < 2 ^ 32 }
+    ensures numbered { structs + length singles.new + 1 < 2 ^ 32 }
+    ensures learned { OnOk result (singles.new ≡ all_learned structs singles.old (types_of whole.now)) }
 {
     match whole {
         Statement::Block(all) => from_statements(structs, singles, all),
@@ -190,12 +191,12 @@ fn from_statement(
 #[tactic(auto, using(crate::proofs::CodeGathered::all_learned_append))]
 fn from_statements(
     structs: u32,
-    singles: &mut Vec<Kind>,
+    singles: &mut Singles,
     all: &[Statement],
 ) -> Result<(), AllocError>
-    requires { structs + length singles.old.items + 1 < 2 ^ 32 }
-    ensures numbered { structs + length singles.new.items + 1 < 2 ^ 32 }
-    ensures learned { OnOk result (singles.new.items ≡ all_learned structs singles.old.items (types_of_all all.now)) }
+    requires { structs + length singles.old + 1 < 2 ^ 32 }
+    ensures numbered { structs + length singles.new + 1 < 2 ^ 32 }
+    ensures learned { OnOk result (singles.new ≡ all_learned structs singles.old (types_of_all all.now)) }
 {
     for part in all {
         from_statement(structs, singles, part)?;
@@ -207,12 +208,12 @@ fn from_statements(
 #[tactic(auto, using(crate::proofs::CodeGathered::all_learned_append))]
 fn from_function(
     structs: u32,
-    singles: &mut Vec<Kind>,
+    singles: &mut Singles,
     function: &Function,
 ) -> Result<(), AllocError>
-    requires { structs + length singles.old.items + 1 < 2 ^ 32 }
-    ensures numbered { structs + length singles.new.items + 1 < 2 ^ 32 }
-    ensures learned { OnOk result (singles.new.items ≡ all_learned structs singles.old.items (types_of_function function.now)) }
+    requires { structs + length singles.old + 1 < 2 ^ 32 }
+    ensures numbered { structs + length singles.new + 1 < 2 ^ 32 }
+    ensures learned { OnOk result (singles.new ≡ all_learned structs singles.old (types_of_function function.now)) }
 {
     from_expressions(structs, singles, &function.preconditions)?;
     from_statements(structs, singles, &function.body)?;
@@ -221,10 +222,10 @@ fn from_function(
 }
 
 /// The kinds of single cells that a program allocates or looks at. More than have numbers of 32 bits can't be had.
-pub fn gathered(alloc: Global, typed: &Typed) -> Result<Vec<Kind>, AllocError>
-    ensures exact { IfOk result (λ v. v.items ≡ singles_of typed.now) }
-    ensures known { IfOk result (λ v. KnowsProgram v.items typed.now) }
-    ensures numbered { IfOk result (λ v. length (structs_of typed.now) + length v.items + 1 < 2 ^ 32) }
+pub fn gathered(alloc: Global, typed: &Typed) -> Result<Singles, AllocError>
+    ensures exact { IfOk result (λ v. v ≡ singles_of typed.now) }
+    ensures known { IfOk result (λ v. KnowsProgram v typed.now) }
+    ensures numbered { IfOk result (λ v. length (structs_of typed.now) + length v + 1 < 2 ^ 32) }
 {
     let Ok(structs) = u32::try_from(typed.structs.len()) else {
         return Err(AllocError);
@@ -232,7 +233,7 @@ pub fn gathered(alloc: Global, typed: &Typed) -> Result<Vec<Kind>, AllocError>
     if structs == u32::MAX {
         return Err(AllocError);
     }
-    let mut singles = Vec::new(alloc);
+    let mut singles = Singles::new(alloc);
     for function in &typed.functions {
         from_function(structs, &mut singles, function)?;
     }

@@ -3,6 +3,8 @@
 #![tactic(auto)]
 
 pub mod gathering;
+mod index;
 pub mod kinds;
+pub mod singles;
 pub mod struct_layouts;
 pub mod texts;

@@ -5,6 +5,7 @@ ghost use Rattle.lower_tables.specs.Tables.{layouts_read, offsets_read, starts};
 ghost use Rattle.std.specs.Prelude.{◌≡◌, ◌++◌, ◌∷◌, ◌+◌, ◌<◌, ◌^◌, ℕ, [], List, IfOk, OnOk, length, map};
 
 use crate::kinds::kind_of;
+use crate::singles::Singles;
 use c0_typed::{Struct, ValueType};
 use code_form::Kind;
 use std::alloc::{AllocError, Global};
@@ -31,7 +32,7 @@ pub fn cells_in(layouts: &[Vec<Kind>], ty: &ValueType) -> usize
 /// The cells of one more field.
 fn add_cells(
     structs: u32,
-    singles: &[Kind],
+    singles: &Singles,
     layouts: &[Vec<Kind>],
     ty: &ValueType,
     layout: &mut Vec<Kind>,
@@ -61,7 +62,7 @@ fn add_cells(
 fn layout_of(
     alloc: Global,
     structs: u32,
-    singles: &[Kind],
+    singles: &Singles,
     layouts: &[Vec<Kind>],
     fields: &[ValueType],
 ) -> Result<Vec<Kind>, AllocError>
@@ -79,7 +80,7 @@ fn layout_of(
 pub fn struct_layouts(
     alloc: Global,
     number: u32,
-    singles: &[Kind],
+    singles: &Singles,
     structs: &[Struct],
 ) -> Result<Vec<Vec<Kind>>, AllocError>
     requires { number + length singles.now + 1 < 2 ^ 32 }
@@ -136,12 +137,13 @@ pub fn all_starts(
 pub fn add_single_layouts(
     alloc: Global,
     layouts: &mut Vec<Vec<Kind>>,
-    singles: &[Kind],
+    singles: &Singles,
 ) -> Result<(), AllocError>
     ensures { OnOk result (layouts_read layouts.new.items ≡ layouts_read layouts.old.items ++ [] ∷ map (λ k. k ∷ []) singles.now) }
 {
     layouts.push(Vec::new(alloc))?;
-    for kind in singles {
+    let kinds = singles.kinds();
+    for kind in kinds {
         layouts.push(vec![in alloc; *kind]?)?;
     }
     Ok(())

@@ -21,9 +21,9 @@ from_expression-from_expressions-requires-in-Print t c = (omega (arith, ap size 
 pub from_expression-returns-in-Call-clause-learned : goal.from_expression-returns-in-Call-clause-learned
 from_expression-returns-in-Call-clause-learned t c =
     let same : types_in_all c.deref-in-Call.result.now ≡ types_in c.args.whole.now = ap types_in_all c.deref-in-Call.ensures.value ∙ sym (types_in_call c.in-Call.field-0 c.in-Call.given) ∙ ap types_in (sym c.in-Call.is) in
-    subst (λ ts. OnOk c.from_expressions.result (c.from_expressions.new.singles.items ≡ all_learned c.args.structs c.args.singles.now.items ts)) same c.from_expressions.ensures.learned
+    subst (λ ts. OnOk c.from_expressions.result (c.from_expressions.new.singles ≡ all_learned c.args.structs c.args.singles.now ts)) same c.from_expressions.ensures.learned
 
 pub from_expression-returns-in-Print-clause-learned : goal.from_expression-returns-in-Print-clause-learned
 from_expression-returns-in-Print-clause-learned t c =
     let same : types_in_all c.deref-in-Print.result.now ≡ types_in c.args.whole.now = ap types_in_all c.deref-in-Print.ensures.value ∙ sym (types_in_print c.in-Print.field-0 c.in-Print.given) ∙ ap types_in (sym c.in-Print.is) in
-    subst (λ ts. OnOk c.from_expressions-in-Print.result (c.from_expressions-in-Print.new.singles.items ≡ all_learned c.args.structs c.args.singles.now.items ts)) same c.from_expressions-in-Print.ensures.learned
+    subst (λ ts. OnOk c.from_expressions-in-Print.result (c.from_expressions-in-Print.new.singles ≡ all_learned c.args.structs c.args.singles.now ts)) same c.from_expressions-in-Print.ensures.learned

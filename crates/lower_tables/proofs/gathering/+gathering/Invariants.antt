@@ -18,5 +18,5 @@ decreases-from_place l = 2 * size_place l.place.now
 -- what is learned, and then from the rest
 abbrev pub invariant-from_expressions-loop-part : goal.invariant-from_expressions-loop-part
 invariant-from_expressions-loop-part l =
-    (l.structs + length l.singles.items + 1 < 2 ^ 32)
-    × (all_learned l.structs l.fn.singles.items (types_in_all l.all) ≡ all_learned l.structs l.singles.items (types_in_all (drop l.part-index l.all)))
+    (l.structs + length l.singles + 1 < 2 ^ 32)
+    × (all_learned l.structs l.fn.singles (types_in_all l.all) ≡ all_learned l.structs l.singles (types_in_all (drop l.part-index l.all)))

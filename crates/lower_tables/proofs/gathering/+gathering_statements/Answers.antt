@@ -18,4 +18,4 @@ from_statement-from_statements-requires t c = (omega (arith, ap size_statement c
 pub from_statement-returns-in-Block-clause-learned : goal.from_statement-returns-in-Block-clause-learned
 from_statement-returns-in-Block-clause-learned t c =
     let same : types_of_all c.deref.result.now ≡ types_of c.args.whole.now = ap types_of_all c.deref.ensures.value ∙ sym (types_of_the_block c.in-Block.all) ∙ ap types_of (sym c.in-Block.is) in
-    subst (λ ts. OnOk c.from_statements.result (c.from_statements.new.singles.items ≡ all_learned c.args.structs c.args.singles.now.items ts)) same c.from_statements.ensures.learned
+    subst (λ ts. OnOk c.from_statements.result (c.from_statements.new.singles ≡ all_learned c.args.structs c.args.singles.now ts)) same c.from_statements.ensures.learned

@@ -12,5 +12,5 @@ decreases-from_statements l = 2 * size_body l.all.now
 -- what is learned, and then from the rest
 abbrev pub invariant-from_statements-loop-part : goal.invariant-from_statements-loop-part
 invariant-from_statements-loop-part l =
-    (l.structs + length l.singles.items + 1 < 2 ^ 32)
-    × (all_learned l.structs l.fn.singles.items (types_of_all l.all) ≡ all_learned l.structs l.singles.items (types_of_all (drop l.part-index l.all)))
+    (l.structs + length l.singles + 1 < 2 ^ 32)
+    × (all_learned l.structs l.fn.singles (types_of_all l.all) ≡ all_learned l.structs l.singles (types_of_all (drop l.part-index l.all)))

@@ -23,7 +23,7 @@ returns-clause-exact c =
     let structs = c.args.typed.now.structs in
     let long : vec_len structs ≡ length structs.items = search rules in
     let many : c.in-Ok.structs ≡ length structs.items = omega arith in
-    sym (ap (λ k. all_learned k [] (types_of_functions all)) (sym many) ∙ c.loop-function.invariant.1 ∙ all_of c.in-Ok.structs c.loop-function.singles.items all c.loop-function.function-index end)
+    sym (ap (λ k. all_learned k [] (types_of_functions all)) (sym many) ∙ c.loop-function.invariant.1 ∙ all_of c.in-Ok.structs c.loop-function.singles all c.loop-function.function-index end)
 
 pub returns-clause-known : goal.returns-clause-known
 returns-clause-known c =
