@@ -1,6 +1,5 @@
 -- Visits of a round, one behind the other.
 use Rattle.std.proofs.Common.{◌≡◌, ℕ, List, [], ◌∷◌, ◌++◌, append_assoc, refl, sym, ap, ◌∙◌, arith}
-use Rattle.object_lock.specs.SeatViews.{SeatView}
 use Rattle.object_moves.specs.Moving.{hand_after}
 use Rattle.object_moves.specs.declared.moved.Moved.{Moved}
 use Rattle.object_moves.specs.declared.moved.Moved.TheVariants as M
@@ -43,19 +42,19 @@ pub nothing_more : (ms : List Move) → ms ≡ ms ++ moves_in []
 nothing_more [] = refl
 nothing_more (m ∷ ms) = ap (λ l. m ∷ l) (nothing_more ms)
 
-pub visits_none : {W C : Type 0} (s t : SeatView W C) (r : Round) → t ≡ s → moves_of r ≡ 0 → Visits s t r
-visits_none s t r e h = record { visits = []; did = ap (λ x. x.view.hand.past) e ∙ nothing_more s.view.hand.past; counted = nothing_counted r h }
+pub visits_none : (before after : List Move) (r : Round) → after ≡ before → moves_of r ≡ 0 → Visits before after r
+visits_none before after r e h = record { visits = []; did = e ∙ nothing_more before; counted = nothing_counted r h }
 
-pub visits_both : {W C : Type 0} (s t u : SeatView W C) (a b : Round) → Visits s t a → Visits t u b → Visits s u (both a b)
-visits_both s t u a b x y = record {
+pub visits_both : (before between after : List Move) (a b : Round) → Visits before between a → Visits between after b → Visits before after (both a b)
+visits_both before between after a b x y = record {
   visits = x.visits ++ y.visits;
-  did = then_more s.view.hand.past t.view.hand.past u.view.hand.past x.visits y.visits x.did y.did;
+  did = then_more before between after x.visits y.visits x.did y.did;
   counted = rounds_in_order x.visits y.visits ∙ ap (λ r. both r (round_in y.visits)) x.counted ∙ ap (both a) y.counted;
 }
 
 -- the object that was clean in the frame f left it
-pub visits_clean : {W C : Type 0} (s t : SeatView W C) (f : ℕ) → t.view.hand.past ≡ (releasing (leaving s.view.hand f)).past → Visits s t (round_at (LetsLeave f))
-visits_clean s t f e = record { visits = LetsLeave f ∷ []; did = e ∙ append_assoc s.view.hand.past _ _; counted = one_counted (LetsLeave f) }
+pub visits_clean : (x : Hand) (after : List Move) (f : ℕ) → after ≡ (releasing (leaving x f)).past → Visits x.past after (round_at (LetsLeave f))
+visits_clean x after f e = record { visits = LetsLeave f ∷ []; did = e ∙ append_assoc x.past _ _; counted = one_counted (LetsLeave f) }
 
 moved_past : (x : Hand) (o f : ℕ) (r : Moved) (ps : List (ℕ × ℕ)) → (hand_after r (marking x o f) ps).past ≡ x.past ++ moves_in (MovesOut o f r ∷ [])
 moved_past x o f M.Left ps = append_assoc (x.past ++ _) _ _ ∙ append_assoc x.past _ _
@@ -63,5 +62,5 @@ moved_past x o f M.Stayed ps = append_assoc x.past _ _
 moved_past x o f M.Failed ps = append_assoc x.past _ _
 
 -- the object o was marked in the frame f, and this became of it
-pub visits_marked : {W C : Type 0} (s t : SeatView W C) (o f : ℕ) (r : Moved) (ps : List (ℕ × ℕ)) → t.view.hand ≡ hand_after r (marking s.view.hand o f) ps → Visits s t (round_at (MovesOut o f r))
-visits_marked s t o f r ps e = record { visits = MovesOut o f r ∷ []; did = ap (λ x. x.past) e ∙ moved_past s.view.hand o f r ps; counted = one_counted (MovesOut o f r) }
+pub visits_marked : (x y : Hand) (o f : ℕ) (r : Moved) (ps : List (ℕ × ℕ)) → y ≡ hand_after r (marking x o f) ps → Visits x.past y.past (round_at (MovesOut o f r))
+visits_marked x y o f r ps e = record { visits = MovesOut o f r ∷ []; did = ap (λ z. z.past) e ∙ moved_past x o f r ps; counted = one_counted (MovesOut o f r) }

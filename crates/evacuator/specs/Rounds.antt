@@ -60,8 +60,8 @@ pub record Evacuates {W C : Type 0} (s t : SeatView W C) (r : Round) : Type 0 wh
   pub refusals : t.refusals.count ≡ (s.refusals.count + r.failed) % 18446744073709551616
   pub same : t ≡ record s { view = with_hand s.view (record s.view.hand { source = t.view.hand.source; copied = t.view.hand.copied; marks = t.view.hand.marks; commits = t.view.hand.commits; aborts = t.view.hand.aborts; leaves = t.view.hand.leaves; past = t.view.hand.past }); taken = t.taken; store = t.store; refusals = t.refusals }
 
--- a round of these counts is that of some visits, and what they did, one behind the other, is what the seat did
-pub record Visits {W C : Type 0} (s t : SeatView W C) (r : Round) : Type 0 where
+-- a round of these counts is that of some visits, and what they did, one behind the other, is what came to what the seat had done before
+pub record Visits (before after : List Move) (r : Round) : Type 0 where
   pub visits : List Visit
-  pub did : t.view.hand.past ≡ s.view.hand.past ++ moves_in visits
+  pub did : after ≡ before ++ moves_in visits
   pub counted : round_in visits ≡ r

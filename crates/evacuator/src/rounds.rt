@@ -17,7 +17,7 @@ fn visit<S: RawStore>(table: &ObjectTable<S>, seat: &mut MoverSeat<S>, frame: us
     requires empty { HasNothing seat.old.view.hand }
     ensures table { IsSeat table.now seat.new }
     ensures told { Evacuates seat.old seat.new result }
-    ensures visits { Visits seat.old seat.new result }
+    ensures visits { Visits seat.old.view.hand.past seat.new.view.hand.past result }
     ensures once { moves_of result ≤ 1 }
     ensures still { moves_of result ≡ 0 → seat.new ≡ seat.old }
     ensures sure { S.reliable → result.failed ≡ 0 }
@@ -51,7 +51,7 @@ pub fn round_from<S: RawStore>(
     ensures table { IsSeat region.now.table seat.new }
     ensures empty { HasNothing seat.new.view.hand }
     ensures told { Evacuates seat.old seat.new result }
-    ensures visits { Visits seat.old seat.new result }
+    ensures visits { Visits seat.old.view.hand.past seat.new.view.hand.past result }
     ensures within { moves_of result ≤ budget }
     ensures still { moves_of result ≡ 0 → seat.new ≡ seat.old }
     ensures sure { S.reliable → result.failed ≡ 0 }
@@ -78,7 +78,7 @@ pub fn round<S: RawStore>(region: &Region<S>, seat: &mut MoverSeat<S>, budget: u
     ensures table { IsSeat region.now.table seat.new }
     ensures empty { HasNothing seat.new.view.hand }
     ensures told { Evacuates seat.old seat.new result }
-    ensures visits { Visits seat.old seat.new result }
+    ensures visits { Visits seat.old.view.hand.past seat.new.view.hand.past result }
     ensures within { moves_of result ≤ budget }
     ensures still { moves_of result ≡ 0 → seat.new ≡ seat.old }
     ensures sure { S.reliable → result.failed ≡ 0 }

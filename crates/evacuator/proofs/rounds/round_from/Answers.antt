@@ -19,8 +19,8 @@ loop-i-preserved g c =
       subst (λ (r : Round). moves_of r ≤ c.loop-i.i + 1) sum (omega arith),
       λ sure. subst (λ (r : Round). r.failed ≡ 0) sum (let a = before.3 sure in let b = c.visit.ensures.sure sure in omega arith),
       subst (λ (r : Round). moves_of r ≡ 0 → u ≡ s) sum still,
-      subst (Visits s u) sum (visits_both s c.loop-i.seat u c.loop-i.round c.visit.result before.5 c.visit.ensures.visits),
+      subst (Visits s.view.hand.past u.view.hand.past) sum (visits_both s.view.hand.past c.loop-i.seat.view.hand.past u.view.hand.past c.loop-i.round c.visit.result before.5 c.visit.ensures.visits),
     )
 
 pub loop-i-init : goal.loop-i-init
-loop-i-init g c = (search rules, search rules, search rules, search rules, search rules, visits_none c.args.seat.now c.args.seat.now c.none-round.result refl c.none-round.ensures)
+loop-i-init g c = (search rules, search rules, search rules, search rules, search rules, visits_none c.args.seat.now.view.hand.past c.args.seat.now.view.hand.past c.none-round.result refl c.none-round.ensures)

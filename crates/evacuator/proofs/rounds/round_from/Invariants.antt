@@ -6,4 +6,4 @@ use Rattle.evacuator.proofs.rounds.round_from.Given as goal
 abbrev pub invariant-loop-i : goal.invariant-loop-i
 invariant-loop-i g l =
     IsSeat l.table l.seat × Evacuates l.initial.seat l.seat l.round × (moves_of l.round ≤ l.i) × (g.S.RawStore.reliable → l.round.failed ≡ 0)
-    × (moves_of l.round ≡ 0 → l.seat ≡ l.initial.seat) × Visits l.initial.seat l.seat l.round
+    × (moves_of l.round ≡ 0 → l.seat ≡ l.initial.seat) × Visits l.initial.seat.view.hand.past l.seat.view.hand.past l.round
