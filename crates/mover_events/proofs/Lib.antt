@@ -1,0 +1,4 @@
+mod Beginning
+mod Marking
+mod Serving
+mod Visiting

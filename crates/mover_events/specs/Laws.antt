@@ -1,0 +1,25 @@
+-- What movers did on threads is what their actors do in events.
+use Rattle.std.specs.Prelude.{◌≡◌, ℕ, List, Option, None}
+use Rattle.pointer_word.specs.Asked.{HasNothing}
+use Rattle.pointer_word.specs.Hands.{Hand, Move}
+use Rattle.world_semantics.specs.declared.event.Choice.{Choice}
+use Rattle.world_semantics.specs.Turns.{Answer, Turn, evacuator_turn, fetcher_turn}
+use Rattle.evacuator.specs.declared.counts.Round.{Round}
+use Rattle.evacuator.specs.Rounds.{Visits}
+use Rattle.fetcher.specs.Serving.{hand_given_up, hand_released, hand_served}
+use Rattle.mover_events.specs.Going.{Event, Goes}
+
+-- an actor that has nothing in hand, and is none with an object, does just this by some events, and has nothing in hand then
+abbrev pub DoesByEvents : {B : Type 0} → ℕ → ℕ → (Option B → Choice → Answer → Turn (Option B)) → Hand → List Move → Type 0
+DoesByEvents n m turn x after = (vs : List Event) × (y : Hand) × Goes n m turn None x vs None y × HasNothing y × (y.past ≡ after)
+
+-- so does an evacuator what it did by a round
+abbrev pub RoundsAreEvents : Type 0
+RoundsAreEvents = (n m : ℕ) (x : Hand) (after : List Move) (r : Round) → HasNothing x → Visits x.past after r → DoesByEvents n m (evacuator_turn n m) x after
+
+-- so does a fetcher what it did with a hint of the object o: it gave the object up, or the object and a frame, or brought it in
+abbrev pub ServesAreEvents : Type 0
+ServesAreEvents = (n m o f : ℕ) (x : Hand) (words : List ℕ) (filled : List (ℕ × ℕ)) → HasNothing x →
+    DoesByEvents n m (fetcher_turn n m) x (hand_given_up x o words).past
+    × DoesByEvents n m (fetcher_turn n m) x (hand_released x o f words).past
+    × DoesByEvents n m (fetcher_turn n m) x (hand_served x o f words filled).past

@@ -1,0 +1,16 @@
+//! What evacuators and fetchers do on threads, as events of their actors in a world: laws.
+#![tactic(auto)]
+
+ghost use Rattle.mover_events.specs.Laws.{RoundsAreEvents, ServesAreEvents};
+
+/// What an evacuator did by a round, visit by visit, is what the evacuator of a world does in some events, one behind the other: it is idle at first and at last, and
+/// each event is one that it may do at the state in which it comes.
+pub fn rounds_are_events()
+    ensures { RoundsAreEvents }
+{}
+
+/// What a fetcher did with a hint is what the fetcher of a world does in some events, one behind the other: it is idle at first and at last, and each event is one
+/// that it may do at the state in which it comes.
+pub fn serves_are_events()
+    ensures { ServesAreEvents }
+{}
