@@ -7,7 +7,7 @@ use code_form::{Function, Instruction};
 /// Where a call is: its function, what is left of its block, the numbers of its first register and scope among those of all calls, and where
 /// its caller wants the result.
 #[derive(Clone, Copy)]
-pub(crate) struct Place<'a> {
+pub(crate) struct CallPlace<'a> {
     pub(crate) function: &'a Function,
     pub(crate) rest: &'a [Instruction],
     pub(crate) registers: usize,

@@ -9,8 +9,8 @@ use Rattle.code_form.specs.Known as known
 use Rattle.middle_form.specs.Scoped.{Code, Nothing, Do, Load, Store, LoadBy, StoreBy, Aim, Leave, Loose, Call, Fail, Then, Choose, Loop, Block, Exit}
 use Rattle.middle_form.specs.Discipline.{Table, after, join}
 use Rattle.codegen.specs.declared.emit.Exits.{Exits, Nowhere, Around'}
-use Rattle.codegen.specs.declared.emit.Way.{Way}
-use Rattle.codegen.specs.declared.emit.Way.TheVariants as way
+use Rattle.codegen.specs.declared.emit.Continuation.{Continuation}
+use Rattle.codegen.specs.declared.emit.Continuation.TheVariants as way
 use Rattle.codegen.specs.declared.known.Knows.{Knows}
 use Rattle.codegen.specs.declared.known.Knows.TheVariants.{Unknown, Shut, Aimed}
 use Rattle.codegen.specs.Generated.{scope_fact}
@@ -28,7 +28,7 @@ abbrev pub lists : List (Vec Fact Global) → List (List Fact)
 lists ws = map (λ (w : Vec Fact Global). w.items) ws
 
 -- the instruction by which code goes on so
-abbrev pub way_of : Way → List Instruction
+abbrev pub way_of : Continuation → List Instruction
 way_of (way.Jump b) = Jump b ∷ []
 way_of (way.Return a) = Return a ∷ []
 way_of way.ReturnVoid = ReturnVoid ∷ []

@@ -12,7 +12,7 @@ use std::alloc::{AllocError, Global};
 
 /// How code goes on: at a block, or by a return.
 #[derive(Clone, Copy)]
-pub(crate) enum Way {
+pub(crate) enum Continuation {
     Jump(u32),
     Return(u32),
     ReturnVoid,
@@ -22,22 +22,22 @@ pub(crate) enum Way {
 #[derive(Drop)]
 pub(crate) enum Exits<'a> {
     Nowhere,
-    Around(Way, &'a Exits<'a>),
+    Around(Continuation, &'a Exits<'a>),
 }
 
 /// A block that was added: its number, and how to go on at it.
 #[derive(Clone, Copy)]
 pub(crate) struct Finished {
     number: u32,
-    way: Way,
+    way: Continuation,
 }
 
 /// The way out by an exit; to the first block where nothing is round it.
-fn exit_at(exits: &Exits, out: u32) -> Way
+fn exit_at(exits: &Exits, out: u32) -> Continuation
     ensures { way_of result ≡ exit_from (exits_of exits.now) out }
 {
     match exits {
-        Exits::Nowhere => Way::Jump(0),
+        Exits::Nowhere => Continuation::Jump(0),
         Exits::Around(way, outer) => if out == 0 {
             *way
         } else {
@@ -47,14 +47,14 @@ fn exit_at(exits: &Exits, out: u32) -> Way
 }
 
 /// How to go on at a block with this number and these instructions.
-fn way_to(number: u32, block: &[Instruction]) -> Way
+fn way_to(number: u32, block: &[Instruction]) -> Continuation
     ensures { way_of result ≡ onward number (back block.now) }
 {
     match block {
-        [Instruction::Jump { block }] => Way::Jump(*block),
-        [Instruction::Return { from }] => Way::Return(*from),
-        [Instruction::ReturnVoid] => Way::ReturnVoid,
-        _ => Way::Jump(number),
+        [Instruction::Jump { block }] => Continuation::Jump(*block),
+        [Instruction::Return { from }] => Continuation::Return(*from),
+        [Instruction::ReturnVoid] => Continuation::ReturnVoid,
+        _ => Continuation::Jump(number),
     }
 }
 
@@ -63,8 +63,8 @@ fn led_to(block: Finished) -> u32
     ensures { result ≡ target block.number (way_of block.way) }
 {
     match block.way {
-        Way::Jump(block) => block,
-        Way::Return(_) | Way::ReturnVoid => block.number,
+        Continuation::Jump(block) => block,
+        Continuation::Return(_) | Continuation::ReturnVoid => block.number,
     }
 }
 
@@ -95,13 +95,13 @@ fn jump(alloc: Global, block: u32) -> Result<Vec<Instruction>, AllocError>
 }
 
 /// A block that goes on so.
-fn go_on(alloc: Global, way: Way) -> Result<Vec<Instruction>, AllocError>
+fn go_on(alloc: Global, way: Continuation) -> Result<Vec<Instruction>, AllocError>
     ensures { IfOk result (λ v. back v.items ≡ way_of way) }
 {
     match way {
-        Way::Jump(block) => jump(alloc, block),
-        Way::Return(from) => one(alloc, Instruction::Return { from }),
-        Way::ReturnVoid => one(alloc, Instruction::ReturnVoid),
+        Continuation::Jump(block) => jump(alloc, block),
+        Continuation::Return(from) => one(alloc, Instruction::Return { from }),
+        Continuation::ReturnVoid => one(alloc, Instruction::ReturnVoid),
     }
 }
 

@@ -20,12 +20,12 @@ const MOST_TRIES: u32 = 1_000_000;
 
 /// A folder's path, and the number of the next new file.
 #[derive(Drop)]
-struct Place {
+struct FolderPlace {
     path: String,
     next: AtomicU64,
 }
 
-impl Place {
+impl FolderPlace {
     // A number for a new file. No other call draws it, until 2^64 are drawn.
     fn draw(&self) -> u64 {
         self.next.fetch_add(1, Ordering::SeqCst)
@@ -55,7 +55,7 @@ pub struct DiskFile {
 #[derive(Drop)]
 pub struct DiskFolder<'a, R: Files + AllocGlobal> {
     rt: &'a R,
-    place: Arc<Place>,
+    place: Arc<FolderPlace>,
     failures: Failures,
 }
 
@@ -69,7 +69,7 @@ impl<'a, R: Files + AllocGlobal> DiskFolder<'a, R> {
     {
         let path = String::from_str(alloc, path)?;
         let next = AtomicU64::new(0);
-        let place = Arc::new(alloc, Place { path, next })?;
+        let place = Arc::new(alloc, FolderPlace { path, next })?;
         Ok(DiskFolder {
             rt,
             place,
@@ -143,7 +143,7 @@ fn open_regular<R: Files>(rt: &R, path: &str) -> io::Result<R::File> {
 // some file systems wait for the disk.
 fn write_file<R: Files + AllocGlobal>(
     rt: &R,
-    place: &Place,
+    place: &FolderPlace,
     number: u64,
     bytes: &[u8],
 ) -> io::Result<()> {
@@ -179,7 +179,7 @@ fn fill<F: Read>(file: &mut F, bytes: &mut [u8]) -> io::Result<usize>
 // Reads the file's first bytes, as many as there is room for, and gives their number.
 fn read_file<R: Files + AllocGlobal>(
     rt: &R,
-    place: &Place,
+    place: &FolderPlace,
     number: u64,
     bytes: &mut [u8],
 ) -> io::Result<usize>

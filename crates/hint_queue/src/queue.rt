@@ -3,7 +3,7 @@ ghost use Rattle.cells.specs.declared.ending.Want.TheVariants.{OutOfMemory};
 ghost use Rattle.std.specs.List.{All};
 ghost use Rattle.std.specs.Prelude.{◌≡◌, ◌+◌, ◌<◌, IfErr, IfOk, IfSome, length};
 
-use crate::rule::{Founds, Knows, Named, Puts, Same, Takes};
+use crate::rule::{Founds, KnowsObjects, Named, Puts, Same, Takes};
 use cells::Want;
 use crossbeam_queue::{Pass, RuledArrayQueue};
 use region::Region;
@@ -18,7 +18,7 @@ const ROOM: usize = 256;
 /// A queue of hints that threads share. Each hint is one of the objects below a number that is fixed when the queue is made.
 #[derive(Drop)]
 pub struct Hints {
-    queue: RuledArrayQueue<usize, Knows, Named>,
+    queue: RuledArrayQueue<usize, KnowsObjects, Named>,
     objects: usize,
 }
 
@@ -33,7 +33,7 @@ impl Model for Hints {
 /// The right of one thread to put hints into a queue and to take them.
 #[derive(Drop)]
 pub struct HintPass {
-    pass: Pass<usize, Knows>,
+    pass: Pass<usize, KnowsObjects>,
     objects: usize,
 }
 

@@ -9,14 +9,18 @@ ghost use Rattle.scope_placement.specs.Building.{is_straight};
 ghost use Rattle.scope_placement.specs.Placed.{leaves, most_open, open_behind, placed, placed_function, placed_program, whole};
 ghost use Rattle.std.specs.Prelude.{◌≡◌, ◌≤◌, ◌++◌, ◌∷◌, [], IfOk, OnOk, length, map, max, true};
 
-use crate::runs::{Run, access, end};
+use crate::runs::{RunScopes, access, end};
 use code_form::Operation;
 use middle_form::{Code, Function, Middle, Scoped, ScopedCode, ScopedFunction};
 use scoped_building::{choice, map_functions, put, repetition};
 use std::alloc::{AllocError, Global};
 
 /// The end of a run, and one part more.
-fn end_with(parts: &mut Vec<ScopedCode>, run: &mut Run, part: ScopedCode) -> Result<(), AllocError>
+fn end_with(
+    parts: &mut Vec<ScopedCode>,
+    run: &mut RunScopes,
+    part: ScopedCode,
+) -> Result<(), AllocError>
     requires { length run.old.registers.items ≤ 4 }
     ensures parts { OnOk result (codes parts.new.items ≡ codes parts.old.items ++ (leaves run.old.registers.items ++ scoped_code_of part ∷ [])) }
     ensures registers { OnOk result (run.new.registers.items ≡ []) }
@@ -39,7 +43,7 @@ fn is_allocation(operation: &Operation) -> bool
 /// A simple instruction.
 fn place_operation(
     parts: &mut Vec<ScopedCode>,
-    run: &mut Run,
+    run: &mut RunScopes,
     operation: Operation,
 ) -> Result<(), AllocError>
     requires { length run.old.registers.items ≤ 4 }
@@ -57,7 +61,7 @@ fn place_operation(
 /// A load.
 fn place_load(
     parts: &mut Vec<ScopedCode>,
-    run: &mut Run,
+    run: &mut RunScopes,
     to: u32,
     register: u32,
     offset: Option<u32>,
@@ -84,7 +88,7 @@ fn place_load(
 /// A store.
 fn place_store(
     parts: &mut Vec<ScopedCode>,
-    run: &mut Run,
+    run: &mut RunScopes,
     register: u32,
     offset: Option<u32>,
     displacement: u32,
@@ -109,7 +113,11 @@ fn place_store(
 }
 
 /// Code that has no other code in it.
-fn place_straight(code: Code, parts: &mut Vec<ScopedCode>, run: &mut Run) -> Result<(), AllocError>
+fn place_straight(
+    code: Code,
+    parts: &mut Vec<ScopedCode>,
+    run: &mut RunScopes,
+) -> Result<(), AllocError>
     requires { length run.old.registers.items ≤ 4 }
     ensures parts { OnOk result (is_straight (code_of code) ≡ true → codes parts.new.items ≡ codes parts.old.items ++ placed (code_of code) run.old.registers.items) }
     ensures registers { OnOk result (is_straight (code_of code) ≡ true → run.new.registers.items ≡ open_behind (code_of code) run.old.registers.items) }
@@ -153,7 +161,7 @@ fn place_code(
     alloc: Global,
     code: Code,
     parts: &mut Vec<ScopedCode>,
-    run: &mut Run,
+    run: &mut RunScopes,
 ) -> Result<(), AllocError>
     requires { length run.old.registers.items ≤ 4 }
     ensures parts { OnOk result (codes parts.new.items ≡ codes parts.old.items ++ placed (code_of code) run.old.registers.items) }
@@ -198,7 +206,11 @@ fn place_code(
 
 /// Code that begins and ends with all scopes shut.
 #[cycle(placing)]
-fn place_whole(alloc: Global, code: Box<Code>, run: &mut Run) -> Result<Box<ScopedCode>, AllocError>
+fn place_whole(
+    alloc: Global,
+    code: Box<Code>,
+    run: &mut RunScopes,
+) -> Result<Box<ScopedCode>, AllocError>
     requires { run.old.registers.items ≡ [] }
     ensures code { IfOk result (λ c. scoped_code_of c.value ≡ whole (code_of code.value)) }
     ensures registers { OnOk result (run.new.registers.items ≡ []) }
@@ -221,7 +233,7 @@ fn place_function(alloc: Global, function: Function) -> Result<ScopedFunction, A
         body,
         value,
     } = function;
-    let mut run = Run {
+    let mut run = RunScopes {
         registers: Vec::new(alloc),
         most: 0,
     };

@@ -11,7 +11,7 @@ const OWN: u8 = 3;
 
 /// The scopes of a function while its code is placed.
 #[derive(Drop)]
-pub(crate) struct Run {
+pub(crate) struct RunScopes {
     /// The register of each scope that is open.
     pub(crate) registers: Vec<u32>,
     /// How many were open at once so far, at most.
@@ -51,7 +51,7 @@ fn open_scope(registers: &mut Vec<u32>, register: u32) -> Result<u8, AllocError>
 }
 
 /// The scope of an access through a register.
-pub(crate) fn access(run: &mut Run, register: u32) -> Result<u8, AllocError>
+pub(crate) fn access(run: &mut RunScopes, register: u32) -> Result<u8, AllocError>
     requires { length run.old.registers.items ≤ 4 }
     ensures scope { IfOk result (λ s. s ≡ scope_of register run.old.registers.items) }
     ensures registers { OnOk result (run.new.registers.items ≡ open_with register run.old.registers.items) }
@@ -74,7 +74,7 @@ fn leave_all(parts: &mut Vec<ScopedCode>, registers: &[u32]) -> Result<(), Alloc
 }
 
 /// The end of a run.
-pub(crate) fn end(run: &mut Run, parts: &mut Vec<ScopedCode>) -> Result<(), AllocError>
+pub(crate) fn end(run: &mut RunScopes, parts: &mut Vec<ScopedCode>) -> Result<(), AllocError>
     requires { length run.old.registers.items ≤ 4 }
     ensures parts { OnOk result (codes parts.new.items ≡ codes parts.old.items ++ leaves run.old.registers.items) }
     ensures registers { OnOk result (run.new.registers.items ≡ []) }

@@ -7,7 +7,7 @@ ghost use Rattle.session.specs.Keeping.{Allocated, IsNext, IsSafe, Made, Moves};
 ghost use Rattle.session.specs.State.{next_touch};
 ghost use Rattle.std.specs.Prelude.{◌≡◌, ◌+◌, ◌%◌, ◌<◌, ◌^◌, MatchResult, true};
 
-use crate::program::Program;
+use crate::program::SeatedProgram;
 use cells::Want;
 use code_execution::Plan;
 use code_form::{Cell, effect_laws};
@@ -15,7 +15,7 @@ use remote_store::RawStore;
 use std::alloc::AllocError;
 use std::sync::Wait;
 
-impl<'a, S: RawStore> Program<'a, S> {
+impl<'a, S: RawStore> SeatedProgram<'a, S> {
     /// The place of a cell in its piece.
     #[inline(always)]
     fn place(&self, cell: Cell) -> usize

@@ -33,7 +33,7 @@ use std::sync::Wait;
 
 /// A program with what its scopes hold, at one seat of a table.
 #[derive(Drop)]
-pub(crate) struct Program<'a, S: RawStore> {
+pub(crate) struct SeatedProgram<'a, S: RawStore> {
     alloc: Global,
     table: &'a ObjectTable<S>,
     scale: Scale,
@@ -57,7 +57,7 @@ pub(crate) struct Program<'a, S: RawStore> {
     moves: Moves,
 }
 
-impl<'a, S: RawStore> Model for Program<'a, S> {
+impl<'a, S: RawStore> Model for SeatedProgram<'a, S> {
     ghost use Rattle.session.specs.State.{State};
     ghost use Rattle.object_lock.specs.SeatViews.{IsSeat};
     ghost use Rattle.std.specs.Prelude.{◌≡◌, ◌^◌, reverse};
@@ -69,14 +69,14 @@ impl<'a, S: RawStore> Model for Program<'a, S> {
     ghost invariant = { λ m. IsSeat m.table.now m.owner × (2 ^ m.scale.shift ≡ m.table.now.sizes.cells) };
 }
 
-impl<'a, S: RawStore> Program<'a, S> {
+impl<'a, S: RawStore> SeatedProgram<'a, S> {
     pub(crate) fn new(
         alloc: Global,
         table: &'a ObjectTable<S>,
         image: &'a Image,
         owner: OwnerSeat<S>,
         sender: Option<HintSender<'a>>,
-    ) -> Result<Program<'a, S>, AllocError>
+    ) -> Result<SeatedProgram<'a, S>, AllocError>
         requires table { IsSeat table.now owner }
         ensures { IfOk result (λ m. m ≡ begin (image_of image.now) owner.view owner.refusals) }
     {
@@ -84,7 +84,7 @@ impl<'a, S: RawStore> Program<'a, S> {
         let holds = Vec::from_elem(alloc, None, 4)?;
         let next = owner.low() as u64;
         let hinted = Hinted::new(sender.is_some());
-        Ok(Program {
+        Ok(SeatedProgram {
             alloc,
             table,
             scale: Scale::of(table),

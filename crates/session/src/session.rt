@@ -13,7 +13,7 @@ ghost use Rattle.std.specs.Prelude.{◌≡◌, ◌≢◌, ◌⊎◌, ◌+◌, �
 
 use crate::counts::Counts;
 use crate::hint_sender::HintSender;
-use crate::program::Program;
+use crate::program::SeatedProgram;
 use cells::{Run, Want};
 use code_form::{effect_laws, heap_laws, run_laws};
 use hint_queue::{HintPass, Hints};
@@ -31,7 +31,7 @@ use std::sync::Wait;
 /// hold, what its seat knows, how many instructions it completed, and what it wants, if it wants anything.
 #[derive(Drop)]
 pub struct Session<'a, S: RawStore> {
-    program: Program<'a, S>,
+    program: SeatedProgram<'a, S>,
 }
 
 impl<'a, S: RawStore> Model for Session<'a, S> {
@@ -66,7 +66,7 @@ impl<'a, S: RawStore> Session<'a, S> {
         accepted_is_verified();
         let image = region.image(seat.number() as usize - 1).image();
         let sender = Some(HintSender::new(hints, pass));
-        match Program::new(alloc, region.table(), image, seat, sender) {
+        match SeatedProgram::new(alloc, region.table(), image, seat, sender) {
             Ok(program) => Ok(Session { program }),
             Err(_) => Err(Want::OutOfMemory),
         }
@@ -86,7 +86,7 @@ impl<'a, S: RawStore> Session<'a, S> {
         ensures at { IfOk result (λ s. S.honest → IsAt s) }
     {
         accepted_is_verified();
-        match Program::new(alloc, table, verified.image(), seat, None) {
+        match SeatedProgram::new(alloc, table, verified.image(), seat, None) {
             Ok(program) => Ok(Session { program }),
             Err(_) => Err(Want::OutOfMemory),
         }

@@ -1,9 +1,0 @@
-use Rattle.std.proofs.Common.{arith}
-use Rattle.session.proofs.Laws.{Laws}
-use Rattle.session.proofs.Ways.{extended_so}
-use Rattle.session.proofs.program.Program.allocs.Goals as goal
-
-pub returns-in-Ok : goal.returns-in-Ok
-returns-in-Ok g c =
-    let laws : Laws = record { tidy = c.effect_laws.ensures.tidy; tracked = c.effect_laws.ensures.tracked; waits = c.effect_laws.ensures.waits; ends = c.effect_laws.ensures.ends } in
-    extended_so g.S.RawStore.honest laws c.args.self.now c.extend.new.self c.args.cells c.requires.safe c.requires.next (let a = c.requires.safe.holding.room in omega arith) c.in-Ok.ensures

@@ -1,0 +1,32 @@
+use Rattle.std.proofs.Common.{ap}
+use Rattle.session.specs.State.{State}
+use Rattle.session.proofs.Laws.{Laws}
+use Rattle.session.proofs.Ways.{load_held, load_low, load_may, loaded_from, moves_loaded, plan_stays, safe_loaded}
+use Rattle.session.proofs.program.SeatedProgram.loads.Goals as goal
+
+pub held-hold-requires-clause-held : goal.held-hold-requires-clause-held
+held-hold-requires-clause-held g c κs within =
+    let laws : Laws = record { tidy = c.effect_laws.ensures.tidy; tracked = c.effect_laws.ensures.tracked; waits = c.effect_laws.ensures.waits; ends = c.effect_laws.ensures.ends } in
+    load_held laws c.args.self.now c.args.scope c.args.cell c.requires.safe c.requires.next
+
+pub load_cell-value-requires-clause-low : goal.load_cell-value-requires-clause-low
+load_cell-value-requires-clause-low g c κs within =
+    load_low c.args.self.now c.args.scope c.held-hold.result c.args.cell.index _ c.requires.safe.holding c.held-hold.ensures c.place-index.ensures
+
+pub load_cell-value-requires-clause-hold : goal.load_cell-value-requires-clause-hold
+load_cell-value-requires-clause-hold g c κs within =
+    load_may c.args.self.now c.args.scope c.held-hold.result c.requires.safe.holding c.held-hold.ensures
+
+pub returns-clause-safe : goal.returns-clause-safe
+returns-clause-safe g c =
+    let laws : Laws = record { tidy = c.effect_laws.ensures.tidy; tracked = c.effect_laws.ensures.tracked; waits = c.effect_laws.ensures.waits; ends = c.effect_laws.ensures.ends } in
+    safe_loaded laws c.args.self.now c.carry_out.new.self c.args.scope c.args.cell c.load_cell-value.result c.requires.safe c.requires.next (loaded_from c.args.self.now c.load_cell-value.new.self c.carry_out.new.self c.load_cell-value.result c.load_cell-value.ensures.same c.carry_out.ensures)
+
+pub returns-clause-moves : goal.returns-clause-moves
+returns-clause-moves g c =
+    let laws : Laws = record { tidy = c.effect_laws.ensures.tidy; tracked = c.effect_laws.ensures.tracked; waits = c.effect_laws.ensures.waits; ends = c.effect_laws.ensures.ends } in
+    moves_loaded g.S.RawStore.honest laws c.args.self.now c.carry_out.new.self c.args.scope c.args.cell c.load_cell-value.result _ c.held-hold.result c.requires.safe c.requires.next c.held-hold.ensures c.place-index.ensures c.load_cell-value.ensures.value (loaded_from c.args.self.now c.load_cell-value.new.self c.carry_out.new.self c.load_cell-value.result c.load_cell-value.ensures.same c.carry_out.ensures)
+
+pub carry_out-requires-clause-plan : goal.carry_out-requires-clause-plan
+carry_out-requires-clause-plan g c κs within =
+    let e = c.load_cell-value.ensures.same in plan_stays c.args.plan c.args.self.now c.load_cell-value.new.self (ap (λ (x : State). x.image) e) (ap (λ (x : State). x.core) e) c.requires.plan
