@@ -110,7 +110,8 @@ Caused reliable before s NoObjects = (s.refusals ≡ before) × ((n : ℕ) × (n
 Caused reliable before s OutOfMemory = (s.refusals ≡ before) × (may_grow (next_touch s) (rest_of s.core) ≡ true) × HasRoom s (next_touch s)
 Caused reliable before s StoreFailed = Refused reliable before s.refusals ⊎ ((s.refusals ≡ before) × IsHalted s)
 
--- the program is the same, and its seat: the same mover of the same table, with the same objects of its own
+-- The program is the same, and so is what its seat knows from when it was made: its table's numbers, its own number, how many objects each program has, and its own
+-- objects. Whether it is a seat of the same table is not told
 abbrev pub SameProgram : State → State → Type 0
 SameProgram s t = (t.image ≡ s.image) × (t.view.low ≡ s.view.low) × (t.view.high ≡ s.view.high) × (seat_of t.view ≡ seat_of s.view)
 

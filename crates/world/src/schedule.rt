@@ -62,7 +62,7 @@ pub(crate) fn follow<S: RawStore>(world: &mut World<'_, S>, schedule: &[u8]) -> 
 }
 
 /// What each program came to after all lines of a schedule, over stores that `config` makes. A line is an actor (`p`, `e` or `f` and its number),
-/// then nothing, or a blank and a verb with its numbers (`look F`, `claim F`, `mark O F`, `begin O`), and a newline.
+/// then nothing, or a blank and a verb with its numbers (`look F`, `claim F`, `mark O F`, `leave O F`, `begin O`), and a newline.
 ///
 /// `Line` names the first line that can't be read or is not enabled, counted from 1. `OutOfMemory` where a growth was refused, or a store
 /// could not be made, and in place of `Line` where the line is one of a program that wants memory. There are 1 to 256 images, all of one piece, and at most 64
