@@ -18,6 +18,5 @@ mod ScopedNumbers
 mod HintedNumbers
 mod HoistedNumbers
 mod Consistent
-mod Accepted
 mod Ordered
 mod Passes

