@@ -15,7 +15,7 @@ use Rattle.c0_types_tables.specs.Views.{environment_of, resolved_of}
 use Rattle.c0_types_expressions.specs.declared.typing.Typing.{Typing}
 use Rattle.c0_types_expressions.specs.declared.typing.Typing.TheVariants as d
 use Rattle.c0_types_expressions.specs.declared.typing.Terms.{Terms}
-use Rattle.c0_types_expressions.specs.declared.typing.Place.{Place}
+use Rattle.c0_types_expressions.specs.declared.typing.ResolvedPlace.{ResolvedPlace}
 use Rattle.c0_types_expressions.specs.declared.typing.Local.{Local}
 use Rattle.c0_types_expressions.specs.declared.terms.operators.OperatorRule.{OperatorRule}
 use Rattle.c0_types_expressions.specs.declared.terms.operators.OperatorRule.TheVariants as r
@@ -26,7 +26,7 @@ typing_of texts (d.Has r e) = x.Has (resolved_of r) (v.exp_of texts e)
 typing_of texts (d.Null e) = x.IsNull (v.exp_of texts e)
 
 -- a part of the heap
-abbrev pub place_of : List t.Name → Place → x.Place
+abbrev pub place_of : List t.Name → ResolvedPlace → x.Place
 place_of texts q = record { resolved = resolved_of q.resolved; place = v.place_of texts q.place }
 
 -- a local in scope

@@ -26,7 +26,7 @@ ghost use Rattle.c0_rules.specs.Types.{VoidType, and_so, same_type};
 ghost use Rattle.c0_rules.specs.Answers.{Answers};
 ghost use Rattle.c0_types_tables.specs.Views.{resolved_of};
 
-use crate::typing::{Place, Terms, Typing};
+use crate::typing::{ResolvedPlace, Terms, Typing};
 use c0_source::fault::{Fault, FaultKind, Span};
 use c0_syntax::expression::{Expression, ExpressionKind};
 use c0_syntax::name::Name;
@@ -285,7 +285,12 @@ impl<'a> Terms<'a> {
 
     /// A place of the heap, small or a struct. With all its parentheses it stands at `whole`, where it is told that it is none.
     #[cycle(expression)]
-    pub fn place(&self, kind: &ExpressionKind, span: Span, whole: Span) -> Result<Place, Fault>
+    pub fn place(
+        &self,
+        kind: &ExpressionKind,
+        span: Span,
+        whole: Span,
+    ) -> Result<ResolvedPlace, Fault>
         requires { HasTexts self.now.texts.now (expression_of_kind kind.now) }
         ensures answers { Answers (place_of self.now.texts.now) result (typed_place (env_of self.now) (context_of self.now) (expression_of_kind kind.now)) }
         ensures cause { IfErr result (λ f. (f.kind ≡ OutOfMemory) ⊎ InExpression (env_of self.now) (context_of self.now) f (AsPlace whole) kind.now span) }
@@ -299,7 +304,12 @@ impl<'a> Terms<'a> {
 
     // A place by its form.
     #[cycle(expression)]
-    fn place_at(&self, kind: &ExpressionKind, span: Span, whole: Span) -> Result<Place, Fault>
+    fn place_at(
+        &self,
+        kind: &ExpressionKind,
+        span: Span,
+        whole: Span,
+    ) -> Result<ResolvedPlace, Fault>
         requires texts { HasTexts self.now.texts.now (expression_of_kind kind.now) }
         requires form { has_form kind.now ≡ true }
         ensures answers { Answers (place_of self.now.texts.now) result (typed_place (env_of self.now) (context_of self.now) (expression_of_kind kind.now)) }

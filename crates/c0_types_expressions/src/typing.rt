@@ -1,6 +1,6 @@
 //! What the static rules give of an expression, and where it stands.
 
-use c0_typed::{Expression, Place as TypedPlace};
+use c0_typed::{Expression, Place};
 use c0_types_tables::environment::Environment;
 use c0_types_tables::names::Names;
 use c0_types_tables::resolved::ResolvedType;
@@ -15,9 +15,9 @@ pub enum Typing {
 
 /// A part of the heap, with the type that it holds.
 #[derive(Debug, Drop)]
-pub struct Place {
+pub struct ResolvedPlace {
     pub resolved: ResolvedType,
-    pub place: TypedPlace,
+    pub place: Place,
 }
 
 /// A local in scope.

@@ -21,7 +21,7 @@ use c0_source::fault::{Fault, Span};
 use c0_syntax::expression::{Expression, ExpressionKind};
 use c0_syntax::statement::{Annotation, Spec};
 use c0_typed::{Expression as TypedExpression, Statement as TypedStatement};
-use c0_types_expressions::typing::{Place, Terms};
+use c0_types_expressions::typing::{ResolvedPlace, Terms};
 use c0_types_tables::environment::Environment;
 use c0_types_tables::names::Names;
 use c0_types_tables::resolved::ResolvedType;
@@ -83,7 +83,7 @@ impl<'a> Body<'a> {
     }
 
     // A place of the heap; `whole` is its place with all parentheses.
-    fn place(&self, kind: &ExpressionKind, span: Span, whole: Span) -> Result<Place, Fault>
+    fn place(&self, kind: &ExpressionKind, span: Span, whole: Span) -> Result<ResolvedPlace, Fault>
         requires { HasTexts self.now.texts.now (expression_of_kind kind.now) }
         ensures answers { Answers (place_of self.now.texts.now) result (typed_place (environment_of self.now.environment.now) (within (scope_of self.now.scope)) (expression_of_kind kind.now)) }
         ensures cause { IfErr result (λ f. (f.kind ≡ OutOfMemory) ⊎ InExpression (environment_of self.now.environment.now) (within (scope_of self.now.scope)) f (AsPlace whole) kind.now span) }

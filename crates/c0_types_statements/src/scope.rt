@@ -9,7 +9,7 @@ ghost use Rattle.c0_types_expressions.specs.Terms.{local_of};
 ghost use Rattle.c0_types_tables.specs.Views.{resolved_of};
 
 use c0_syntax::name::Name;
-use c0_types_expressions::typing::{Local, Place};
+use c0_types_expressions::typing::{Local, ResolvedPlace};
 use c0_types_tables::resolved::ResolvedType;
 use std::alloc::AllocError;
 
@@ -28,7 +28,7 @@ pub struct Scope {
 #[derive(Drop)]
 pub(crate) enum Destination<'a> {
     Local(&'a Local),
-    Place(Place),
+    Place(ResolvedPlace),
 }
 
 impl Scope {

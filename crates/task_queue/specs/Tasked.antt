@@ -4,7 +4,7 @@ use mathlib.Core.Option.{some}
 use lib.ListN.{get_elem?}
 use Rattle.program_run.specs.Runs.{RunView}
 use Rattle.scope_verifier.specs.declared.acceptance.Verified.{Verified}
-use Rattle.task_queue.specs.declared.rule.Knows.{Knows}
+use Rattle.task_queue.specs.declared.rule.KnowsRoster.{KnowsRoster}
 use Rattle.task_queue.specs.declared.rule.Roster.{Roster}
 
 -- these programs, with so many objects each
@@ -16,11 +16,11 @@ abbrev pub roster_of : RunView → Roster
 roster_of p = roster p.programs p.objects
 
 -- what a pass knows that has so many tasks in hand
-abbrev pub knows : Roster → ℕ → Knows
+abbrev pub knows : Roster → ℕ → KnowsRoster
 knows r n = record { roster = Some r; in_hand = n }
 
 -- the first pass, before the roster is known
-abbrev pub unknown : Knows
+abbrev pub unknown : KnowsRoster
 unknown = record { roster = None; in_hand = 0 }
 
 -- this roster, or one without programs
@@ -29,7 +29,7 @@ roster_or_none None = roster [] 0
 roster_or_none (Some r) = r
 
 -- the roster that a pass knows, or one without programs
-abbrev pub roster_in : Knows → Roster
+abbrev pub roster_in : KnowsRoster → Roster
 roster_in v = roster_or_none v.roster
 
 -- A task is a program of the roster, which it names by its number, and has not ended. That it stands where the run of its image's code is, is so of each
@@ -40,15 +40,15 @@ pub record IsTask (r : Roster) (p : RunView) : Type 0 where
   pub going : p.over ≡ false
 
 -- all passes know this roster
-abbrev pub AllKnow : Roster → List Knows → Type 0
-AllKnow r views = (pass : ℕ) (v : Knows) → get_elem? views pass ≡ some v → v.roster ≡ Some r
+abbrev pub AllKnow : Roster → List KnowsRoster → Type 0
+AllKnow r views = (pass : ℕ) (v : KnowsRoster) → get_elem? views pass ≡ some v → v.roster ≡ Some r
 
 -- how many tasks are in hand with these passes
-abbrev pub all_in_hand : List Knows → ℕ
+abbrev pub all_in_hand : List KnowsRoster → ℕ
 all_in_hand [] = 0
 all_in_hand (v ∷ views) = v.in_hand + all_in_hand views
 
 -- There is one pass, and the queue is empty; or all passes know one roster, each task is of it, and those in hand and those in the queue are as many as the
 -- programs of the roster
-abbrev pub AreTasks : List RunView → List Knows → Type 0
+abbrev pub AreTasks : List RunView → List KnowsRoster → Type 0
 AreTasks items views = ((views ≡ unknown ∷ []) × (items ≡ [])) ⊎ ((r : Roster) × AllKnow r views × All (IsTask r) items × (all_in_hand views + length items ≡ length r.programs))

@@ -2,7 +2,7 @@
 ghost use Rattle.std.specs.Prelude.{◌≡◌, ◌+◌, ◌<◌, ◌≤◌, IfOk, MatchOption, length};
 ghost use Rattle.task_queue.specs.Tasked.{IsTask, roster};
 
-use crate::rule::{Another, Founds, Knows, Puts, Takes, Tasked};
+use crate::rule::{Another, Founds, KnowsRoster, Puts, Takes, Tasked};
 use crossbeam_queue::{Pass, RuledArrayQueue};
 use program_run::ProgramRun;
 use region::Region;
@@ -17,7 +17,7 @@ const ROOM: usize = 256;
 /// A queue of tasks that threads share. Each is a program of one region, and has not ended.
 #[derive(Drop)]
 pub struct TaskQueue<'a, S: RawStore> {
-    queue: RuledArrayQueue<ProgramRun<'a, S>, Knows, Tasked>,
+    queue: RuledArrayQueue<ProgramRun<'a, S>, KnowsRoster, Tasked>,
     region: &'a Region<S>,
     objects: usize,
 }
@@ -34,7 +34,7 @@ impl<'a, S: RawStore> Model for TaskQueue<'a, S> {
 /// The right of one thread to take tasks from a queue and to put them back.
 #[derive(Drop)]
 pub struct TaskPass<T> {
-    pass: Pass<T, Knows>,
+    pass: Pass<T, KnowsRoster>,
 }
 
 impl<T> Model for TaskPass<T> {

@@ -12,7 +12,7 @@ pub struct Roster {
 }
 
 /// What a pass knows: the roster, and how many tasks are in hand with it. No value of it is made.
-pub struct Knows {
+pub struct KnowsRoster {
     pub roster: Option<Roster>,
     pub in_hand: u64,
 }
@@ -20,7 +20,7 @@ pub struct Knows {
 /// Each task is a program of the roster that all passes know, and no task is lost or doubled: those in the queue and those in hand are as many as the programs.
 pub struct Tasked;
 
-impl<'a, S: RawStore> Protocol<ProgramRun<'a, S>, Knows> for Tasked {
+impl<'a, S: RawStore> Protocol<ProgramRun<'a, S>, KnowsRoster> for Tasked {
     ghost use Rattle.task_queue.specs.Tasked.{AreTasks, unknown};
 
     ghost holds = { AreTasks };
@@ -31,7 +31,7 @@ impl<'a, S: RawStore> Protocol<ProgramRun<'a, S>, Knows> for Tasked {
 /// The first pass puts the first task, and from then on knows the roster, and has all other tasks in hand.
 pub struct Founds;
 
-impl<'a, S: RawStore> Outcome<ProgramRun<'a, S>, Knows> for Founds {
+impl<'a, S: RawStore> Outcome<ProgramRun<'a, S>, KnowsRoster> for Founds {
     ghost use Rattle.std.specs.Prelude.{◌≡◌, ◌-◌, length};
     ghost use Rattle.task_queue.specs.Tasked.{knows, roster_of};
 
@@ -41,13 +41,13 @@ impl<'a, S: RawStore> Outcome<ProgramRun<'a, S>, Knows> for Founds {
 /// A task is put. It is in hand no more.
 pub struct Puts;
 
-impl<'a, S: RawStore> Outcome<ProgramRun<'a, S>, Knows> for Puts {
+impl<'a, S: RawStore> Outcome<ProgramRun<'a, S>, KnowsRoster> for Puts {
     ghost use Rattle.std.specs.Prelude.{◌≡◌, ◌-◌};
 
     ghost then = { λ v x w. w ≡ record v { in_hand = v.in_hand - 1 } };
 }
 
-impl<'a, S: RawStore> Lesson<ProgramRun<'a, S>, Knows> for Puts {
+impl<'a, S: RawStore> Lesson<ProgramRun<'a, S>, KnowsRoster> for Puts {
     ghost use Rattle.std.specs.Prelude.{⊤};
 
     ghost fact = { λ v items. ⊤ };
@@ -56,14 +56,14 @@ impl<'a, S: RawStore> Lesson<ProgramRun<'a, S>, Knows> for Puts {
 /// A task is taken. It is one of the roster, and in hand, with no more than there are.
 pub struct Takes;
 
-impl<'a, S: RawStore> Outcome<ProgramRun<'a, S>, Knows> for Takes {
+impl<'a, S: RawStore> Outcome<ProgramRun<'a, S>, KnowsRoster> for Takes {
     ghost use Rattle.std.specs.Prelude.{◌≡◌, ◌+◌, ◌≤◌, length};
     ghost use Rattle.task_queue.specs.Tasked.{IsTask, roster_in};
 
     ghost then = { λ v x w. (w ≡ record v { in_hand = v.in_hand + 1 }) × IsTask (roster_in v) x × (w.in_hand ≤ length (roster_in v).programs) };
 }
 
-impl<'a, S: RawStore> Lesson<ProgramRun<'a, S>, Knows> for Takes {
+impl<'a, S: RawStore> Lesson<ProgramRun<'a, S>, KnowsRoster> for Takes {
     ghost use Rattle.std.specs.Prelude.{⊤};
 
     ghost fact = { λ v items. ⊤ };
@@ -72,7 +72,7 @@ impl<'a, S: RawStore> Lesson<ProgramRun<'a, S>, Knows> for Takes {
 /// A new pass knows the roster, and has nothing in hand.
 pub struct Another;
 
-impl Split<Knows> for Another {
+impl Split<KnowsRoster> for Another {
     ghost left = { λ v. v };
 
     ghost right = { λ v. record v { in_hand = 0 } };

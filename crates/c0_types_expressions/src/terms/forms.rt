@@ -19,7 +19,7 @@ use super::is_void;
 use super::names::Callee;
 use super::retyping::retype;
 use super::steps::{fault_at, sited_boxed};
-use crate::typing::{Place, Terms, Typing};
+use crate::typing::{ResolvedPlace, Terms, Typing};
 use c0_source::fault::{Fault, FaultKind, Span};
 use c0_syntax::expression::Expression;
 use c0_syntax::name::Name;
@@ -97,7 +97,7 @@ impl<'a> Terms<'a> {
         here: Span,
         name: &Name,
         span: Span,
-    ) -> Result<Place, Fault>
+    ) -> Result<ResolvedPlace, Fault>
         ensures answers { Answers (place_of self.now.texts.now) result (t.and_so (x.pointed (env_of self.now) (typing_of self.now.texts.now pointer)) (x.fielded (env_of self.now) (name_of name.now))) }
         ensures cause { IfErr result (λ f. (f.kind ≡ OutOfMemory) ⊎ PointedCause (env_of self.now) f (typing_of self.now.texts.now pointer) here here ⊎ ((q : x.Place) × (x.pointed (env_of self.now) (typing_of self.now.texts.now pointer) ≡ Some q) × FieldCause (env_of self.now) (context_of self.now) f q.resolved here name.now span)) }
     {

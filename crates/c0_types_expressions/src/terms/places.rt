@@ -15,10 +15,10 @@ ghost use Rattle.c0_rules.specs.Answers.{Answers};
 ghost use Rattle.c0_types_tables.specs.Views.{field_entry_of, resolved_of, struct_entry_of};
 
 use super::steps::{boxed_at, fault_at, sited_boxed};
-use crate::typing::{Place, Terms, Typing};
+use crate::typing::{ResolvedPlace, Terms, Typing};
 use c0_source::fault::{Fault, FaultKind, Span};
 use c0_syntax::name::Name;
-use c0_typed::{Expression, Place as TypedPlace};
+use c0_typed::{Expression, Place};
 use c0_types_tables::resolved::ResolvedType;
 use c0_types_tables::structs::{FieldEntry, StructEntry};
 use std::alloc::AllocError;
@@ -26,7 +26,12 @@ use std::rc::Rc;
 
 impl<'a> Terms<'a> {
     /// What a pointer points to. NULL itself points to nothing, which is told at the sign.
-    pub(crate) fn pointed(&self, pointer: Typing, span: Span, sign: Span) -> Result<Place, Fault>
+    pub(crate) fn pointed(
+        &self,
+        pointer: Typing,
+        span: Span,
+        sign: Span,
+    ) -> Result<ResolvedPlace, Fault>
         ensures answers { Answers (place_of self.now.texts.now) result (x.pointed (env_of self.now) (typing_of self.now.texts.now pointer)) }
         ensures cause { IfErr result (λ f. (f.kind ≡ OutOfMemory) ⊎ ((is_null (typing_of self.now.texts.now pointer) ≡ true) × Told NullDereference sign f) ⊎ ((is_null (typing_of self.now.texts.now pointer) ≡ false) × (x.pointed (env_of self.now) (typing_of self.now.texts.now pointer) ≡ None) × Told TypeMismatch span f)) }
     {
@@ -52,14 +57,14 @@ impl<'a> Terms<'a> {
         target: Rc<ResolvedType>,
         e: Expression,
         sign: Span,
-    ) -> Result<Place, AllocError>
+    ) -> Result<ResolvedPlace, AllocError>
         ensures { IfOk result (λ r. x.pointed (env_of self.now) (x.Has (t.PointerTo (resolved_of target.value)) (exp_of self.now.texts.now e)) ≡ Some (place_of self.now.texts.now r)) }
     {
         let pointer = sited_boxed(self.alloc, e, sign)?;
         let value_type = self.numbered(&target)?;
-        Ok(Place {
+        Ok(ResolvedPlace {
             resolved: target.duplicate()?,
-            place: TypedPlace::Deref(value_type, pointer),
+            place: Place::Deref(value_type, pointer),
         })
     }
 
@@ -70,7 +75,7 @@ impl<'a> Terms<'a> {
         index: Expression,
         here: Span,
         span: Span,
-    ) -> Result<Place, Fault>
+    ) -> Result<ResolvedPlace, Fault>
         ensures answers { Answers (place_of self.now.texts.now) result (x.indexed (env_of self.now) (typing_of self.now.texts.now array) (exp_of self.now.texts.now index)) }
         ensures cause { IfErr result (λ f. (f.kind ≡ OutOfMemory) ⊎ ((element_of (typing_of self.now.texts.now array) ≡ None) × Told TypeMismatch here f) ⊎ ((r : t.ResolvedType) × (element_of (typing_of self.now.texts.now array) ≡ Some r) × (t.cells_of (env_of self.now).structs r ≡ None) × Told StructNotComplete span f)) }
     {
@@ -99,7 +104,7 @@ impl<'a> Terms<'a> {
         array: Expression,
         index: Expression,
         span: Span,
-    ) -> Result<Place, Fault>
+    ) -> Result<ResolvedPlace, Fault>
         ensures answers { Answers (place_of self.now.texts.now) result (x.indexed (env_of self.now) (x.Has (t.ArrayOf (resolved_of element.value)) (exp_of self.now.texts.now array)) (exp_of self.now.texts.now index)) }
         ensures cause { IfErr result (λ f. (f.kind ≡ OutOfMemory) ⊎ ((t.cells_of (env_of self.now).structs (resolved_of element.value) ≡ None) × Told StructNotComplete span f)) }
     {
@@ -110,9 +115,9 @@ impl<'a> Terms<'a> {
         }
         let (array, index) = boxed_at(self.alloc, array, index, span)?;
         let value_type = self.numbered(&element)?;
-        Ok(Place {
+        Ok(ResolvedPlace {
             resolved: element.duplicate()?,
-            place: TypedPlace::Index(value_type, array, index),
+            place: Place::Index(value_type, array, index),
         })
     }
 
@@ -159,7 +164,7 @@ impl<'a> Terms<'a> {
         index: Typing,
         spans: (Span, Span),
         span: Span,
-    ) -> Result<Place, Fault>
+    ) -> Result<ResolvedPlace, Fault>
         ensures answers { Answers (place_of self.now.texts.now) result (t.and_so (x.as_wanted (env_of self.now) t.IntType (typing_of self.now.texts.now index)) (x.indexed (env_of self.now) (typing_of self.now.texts.now array))) }
         ensures cause { IfErr result (λ f. (f.kind ≡ OutOfMemory) ⊎ ((element_of (typing_of self.now.texts.now array) ≡ None) × Told TypeMismatch spans.0 f) ⊎ ((x.as_wanted (env_of self.now) t.IntType (typing_of self.now.texts.now index) ≡ None) × Told TypeMismatch spans.1 f) ⊎ ((r : t.ResolvedType) × (element_of (typing_of self.now.texts.now array) ≡ Some r) × (t.cells_of (env_of self.now).structs r ≡ None) × Told StructNotComplete span f)) }
     {
@@ -176,9 +181,9 @@ impl<'a> Terms<'a> {
     fn field_at(
         &self,
         name: &str,
-        place: TypedPlace,
+        place: Place,
         field: &FieldEntry,
-    ) -> Result<Place, AllocError>
+    ) -> Result<ResolvedPlace, AllocError>
         ensures { IfOk result (λ r. place_of self.now.texts.now r ≡ field_place (env_of self.now) name.now (at_of self.now.texts.now place) (field_entry_of field.now)) }
     {
         let place = Box::new(self.alloc, place)?;
@@ -187,24 +192,24 @@ impl<'a> Terms<'a> {
         }
         let number = self.environment.struct_names.number(name);
         let resolved = field.resolved.duplicate()?;
-        Ok(Place {
+        Ok(ResolvedPlace {
             resolved,
-            place: TypedPlace::Field(number, place, field.number as u32),
+            place: Place::Field(number, place, field.number as u32),
         })
     }
 
     /// A field of what a place holds, a complete struct.
     pub(crate) fn fielded(
         &self,
-        of: Place,
+        of: ResolvedPlace,
         here: Span,
         name: &Name,
         span: Span,
-    ) -> Result<Place, Fault>
+    ) -> Result<ResolvedPlace, Fault>
         ensures answers { Answers (place_of self.now.texts.now) result (x.fielded (env_of self.now) (name_of name.now) (place_of self.now.texts.now of)) }
         ensures cause { IfErr result (λ f. (f.kind ≡ OutOfMemory) ⊎ FieldCause (env_of self.now) (context_of self.now) f (resolved_of of.resolved) here name.now span) }
     {
-        let Place { resolved, place } = of;
+        let ResolvedPlace { resolved, place } = of;
         let ResolvedType::Struct(struct_name) = &resolved else {
             drop(resolved);
             drop(place);
@@ -225,9 +230,9 @@ impl<'a> Terms<'a> {
         &self,
         struct_name: &str,
         entry: &StructEntry,
-        place: TypedPlace,
+        place: Place,
         name: &Name,
-    ) -> Result<Place, Fault>
+    ) -> Result<ResolvedPlace, Fault>
         ensures answers { Answers (place_of self.now.texts.now) result (t.and_so ((struct_entry_of entry.now).fields (name_of name.now)) (λ f. Some (field_place (env_of self.now) struct_name.now (at_of self.now.texts.now place) f))) }
         ensures cause { IfErr result (λ f. (f.kind ≡ OutOfMemory) ⊎ (((struct_entry_of entry.now).fields (name_of name.now) ≡ None) × Told UnknownField name.now.span f)) }
     {
@@ -241,11 +246,11 @@ impl<'a> Terms<'a> {
     }
 
     /// The value at a place, where it is small.
-    pub(crate) fn read_of(&self, place: Place, span: Span) -> Result<Typing, Fault>
+    pub(crate) fn read_of(&self, place: ResolvedPlace, span: Span) -> Result<Typing, Fault>
         ensures answers { Answers (typing_of self.now.texts.now) result (x.read_of (env_of self.now) (place_of self.now.texts.now place)) }
         ensures cause { IfErr result (λ f. (f.kind ≡ OutOfMemory) ⊎ ((t.is_small (resolved_of place.resolved) ≡ false) × Told NotSmall span f)) }
     {
-        let Place { resolved, place } = place;
+        let ResolvedPlace { resolved, place } = place;
         if !resolved.is_small() {
             drop(resolved);
             drop(place);
@@ -261,7 +266,7 @@ impl<'a> Terms<'a> {
     }
 
     // What stands at this place, of this type.
-    fn reading(&self, resolved: ResolvedType, place: Box<TypedPlace>) -> Result<Typing, AllocError>
+    fn reading(&self, resolved: ResolvedType, place: Box<Place>) -> Result<Typing, AllocError>
         ensures { IfOk result (λ r. typing_of self.now.texts.now r ≡ x.Has (resolved_of resolved) (y.Load (x.num (env_of self.now) (resolved_of resolved)) (at_of self.now.texts.now place.value))) }
     {
         match self.numbered(&resolved) {

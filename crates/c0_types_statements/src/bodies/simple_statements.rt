@@ -27,7 +27,7 @@ use c0_syntax::operator::{Change, PrefixOperator};
 use c0_syntax::statement::{SimpleKind, SimpleStatement};
 use c0_syntax::value_type::ValueType;
 use c0_typed::{Constant, Expression as TypedExpression, Statement as TypedStatement};
-use c0_types_expressions::typing::Place;
+use c0_types_expressions::typing::ResolvedPlace;
 use c0_types_tables::resolved::ResolvedType;
 use cells::Int32Op;
 
@@ -240,7 +240,7 @@ impl<'a> Body<'a> {
                 Ok(TypedStatement::Set(local.number, value))
             }
             Destination::Place(found) => {
-                let Place { resolved, place } = found;
+                let ResolvedPlace { resolved, place } = found;
                 if !resolved.is_small() {
                     drop(resolved);
                     drop(place);
@@ -282,7 +282,7 @@ impl<'a> Body<'a> {
                 Ok(TypedStatement::Update(local.number, operator, number))
             }
             Destination::Place(found) => {
-                let Place { resolved, place } = found;
+                let ResolvedPlace { resolved, place } = found;
                 if !resolved.same_as(&ResolvedType::Int) {
                     let fault = no_number(&resolved, span);
                     drop(resolved);
