@@ -1,9 +1,7 @@
 -- Lists of kinds that have learned all types of a program have all that it needs.
-use Rattle.std.proofs.Common.{◌≡◌, refl, ap, ◌∙◌, sym, subst, arith, rules, Bool, true, false, cond, nat_lt, ltb, List, [], ◌∷◌, ◌++◌, ℕ, zero, suc, ◌+◌, ◌<◌, ◌≤◌, length, append_assoc, length-append}
+use Rattle.std.proofs.Common.{◌≡◌, refl, ap, ◌∙◌, sym, subst, arith, Bool, true, false, cond, nat_lt, List, [], ◌∷◌, ◌++◌, ℕ, suc, ◌+◌, ◌<◌, length, append_assoc, length-append}
 use Rattle.std.proofs.lemmas.Bool.Decides.{nat_tests}
 use Rattle.c0_typed.specs.Trees as t
-use Rattle.c0_typed.specs.Typing.{IsSmall}
-use Rattle.c0_typed.specs.Views.{type_of}
 use Rattle.c0_typed.specs.declared.tree.Expression.{Expression, Row_of-Expression, end_of-Expression, more_of-Expression, At', Constant, Null, Local, Unary', Binary', Compare', And', Or', Choose', Call', Print', Load', Alloc, AllocArray', Length'}
 use Rattle.c0_typed.specs.declared.tree.Place.{Place, Deref', Index', Field'}
 use Rattle.c0_typed.specs.declared.tree.Statement.{Statement, Row_of-Statement, end_of-Statement, more_of-Statement, Block', Set, Update, Store, StoreUpdate, Do, If', Loop', Return, ReturnValue, Break, Continue, Assert, Error, Check}
@@ -11,7 +9,7 @@ use Rattle.c0_typed.specs.declared.tree.Function.{Function}
 use Rattle.code_form.specs.declared.form.Kind.{Kind}
 use Rattle.code_form.specs.declared.form.Kind.TheVariants as kind
 use Rattle.code_form.specs.Code.{same_kind}
-use Rattle.lower_tables.specs.Kinds.{kind_of, layout_number, position, single_layout}
+use Rattle.lower_tables.specs.Kinds.{layout_number, position, single_layout}
 use Rattle.lower_tables.specs.Known.{IsKnown, Knows, KnowsRow, KnowsPlace, KnowsAll, KnowsStatement, KnowsBlock, KnowsBody, KnowsFunction, KnowsFunctions}
 use Rattle.lower_tables.specs.Gathered.{all_learned, learned, types_at, types_in, types_in_all, types_in_row, types_of, types_of_all, types_of_block, types_of_function, types_of_functions, with_kind}
 use Rattle.lower_tables.proofs.Positions.{same_kind_refl, single_there}

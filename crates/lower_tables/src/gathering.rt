@@ -149,11 +149,7 @@ fn from_place(structs: u32, singles: &mut Singles, place: &Place) -> Result<(), 
 /// What a statement tells.
 #[cycle(gathering_statements)]
 #[tactic(auto, using(crate::proofs::CodeGathered::all_learned_append))]
-fn from_statement(
-    structs: u32,
-    singles: &mut Singles,
-    whole: &Statement,
-) -> Result<(), AllocError>
+fn from_statement(structs: u32, singles: &mut Singles, whole: &Statement) -> Result<(), AllocError>
     requires { structs + length singles.old + 1 < 2 ^ 32 }
     ensures numbered { structs + length singles.new + 1 < 2 ^ 32 }
     ensures learned { OnOk result (singles.new ≡ all_learned structs singles.old (types_of whole.now)) }
@@ -189,11 +185,7 @@ fn from_statement(
 /// What statements tell, in order.
 #[cycle(gathering_statements)]
 #[tactic(auto, using(crate::proofs::CodeGathered::all_learned_append))]
-fn from_statements(
-    structs: u32,
-    singles: &mut Singles,
-    all: &[Statement],
-) -> Result<(), AllocError>
+fn from_statements(structs: u32, singles: &mut Singles, all: &[Statement]) -> Result<(), AllocError>
     requires { structs + length singles.old + 1 < 2 ^ 32 }
     ensures numbered { structs + length singles.new + 1 < 2 ^ 32 }
     ensures learned { OnOk result (singles.new ≡ all_learned structs singles.old (types_of_all all.now)) }
@@ -206,11 +198,7 @@ fn from_statements(
 
 /// What a function tells.
 #[tactic(auto, using(crate::proofs::CodeGathered::all_learned_append))]
-fn from_function(
-    structs: u32,
-    singles: &mut Singles,
-    function: &Function,
-) -> Result<(), AllocError>
+fn from_function(structs: u32, singles: &mut Singles, function: &Function) -> Result<(), AllocError>
     requires { structs + length singles.old + 1 < 2 ^ 32 }
     ensures numbered { structs + length singles.new + 1 < 2 ^ 32 }
     ensures learned { OnOk result (singles.new ≡ all_learned structs singles.old (types_of_function function.now)) }

@@ -1,4 +1,4 @@
-use Rattle.std.proofs.Common.{◌≤◌, suc, arith, length}
+use Rattle.std.proofs.Common.{arith}
 use Rattle.lower_tables.proofs.Founds.{grows_by_one}
 use Rattle.lower_tables.proofs.gathering.add_kind.Goals as goal
 

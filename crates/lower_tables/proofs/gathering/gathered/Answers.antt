@@ -1,9 +1,9 @@
-use Rattle.std.proofs.Common.{◌≡◌, ◌<◌, ◌≤◌, List, [], sym, ap, ◌∙◌, arith, rules, subst, length, drop, get_or, vec_len}
+use Rattle.std.proofs.Common.{◌≡◌, ◌<◌, ◌≤◌, List, [], sym, ap, ◌∙◌, arith, rules, subst, length, get_or, vec_len}
 use Rattle.std.proofs.lemmas.List.{length-map}
 use Rattle.c0_typed.specs.Views.{struct_of}
 use Rattle.code_form.specs.declared.form.Kind.{Kind}
 use Rattle.lower_tables.specs.Gathered.{all_learned, types_of_functions}
-use Rattle.lower_tables.specs.Known.{KnowsFunctions, KnowsProgram}
+use Rattle.lower_tables.specs.Known.{KnowsFunctions}
 use Rattle.lower_tables.specs.Tables.{structs_of}
 use Rattle.lower_tables.proofs.CodeGathered.{all_of, function_step}
 use Rattle.lower_tables.proofs.CodeKnown.{all_known, knows_functions}
