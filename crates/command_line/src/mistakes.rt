@@ -12,7 +12,7 @@ use crate::options::{
 /// Where one is among the words: the option that waits for its value, whether a file was named, and more than one, whether `--live` was, and whether all further
 /// words are files.
 #[derive(Clone, Copy, Debug, PartialEq, Eq)]
-pub struct Place {
+pub struct WordPlace {
     pub waiting: Option<Choice>,
     pub has_file: bool,
     pub has_more: bool,
@@ -22,11 +22,11 @@ pub struct Place {
 
 /// What a word comes to.
 #[derive(Clone, Copy)]
-pub enum Step<'a> {
+pub enum WordStep<'a> {
     /// It is wrong.
     Tells(Complaint<'a>),
     /// It is right, and one is there behind it.
-    Goes(Place),
+    Goes(WordPlace),
 }
 
 /// Whether the word is an option, with or without its value.
@@ -54,13 +54,13 @@ fn has_option(choice: Choice, words: &[&str]) -> bool
 }
 
 /// A word that is a file.
-fn file<'a>(name: &'a str, place: Place, word: &'a str) -> Step<'a>
+fn file<'a>(name: &'a str, place: WordPlace, word: &'a str) -> WordStep<'a>
     ensures { step_of result ≡ file_step name.now place word.now }
 {
     if place.has_file && is_single(name) {
-        return Step::Tells(Complaint::OneMore(name, word));
+        return WordStep::Tells(Complaint::OneMore(name, word));
     }
-    Step::Goes(Place {
+    WordStep::Goes(WordPlace {
         has_file: true,
         has_more: place.has_file,
         ..place
@@ -79,24 +79,24 @@ fn refused<'a>(choice: Choice, text: &'a str) -> Complaint<'a>
 }
 
 /// A word behind an option that waits for its value.
-fn value<'a>(place: Place, choice: Choice, word: &'a str) -> Step<'a>
+fn value<'a>(place: WordPlace, choice: Choice, word: &'a str) -> WordStep<'a>
     ensures { step_of result ≡ value_step place choice word.now }
 {
     if !is_option(word) && accepts(choice, word) {
-        return Step::Goes(Place {
+        return WordStep::Goes(WordPlace {
             waiting: None,
             ..place
         });
     }
-    Step::Tells(refused(choice, word))
+    WordStep::Tells(refused(choice, word))
 }
 
 /// Where one is behind an option that has no value.
-fn flagged(place: Place, choice: Choice) -> Place
+fn flagged(place: WordPlace, choice: Choice) -> WordPlace
     ensures { result ≡ flagged_place place choice }
 {
     if matches!(choice, Choice::Live) {
-        Place {
+        WordPlace {
             is_live: true,
             ..place
         }
@@ -106,42 +106,42 @@ fn flagged(place: Place, choice: Choice) -> Place
 }
 
 /// An option with this value in its word.
-fn attached<'a>(place: Place, choice: Choice, value: Option<&'a str>) -> Step<'a>
+fn attached<'a>(place: WordPlace, choice: Choice, value: Option<&'a str>) -> WordStep<'a>
     ensures { step_of result ≡ attached_step place choice (option_map (λ v. v.now) value.entry) }
 {
     match value {
         Some(text) => {
             if accepts(choice, text) {
-                Step::Goes(place)
+                WordStep::Goes(place)
             } else {
-                Step::Tells(refused(choice, text))
+                WordStep::Tells(refused(choice, text))
             }
         }
         None => {
             if takes_value(choice) {
-                Step::Goes(Place {
+                WordStep::Goes(WordPlace {
                     waiting: Some(choice),
                     ..place
                 })
             } else {
-                Step::Goes(flagged(place, choice))
+                WordStep::Goes(flagged(place, choice))
             }
         }
     }
 }
 
 /// A word that is an option of the command, with the words behind it.
-fn known<'a>(place: Place, choice: Choice, word: &'a str, behind: &[&str]) -> Step<'a>
+fn known<'a>(place: WordPlace, choice: Choice, word: &'a str, behind: &[&str]) -> WordStep<'a>
     ensures { step_of result ≡ known_step place choice word.now (map (λ w. w.now) behind.now) }
 {
     if has_option(choice, behind) {
-        return Step::Tells(Complaint::Twice(choice));
+        return WordStep::Tells(Complaint::Twice(choice));
     }
     attached(place, choice, value_in(word))
 }
 
 /// A word that is an option, with the words behind it.
-fn option<'a>(name: &str, place: Place, word: &'a str, behind: &[&str]) -> Step<'a>
+fn option<'a>(name: &str, place: WordPlace, word: &'a str, behind: &[&str]) -> WordStep<'a>
     ensures { step_of result ≡ option_step name.now place word.now (map (λ w. w.now) behind.now) }
 {
     match named(name_in(word)) {
@@ -149,22 +149,22 @@ fn option<'a>(name: &str, place: Place, word: &'a str, behind: &[&str]) -> Step<
             if has(name, choice) {
                 known(place, choice, word, behind)
             } else {
-                Step::Tells(Complaint::NoSuchOption(word))
+                WordStep::Tells(Complaint::NoSuchOption(word))
             }
         }
-        None => Step::Tells(Complaint::NoSuchOption(word)),
+        None => WordStep::Tells(Complaint::NoSuchOption(word)),
     }
 }
 
 /// A word for which no option waits, with the words behind it.
-fn plain<'a>(name: &'a str, place: Place, word: &'a str, behind: &[&str]) -> Step<'a>
+fn plain<'a>(name: &'a str, place: WordPlace, word: &'a str, behind: &[&str]) -> WordStep<'a>
     ensures { step_of result ≡ plain_step name.now place word.now (map (λ w. w.now) behind.now) }
 {
     if place.is_trailing {
         return file(name, place, word);
     }
     if word == "--" {
-        return Step::Goes(Place {
+        return WordStep::Goes(WordPlace {
             is_trailing: true,
             ..place
         });
@@ -177,7 +177,7 @@ fn plain<'a>(name: &'a str, place: Place, word: &'a str, behind: &[&str]) -> Ste
 }
 
 /// A word, with those behind it.
-fn read<'a>(name: &'a str, place: Place, word: &'a str, behind: &[&str]) -> Step<'a>
+fn read<'a>(name: &'a str, place: WordPlace, word: &'a str, behind: &[&str]) -> WordStep<'a>
     ensures { step_of result ≡ word_step name.now place word.now (map (λ w. w.now) behind.now) }
 {
     match place.waiting {
@@ -187,7 +187,7 @@ fn read<'a>(name: &'a str, place: Place, word: &'a str, behind: &[&str]) -> Step
 }
 
 /// What is wrong with the files behind a command's name, or else with words of which it is not known.
-fn unfiled<'a>(name: &'a str, place: Place) -> Complaint<'a>
+fn unfiled<'a>(name: &'a str, place: WordPlace) -> Complaint<'a>
     ensures { complaint_text result ≡ unfiled_text name.now place }
 {
     if !place.has_file {
@@ -201,7 +201,7 @@ fn unfiled<'a>(name: &'a str, place: Place) -> Complaint<'a>
 }
 
 /// What is missing behind a command's name, where no word is wrong.
-fn missing<'a>(name: &'a str, words: &[&str], place: Place) -> Complaint<'a>
+fn missing<'a>(name: &'a str, words: &[&str], place: WordPlace) -> Complaint<'a>
     ensures { complaint_text result ≡ missed name.now (map (λ w. w.now) words.now) place }
 {
     if let Some(choice) = required(name) {
@@ -213,7 +213,7 @@ fn missing<'a>(name: &'a str, words: &[&str], place: Place) -> Complaint<'a>
 }
 
 /// What is wrong where no word is.
-fn ending<'a>(name: &'a str, words: &[&str], place: Place) -> Complaint<'a>
+fn ending<'a>(name: &'a str, words: &[&str], place: WordPlace) -> Complaint<'a>
     ensures { complaint_text result ≡ ended name.now (map (λ w. w.now) words.now) place }
 {
     match place.waiting {
@@ -227,7 +227,7 @@ pub(crate) fn mistake<'a>(name: &'a str, words: &[&'a str]) -> Complaint<'a>
     ensures { complaint_text result ≡ mistaken name.now (map (λ w. w.now) words.now) (map (λ w. w.now) words.now) start }
 {
     let mut rest = words;
-    let mut place = Place {
+    let mut place = WordPlace {
         waiting: None,
         has_file: false,
         has_more: false,
@@ -236,8 +236,8 @@ pub(crate) fn mistake<'a>(name: &'a str, words: &[&'a str]) -> Complaint<'a>
     };
     while let [word, behind @ ..] = rest {
         match read(name, place, word, behind) {
-            Step::Tells(complaint) => return complaint,
-            Step::Goes(next) => place = next,
+            WordStep::Tells(complaint) => return complaint,
+            WordStep::Goes(next) => place = next,
         }
         rest = behind;
     }
