@@ -9,7 +9,7 @@ use Rattle.evacuator.specs.Rounds.{Visits}
 use Rattle.fetcher.specs.Serving.{hand_given_up, hand_released, hand_served}
 use Rattle.mover_events.specs.Going.{Event, Goes}
 
--- an actor that has nothing in hand, and is none with an object, does just this by some events, and has nothing in hand then
+-- an idle actor with nothing in hand comes to this past by some events, and is idle with nothing in hand then
 abbrev pub DoesByEvents : {B : Type 0} → ℕ → ℕ → (Option B → Choice → Answer → Turn (Option B)) → Hand → List Move → Type 0
 DoesByEvents n m turn x after = (vs : List Event) × (y : Hand) × Goes n m turn None x vs None y × HasNothing y × (y.past ≡ after)
 
