@@ -6,7 +6,7 @@ use Rattle.std.specs.Prelude.{IfErr, IfOk}
 use Rattle.cells.specs.declared.ending.Ended.{Ended}
 use Rattle.code_form.specs.Form.{Image, image_of}
 use Rattle.command_line.specs.Shell.{Compiling, Memory}
-use Rattle.command_line.specs.declared.words.Run.{Run}
+use Rattle.command_line.specs.declared.words.RunOptions.{RunOptions}
 use Rattle.executor.specs.Ends.{AreFinished}
 use Rattle.live_run.specs.Lives.{EndsLive, IsNotShown}
 use Rattle.live_run.specs.declared.live.LiveError.{LiveError}
@@ -32,14 +32,14 @@ one_code compiling held file (v ∷ []) are = refl
 one_code compiling held file (v ∷ (u ∷ us)) are = absurd are.1
 
 -- why a program is not seen to its end, where it is not told that one for which memory was wanted is admitted
-pub less_told : (asked : Run) (programs : List Verified) (w : Writes) (r : Result Finished LiveError)
+pub less_told : (asked : RunOptions) (programs : List Verified) (w : Writes) (r : Result Finished LiveError)
     → IfErr r (λ e. IsNotShown programs asked.memory.frames asked.memory.objects asked.evacuators asked.fetchers asked.work.workers asked.work.quantum w e) → IfErr r (λ e. IsBroken asked programs w e)
 less_told asked programs w (Ok e) told = tt
 less_told asked programs w (Err (live.NotRun fault)) told = (fault_less _ _ _ _ _ _ _ fault told.0, told.1)
 less_told asked programs w (Err live.Unwritten) told = told.2
 
 -- and where it is known that it is
-pub more_told : (asked : Run) (programs : List Verified) (w : Writes) (r : Result Finished LiveError) → IsAdmitted programs asked.memory.frames asked.memory.objects asked.evacuators asked.fetchers
+pub more_told : (asked : RunOptions) (programs : List Verified) (w : Writes) (r : Result Finished LiveError) → IsAdmitted programs asked.memory.frames asked.memory.objects asked.evacuators asked.fetchers
     → IsWithinWork asked.work.workers asked.work.quantum → IfErr r (λ e. IsBroken asked programs w e)
     → IfErr r (λ e. IsNotShown programs asked.memory.frames asked.memory.objects asked.evacuators asked.fetchers asked.work.workers asked.work.quantum w e)
 more_told asked programs w (Ok e) admitted work told = tt

@@ -4,7 +4,7 @@ use Rattle.std.specs.Io.KnownBytes.{Appends}
 use Rattle.cells.specs.declared.ending.Ended.{Ended}
 use Rattle.clap.specs.Words.{Text}
 use Rattle.command_line.specs.Shell.{Memory, Started}
-use Rattle.command_line.specs.declared.words.Run.{Run}
+use Rattle.command_line.specs.declared.words.RunOptions.{RunOptions}
 use Rattle.live_run.specs.declared.live.LiveError.{LiveError}
 use Rattle.live_run.specs.declared.live.LiveError.TheVariants as live
 use Rattle.program_run.specs.declared.run.Finished.{Finished}
@@ -30,7 +30,7 @@ pub record RanLive (honest : Type 0) (memory : Memory) (programs : List Verified
   pub sound : NoneFailed out
 
 -- why a program of such a run is not seen to its end, where it is not told that one for which memory was wanted is admitted: it is not run, and nothing is written; or one write failed
-abbrev pub IsBroken : Run → List Verified → Writes → LiveError → Type 0
+abbrev pub IsBroken : RunOptions → List Verified → Writes → LiveError → Type 0
 IsBroken asked programs out (live.NotRun fault) =
     ((fault ≡ admit.OutOfMemory) ⊎ IsRefused programs asked.memory.frames asked.memory.objects asked.evacuators asked.fetchers asked.work.workers asked.work.quantum fault) × IsQuiet out
 IsBroken asked programs out live.Unwritten = OneFailed out

@@ -15,7 +15,7 @@ use crate::runs::fits_asked;
 use crate::say::{REFUSED, say_admission, say_rest};
 use crate::stats::{milliseconds, passed_since};
 use crate::wants::share_of;
-use command_line::words::Run;
+use command_line::words::RunOptions;
 use file_store::FileStores;
 use live_run::{Finished, LiveError, run_live_counted};
 use memory_limit::MemoryLimit;
@@ -34,7 +34,7 @@ fn live_with<W: Wait, M: Stores + Drop, O: Stream>(
     alloc: Global,
     rt: &W,
     programs: Vec<Verified>,
-    asked: Run<'_>,
+    asked: RunOptions<'_>,
     stores: M,
     out: &mut O,
 ) -> Result<Finished, LiveError>
@@ -62,7 +62,7 @@ fn live_over<W: Wait, M: Stores + Drop, O: Stream>(
     alloc: Global,
     rt: &W,
     programs: Vec<Verified>,
-    asked: Run<'_>,
+    asked: RunOptions<'_>,
     stores: M,
     out: &mut O,
 ) -> Result<Finished, LiveError>
@@ -86,7 +86,7 @@ fn live_program<W: Wait, F: Files, O: Stream>(
     alloc: Global,
     rt: &W,
     programs: Vec<Verified>,
-    asked: Run<'_>,
+    asked: RunOptions<'_>,
     files: &F,
     out: &mut O,
 ) -> Result<Finished, LiveError>
@@ -111,7 +111,7 @@ fn live_asked<W: Wait, F: Files, O: Stream>(
     alloc: Global,
     rt: &W,
     programs: Vec<Verified>,
-    asked: Run<'_>,
+    asked: RunOptions<'_>,
     files: &F,
     out: &mut O,
 ) -> Result<Finished, LiveError>
@@ -130,7 +130,7 @@ fn live_asked<W: Wait, F: Files, O: Stream>(
 pub fn run_live<W: Wait + Threads + Clock, F: Files, O: Stream, E: Stream>(
     alloc: Global,
     rt: &W,
-    asked: Run<'_>,
+    asked: RunOptions<'_>,
     name: &str,
     files: &mut F,
     out: &mut O,

@@ -20,7 +20,7 @@ use c0_source::position::line_column;
 use c0_syntax::name::Name;
 use c0_typed::Site;
 use cells::{Run, Stop, Want};
-use command_line::words::Run as Asked;
+use command_line::words::RunOptions;
 use executor::{Finished, MoverCounts};
 use memory_limit::{MemoryLimit, MemoryUse};
 use std::alloc::Global;
@@ -54,7 +54,7 @@ struct LastCall {
 fn run_plainly<R: Threads, F: Files>(
     alloc: Global,
     rt: &R,
-    asked: Asked<'_>,
+    asked: RunOptions<'_>,
     file: &str,
     files: &mut F,
 ) -> Option<PlainEnd>
@@ -78,7 +78,7 @@ fn run_plainly<R: Threads, F: Files>(
 fn stop_site<R: Threads, F: Files>(
     alloc: Global,
     rt: &R,
-    asked: Asked<'_>,
+    asked: RunOptions<'_>,
     file: &str,
     files: &mut F,
 ) -> Option<StopSite>
@@ -106,7 +106,7 @@ fn stop_site<R: Threads, F: Files>(
 fn last_call<R: Threads, F: Files>(
     alloc: Global,
     rt: &R,
-    asked: Asked<'_>,
+    asked: RunOptions<'_>,
     file: &str,
     files: &mut F,
 ) -> Option<LastCall>
@@ -144,7 +144,7 @@ fn write_found<E: Stream>(
 fn write_stopped<R: Threads, F: Files, E: Stream>(
     alloc: Global,
     rt: &R,
-    asked: Asked<'_>,
+    asked: RunOptions<'_>,
     file: &str,
     files: &mut F,
     run: &Run,
@@ -171,7 +171,7 @@ fn write_stopped<R: Threads, F: Files, E: Stream>(
 fn write_wanted<R: Threads, F: Files, E: Stream>(
     alloc: Global,
     rt: &R,
-    asked: Asked<'_>,
+    asked: RunOptions<'_>,
     file: &str,
     files: &mut F,
     run: &Run,
@@ -198,7 +198,7 @@ fn write_wanted<R: Threads, F: Files, E: Stream>(
 fn write_place<R: Threads, F: Files, E: Stream>(
     alloc: Global,
     rt: &R,
-    asked: Asked<'_>,
+    asked: RunOptions<'_>,
     file: &str,
     files: &mut F,
     run: &Run,
@@ -220,7 +220,7 @@ fn write_place<R: Threads, F: Files, E: Stream>(
 fn write_places<R: Threads, F: Files, E: Stream>(
     alloc: Global,
     rt: &R,
-    asked: Asked<'_>,
+    asked: RunOptions<'_>,
     names: &[&str],
     files: &mut F,
     programs: &[Finished],
@@ -248,7 +248,7 @@ fn write_places<R: Threads, F: Files, E: Stream>(
 pub(crate) fn say_beside<R: Threads, F: Files, E: Stream>(
     alloc: Global,
     rt: &R,
-    asked: Asked<'_>,
+    asked: RunOptions<'_>,
     share: usize,
     names: &[&str],
     files: &mut F,

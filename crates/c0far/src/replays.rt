@@ -12,7 +12,7 @@ ghost use Rattle.streams.specs.Streams.{Says, writes};
 use crate::code::codes_of;
 use crate::files::{FileError, Files};
 use crate::say::{REFUSED, after, say_admission, say_ends, say_memory, say_unread};
-use command_line::words::Replay;
+use command_line::words::ReplayOptions;
 use file_store::FileStores;
 use region::{fits, piece_of};
 use remote_store::{Config, FarHeap, FaultPlan, FaultStores, Stores};
@@ -32,7 +32,7 @@ fn say_line<E: Stream>(err: &mut E, line: u64) -> u8
 /// Replays these lines of these programs, which are admitted.
 fn replay_lines<M: Stores + Drop, O: Stream, E: Stream>(
     alloc: Global,
-    asked: Replay<'_>,
+    asked: ReplayOptions<'_>,
     programs: Vec<Verified>,
     config: &Config<M>,
     lines: &[u8],
@@ -59,7 +59,7 @@ fn replay_lines<M: Stores + Drop, O: Stream, E: Stream>(
 /// Replays the schedule of these programs over these stores.
 fn replay_with<M: Stores + Drop, F: Files, O: Stream, E: Stream>(
     alloc: Global,
-    asked: Replay<'_>,
+    asked: ReplayOptions<'_>,
     programs: Vec<Verified>,
     stores: M,
     files: &mut F,
@@ -93,7 +93,7 @@ fn replay_with<M: Stores + Drop, F: Files, O: Stream, E: Stream>(
 /// Replays the schedule of these programs over these stores, whose calls fail from the one on that is asked for.
 fn replay_over<M: Stores + Drop, F: Files, O: Stream, E: Stream>(
     alloc: Global,
-    asked: Replay<'_>,
+    asked: ReplayOptions<'_>,
     programs: Vec<Verified>,
     stores: M,
     files: &mut F,
@@ -117,7 +117,7 @@ fn replay_over<M: Stores + Drop, F: Files, O: Stream, E: Stream>(
 /// Replays the schedule of these programs over the memory that is asked for.
 fn replay_codes<F: Files, O: Stream, E: Stream>(
     alloc: Global,
-    asked: Replay<'_>,
+    asked: ReplayOptions<'_>,
     programs: Vec<Verified>,
     files: &mut F,
     out: &mut O,
@@ -150,7 +150,7 @@ fn replay_codes<F: Files, O: Stream, E: Stream>(
 /// Replays the schedule that is asked for, of the codes of these files.
 pub fn replay<F: Files, O: Stream, E: Stream>(
     alloc: Global,
-    asked: Replay<'_>,
+    asked: ReplayOptions<'_>,
     names: &[&str],
     files: &mut F,
     out: &mut O,

@@ -13,7 +13,7 @@ use crate::places::say_beside;
 use crate::say::{say_admission, say_finished};
 use crate::stats::{milliseconds, passed_since};
 use crate::wants::share_of;
-use command_line::words::Run;
+use command_line::words::RunOptions;
 use executor::{Counted, OpenGate, run_all_counted};
 use file_store::FileStores;
 use memory_limit::MemoryLimit;
@@ -31,7 +31,7 @@ fn run_with<W: Wait + Threads + Clock + Sync, M: Stores + Drop>(
     alloc: Global,
     rt: &W,
     programs: Vec<Verified>,
-    asked: Run<'_>,
+    asked: RunOptions<'_>,
     stores: M,
 ) -> Result<Counted, AdmitFault>
     requires { M.makes stores (first_piece (image_at programs.items) + 3) }
@@ -56,7 +56,7 @@ fn run_over<W: Wait + Threads + Clock + Sync, M: Stores + Drop>(
     alloc: Global,
     rt: &W,
     programs: Vec<Verified>,
-    asked: Run<'_>,
+    asked: RunOptions<'_>,
     stores: M,
 ) -> Result<Counted, AdmitFault>
     requires { M.makes stores (first_piece (image_at programs.items) + 3) }
@@ -77,7 +77,7 @@ fn run_programs<W: Wait + Threads + Clock + Sync, F: Files>(
     alloc: Global,
     rt: &W,
     programs: Vec<Verified>,
-    asked: Run<'_>,
+    asked: RunOptions<'_>,
     files: &F,
 ) -> Result<Counted, AdmitFault>
     ensures ended { IfOk result (λ r. RanOver F.Place.honest (memory_of asked.entry.memory) programs.items r.programs.items) }
@@ -96,11 +96,11 @@ fn run_programs<W: Wait + Threads + Clock + Sync, F: Files>(
 }
 
 /// Whether these programs are admitted to the memory, the movers and the workers that are asked for.
-pub(crate) fn fits_asked(programs: &[Verified], asked: Run<'_>) -> Result<(), AdmitFault>
+pub(crate) fn fits_asked(programs: &[Verified], asked: RunOptions<'_>) -> Result<(), AdmitFault>
     ensures { MatchResult result (λ _. IsAdmitted programs.now asked.entry.memory.frames asked.entry.memory.objects asked.entry.evacuators asked.entry.fetchers × IsWithinWork asked.entry.work.workers asked.entry.work.quantum)
         (λ fault. IsRefused programs.now asked.entry.memory.frames asked.entry.memory.objects asked.entry.evacuators asked.entry.fetchers asked.entry.work.workers asked.entry.work.quantum fault) }
 {
-    let Run { memory, work, .. } = asked;
+    let RunOptions { memory, work, .. } = asked;
     let config = Config {
         frames: memory.frames,
         objects: memory.objects,
@@ -118,7 +118,7 @@ fn run_asked<W: Wait + Threads + Clock + Sync, F: Files>(
     alloc: Global,
     rt: &W,
     programs: Vec<Verified>,
-    asked: Run<'_>,
+    asked: RunOptions<'_>,
     files: &F,
 ) -> Result<Counted, AdmitFault>
     ensures ended { IfOk result (λ r. RanOver F.Place.honest (memory_of asked.entry.memory) programs.items r.programs.items) }
@@ -133,7 +133,7 @@ fn run_asked<W: Wait + Threads + Clock + Sync, F: Files>(
 pub fn run<W: Wait + Threads + Clock + Sync, F: Files, O: Stream, E: Stream>(
     alloc: Global,
     rt: &W,
-    asked: Run<'_>,
+    asked: RunOptions<'_>,
     names: &[&str],
     files: &mut F,
     out: &mut O,

@@ -7,7 +7,7 @@ ghost use Rattle.streams.specs.Streams.{IsWritten, writes};
 use crate::say::after;
 use crate::stats::write_stats;
 use cells::{Run, Want};
-use command_line::words::Run as Asked;
+use command_line::words::RunOptions;
 use executor::{Finished, MoverCounts};
 use memory_limit::MemoryUse;
 use remote_store::{Cause, RefusedCall};
@@ -213,7 +213,7 @@ fn write_limits<E: Stream>(
 /// Writes what programs wanted, where that is asked for, else which passed the limit.
 fn write_lines<E: Stream>(
     err: &mut E,
-    asked: Asked<'_>,
+    asked: RunOptions<'_>,
     share: usize,
     programs: &[Finished],
 ) -> Result<(), Failed>
@@ -229,7 +229,7 @@ fn write_lines<E: Stream>(
 /// Writes these lines, and then the table.
 fn write_both<E: Stream>(
     err: &mut E,
-    asked: Asked<'_>,
+    asked: RunOptions<'_>,
     share: usize,
     programs: &[Finished],
     movers: &[MoverCounts],
@@ -242,7 +242,7 @@ fn write_both<E: Stream>(
 }
 
 /// Whether lines of programs are told.
-fn has_lines(asked: Asked<'_>) -> bool
+fn has_lines(asked: RunOptions<'_>) -> bool
     ensures { result ≡ lines_of asked.entry.explains asked.entry.limit }
 {
     asked.explains || asked.limit != 0
@@ -262,7 +262,7 @@ pub(crate) fn share_of(objects: u32, count: usize) -> usize
 /// Tells what is asked for beside the ends; the status is this one, unless a write failed.
 pub(crate) fn say_more<E: Stream>(
     err: &mut E,
-    asked: Asked<'_>,
+    asked: RunOptions<'_>,
     share: usize,
     programs: &[Finished],
     movers: &[MoverCounts],

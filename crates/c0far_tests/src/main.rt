@@ -14,7 +14,7 @@ mod commands;
 mod rows;
 
 use crate::commands::Bench;
-use crate::rows::Row;
+use crate::rows::RowLine;
 use std::io::Write;
 use std::process::ExitCode;
 use std::sync::Wait;
@@ -30,16 +30,16 @@ fn go_through<R: Threads + Wait + Clock + Sync, O: Write>(
     out: &mut O,
 ) -> io::Result<()> {
     for line in rows.split(|byte| *byte == b'\n') {
-        match Row::of(line) {
-            Row::File(name) => bench.begin(name)?,
-            Row::Repeated(count, text) => bench.add_often(count, text)?,
-            Row::Lines(count, line) => bench.add_lines(count, line)?,
-            Row::Folder(name) => bench.add_folder(name)?,
-            Row::FailingOut(after) => bench.fail_out(after),
-            Row::FailingErr(after) => bench.fail_err(after),
-            Row::Command(words) => bench.command(rt, words, false, out)?,
-            Row::Refused(words) => bench.command(rt, words, true, out)?,
-            Row::Text(line) => bench.add_line(line)?,
+        match RowLine::of(line) {
+            RowLine::File(name) => bench.begin(name)?,
+            RowLine::Repeated(count, text) => bench.add_often(count, text)?,
+            RowLine::Lines(count, line) => bench.add_lines(count, line)?,
+            RowLine::Folder(name) => bench.add_folder(name)?,
+            RowLine::FailingOut(after) => bench.fail_out(after),
+            RowLine::FailingErr(after) => bench.fail_err(after),
+            RowLine::Command(words) => bench.command(rt, words, false, out)?,
+            RowLine::Refused(words) => bench.command(rt, words, true, out)?,
+            RowLine::Text(line) => bench.add_line(line)?,
         }
     }
     Ok(())

@@ -4,7 +4,7 @@ use std::str::from_utf8;
 
 /// What a line says.
 #[derive(Clone, Copy)]
-pub enum Row<'a> {
+pub enum RowLine<'a> {
     /// The text of a file of this name follows.
     File(&'a str),
     /// A part of a text: so many times these bytes.
@@ -41,33 +41,33 @@ fn repeated<'a>(line: &'a [u8], mark: &[u8]) -> Option<(usize, &'a [u8])> {
     Some((number.parse().ok()?, rest.get(end + 1..)?))
 }
 
-impl<'a> Row<'a> {
+impl<'a> RowLine<'a> {
     /// What this line says: a line that is no other row is one of a text.
-    pub(crate) fn of(line: &'a [u8]) -> Row<'a> {
+    pub(crate) fn of(line: &'a [u8]) -> RowLine<'a> {
         if let Some(name) = behind(line, b"= ") {
-            return Row::File(name);
+            return RowLine::File(name);
         }
         if let Some(words) = behind(line, b"$ ") {
-            return Row::Command(words);
+            return RowLine::Command(words);
         }
         if let Some(words) = behind(line, b"? ") {
-            return Row::Refused(words);
+            return RowLine::Refused(words);
         }
         if let Some((count, bytes)) = repeated(line, b"* ") {
-            return Row::Repeated(count, bytes);
+            return RowLine::Repeated(count, bytes);
         }
         if let Some((count, text)) = repeated(line, b"+ ") {
-            return Row::Lines(count, text);
+            return RowLine::Lines(count, text);
         }
         if let Some(name) = behind(line, b"! folder ") {
-            return Row::Folder(name);
+            return RowLine::Folder(name);
         }
         if let Some(Ok(after)) = behind(line, b"! out ").map(|number| number.parse()) {
-            return Row::FailingOut(after);
+            return RowLine::FailingOut(after);
         }
         if let Some(Ok(after)) = behind(line, b"! err ").map(|number| number.parse()) {
-            return Row::FailingErr(after);
+            return RowLine::FailingErr(after);
         }
-        Row::Text(line)
+        RowLine::Text(line)
     }
 }

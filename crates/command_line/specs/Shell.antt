@@ -13,8 +13,8 @@ use Rattle.c0_syntax.specs.Levels.{has_loops}
 use Rattle.cells.specs.Pieces.{cells_in, is_piece}
 use Rattle.command_line.specs.declared.words.Bound.{Bound as AskedBound}
 use Rattle.command_line.specs.declared.words.Memory.{Memory as Written}
-use Rattle.command_line.specs.declared.words.Replay.{Replay as Asked}
-use Rattle.command_line.specs.declared.words.Run.{Run as AskedRun}
+use Rattle.command_line.specs.declared.words.ReplayOptions.{ReplayOptions}
+use Rattle.command_line.specs.declared.words.RunOptions.{RunOptions}
 use Rattle.command_line.specs.declared.words.Compiling.{Compiling as AskedCompiling}
 use Rattle.command_line.specs.declared.words.Texts.{Texts as AskedTexts}
 use Rattle.command_line.specs.declared.words.Work.{Work as AskedWork}
@@ -345,11 +345,11 @@ abbrev pub bound_of : AskedBound → Bounded
 bound_of b = record { texts = texts_of b.texts; turns = b.turns; explains = b.explains; limit = b.limit }
 
 -- a run as code has it
-abbrev pub started_of : AskedRun → Started
+abbrev pub started_of : RunOptions → Started
 started_of r = record { compiling = compiling_of r.compiling; memory = memory_of r.memory; evacuators = r.evacuators; fetchers = r.fetchers; work = work_of r.work; stats = r.stats; explains = r.explains; limit = r.limit }
 
 -- a replay as code has it
-abbrev pub replayed_of : Asked → Replayed
+abbrev pub replayed_of : ReplayOptions → Replayed
 replayed_of r = record { compiling = compiling_of r.compiling; memory = memory_of r.memory; evacuators = r.evacuators; fetchers = r.fetchers; work = work_of r.work; schedule = r.schedule.now }
 
 -- a command as code has it

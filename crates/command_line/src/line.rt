@@ -5,7 +5,7 @@ ghost use Rattle.c0_syntax.specs.Levels.{has_loops};
 ghost use Rattle.cells.specs.Pieces.{cells_in};
 ghost use Rattle.command_line.specs.Shell.{Check, Command as Asked, IsLocal, Names, bound_in, bound_of, build_command, build_shape, check_shape, command_in, command_of, compiling_in, compiling_of, files_rule, has_checks, has_flag, is_signed, level_in, limit_in, list_command, list_shape, live_command, live_of as live_run, live_rule, mean_command, mean_shape, memory_in, memory_of, named_command, number_in, number_or, of_checked_texts as checked_texts_app, of_code as code_app, of_texts as texts_app, option_rule, piece_in, replay_command, replay_shape, replayed_in, replayed_of, run_command, run_shape, shell, short_number_in, short_option, started_in, started_of, stats_rule, texts_in, texts_of, turns_in, where_rule, whole_command, with_memory, with_work, work_in, work_of};
 
-use crate::words::{Bound, Compiling, Line, Memory, Replay, Run, Texts, Usage, Work};
+use crate::words::{Bound, Compiling, Line, Memory, ReplayOptions, RunOptions, Texts, Usage, Work};
 use c0_syntax::level::Level;
 use cells::Piece;
 use clap::error::ErrorKind;
@@ -444,7 +444,7 @@ fn work(matches: &ArgMatches<'_>) -> Option<Work>
 }
 
 /// How programs are run, by the options that clap found.
-fn started<'a>(matches: &ArgMatches<'a>) -> Option<Run<'a>>
+fn started<'a>(matches: &ArgMatches<'a>) -> Option<RunOptions<'a>>
     ensures { option_map started_of result ≡ started_in (rows_of (found_of matches.now)) }
 {
     let Some(compiling) = compiling(matches) else {
@@ -467,7 +467,7 @@ fn started<'a>(matches: &ArgMatches<'a>) -> Option<Run<'a>>
     };
     let stats = flag(matches, "stats");
     let explains = flag(matches, "where");
-    Some(Run {
+    Some(RunOptions {
         compiling,
         memory,
         evacuators,
@@ -480,7 +480,7 @@ fn started<'a>(matches: &ArgMatches<'a>) -> Option<Run<'a>>
 }
 
 /// How programs are replayed, by the options that clap found.
-fn replayed<'a>(matches: &ArgMatches<'a>) -> Option<Replay<'a>>
+fn replayed<'a>(matches: &ArgMatches<'a>) -> Option<ReplayOptions<'a>>
     ensures { option_map replayed_of result ≡ replayed_in (rows_of (found_of matches.now)) }
 {
     let Some(compiling) = compiling(matches) else {
@@ -501,7 +501,7 @@ fn replayed<'a>(matches: &ArgMatches<'a>) -> Option<Replay<'a>>
     let Some(schedule) = matches.get_str("schedule") else {
         return None;
     };
-    Some(Replay {
+    Some(ReplayOptions {
         compiling,
         memory,
         evacuators,
@@ -541,7 +541,7 @@ fn runs_whole<'a>(alloc: Global, matches: &ArgMatches<'a>) -> Result<Line<'a>, U
 }
 
 /// The run of the one file among these, whose output is written as it comes.
-fn live_of<'a>(asked: Run<'a>, files: &[&'a str]) -> Option<Line<'a>>
+fn live_of<'a>(asked: RunOptions<'a>, files: &[&'a str]) -> Option<Line<'a>>
     ensures { option_map command_of result ≡ live_run (started_of asked.entry) (map (λ f. f.now) files.now) }
 {
     match files {

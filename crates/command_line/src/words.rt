@@ -48,7 +48,7 @@ pub struct Bound {
 /// what was counted. `explains` says whether it is told, on the standard error, where each program stopped and what it wanted. What the calls and the output of each
 /// hold may come to `limit` MiB each; there is no limit where it is 0.
 #[derive(Clone, Copy, Debug, PartialEq, Eq)]
-pub struct Run<'a> {
+pub struct RunOptions<'a> {
     pub compiling: Compiling,
     pub memory: Memory<'a>,
     pub evacuators: u32,
@@ -62,7 +62,7 @@ pub struct Run<'a> {
 /// How programs are replayed: with code that is made so, over this memory, with so many evacuators and fetchers, by the schedule of this file. The
 /// work only has to be within its limits.
 #[derive(Clone, Copy, Debug, PartialEq, Eq)]
-pub struct Replay<'a> {
+pub struct ReplayOptions<'a> {
     pub compiling: Compiling,
     pub memory: Memory<'a>,
     pub evacuators: u32,
@@ -98,17 +98,17 @@ pub enum Line<'a> {
     },
     /// Replays a schedule of the programs of these files, each an image or a text.
     Replay {
-        asked: Replay<'a>,
+        asked: ReplayOptions<'a>,
         files: Vec<&'a str>,
     },
     /// Runs the programs of these files, each an image or a text.
     Run {
-        asked: Run<'a>,
+        asked: RunOptions<'a>,
         files: Vec<&'a str>,
     },
     /// Runs the program of this file, an image or a text, and writes what it prints as it comes.
     Live {
-        asked: Run<'a>,
+        asked: RunOptions<'a>,
         file: &'a str,
     },
 }

@@ -36,7 +36,7 @@ const SLEEP_MICROS: u64 = 1_000;
 
 /// An evacuator at its seat, which goes round the frames like the hand of a clock. Its hands are empty.
 #[derive(Drop)]
-pub(crate) struct Evacuator<'a, S: RawStore> {
+pub(crate) struct SeatedEvacuator<'a, S: RawStore> {
     region: &'a Region<S>,
     number: u32,
     seat: MoverSeat<S>,
@@ -45,7 +45,7 @@ pub(crate) struct Evacuator<'a, S: RawStore> {
     counts: Evacuated,
 }
 
-impl<'a, S: RawStore> Model for Evacuator<'a, S> {
+impl<'a, S: RawStore> Model for SeatedEvacuator<'a, S> {
     ghost use Rattle.object_lock.specs.SeatViews.{IsSeat};
     ghost use Rattle.pointer_word.specs.Asked.{HasNothing};
     ghost use Rattle.std.specs.Prelude.{ℕ};
@@ -59,7 +59,7 @@ impl<'a, S: RawStore> Model for Evacuator<'a, S> {
 
 /// A fetcher at its seat, with its pass of the hints. Its hands are empty.
 #[derive(Drop)]
-pub(crate) struct Fetcher<'a, S: RawStore> {
+pub(crate) struct SeatedFetcher<'a, S: RawStore> {
     region: &'a Region<S>,
     hints: &'a Hints,
     number: u32,
@@ -68,7 +68,7 @@ pub(crate) struct Fetcher<'a, S: RawStore> {
     counts: Fetched,
 }
 
-impl<'a, S: RawStore> Model for Fetcher<'a, S> {
+impl<'a, S: RawStore> Model for SeatedFetcher<'a, S> {
     ghost use Rattle.object_lock.specs.SeatViews.{IsSeat};
     ghost use Rattle.pointer_word.specs.Asked.{HasNothing};
     ghost use Rattle.std.specs.Prelude.{◌≡◌, ℕ};
@@ -83,8 +83,8 @@ impl<'a, S: RawStore> Model for Fetcher<'a, S> {
 /// An evacuator or a fetcher.
 #[derive(Drop)]
 pub(crate) enum Mover<'a, S: RawStore> {
-    Evacuates(Evacuator<'a, S>),
-    Fetches(Fetcher<'a, S>),
+    Evacuates(SeatedEvacuator<'a, S>),
+    Fetches(SeatedFetcher<'a, S>),
 }
 
 /// Whether fewer than `wanted` frames are free, by one look at each until so many are seen.
@@ -105,13 +105,17 @@ fn lacks_frames<S: RawStore>(region: &Region<S>, seat: &mut MoverSeat<S>, wanted
     free < wanted
 }
 
-impl<'a, S: RawStore> Evacuator<'a, S> {
+impl<'a, S: RawStore> SeatedEvacuator<'a, S> {
     /// An evacuator of this number at its seat.
-    pub(crate) fn new(region: &'a Region<S>, number: u32, seat: MoverSeat<S>) -> Evacuator<'a, S>
+    pub(crate) fn new(
+        region: &'a Region<S>,
+        number: u32,
+        seat: MoverSeat<S>,
+    ) -> SeatedEvacuator<'a, S>
         requires seat { IsSeatOf region.now.table seat }
         ensures { result ≡ number }
     {
-        Evacuator {
+        SeatedEvacuator {
             region,
             number,
             seat,
@@ -138,7 +142,7 @@ impl<'a, S: RawStore> Evacuator<'a, S> {
     }
 }
 
-impl<'a, S: RawStore> Fetcher<'a, S> {
+impl<'a, S: RawStore> SeatedFetcher<'a, S> {
     /// A fetcher of this number at its seat, with a pass of the hints.
     pub(crate) fn new(
         region: &'a Region<S>,
@@ -146,13 +150,13 @@ impl<'a, S: RawStore> Fetcher<'a, S> {
         number: u32,
         seat: MoverSeat<S>,
         pass: HintPass,
-    ) -> Fetcher<'a, S>
+    ) -> SeatedFetcher<'a, S>
         requires seat { IsSeatOf region.now.table seat }
         requires pass { pass ≡ hints.now }
         requires hints { hints.now.objects ≡ region.now.objects }
         ensures { result ≡ number }
     {
-        Fetcher {
+        SeatedFetcher {
             region,
             hints,
             number,

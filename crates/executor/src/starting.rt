@@ -5,7 +5,7 @@ ghost use Rattle.object_lock.specs.Fresh.{AreNumbered, IsFreshMover, IsFreshOwne
 ghost use Rattle.region.specs.Admission.{image_at};
 ghost use Rattle.task_queue.specs.Tasked.{IsTask, roster};
 
-use crate::movers::{Evacuator, Fetcher, Mover};
+use crate::movers::{Mover, SeatedEvacuator, SeatedFetcher};
 use crate::workers::Worker;
 use fetcher::{HintPass, Hints};
 use memory_limit::MemoryLimit;
@@ -148,10 +148,10 @@ pub(crate) fn start_movers<'a, S: RawStore>(
         let at = movers.len();
         let number = u32::try_from(region.programs().wrapping_add(at)).unwrap_or(u32::MAX);
         movers.push_reserved(if at < evacuators {
-            Mover::Evacuates(Evacuator::new(region, number, seat))
+            Mover::Evacuates(SeatedEvacuator::new(region, number, seat))
         } else {
             let pass = take_pass(hints, &mut passes);
-            Mover::Fetches(Fetcher::new(region, hints, number, seat, pass))
+            Mover::Fetches(SeatedFetcher::new(region, hints, number, seat, pass))
         });
     }
     Ok(movers)

@@ -2,7 +2,7 @@
 ghost use Rattle.std.specs.Prelude.{◌≡◌, length, IfOk};
 
 use crate::disk::Disk;
-use crate::rows::Row;
+use crate::rows::RowStep;
 use crate::ways::Way;
 use cells::Want;
 use std::io::Write;
@@ -48,31 +48,31 @@ impl<W: Way> Bench<W> {
     }
 
     /// Does a row, and tells what came of it.
-    fn row<O: Write>(&mut self, disk: &Disk, row: Row, out: &mut O) -> io::Result<()>
+    fn row<O: Write>(&mut self, disk: &Disk, row: RowStep, out: &mut O) -> io::Result<()>
         requires { W.takes self.old.way (length self.old.words.items) × W.takes self.old.other (length self.old.words.items) }
         ensures { IfOk result (λ _. W.takes self.new.way (length self.new.words.items) × W.takes self.new.other (length self.new.words.items)) }
     {
         match row {
-            Row::Fill(word) => {
+            RowStep::Fill(word) => {
                 let count = self.words.len();
                 self.words = vec![in disk.alloc(); word; count]?;
             }
-            Row::Set(at, word) => set(&mut self.words, at, word),
-            Row::Show(at) => self.show(at, out)?,
-            Row::Put(object) => {
+            RowStep::Set(at, word) => set(&mut self.words, at, word),
+            RowStep::Show(at) => self.show(at, out)?,
+            RowStep::Put(object) => {
                 let ended = self.way.put(object, &self.words);
                 self.tell(ended, out)?;
             }
-            Row::Get(object) => {
+            RowStep::Get(object) => {
                 let ended = self.way.get(object, &mut self.words);
                 self.tell(ended, out)?;
             }
-            Row::Counts => self.tell::<Want, O>(Ok(()), out)?,
-            Row::Other => mem::swap(&mut self.way, &mut self.other),
-            Row::File(name, count, byte) => disk.write(name, count, byte)?,
-            Row::Byte(name, at) => disk.show(name, at, out)?,
-            Row::Remove => disk.remove()?,
-            Row::Nothing => {}
+            RowStep::Counts => self.tell::<Want, O>(Ok(()), out)?,
+            RowStep::Other => mem::swap(&mut self.way, &mut self.other),
+            RowStep::File(name, count, byte) => disk.write(name, count, byte)?,
+            RowStep::Byte(name, at) => disk.show(name, at, out)?,
+            RowStep::Remove => disk.remove()?,
+            RowStep::Nothing => {}
         }
         Ok(())
     }
@@ -105,7 +105,7 @@ pub(crate) fn play<W: Way, O: Write>(
     for line in rows {
         let words: Vec<&str> = line.split(' ').collect(disk.alloc())?;
         write!(out, "{line}")?;
-        bench.row(disk, Row::of(&words), out)?;
+        bench.row(disk, RowStep::of(&words), out)?;
         writeln!(out)?;
     }
     Ok(())

@@ -84,7 +84,7 @@ impl<'a> Over<'a> {
 
 /// What a row does.
 #[derive(Clone, Copy)]
-pub(crate) enum Row<'a> {
+pub(crate) enum RowStep<'a> {
     /// Each of the words becomes this one.
     Fill(u64),
     /// The word there becomes this one.
@@ -110,27 +110,27 @@ pub(crate) enum Row<'a> {
 }
 
 /// What the row of these words does, if it is one.
-fn known<'a>(words: &[&'a str]) -> Option<Row<'a>> {
+fn known<'a>(words: &[&'a str]) -> Option<RowStep<'a>> {
     match words {
-        ["fill", word] => Some(Row::Fill(word.parse().ok()?)),
-        ["set", at, word] => Some(Row::Set(at.parse().ok()?, word.parse().ok()?)),
-        ["show", at] => Some(Row::Show(at.parse().ok()?)),
-        ["put", object] => Some(Row::Put(object.parse().ok()?)),
-        ["get", object] => Some(Row::Get(object.parse().ok()?)),
-        ["counts"] => Some(Row::Counts),
-        ["other"] => Some(Row::Other),
+        ["fill", word] => Some(RowStep::Fill(word.parse().ok()?)),
+        ["set", at, word] => Some(RowStep::Set(at.parse().ok()?, word.parse().ok()?)),
+        ["show", at] => Some(RowStep::Show(at.parse().ok()?)),
+        ["put", object] => Some(RowStep::Put(object.parse().ok()?)),
+        ["get", object] => Some(RowStep::Get(object.parse().ok()?)),
+        ["counts"] => Some(RowStep::Counts),
+        ["other"] => Some(RowStep::Other),
         ["file", name, count, byte] => {
-            Some(Row::File(name, count.parse().ok()?, byte.parse().ok()?))
+            Some(RowStep::File(name, count.parse().ok()?, byte.parse().ok()?))
         }
-        ["byte", name, at] => Some(Row::Byte(name, at.parse().ok()?)),
-        ["remove"] => Some(Row::Remove),
+        ["byte", name, at] => Some(RowStep::Byte(name, at.parse().ok()?)),
+        ["remove"] => Some(RowStep::Remove),
         _ => None,
     }
 }
 
-impl<'a> Row<'a> {
+impl<'a> RowStep<'a> {
     /// What the row of these words does.
-    pub(crate) fn of(words: &[&'a str]) -> Row<'a> {
-        known(words).unwrap_or(Row::Nothing)
+    pub(crate) fn of(words: &[&'a str]) -> RowStep<'a> {
+        known(words).unwrap_or(RowStep::Nothing)
     }
 }

@@ -19,7 +19,7 @@ mod rows;
 mod runs;
 mod sweeps;
 
-use crate::rows::Row;
+use crate::rows::Sweep;
 use crate::sweeps::{Outcome, sweep};
 use std::io::Write;
 use std::process::ExitCode;
@@ -33,7 +33,7 @@ fn main(rt: HostRuntime) -> io::Result<ExitCode> {
         let text = fs::read_to_string(&rt, name.as_str())?;
         for line in text.lines() {
             let parts: Vec<&str> = line.split(' ').collect(rt.alloc())?;
-            let Some(row) = Row::of(&parts) else {
+            let Some(row) = Sweep::of(&parts) else {
                 writeln!(out, "{line}: no row")?;
                 continue;
             };

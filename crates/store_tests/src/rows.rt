@@ -43,9 +43,9 @@ impl Plan {
     }
 }
 
-/// A row.
+/// What a row asks for: runs of an image, in each of which another call goes wrong.
 #[derive(Clone, Copy)]
-pub(crate) struct Row<'a> {
+pub(crate) struct Sweep<'a> {
     pub(crate) image: &'a str,
     pub(crate) in_folder: bool,
     pub(crate) programs: u32,
@@ -64,13 +64,13 @@ fn is_folder(word: &str) -> Option<bool> {
     }
 }
 
-impl<'a> Row<'a> {
-    /// The row of these words.
-    pub(crate) fn of(words: &[&'a str]) -> Option<Row<'a>> {
+impl<'a> Sweep<'a> {
+    /// What the row of these words asks for.
+    pub(crate) fn of(words: &[&'a str]) -> Option<Sweep<'a>> {
         let [image, store, programs, movers, plan, step, least] = words else {
             return None;
         };
-        Some(Row {
+        Some(Sweep {
             image,
             in_folder: is_folder(store)?,
             programs: programs.parse().ok()?,

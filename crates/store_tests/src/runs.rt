@@ -4,7 +4,7 @@ ghost use Rattle.std.specs.Prelude.{◌≡◌, ◌+◌};
 ghost use Rattle.world_semantics.specs.Pieces.{piece_of as first_piece};
 
 use crate::counted::{Calls, CountedStores};
-use crate::rows::{Plan, Row};
+use crate::rows::{Plan, Sweep};
 use executor::{Finished, OpenGate, run_all_counted};
 use file_store::{FileStores, MemFolder};
 use image_reader::decode;
@@ -38,7 +38,7 @@ fn run_over<R: Threads + Wait + Clock + Sync, M: Stores + Drop>(
     alloc: Global,
     rt: &R,
     programs: Vec<Verified>,
-    row: Row<'_>,
+    row: Sweep<'_>,
     stores: M,
 ) -> Option<Vec<Finished>>
     requires { M.makes stores (first_piece (image_at programs.items) + 3) }
@@ -64,7 +64,7 @@ fn run_lying<R: Threads + Wait + Clock + Sync, M: Stores + Drop>(
     alloc: Global,
     rt: &R,
     programs: Vec<Verified>,
-    row: Row<'_>,
+    row: Sweep<'_>,
     lying: (Lie, u64),
     stores: M,
 ) -> Option<Vec<Finished>>
@@ -82,7 +82,7 @@ fn run_planned<R: Threads + Wait + Clock + Sync, M: Stores + Drop>(
     alloc: Global,
     rt: &R,
     programs: Vec<Verified>,
-    row: Row<'_>,
+    row: Sweep<'_>,
     number: u64,
     stores: M,
 ) -> Option<Vec<Finished>>
@@ -104,7 +104,7 @@ pub(crate) fn run<R: Threads + Wait + Clock + Sync>(
     alloc: Global,
     rt: &R,
     image: &[u8],
-    row: Row<'_>,
+    row: Sweep<'_>,
     number: u64,
     calls: Calls,
 ) -> Option<Vec<Finished>> {

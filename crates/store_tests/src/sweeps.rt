@@ -1,7 +1,7 @@
 //! The runs of a row.
 
 use crate::counted::Calls;
-use crate::rows::{Plan, Row};
+use crate::rows::{Plan, Sweep};
 use crate::runs::run;
 use cells::{Ended, Run, Want};
 use executor::Finished;
@@ -81,9 +81,9 @@ fn whole<R: Threads + Wait + Clock + Sync>(
     alloc: Global,
     rt: &R,
     image: &[u8],
-    row: Row<'_>,
+    row: Sweep<'_>,
 ) -> Option<Ended> {
-    let plain = Row {
+    let plain = Sweep {
         plan: Plan::Never,
         ..row
     };
@@ -96,7 +96,7 @@ fn one_run<R: Threads + Wait + Clock + Sync>(
     alloc: Global,
     rt: &R,
     image: &[u8],
-    row: Row<'_>,
+    row: Sweep<'_>,
     number: u64,
     end: &Ended,
 ) -> Option<(Told, u64)> {
@@ -110,7 +110,7 @@ fn one_run<R: Threads + Wait + Clock + Sync>(
 }
 
 /// Whether a run did what it has to do, in which so many calls came to the store below.
-fn did_right(row: Row<'_>, number: u64, told: Told, came: u64) -> bool {
+fn did_right(row: Sweep<'_>, number: u64, told: Told, came: u64) -> bool {
     let one_at_most = row.plan == Plan::From || told.wanting <= 1;
     let met_by_program = row.movers == 0 && row.plan.is_sure() && came >= number;
     told.right && one_at_most && (!met_by_program || told.wanting > 0)
@@ -121,7 +121,7 @@ pub(crate) fn sweep<R: Threads + Wait + Clock + Sync>(
     alloc: Global,
     rt: &R,
     image: &[u8],
-    row: Row<'_>,
+    row: Sweep<'_>,
 ) -> Outcome {
     let Some(end) = whole(alloc, rt, image, row) else {
         return Outcome::NotRun;

@@ -16,8 +16,8 @@ use Rattle.world_actors.specs.Asking.{asked_idly, asked_in}
 use Rattle.world_fetchers.specs.Fetching.{asked_ahead}
 use Rattle.world.specs.Parts.{Parts}
 use Rattle.world.specs.Telling.{StoreTold}
-use Rattle.world_actors.specs.declared.evacuator.Evacuator.{Evacuator}
-use Rattle.world_fetchers.specs.declared.fetcher.Fetcher.{Fetcher}
+use Rattle.world_actors.specs.declared.evacuator.EvacuatorActor.{EvacuatorActor}
+use Rattle.world_fetchers.specs.declared.fetcher.FetcherActor.{FetcherActor}
 use Rattle.world_semantics.specs.declared.event.Actor.TheVariants as actor
 use Rattle.world_semantics.specs.declared.event.Choice.{Choice}
 use Rattle.world_semantics.specs.declared.event.Step.{Step}
@@ -83,7 +83,7 @@ module _ {S C : Type 0} (content : C → Option (List ℕ)) (h : Type 0) (z : Si
 
   -- ---- an evacuator
 
-  module _ (k : ℕ) (y : Evacuator × Port S C) (here : slice_get x.evacuators k ≡ Some y) where
+  module _ (k : ℕ) (y : EvacuatorActor × Port S C) (here : slice_get x.evacuators k ≡ Some y) where
     evacuator_there : nat_lt k z.evacuators ≡ true
     evacuator_there = let l = slice_get_within x.evacuators k y here in let many = is.evacuators_many in is_below k z.evacuators (omega arith)
 
@@ -110,7 +110,7 @@ module _ {S C : Type 0} (content : C → Option (List ℕ)) (h : Type 0) (z : Si
         ap (λ b. cond b (acts z.cells (suc (z.programs + k)) (w.evacuators k)) None) (true_and (nat_lt k z.evacuators) (in_range z c) evacuator_there inside) ∙
         (ap (λ m. acts z.cells m (w.evacuators k)) (sym own.1) ∙ ap (acts z.cells y.0.mover) own.0)
 
-    pub evacuator_stepped : (c : Choice) (t' : Tables) (berths' : Berths C) (y' : Evacuator) (p' : Port S C) (honest told : Answer → Type 0) (same same' : Type 0) (r : Step) → in_range z c ≡ true → y'.mover ≡ y.0.mover → length y'.words.items ≡ length y.0.words.items → ((a : Answer) → honest a → told a) → (same → same')
+    pub evacuator_stepped : (c : Choice) (t' : Tables) (berths' : Berths C) (y' : EvacuatorActor) (p' : Port S C) (honest told : Answer → Type 0) (same same' : Type 0) (r : Step) → in_range z c ≡ true → y'.mover ≡ y.0.mover → length y'.words.items ≡ length y.0.words.items → ((a : Answer) → honest a → told a) → (same → same')
         → Goes z.cells w.lock (λ a. evacuator_turn z.cells y.0.mover (eviction_in y.0) c a) honest (λ u d. Shows content z t' berths' u × (d ≡ eviction_in y')) same r
         → Stepped content h z images (record x { tables = t'; berths = berths'; evacuators = set x.evacuators k (y', p') }) w (actor.Evacuator k) c told same' r
     evacuator_stepped c t' berths' y' p' honest told same same' step.NotEnabled inside mover wide tells back g = ((λ a. event_is c a inside ∙ ap (with_evacuator w k) (g.0 a)), back g.1)
@@ -130,7 +130,7 @@ module _ {S C : Type 0} (content : C → Option (List ℕ)) (h : Type 0) (z : Si
               shows = g.2.2.0;
               programs = is.programs;
               evacuators = λ j v q. elim (got_set x.evacuators k (y', p') j v q) [
-                | inl s ↦ subst (λ (v : Evacuator × Port S C). (upd w.evacuators k r.1 j ≡ eviction_in v.0) × (v.0.mover ≡ suc (z.programs + j)) × (length v.0.words.items ≡ z.cells)) (sym s.1)
+                | inl s ↦ subst (λ (v : EvacuatorActor × Port S C). (upd w.evacuators k r.1 j ≡ eviction_in v.0) × (v.0.mover ≡ suc (z.programs + j)) × (length v.0.words.items ≡ z.cells)) (sym s.1)
                     (upd-same w.evacuators k r.1 j s.0 ∙ g.2.2.1, mover ∙ ((is.evacuators k y here).1 ∙ ap (λ i. suc (z.programs + i)) (sym s.0)), wide ∙ (is.evacuators k y here).2)
                 | inr s ↦ let was = is.evacuators j v s.1 in (upd-other w.evacuators k r.1 j s.0 ∙ was.0, was.1, was.2)
               ];
@@ -146,7 +146,7 @@ module _ {S C : Type 0} (content : C → Option (List ℕ)) (h : Type 0) (z : Si
 
   -- ---- a fetcher
 
-  module _ (k : ℕ) (y : Fetcher × Port S C) (here : slice_get x.fetchers k ≡ Some y) where
+  module _ (k : ℕ) (y : FetcherActor × Port S C) (here : slice_get x.fetchers k ≡ Some y) where
     fetcher_there : nat_lt k z.fetchers ≡ true
     fetcher_there = let l = slice_get_within x.fetchers k y here in let many = is.fetchers_many in is_below k z.fetchers (omega arith)
 
@@ -174,7 +174,7 @@ module _ {S C : Type 0} (content : C → Option (List ℕ)) (h : Type 0) (z : Si
         ap (λ b. cond b (acts z.cells m (w.fetchers k)) None) (true_and (nat_lt k z.fetchers) (in_range z c) fetcher_there inside) ∙
         (ap (λ m. acts z.cells m (w.fetchers k)) (sym own.1) ∙ ap (acts z.cells y.0.mover) own.0)
 
-    pub fetcher_stepped : (c : Choice) (t' : Tables) (berths' : Berths C) (y' : Fetcher) (p' : Port S C) (honest told : Answer → Type 0) (same same' : Type 0) (r : Step) → in_range z c ≡ true → y'.mover ≡ y.0.mover → length y'.words.items ≡ length y.0.words.items → ((a : Answer) → honest a → told a) → (same → same')
+    pub fetcher_stepped : (c : Choice) (t' : Tables) (berths' : Berths C) (y' : FetcherActor) (p' : Port S C) (honest told : Answer → Type 0) (same same' : Type 0) (r : Step) → in_range z c ≡ true → y'.mover ≡ y.0.mover → length y'.words.items ≡ length y.0.words.items → ((a : Answer) → honest a → told a) → (same → same')
         → Goes z.cells w.lock (λ a. fetcher_turn z.cells y.0.mover (fetching_in y.0) c a) (λ a. (h → FetchesHonestly z.cells w.lock (fetching_in y.0) a.read) × honest a) (λ u d. Shows content z t' berths' u × (d ≡ fetching_in y')) same r
         → Stepped content h z images (record x { tables = t'; berths = berths'; fetchers = set x.fetchers k (y', p') }) w (actor.Fetcher k) c told same' r
     fetcher_stepped c t' berths' y' p' honest told same same' step.NotEnabled inside mover wide tells back g = ((λ a. fetch_is c a inside ∙ ap (with_fetcher w k) (g.0 a)), back g.1)
@@ -197,7 +197,7 @@ module _ {S C : Type 0} (content : C → Option (List ℕ)) (h : Type 0) (z : Si
               programs = is.programs;
               evacuators = is.evacuators;
               fetchers = λ j v q. elim (got_set x.fetchers k (y', p') j v q) [
-                | inl s ↦ subst (λ (v : Fetcher × Port S C). (upd w.fetchers k r.1 j ≡ fetching_in v.0) × (v.0.mover ≡ suc (z.programs + z.evacuators + j)) × (length v.0.words.items ≡ z.cells)) (sym s.1)
+                | inl s ↦ subst (λ (v : FetcherActor × Port S C). (upd w.fetchers k r.1 j ≡ fetching_in v.0) × (v.0.mover ≡ suc (z.programs + z.evacuators + j)) × (length v.0.words.items ≡ z.cells)) (sym s.1)
                     (upd-same w.fetchers k r.1 j s.0 ∙ g.2.2.1, mover ∙ ((is.fetchers k y here).1 ∙ ap (λ i. suc (z.programs + z.evacuators + i)) (sym s.0)), wide ∙ (is.fetchers k y here).2)
                 | inr s ↦ let was = is.fetchers j v s.1 in (upd-other w.fetchers k r.1 j s.0 ∙ was.0, was.1, was.2)
               ];
@@ -318,15 +318,15 @@ module _ {S C : Type 0} (x : Parts S C) (t : Tables) (berths : Berths C) (same_t
       ap (λ (y : Tables). record x { tables = y; berths = berths; programs = seats }) same_tables ∙
       (ap (λ (y : Berths C). record x { berths = y; programs = seats }) same_berths ∙ ap (λ (y : List (Seat × Port S C)). record x { programs = y }) e)
 
-  pub evacuator_back : (movers : List (Evacuator × Port S C)) → movers ≡ x.evacuators → record x { tables = t; berths = berths; evacuators = movers } ≡ x
+  pub evacuator_back : (movers : List (EvacuatorActor × Port S C)) → movers ≡ x.evacuators → record x { tables = t; berths = berths; evacuators = movers } ≡ x
   evacuator_back movers e =
       ap (λ (y : Tables). record x { tables = y; berths = berths; evacuators = movers }) same_tables ∙
-      (ap (λ (y : Berths C). record x { berths = y; evacuators = movers }) same_berths ∙ ap (λ (y : List (Evacuator × Port S C)). record x { evacuators = y }) e)
+      (ap (λ (y : Berths C). record x { berths = y; evacuators = movers }) same_berths ∙ ap (λ (y : List (EvacuatorActor × Port S C)). record x { evacuators = y }) e)
 
-  pub fetcher_back : (movers : List (Fetcher × Port S C)) → movers ≡ x.fetchers → record x { tables = t; berths = berths; fetchers = movers } ≡ x
+  pub fetcher_back : (movers : List (FetcherActor × Port S C)) → movers ≡ x.fetchers → record x { tables = t; berths = berths; fetchers = movers } ≡ x
   fetcher_back movers e =
       ap (λ (y : Tables). record x { tables = y; berths = berths; fetchers = movers }) same_tables ∙
-      (ap (λ (y : Berths C). record x { berths = y; fetchers = movers }) same_berths ∙ ap (λ (y : List (Fetcher × Port S C)). record x { fetchers = y }) e)
+      (ap (λ (y : Berths C). record x { berths = y; fetchers = movers }) same_berths ∙ ap (λ (y : List (FetcherActor × Port S C)). record x { fetchers = y }) e)
 
 module _ {S C : Type 0} (reliable : Type 0) (failures : S → ℕ) (gives : S → C → List ℕ → S → Type 0) (z : Sizes) (w : World) (x : Parts S C) (k : ℕ) (t' : Tables) (berths' : Berths C) where
   -- the same answer by the same ways, to the same question
@@ -341,14 +341,14 @@ module _ {S C : Type 0} (reliable : Type 0) (failures : S → ℕ) (gives : S �
   program_told y y' p' here a told = λ p q from to.
       so_told y.1 p' p q (asked_in z.cells (w.programs k).mode) (asked_in z.cells (w.programs k).mode) a (port_at x.programs k y from.0 p here from.1) (port_set x.programs k y' p' to.0 q to.1) refl told
 
-  pub evacuator_told : (y : Evacuator × Port S C) (y' : Evacuator) (p' : Port S C) → slice_get x.evacuators k ≡ Some y → w.evacuators k ≡ eviction_in y.0 → (a : Answer)
+  pub evacuator_told : (y : EvacuatorActor × Port S C) (y' : EvacuatorActor) (p' : Port S C) → slice_get x.evacuators k ≡ Some y → w.evacuators k ≡ eviction_in y.0 → (a : Answer)
       → UnreadSo (AnswersSo reliable failures gives z.cells x.berths.items y.1 p' w.lock.far (asked_idly z.cells (eviction_in y.0))) a
       → StoreTold reliable failures gives z w x (record x { tables = t'; berths = berths'; evacuators = set x.evacuators k (y', p') }) (actor.Evacuator k) a
   evacuator_told y y' p' here is a told = λ p q from to.
       so_told y.1 p' p q (asked_idly z.cells (eviction_in y.0)) (asked_idly z.cells (w.evacuators k)) a (port_at x.evacuators k y from.0 p here from.1) (port_set x.evacuators k y' p' to.0 q to.1)
       (ap (asked_idly z.cells) is) told.1
 
-  pub fetcher_told : (y : Fetcher × Port S C) (y' : Fetcher) (p' : Port S C) → slice_get x.fetchers k ≡ Some y → w.fetchers k ≡ fetching_in y.0 → (a : Answer)
+  pub fetcher_told : (y : FetcherActor × Port S C) (y' : FetcherActor) (p' : Port S C) → slice_get x.fetchers k ≡ Some y → w.fetchers k ≡ fetching_in y.0 → (a : Answer)
       → AnswersSo reliable failures gives z.cells x.berths.items y.1 p' w.lock.far (asked_ahead z.cells (fetching_in y.0)) a
       → StoreTold reliable failures gives z w x (record x { tables = t'; berths = berths'; fetchers = set x.fetchers k (y', p') }) (actor.Fetcher k) a
   fetcher_told y y' p' here is a told = λ p q from to.

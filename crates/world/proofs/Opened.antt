@@ -10,8 +10,8 @@ use Rattle.pointer_word.specs.Hands.{blank}
 use Rattle.pointer_word.specs.Machine.{Never, State, Object as ObjectHolds}
 use Rattle.pointer_word.specs.Sound.{Inv, FrameOk, PlaceOk}
 use Rattle.cells.specs.Pieces.{is_piece}
-use Rattle.world_actors.specs.declared.evacuator.Evacuator.{Evacuator}
-use Rattle.world_fetchers.specs.declared.fetcher.Fetcher.{Fetcher}
+use Rattle.world_actors.specs.declared.evacuator.EvacuatorActor.{EvacuatorActor}
+use Rattle.world_fetchers.specs.declared.fetcher.FetcherActor.{FetcherActor}
 use Rattle.world_fetchers.specs.declared.fetch.Fetching.{Fetching as RustFetching}
 use Rattle.world_memory.specs.declared.memory.Object.{Object}
 use Rattle.world_actors.specs.declared.program.Eviction.{Eviction as RustEviction}
@@ -45,20 +45,20 @@ begun_push {P} images share seats seats' y e all new =
     ])
 
 -- one more evacuator that is idle
-pub idle_push : {P : Type 0} (n programs : ℕ) (movers movers' : List (Evacuator × P)) (y : Evacuator × P) → movers' ≡ movers ++ y ∷ [] → AreIdle n programs movers → y.0.eviction ≡ None → y.0.mover ≡ suc (programs + length movers)
+pub idle_push : {P : Type 0} (n programs : ℕ) (movers movers' : List (EvacuatorActor × P)) (y : EvacuatorActor × P) → movers' ≡ movers ++ y ∷ [] → AreIdle n programs movers → y.0.eviction ≡ None → y.0.mover ≡ suc (programs + length movers)
     → length y.0.words.items ≡ n → AreIdle n programs movers'
 idle_push {P} n programs movers movers' y e all none mover wide =
     subst (AreIdle n programs) (sym e) (λ k x q. elim (push_tells movers y k x q) [
-      | inl r ↦ (ap (λ (v : Evacuator × P). v.0.eviction) r.1 ∙ none, ap (λ (v : Evacuator × P). v.0.mover) r.1 ∙ (mover ∙ ap (λ n. suc (programs + n)) (sym r.0)), ap (λ (v : Evacuator × P). length v.0.words.items) r.1 ∙ wide)
+      | inl r ↦ (ap (λ (v : EvacuatorActor × P). v.0.eviction) r.1 ∙ none, ap (λ (v : EvacuatorActor × P). v.0.mover) r.1 ∙ (mover ∙ ap (λ n. suc (programs + n)) (sym r.0)), ap (λ (v : EvacuatorActor × P). length v.0.words.items) r.1 ∙ wide)
       | inr r ↦ all k x r
     ])
 
 -- one more fetcher that is idle
-pub rest_push : {P : Type 0} (n before : ℕ) (movers movers' : List (Fetcher × P)) (y : Fetcher × P) → movers' ≡ movers ++ y ∷ [] → AreAtRest n before movers → y.0.fetching ≡ None → y.0.mover ≡ suc (before + length movers)
+pub rest_push : {P : Type 0} (n before : ℕ) (movers movers' : List (FetcherActor × P)) (y : FetcherActor × P) → movers' ≡ movers ++ y ∷ [] → AreAtRest n before movers → y.0.fetching ≡ None → y.0.mover ≡ suc (before + length movers)
     → length y.0.words.items ≡ n → AreAtRest n before movers'
 rest_push {P} n before movers movers' y e all none mover wide =
     subst (AreAtRest n before) (sym e) (λ k x q. elim (push_tells movers y k x q) [
-      | inl r ↦ (ap (λ (v : Fetcher × P). v.0.fetching) r.1 ∙ none, ap (λ (v : Fetcher × P). v.0.mover) r.1 ∙ (mover ∙ ap (λ n. suc (before + n)) (sym r.0)), ap (λ (v : Fetcher × P). length v.0.words.items) r.1 ∙ wide)
+      | inl r ↦ (ap (λ (v : FetcherActor × P). v.0.fetching) r.1 ∙ none, ap (λ (v : FetcherActor × P). v.0.mover) r.1 ∙ (mover ∙ ap (λ n. suc (before + n)) (sym r.0)), ap (λ (v : FetcherActor × P). length v.0.words.items) r.1 ∙ wide)
       | inr r ↦ all k x r
     ])
 

@@ -4,8 +4,8 @@ use Rattle.code_form.specs.declared.form.Image.{Image as RustImage}
 use Rattle.code_form.specs.Form.{Image, image_of}
 use Rattle.pointer_word.specs.Machine.{State}
 use Rattle.pointer_word.specs.Words.{framed}
-use Rattle.world_actors.specs.declared.evacuator.Evacuator.{Evacuator}
-use Rattle.world_fetchers.specs.declared.fetcher.Fetcher.{Fetcher}
+use Rattle.world_actors.specs.declared.evacuator.EvacuatorActor.{EvacuatorActor}
+use Rattle.world_fetchers.specs.declared.fetcher.FetcherActor.{FetcherActor}
 use Rattle.world_actors.specs.Seats.{Seat, begin}
 use Rattle.world_semantics.specs.Worlds.{Sizes}
 
@@ -27,12 +27,12 @@ abbrev pub AreBegun : {P : Type 0} → List RustImage → ℕ → List (Seat × 
 AreBegun {P} images share seats = (k : ℕ) (x : Seat × P) → slice_get seats k ≡ Some x → x.0 ≡ begin (images_of images k) (k * share) (k * share + share) (suc k)
 
 -- each evacuator is idle, and copies pieces of n cells
-abbrev pub AreIdle : {P : Type 0} → ℕ → ℕ → List (Evacuator × P) → Type 0
-AreIdle {P} n programs movers = (k : ℕ) (x : Evacuator × P) → slice_get movers k ≡ Some x → (x.0.eviction ≡ None) × (x.0.mover ≡ suc (programs + k)) × (length x.0.words.items ≡ n)
+abbrev pub AreIdle : {P : Type 0} → ℕ → ℕ → List (EvacuatorActor × P) → Type 0
+AreIdle {P} n programs movers = (k : ℕ) (x : EvacuatorActor × P) → slice_get movers k ≡ Some x → (x.0.eviction ≡ None) × (x.0.mover ≡ suc (programs + k)) × (length x.0.words.items ≡ n)
 
 -- each fetcher is idle, and reads pieces of n cells, where there are so many movers before them
-abbrev pub AreAtRest : {P : Type 0} → ℕ → ℕ → List (Fetcher × P) → Type 0
-AreAtRest {P} n before movers = (k : ℕ) (x : Fetcher × P) → slice_get movers k ≡ Some x → (x.0.fetching ≡ None) × (x.0.mover ≡ suc (before + k)) × (length x.0.words.items ≡ n)
+abbrev pub AreAtRest : {P : Type 0} → ℕ → ℕ → List (FetcherActor × P) → Type 0
+AreAtRest {P} n before movers = (k : ℕ) (x : FetcherActor × P) → slice_get movers k ≡ Some x → (x.0.fetching ≡ None) × (x.0.mover ≡ suc (before + k)) × (length x.0.words.items ≡ n)
 
 -- the cell i of the frame where the object o is, where it is in one
 abbrev pub cell_of : State → ℕ → ℕ → Option ℕ

@@ -10,8 +10,8 @@ use Rattle.world_semantics.specs.declared.event.Step.TheVariants as step
 use Rattle.world_actors.specs.Acting.{IsProgram, Shows, eviction_in}
 use Rattle.world_fetchers.specs.Fetching.{fetching_in}
 use Rattle.world_actors.specs.Seats.{Seat}
-use Rattle.world_actors.specs.declared.evacuator.Evacuator.{Evacuator}
-use Rattle.world_fetchers.specs.declared.fetcher.Fetcher.{Fetcher}
+use Rattle.world_actors.specs.declared.evacuator.EvacuatorActor.{EvacuatorActor}
+use Rattle.world_fetchers.specs.declared.fetcher.FetcherActor.{FetcherActor}
 use Rattle.world.specs.Parts.{Parts}
 use Rattle.world_semantics.specs.Turns.{Answer}
 use Rattle.world_semantics.specs.Worlds.{Event, Follows, IsHonest, Sizes, World, event, setting, start}
@@ -22,8 +22,8 @@ module _ {S C : Type 0} (content : C → Option (List ℕ)) where
   pub record IsWorld (h : Type 0) (z : Sizes) (images : ℕ → Image) (x : Parts S C) (w : World) : Type 0 where
     pub shows : Shows content z x.tables x.berths w.lock
     pub programs : (k : ℕ) (y : Seat × Port S C) → slice_get x.programs k ≡ Some y → IsProgram y.0 (w.programs k) × (y.0.setting ≡ setting z images k)
-    pub evacuators : (k : ℕ) (y : Evacuator × Port S C) → slice_get x.evacuators k ≡ Some y → (w.evacuators k ≡ eviction_in y.0) × (y.0.mover ≡ suc (z.programs + k)) × (length y.0.words.items ≡ z.cells)
-    pub fetchers : (k : ℕ) (y : Fetcher × Port S C) → slice_get x.fetchers k ≡ Some y → (w.fetchers k ≡ fetching_in y.0) × (y.0.mover ≡ suc (z.programs + z.evacuators + k)) × (length y.0.words.items ≡ z.cells)
+    pub evacuators : (k : ℕ) (y : EvacuatorActor × Port S C) → slice_get x.evacuators k ≡ Some y → (w.evacuators k ≡ eviction_in y.0) × (y.0.mover ≡ suc (z.programs + k)) × (length y.0.words.items ≡ z.cells)
+    pub fetchers : (k : ℕ) (y : FetcherActor × Port S C) → slice_get x.fetchers k ≡ Some y → (w.fetchers k ≡ fetching_in y.0) × (y.0.mover ≡ suc (z.programs + z.evacuators + k)) × (length y.0.words.items ≡ z.cells)
     pub reached : (events : List Event) × Follows h z images (start images) events w
     pub cells : is_piece z.cells ≡ true
     pub programs_many : length x.programs ≡ z.programs

@@ -5,8 +5,8 @@ use Rattle.world_memory.specs.Answered.{AnswersSo, Asked}
 use Rattle.world_actors.specs.Asking.{asked_idly, asked_in}
 use Rattle.world_fetchers.specs.Fetching.{asked_ahead}
 use Rattle.world_actors.specs.Seats.{Seat}
-use Rattle.world_actors.specs.declared.evacuator.Evacuator.{Evacuator}
-use Rattle.world_fetchers.specs.declared.fetcher.Fetcher.{Fetcher}
+use Rattle.world_actors.specs.declared.evacuator.EvacuatorActor.{EvacuatorActor}
+use Rattle.world_fetchers.specs.declared.fetcher.FetcherActor.{FetcherActor}
 use Rattle.world_semantics.specs.declared.event.Actor.{Actor}
 use Rattle.world_semantics.specs.declared.event.Actor.TheVariants as actor
 use Rattle.world.specs.Parts.{Parts}
@@ -22,8 +22,8 @@ asked_by z w (actor.Fetcher k) = asked_ahead z.cells (w.fetchers k)
 -- it is the actor's way to the store
 abbrev pub IsPortOf : {S C : Type 0} → Parts S C → Actor → Port S C → Type 0
 IsPortOf x (actor.Program k) p = (y : Seat) × (slice_get x.programs k ≡ Some (y, p))
-IsPortOf x (actor.Evacuator k) p = (y : Evacuator) × (slice_get x.evacuators k ≡ Some (y, p))
-IsPortOf x (actor.Fetcher k) p = (y : Fetcher) × (slice_get x.fetchers k ≡ Some (y, p))
+IsPortOf x (actor.Evacuator k) p = (y : EvacuatorActor) × (slice_get x.evacuators k ≡ Some (y, p))
+IsPortOf x (actor.Fetcher k) p = (y : FetcherActor) × (slice_get x.fetchers k ≡ Some (y, p))
 
 -- `failures` counts the calls of the store that failed, `gives` tells what a read of a cell gave, by the store before it and after it
 module _ {S C : Type 0} (reliable : Type 0) (failures : S → ℕ) (gives : S → C → List ℕ → S → Type 0) where

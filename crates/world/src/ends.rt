@@ -12,11 +12,11 @@ use crate::world::World;
 use cells::{Ended, Run, Want};
 use remote_store::RawStore;
 use std::alloc::{AllocError, Global};
-use world_actors::{Mode, Program};
+use world_actors::{Mode, ProgramActor};
 use world_semantics::event::Actor;
 
 /// How a program has stopped or what it wants, or that it runs. `Err` where memory is refused for the text of an error.
-fn run_of(alloc: Global, program: &Program<'_>) -> Result<Run, AllocError>
+fn run_of(alloc: Global, program: &ProgramActor<'_>) -> Result<Run, AllocError>
     ensures { IfOk result (λ r. (p : Defined) → IsProgram program.now p → RunsAs p r) }
 {
     Ok(match program.stop(alloc)? {
@@ -30,7 +30,7 @@ fn run_of(alloc: Global, program: &Program<'_>) -> Result<Run, AllocError>
 
 /// What a program printed, how it runs, and how many instructions it completed. `Err` where memory is refused for the output or
 /// the text of an error.
-fn end_of(alloc: Global, program: &Program<'_>) -> Result<Ended, AllocError>
+fn end_of(alloc: Global, program: &ProgramActor<'_>) -> Result<Ended, AllocError>
     ensures { IfOk result (λ e. (p : Defined) → IsProgram program.now p → IsEnded p e) }
 {
     let output = program.output().to_vec(alloc)?;

@@ -8,8 +8,8 @@ use cells::{Piece, Want};
 use code_form::Image;
 use remote_store::{Port, RawStore, Stores};
 use std::alloc::Global;
-use world_actors::{Evacuator, Program};
-use world_fetchers::Fetcher;
+use world_actors::{EvacuatorActor, ProgramActor};
+use world_fetchers::FetcherActor;
 
 /// Each image's program at its beginning, with a share of the objects and a way to the store.
 pub(crate) fn new_programs<'a, S: RawStore, M: Stores<S = S>>(
@@ -17,7 +17,7 @@ pub(crate) fn new_programs<'a, S: RawStore, M: Stores<S = S>>(
     stores: &M,
     images: &'a [Image],
     share: u64,
-) -> Result<Vec<(Program<'a>, Port<S>)>, Want>
+) -> Result<Vec<(ProgramActor<'a>, Port<S>)>, Want>
     requires few { length images.now ≤ 256 }
     requires share { share ≤ 16777216 }
     requires room { length images.now * share ≤ 16777216 }
@@ -28,7 +28,7 @@ pub(crate) fn new_programs<'a, S: RawStore, M: Stores<S = S>>(
     while programs.len() < images.len() {
         let number = programs.len();
         let base = number as u64 * share;
-        let Ok(program) = Program::new(
+        let Ok(program) = ProgramActor::new(
             alloc,
             &images[number],
             base,
@@ -52,7 +52,7 @@ pub(crate) fn new_evacuators<S: RawStore, M: Stores<S = S>>(
     programs: usize,
     count: usize,
     piece: Piece,
-) -> Result<Vec<(Evacuator, Port<S>)>, Want>
+) -> Result<Vec<(EvacuatorActor, Port<S>)>, Want>
     requires { (programs ≤ 256) × (count ≤ 64) }
     ensures made { IfOk result (λ v. (length v.items ≡ count) × AreIdle (cells_in piece) programs v.items) }
     ensures wants { IfErr result (λ want. want ≢ Want.NoObjects) }
@@ -60,7 +60,7 @@ pub(crate) fn new_evacuators<S: RawStore, M: Stores<S = S>>(
     let mut evacuators = Vec::new(alloc);
     while evacuators.len() < count {
         let number = programs + evacuators.len() + 1;
-        let Ok(evacuator) = Evacuator::new(alloc, number as u16, piece) else {
+        let Ok(evacuator) = EvacuatorActor::new(alloc, number as u16, piece) else {
             return Err(Want::OutOfMemory);
         };
         let port = Port::new(stores.one(alloc)?);
@@ -78,7 +78,7 @@ pub(crate) fn new_fetchers<S: RawStore, M: Stores<S = S>>(
     before: usize,
     count: usize,
     piece: Piece,
-) -> Result<Vec<(Fetcher, Port<S>)>, Want>
+) -> Result<Vec<(FetcherActor, Port<S>)>, Want>
     requires { (before ≤ 320) × (count ≤ 64) }
     ensures made { IfOk result (λ v. (length v.items ≡ count) × AreAtRest (cells_in piece) before v.items) }
     ensures wants { IfErr result (λ want. want ≢ Want.NoObjects) }
@@ -86,7 +86,7 @@ pub(crate) fn new_fetchers<S: RawStore, M: Stores<S = S>>(
     let mut fetchers = Vec::new(alloc);
     while fetchers.len() < count {
         let number = before + fetchers.len() + 1;
-        let Ok(fetcher) = Fetcher::new(alloc, number as u16, piece) else {
+        let Ok(fetcher) = FetcherActor::new(alloc, number as u16, piece) else {
             return Err(Want::OutOfMemory);
         };
         let port = Port::new(stores.one(alloc)?);

@@ -15,18 +15,18 @@ use code_form::Image;
 use pointer_word::Word;
 use remote_store::{Config, Port, RawStore, Stores};
 use std::alloc::Global;
-use world_actors::{Evacuator, Program};
-use world_fetchers::Fetcher;
-use world_memory::{Berths, Lock, Memory};
+use world_actors::{EvacuatorActor, ProgramActor};
+use world_fetchers::FetcherActor;
+use world_memory::{Berths, Lock, WorldMemory};
 use world_semantics::event::{Actor, Choice, Step};
 
 /// A world as code keeps it: its memory with the berths, and each actor with its way to the store.
 #[derive(Drop)]
 pub struct World<'a, S: RawStore> {
     pub(crate) lock: Lock<S>,
-    pub(crate) programs: Vec<(Program<'a>, Port<S>)>,
-    pub(crate) evacuators: Vec<(Evacuator, Port<S>)>,
-    pub(crate) fetchers: Vec<(Fetcher, Port<S>)>,
+    pub(crate) programs: Vec<(ProgramActor<'a>, Port<S>)>,
+    pub(crate) evacuators: Vec<(EvacuatorActor, Port<S>)>,
+    pub(crate) fetchers: Vec<(FetcherActor, Port<S>)>,
 }
 
 impl<'a, S: RawStore> World<'a, S> {
@@ -50,7 +50,7 @@ impl<'a, S: RawStore> World<'a, S> {
     {
         let objects = config.objects as usize;
         let piece = images[0].piece;
-        let Ok(memory) = Memory::new(alloc, objects, config.frames as usize, piece) else {
+        let Ok(memory) = WorldMemory::new(alloc, objects, config.frames as usize, piece) else {
             return Err(Want::OutOfMemory);
         };
         let store = config.stores.one(alloc)?;

@@ -15,8 +15,8 @@ use Rattle.pointer_word.proofs.Upd.{upd-same}
 use Rattle.world_memory.specs.Berths.{Berths}
 use Rattle.remote_store.specs.declared.port.Port.{Port}
 use Rattle.world_memory.specs.declared.memory.Object.{Object}
-use Rattle.world_memory.specs.declared.memory.Place.{Place as RustPlace}
-use Rattle.world_memory.specs.declared.memory.Place.TheVariants as placed
+use Rattle.world_memory.specs.declared.memory.ObjectPlace.{ObjectPlace}
+use Rattle.world_memory.specs.declared.memory.ObjectPlace.TheVariants as placed
 use Rattle.world_actors.specs.declared.program.Eviction.{Eviction as RustEviction}
 use Rattle.world_actors.specs.declared.program.Mode.{Mode as RustMode}
 use Rattle.world_actors.specs.declared.program.Mode.TheVariants as m
@@ -56,7 +56,7 @@ reads_none n s (Wanted w) = tt
 
 -- ---- what the tables tell of a word
 
-pub away : (x : RustPlace) → is_away_at x ≡ true → place_of x ≡ Away
+pub away : (x : ObjectPlace) → is_away_at x ≡ true → place_of x ≡ Away
 away placed.Away e = refl
 away (placed.Coming j) e = cc
 away (placed.Here f k) e = cc
@@ -133,7 +133,7 @@ module _ {C : Type 0} (content : C → Option (List ℕ)) (h : Type 0) (z : Size
   begin_legal : (o : ℕ) → x.mode ≡ m.Missing o → 0 < (object_at t o).count → legal z.cells s (Begins x.setting.mover o (s.note o).count true) ≡ true
   begin_legal o e l = may_legal h z.cells s (Begins x.setting.mover o (s.note o).count true) ((fits_as (m.Missing o) e).0, λ _. subst (λ n. 0 < n) (sym (note_count o)) l)
 
-  not_away : (o c : ℕ) (y : RustPlace) → is_away_at y ≡ false → begin_at s x.setting.mover o c true (place_of y) ≡ after_told s o
+  not_away : (o c : ℕ) (y : ObjectPlace) → is_away_at y ≡ false → begin_at s x.setting.mover o c true (place_of y) ≡ after_told s o
   not_away o c placed.Away e = cc
   not_away o c (placed.Coming j) e = refl
   not_away o c (placed.Here f k) e = refl

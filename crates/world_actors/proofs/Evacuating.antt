@@ -10,7 +10,7 @@ use Rattle.remote_store.specs.declared.port.Port.{Port}
 use Rattle.world_memory.specs.Answered.{AnswersSo}
 use Rattle.world_memory.specs.Berths.{Berths}
 use Rattle.world_actors.specs.Asking.{asked_idly, asked_out}
-use Rattle.world_actors.specs.declared.evacuator.Evacuator.{Evacuator}
+use Rattle.world_actors.specs.declared.evacuator.EvacuatorActor.{EvacuatorActor}
 use Rattle.world_semantics.specs.declared.event.Choice.{Choice}
 use Rattle.world_semantics.specs.declared.event.Choice.TheVariants as choice
 use Rattle.world_semantics.specs.declared.event.Step.{Step}
@@ -41,7 +41,7 @@ leave_inside z o f e = below o z.objects (both (nat_lt o z.objects) (nat_lt f z.
 pub frame_inside : (z : Sizes) (f : ℕ) → in_range z (choice.Claim f) ≡ true → f < z.frames
 frame_inside z f e = below f z.frames e
 
-module _ {C : Type 0} (content : C → Option (List ℕ)) (h : Type 0) (z : Sizes) (t : Tables) (berths : Berths C) (x : Evacuator) (s : State) (is : Evacuates content h z t berths x s) where
+module _ {C : Type 0} (content : C → Option (List ℕ)) (h : Type 0) (z : Sizes) (t : Tables) (berths : Berths C) (x : EvacuatorActor) (s : State) (is : Evacuates content h z t berths x s) where
   pub idle_fits : x.eviction ≡ None → FitsEvacuator z.cells s.far (s.hand x.mover) None
   idle_fits e = subst (λ d. FitsEvacuator z.cells s.far (s.hand x.mover) (option_map (λ y. eviction_of y x.words.items) d)) e is.fits
 
@@ -69,12 +69,12 @@ module _ {C : Type 0} (content : C → Option (List ℕ)) (h : Type 0) (z : Size
       (may_legal h z.cells s (Leaves x.mover o f) (idle_fits e).2.1) (so.0, ap (λ (y : Bool). cond y (Some (Freed f)) None) so.1 ∙ q)
 
 -- a turn of an evacuator that is idle, and of one that moves an object out
-pub turn_idle : (n : ℕ) (x : Evacuator) (s : State) (c : Choice) (honest : Answer → Type 0) (Q : State → Option Eviction → Type 0) (same : Type 0) (r : Step) → None ≡ x.eviction
+pub turn_idle : (n : ℕ) (x : EvacuatorActor) (s : State) (c : Choice) (honest : Answer → Type 0) (Q : State → Option Eviction → Type 0) (same : Type 0) (r : Step) → None ≡ x.eviction
     → Goes n s (λ a. evacuator_idle x.mover c) honest Q same r → Goes n s (λ a. evacuator_turn n x.mover (eviction_in x) c a) honest Q same r
 turn_idle n x s c honest Q same r e g =
     subst (λ (d : Option RustEviction). Goes n s (λ a. evacuator_turn n x.mover (option_map (λ y. eviction_of y x.words.items) d) c a) honest Q same r) e g
 
-pub turn_on : (n : ℕ) (x : Evacuator) (s : State) (c : Choice) (e : RustEviction) (honest : Answer → Type 0) (Q : State → Option Eviction → Type 0) → c ≡ choice.Next → Some e ≡ x.eviction
+pub turn_on : (n : ℕ) (x : EvacuatorActor) (s : State) (c : Choice) (e : RustEviction) (honest : Answer → Type 0) (Q : State → Option Eviction → Type 0) → c ≡ choice.Next → Some e ≡ x.eviction
     → Leads n s (λ a. evicts n x.mover a (eviction_of e x.words.items) Some None None) honest Q → Leads n s (λ a. evacuator_turn n x.mover (eviction_in x) c a) honest Q
 turn_on n x s c e honest Q q k l =
     subst (λ (y : Choice). Leads n s (λ a. evacuator_turn n x.mover (eviction_in x) y a) honest Q) (sym q)
@@ -82,13 +82,13 @@ turn_on n x s c e honest Q q k l =
 
 -- what it asks of the store: an evacuator that is idle nothing, else what its moving out asks
 module _ {S C : Type 0} (reliable : Type 0) (failures : S → ℕ) (gives : S → C → List ℕ → S → Type 0) (n : ℕ) (berths : List (Berth C)) where
-  pub told_idle : (p : Port S C) (far : ℕ → Far) (a : Answer) (x : Evacuator) → None ≡ x.eviction → AnswersSo reliable failures gives n berths p p far (asked_idly n (eviction_in x)) a
+  pub told_idle : (p : Port S C) (far : ℕ → Far) (a : Answer) (x : EvacuatorActor) → None ≡ x.eviction → AnswersSo reliable failures gives n berths p p far (asked_idly n (eviction_in x)) a
   told_idle p far a x e = subst (λ (d : Option RustEviction). AnswersSo reliable failures gives n berths p p far (asked_idly n (option_map (λ y. eviction_of y x.words.items) d)) a) e refl
 
-  pub told_on : (p q : Port S C) (far : ℕ → Far) (a : Answer) (x : Evacuator) (e : RustEviction) → Some e ≡ x.eviction → AnswersSo reliable failures gives n berths p q far (asked_out n (eviction_of e x.words.items)) a
+  pub told_on : (p q : Port S C) (far : ℕ → Far) (a : Answer) (x : EvacuatorActor) (e : RustEviction) → Some e ≡ x.eviction → AnswersSo reliable failures gives n berths p q far (asked_out n (eviction_of e x.words.items)) a
       → AnswersSo reliable failures gives n berths p q far (asked_idly n (eviction_in x)) a
   told_on p q far a x e k told = subst (λ (d : Option RustEviction). AnswersSo reliable failures gives n berths p q far (asked_idly n (option_map (λ y. eviction_of y x.words.items) d)) a) k told
 
-  pub told_all : (p q : Port S C) (far : ℕ → Far) (x : Evacuator) (e : RustEviction) → Some e ≡ x.eviction → (a : Answer)
+  pub told_all : (p q : Port S C) (far : ℕ → Far) (x : EvacuatorActor) (e : RustEviction) → Some e ≡ x.eviction → (a : Answer)
       → UnreadSo (AnswersSo reliable failures gives n berths p q far (asked_out n (eviction_of e x.words.items))) a → UnreadSo (AnswersSo reliable failures gives n berths p q far (asked_idly n (eviction_in x))) a
   told_all p q far x e k a so = (so.0, told_on p q far a x e k so.1)

@@ -12,8 +12,8 @@ use Rattle.pointer_word.specs.Legal.{acts, holds, legal}
 use Rattle.pointer_word.proofs.Legal.{may_legal}
 use Rattle.pointer_word.proofs.Upd.{upd-same}
 use Rattle.world_memory.specs.Berths.{Berths}
-use Rattle.world_memory.specs.declared.memory.Place.{Place as RustPlace}
-use Rattle.world_memory.specs.declared.memory.Place.TheVariants as p
+use Rattle.world_memory.specs.declared.memory.ObjectPlace.{ObjectPlace}
+use Rattle.world_memory.specs.declared.memory.ObjectPlace.TheVariants as p
 use Rattle.world_actors.specs.Acting.{Leads, Moves, Outcome, On, Done, Failed, Shows, Unread, UnreadSo, resumes}
 use Rattle.world_memory.specs.Answered.{storing}
 use Rattle.world_semantics.specs.Programs.{Eviction, Copying, Stored, NotStored, Refused, Freed}
@@ -23,14 +23,14 @@ use Rattle.world_semantics.specs.Turns.{Answer, Turn, Calls, after_call, committ
 use Rattle.world_semantics.specs.Worlds.{Sizes}
 use Rattle.world_actors.proofs.Acting.{leads_call, leaving_inside, plain}
 
-commits_yes : (s : State) (m o f c : ℕ) (x : RustPlace) → (s.word o).count ≡ c → is_marked_at x c f m ≡ true → commit_at s m o f (place_of x) ≡ after_commit s m o f
+commits_yes : (s : State) (m o f c : ℕ) (x : ObjectPlace) → (s.word o).count ≡ c → is_marked_at x c f m ≡ true → commit_at s m o f (place_of x) ≡ after_commit s m o f
 commits_yes s m o f c p.Away e q = cc
 commits_yes s m o f c (p.Coming j) e q = cc
 commits_yes s m o f c (p.Here g k) e q = cc
 commits_yes s m o f c (p.Leaving g j true) e q = ap (λ n. cond ((g == f) && ((j == m) && (n == 0))) (after_commit s m o f) s) e ∙ ap (λ b. cond b (after_commit s m o f) s) q
 commits_yes s m o f c (p.Leaving g j false) e q = cc
 
-commits_no : (s : State) (m o f c : ℕ) (x : RustPlace) → (s.word o).count ≡ c → is_marked_at x c f m ≡ false → commit_at s m o f (place_of x) ≡ s
+commits_no : (s : State) (m o f c : ℕ) (x : ObjectPlace) → (s.word o).count ≡ c → is_marked_at x c f m ≡ false → commit_at s m o f (place_of x) ≡ s
 commits_no s m o f c p.Away e q = refl
 commits_no s m o f c (p.Coming j) e q = refl
 commits_no s m o f c (p.Here g k) e q = refl
@@ -143,14 +143,14 @@ module _ {C : Type 0} (content : C → Option (List ℕ)) (h : Type 0) (z : Size
 
 -- ---- marks
 
-marks_yes : (s : State) (m o f c : ℕ) (x : RustPlace) → (s.word o).count ≡ c → is_here_at x c f ≡ true → mark_at s m o f (place_of x) ≡ after_mark s m o f
+marks_yes : (s : State) (m o f c : ℕ) (x : ObjectPlace) → (s.word o).count ≡ c → is_here_at x c f ≡ true → mark_at s m o f (place_of x) ≡ after_mark s m o f
 marks_yes s m o f c p.Away e q = cc
 marks_yes s m o f c (p.Coming j) e q = cc
 marks_yes s m o f c (p.Here g true) e q = cc
 marks_yes s m o f c (p.Here g false) e q = ap (λ n. cond ((g == f) && (n == 0)) (after_mark s m o f) s) e ∙ ap (λ b. cond b (after_mark s m o f) s) q
 marks_yes s m o f c (p.Leaving g j k) e q = cc
 
-marks_no : (s : State) (m o f c : ℕ) (x : RustPlace) → (s.word o).count ≡ c → is_here_at x c f ≡ false → mark_at s m o f (place_of x) ≡ s
+marks_no : (s : State) (m o f c : ℕ) (x : ObjectPlace) → (s.word o).count ≡ c → is_here_at x c f ≡ false → mark_at s m o f (place_of x) ≡ s
 marks_no s m o f c p.Away e q = refl
 marks_no s m o f c (p.Coming j) e q = refl
 marks_no s m o f c (p.Here g true) e q = refl
@@ -184,14 +184,14 @@ module _ {C : Type 0} (content : C → Option (List ℕ)) (z : Sizes) (t : Table
 
 -- ---- clean objects that leave
 
-leaves_yes : (s : State) (m o f c : ℕ) (x : RustPlace) → (s.word o).count ≡ c → is_clean_at x c f ≡ true → leave_at s m o f (place_of x) ≡ after_leave s m o f
+leaves_yes : (s : State) (m o f c : ℕ) (x : ObjectPlace) → (s.word o).count ≡ c → is_clean_at x c f ≡ true → leave_at s m o f (place_of x) ≡ after_leave s m o f
 leaves_yes s m o f c p.Away e q = cc
 leaves_yes s m o f c (p.Coming j) e q = cc
 leaves_yes s m o f c (p.Here g false) e q = cc
 leaves_yes s m o f c (p.Here g true) e q = ap (λ n. cond ((g == f) && (n == 0)) (after_leave s m o f) s) e ∙ ap (λ b. cond b (after_leave s m o f) s) q
 leaves_yes s m o f c (p.Leaving g j k) e q = cc
 
-leaves_no : (s : State) (m o f c : ℕ) (x : RustPlace) → (s.word o).count ≡ c → is_clean_at x c f ≡ false → leave_at s m o f (place_of x) ≡ s
+leaves_no : (s : State) (m o f c : ℕ) (x : ObjectPlace) → (s.word o).count ≡ c → is_clean_at x c f ≡ false → leave_at s m o f (place_of x) ≡ s
 leaves_no s m o f c p.Away e q = refl
 leaves_no s m o f c (p.Coming j) e q = refl
 leaves_no s m o f c (p.Here g false) e q = refl

@@ -7,7 +7,7 @@ use Rattle.world_semantics.specs.declared.event.Step.{Step}
 use Rattle.world_semantics.specs.declared.event.Step.TheVariants as step
 use Rattle.world_memory.specs.Answered.{Asked}
 use Rattle.world_actors.specs.Asking.{asked_in}
-use Rattle.world_actors.specs.declared.evacuator.Evacuator.{Evacuator}
+use Rattle.world_actors.specs.declared.evacuator.EvacuatorActor.{EvacuatorActor}
 use Rattle.world_actors.specs.declared.evict.Evicted.{Evicted}
 use Rattle.world_actors.specs.declared.evict.Evicted.TheVariants as e
 use Rattle.world_semantics.specs.InHand.{FitsEvacuator, FitsEviction, FitsMode}
@@ -61,7 +61,7 @@ pub record IsProgram (x : Seat) (p : Program) : Type 0 where
   pub completed : x.completed ≡ p.completed % 18446744073709551616
 
 -- how far an evacuator is that code holds
-abbrev pub eviction_in : Evacuator → Option Eviction
+abbrev pub eviction_in : EvacuatorActor → Option Eviction
 eviction_in x = option_map (λ e. eviction_of e x.words.items) x.eviction
 
 module _ {C : Type 0} (content : C → Option (List ℕ)) where
@@ -81,7 +81,7 @@ module _ {C : Type 0} (content : C → Option (List ℕ)) where
     pub fits : FitsEviction z.cells s.far (s.hand m) x
 
   -- an evacuator that code holds has in hand what it says
-  pub record Evacuates (h : Type 0) (z : Sizes) (t : Tables) (berths : Berths C) (x : Evacuator) (s : State) : Type 0 where
+  pub record Evacuates (h : Type 0) (z : Sizes) (t : Tables) (berths : Berths C) (x : EvacuatorActor) (s : State) : Type 0 where
     pub shows : Shows z t berths s
     pub inv : Inv h z.cells s
     pub fits : FitsEvacuator z.cells s.far (s.hand x.mover) (eviction_in x)

@@ -13,12 +13,12 @@ ghost use Rattle.world_semantics.specs.Turns.{Alone, Calls, began, evicts, left_
 ghost use Rattle.world_semantics.specs.Worlds.{in_range};
 
 use crate::evict::{leave, mark};
-use crate::program::{Eviction, Mode, Program};
+use crate::program::{Eviction, Mode, ProgramActor};
 use remote_store::{Port, RawStore};
-use world_memory::{Lock, Place};
+use world_memory::{Lock, ObjectPlace};
 use world_semantics::event::{Choice, Step};
 
-impl<'a> Program<'a> {
+impl<'a> ProgramActor<'a> {
     /// An aim whose hold is open completes where the object is in a frame.
     pub(crate) fn find(&mut self, object: usize, frame: Option<usize>)
         requires { IsSteady (next_touch self.old) }
@@ -43,7 +43,7 @@ impl<'a> Program<'a> {
             Step::NotEnabled
         } else if row.is_away() {
             let mover = self.mover();
-            lock.memory.put_place(object, Place::Coming(mover));
+            lock.memory.put_place(object, ObjectPlace::Coming(mover));
             self.set_mode(Mode::Bringing(object));
             Step::Took
         } else {
@@ -205,7 +205,8 @@ impl<'a> Program<'a> {
         if lock.memory.object(object).count == 0 {
             Step::NotEnabled
         } else {
-            lock.memory.put_place(object, Place::Here(frame, true));
+            lock.memory
+                .put_place(object, ObjectPlace::Here(frame, true));
             lock.memory.tell(object);
             self.finish(0);
             Step::Took
@@ -266,7 +267,7 @@ impl<'a> Program<'a> {
         ensures { Turns S.content S.honest lock.old.memory lock.new.memory lock.old.berths lock.new.berths self.old self.new
             (λ s p a. Calls (Retreats self.old.setting.mover object) (λ t. in_mode p Closing)) (Unit {0}) Step.Took }
     {
-        lock.memory.put_place(object, Place::Away);
+        lock.memory.put_place(object, ObjectPlace::Away);
         self.set_mode(Mode::Closing);
     }
 }

@@ -19,18 +19,18 @@ use world_semantics::event::{Choice, Step};
 
 /// Its number as a mover, how far it is with moving an object out, if it does, and the words that it has copied.
 #[derive(Drop)]
-pub struct Evacuator {
+pub struct EvacuatorActor {
     pub(crate) mover: u16,
     pub(crate) eviction: Option<Eviction>,
     pub(crate) words: Vec<u64>,
 }
 
-impl Evacuator {
+impl EvacuatorActor {
     /// An evacuator that is idle, of pieces of this size.
-    pub fn new(alloc: Global, mover: u16, piece: Piece) -> Result<Evacuator, AllocError>
+    pub fn new(alloc: Global, mover: u16, piece: Piece) -> Result<EvacuatorActor, AllocError>
         ensures { IfOk result (λ e. (e.mover ≡ mover) × (e.eviction ≡ None) × (length e.words.items ≡ cells_in piece)) }
     {
-        Ok(Evacuator {
+        Ok(EvacuatorActor {
             mover,
             eviction: None,
             words: Vec::from_elem(alloc, 0, piece.cells())?,

@@ -16,7 +16,7 @@ ghost use Rattle.world_semantics.specs.Worlds.{Sizes};
 
 use crate::program::{Eviction, Mode};
 use remote_store::{Port, RawStore};
-use world_memory::{Lock, Place};
+use world_memory::{Lock, ObjectPlace};
 
 /// What an event of moving out leads to.
 #[derive(Clone, Copy, PartialEq, Eq, Debug)]
@@ -63,7 +63,7 @@ pub(crate) fn mark<S: RawStore>(lock: &mut Lock<S>, mover: u16, object: usize, f
 {
     if lock.memory.object(object).is_at_rest(frame) {
         lock.memory
-            .put_place(object, Place::Leaving(frame, mover, true));
+            .put_place(object, ObjectPlace::Leaving(frame, mover, true));
         true
     } else {
         false
@@ -84,7 +84,7 @@ pub(crate) fn leave<S: RawStore>(
     // Only the clauses speak of the mover, which has no berth in hand for it.
     let _ = mover;
     if lock.memory.object(object).is_clean(frame) {
-        lock.memory.put_place(object, Place::Away);
+        lock.memory.put_place(object, ObjectPlace::Away);
         true
     } else {
         false
@@ -141,7 +141,7 @@ fn commit<S: RawStore>(lock: &mut Lock<S>, mover: u16, object: usize, frame: usi
         (λ u r. Shows S.content z lock.new.memory lock.new.berths u × (r ≡ outcome_of result words)) }
 {
     if lock.memory.object(object).is_marked(frame, mover) {
-        lock.memory.put_place(object, Place::Away);
+        lock.memory.put_place(object, ObjectPlace::Away);
         Evicted::On(Eviction::Freed(frame))
     } else {
         Evicted::On(Eviction::Refused { object, frame })
@@ -153,7 +153,8 @@ fn abort<S: RawStore>(lock: &mut Lock<S>, object: usize, frame: usize)
     ensures { (m : ℕ) (z : Sizes) (s : State) → Inv S.honest z.cells s → MovesOut object frame (s.hand m) → Shows S.content z lock.old.memory lock.old.berths s
         → Shows S.content z lock.new.memory lock.new.berths (act s (Aborts m object frame)) }
 {
-    lock.memory.put_place(object, Place::Here(frame, false));
+    lock.memory
+        .put_place(object, ObjectPlace::Here(frame, false));
 }
 
 /// Gives the freed frame back.

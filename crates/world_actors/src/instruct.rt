@@ -10,7 +10,7 @@ ghost use Rattle.world_semantics.specs.Programs.{Program as Defined, first_hold,
 ghost use Rattle.world_actors.specs.Seats.{IsSteady, next_touch};
 ghost use Rattle.world_semantics.specs.Turns.{Alone, Calls, NotEnabled, aims_at, closed_so, closes, gives_up, grows, leaves_by, loads_by, loads_from, ready, stores_by, stores_to};
 
-use crate::program::{Mode, Program, pieces};
+use crate::program::{Mode, ProgramActor, pieces};
 use cells::Want;
 use code_form::{Cell, Touch};
 use remote_store::RawStore;
@@ -18,7 +18,7 @@ use world_memory::Lock;
 use world_semantics::event::Step;
 use world_semantics::hold::Hold;
 
-impl<'a> Program<'a> {
+impl<'a> ProgramActor<'a> {
     /// Closes what the scope holds.
     fn close_hold<S: RawStore>(&mut self, lock: &mut Lock<S>, scope: usize, hold: Hold) -> Step
         ensures { Turns S.content S.honest lock.old.memory lock.new.memory lock.old.berths lock.new.berths self.old self.new

@@ -8,5 +8,5 @@ mod instruct;
 mod program;
 mod turn;
 
-pub use evacuator::Evacuator;
-pub use program::{Eviction, Mode, Program};
+pub use evacuator::EvacuatorActor;
+pub use program::{Eviction, Mode, ProgramActor};

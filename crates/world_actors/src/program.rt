@@ -119,7 +119,7 @@ impl Mode {
 /// A program with its share of the objects, from `base` on and below `limit`, and its number as a mover. `firsts` are the first objects of
 /// its allocations, and `words` what it copies or fills a frame with, `size` of them, as many as a piece has cells.
 #[derive(Drop)]
-pub struct Program<'a> {
+pub struct ProgramActor<'a> {
     execution: Execution<'a>,
     base: u64,
     limit: u64,
@@ -133,7 +133,7 @@ pub struct Program<'a> {
     completed: u64,
 }
 
-impl<'a> Model for Program<'a> {
+impl<'a> Model for ProgramActor<'a> {
     ghost use Rattle.std.specs.Prelude.{reverse};
     ghost use Rattle.world_actors.specs.Seats.{IsSeat, Seat};
 
@@ -144,7 +144,7 @@ impl<'a> Model for Program<'a> {
     ghost invariant = { λ p. IsSeat p.size p.base p.limit p.execution (reverse p.firsts.items) p.next p.mode p.words.items };
 }
 
-impl<'a> Program<'a> {
+impl<'a> ProgramActor<'a> {
     /// The image's program at its beginning.
     pub fn new(
         alloc: Global,
@@ -152,12 +152,12 @@ impl<'a> Program<'a> {
         base: u64,
         limit: u64,
         mover: u16,
-    ) -> Result<Program<'a>, AllocError>
+    ) -> Result<ProgramActor<'a>, AllocError>
         requires { (base ≤ limit) × (limit ≤ 16777216) }
         ensures { IfOk result (λ p. p ≡ begin (image_of image.now) base limit mover) }
     {
         let size = image.piece.cells();
-        Ok(Program {
+        Ok(ProgramActor {
             execution: Execution::new(alloc, image)?,
             base,
             limit,

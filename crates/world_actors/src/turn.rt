@@ -7,12 +7,12 @@ ghost use Rattle.world_semantics.specs.Fetchers.{Filling};
 ghost use Rattle.world_semantics.specs.Turns.{by_mode, program_brings, program_turn};
 ghost use Rattle.world_semantics.specs.Worlds.{in_range};
 
-use crate::program::{Mode, Program};
+use crate::program::{Mode, ProgramActor};
 use remote_store::{Port, RawStore};
 use world_memory::Lock;
 use world_semantics::event::{Choice, Step};
 
-impl<'a> Program<'a> {
+impl<'a> ProgramActor<'a> {
     /// Fills the next cell with what it has read; behind the last the object arrives.
     fn fill_next<S: RawStore>(
         &mut self,

@@ -15,11 +15,11 @@ use Rattle.world_memory.specs.Answered.{AnswersSo, Nothing, reading}
 use Rattle.world_memory.specs.Berths.{Berths}
 use Rattle.world_memory.specs.Shown.{AreTables, Shown}
 use Rattle.world_memory.specs.Tables.{Tables, frame_at, is_away_at, object_at, place_of}
-use Rattle.world_memory.specs.declared.memory.Place.{Place as RustPlace}
-use Rattle.world_memory.specs.declared.memory.Place.TheVariants as placed
+use Rattle.world_memory.specs.declared.memory.ObjectPlace.{ObjectPlace}
+use Rattle.world_memory.specs.declared.memory.ObjectPlace.TheVariants as placed
 use Rattle.world_fetchers.specs.declared.fetch.Fetching.{Fetching as RustFetching}
 use Rattle.world_fetchers.specs.declared.fetch.Fetching.TheVariants as d
-use Rattle.world_fetchers.specs.declared.fetcher.Fetcher.{Fetcher}
+use Rattle.world_fetchers.specs.declared.fetcher.FetcherActor.{FetcherActor}
 use Rattle.world_actors.specs.Acting.{Goes, Leads, Shows, Unread}
 use Rattle.world_actors.specs.Asking.{asked_in}
 use Rattle.world_fetchers.specs.Fetching.{Brings, Fetches, asked_ahead, fetching_in, fetching_of}
@@ -42,19 +42,19 @@ begin_inside z o e = below o z.objects e
 
 -- ---- tries
 
-begins_yes : (s : State) (m o : ℕ) (x : RustPlace) → (s.word o).count ≡ 0 → is_away_at x ≡ true → begin_at s m o 0 false (place_of x) ≡ after_begin s m o
+begins_yes : (s : State) (m o : ℕ) (x : ObjectPlace) → (s.word o).count ≡ 0 → is_away_at x ≡ true → begin_at s m o 0 false (place_of x) ≡ after_begin s m o
 begins_yes s m o placed.Away e q = ap (λ b. cond b (after_begin s m o) s) (eq-eqb (s.word o).count 0 e)
 begins_yes s m o (placed.Coming j) e q = cc
 begins_yes s m o (placed.Here f k) e q = cc
 begins_yes s m o (placed.Leaving f j k) e q = cc
 
-begins_held : (s : State) (m o : ℕ) (x : RustPlace) → (s.word o).count ≢ 0 → begin_at s m o 0 false (place_of x) ≡ s
+begins_held : (s : State) (m o : ℕ) (x : ObjectPlace) → (s.word o).count ≢ 0 → begin_at s m o 0 false (place_of x) ≡ s
 begins_held s m o placed.Away e = ap (λ b. cond b (after_begin s m o) s) (ne_eqb (s.word o).count 0 e)
 begins_held s m o (placed.Coming j) e = refl
 begins_held s m o (placed.Here f k) e = refl
 begins_held s m o (placed.Leaving f j k) e = refl
 
-begins_elsewhere : (s : State) (m o : ℕ) (x : RustPlace) → is_away_at x ≡ false → begin_at s m o 0 false (place_of x) ≡ s
+begins_elsewhere : (s : State) (m o : ℕ) (x : ObjectPlace) → is_away_at x ≡ false → begin_at s m o 0 false (place_of x) ≡ s
 begins_elsewhere s m o placed.Away e = cc
 begins_elsewhere s m o (placed.Coming j) e = refl
 begins_elsewhere s m o (placed.Here f k) e = refl
@@ -170,7 +170,7 @@ module _ {C : Type 0} (content : C → Option (List ℕ)) (h : Type 0) (z : Size
 
 -- ---- a fetcher
 
-module _ {C : Type 0} (content : C → Option (List ℕ)) (h : Type 0) (z : Sizes) (t : Tables) (berths : Berths C) (x : Fetcher) (s : State) (is : Fetches content h z t berths x s) where
+module _ {C : Type 0} (content : C → Option (List ℕ)) (h : Type 0) (z : Sizes) (t : Tables) (berths : Berths C) (x : FetcherActor) (s : State) (is : Fetches content h z t berths x s) where
   pub fits_as : (y : Option RustFetching) → x.fetching ≡ y → FitsFetcher h z.cells s.far (s.hand x.mover) (option_map (λ e. fetching_of e x.words.items) y)
   fits_as y e = subst (λ k. FitsFetcher h z.cells s.far (s.hand x.mover) (option_map (λ e. fetching_of e x.words.items) k)) e is.fits
 
@@ -204,18 +204,18 @@ module _ {C : Type 0} (content : C → Option (List ℕ)) (h : Type 0) (z : Size
       far_stays false o f = refl
 
 -- a turn of a fetcher that is idle, and of one that brings an object in
-pub turn_idle : (n : ℕ) (x : Fetcher) (s : State) (c : Choice) (honest : Answer → Type 0) (Q : State → Option Fetching → Type 0) (same : Type 0) (r : Step) → None ≡ x.fetching
+pub turn_idle : (n : ℕ) (x : FetcherActor) (s : State) (c : Choice) (honest : Answer → Type 0) (Q : State → Option Fetching → Type 0) (same : Type 0) (r : Step) → None ≡ x.fetching
     → Goes n s (λ a. fetcher_idle x.mover c) honest Q same r → Goes n s (λ a. fetcher_turn n x.mover (fetching_in x) c a) honest Q same r
 turn_idle n x s c honest Q same r e g =
     subst (λ (k : Option RustFetching). Goes n s (λ a. fetcher_turn n x.mover (option_map (λ y. fetching_of y x.words.items) k) c a) honest Q same r) e g
 
-pub turn_on : (n : ℕ) (x : Fetcher) (s : State) (c : Choice) (e : RustFetching) (honest : Answer → Type 0) (Q : State → Option Fetching → Type 0) → c ≡ choice.Next → Some e ≡ x.fetching
+pub turn_on : (n : ℕ) (x : FetcherActor) (s : State) (c : Choice) (e : RustFetching) (honest : Answer → Type 0) (Q : State → Option Fetching → Type 0) → c ≡ choice.Next → Some e ≡ x.fetching
     → Leads n s (λ a. brings n x.mover false a (fetching_of e x.words.items) Some None None) honest Q → Leads n s (λ a. fetcher_turn n x.mover (fetching_in x) c a) honest Q
 turn_on n x s c e honest Q q k l =
     subst (λ (y : Choice). Leads n s (λ a. fetcher_turn n x.mover (fetching_in x) y a) honest Q) (sym q)
     (subst (λ (y : Option RustFetching). Leads n s (λ a. fetcher_turn n x.mover (option_map (λ y. fetching_of y x.words.items) y) choice.Next a) honest Q) k l)
 
-pub turn_claims : (n : ℕ) (x : Fetcher) (s : State) (c : Choice) (f : ℕ) (e : RustFetching) (honest : Answer → Type 0) (Q : State → Option Fetching → Type 0) (same : Type 0) (r : Step) → c ≡ choice.Claim f → Some e ≡ x.fetching
+pub turn_claims : (n : ℕ) (x : FetcherActor) (s : State) (c : Choice) (f : ℕ) (e : RustFetching) (honest : Answer → Type 0) (Q : State → Option Fetching → Type 0) (same : Type 0) (r : Step) → c ≡ choice.Claim f → Some e ≡ x.fetching
     → Goes n s (λ a. fetcher_claims x.mover f (fetching_of e x.words.items)) honest Q same r → Goes n s (λ a. fetcher_turn n x.mover (fetching_in x) c a) honest Q same r
 turn_claims n x s c f e honest Q same r q k g =
     subst (λ (y : Choice). Goes n s (λ a. fetcher_turn n x.mover (fetching_in x) y a) honest Q same r) (sym q)
@@ -244,7 +244,7 @@ on_else n m e (choice.Mark o f) a next claim = refl
 on_else n m e (choice.Leave o f) a next claim = refl
 on_else n m e (choice.Begin o) a next claim = refl
 
-pub turn_else : (n : ℕ) (x : Fetcher) (s : State) (c : Choice) (e : RustFetching) (a : Answer) → Some e ≡ x.fetching → (c ≡ choice.Next → ⊥) → ((f : ℕ) → c ≡ choice.Claim f → ⊥)
+pub turn_else : (n : ℕ) (x : FetcherActor) (s : State) (c : Choice) (e : RustFetching) (a : Answer) → Some e ≡ x.fetching → (c ≡ choice.Next → ⊥) → ((f : ℕ) → c ≡ choice.Claim f → ⊥)
     → taken n s (fetcher_turn n x.mover (fetching_in x) c a) ≡ None
 turn_else n x s c e a k next claim =
     ap (λ (y : Option RustFetching). taken n s (fetcher_turn n x.mover (option_map (λ y. fetching_of y x.words.items) y) c a)) (sym k) ∙
@@ -252,16 +252,16 @@ turn_else n x s c e a k next claim =
 
 -- what it asks of the store: where it is idle nothing, else what its bringing in asks
 module _ {S C : Type 0} (reliable : Type 0) (failures : S → ℕ) (gives : S → C → List ℕ → S → Type 0) (n : ℕ) (berths : List (Berth C)) where
-  pub told_idle : (p : Port S C) (far : ℕ → Far) (a : Answer) (x : Fetcher) → None ≡ x.fetching → AnswersSo reliable failures gives n berths p p far (asked_ahead n (fetching_in x)) a
+  pub told_idle : (p : Port S C) (far : ℕ → Far) (a : Answer) (x : FetcherActor) → None ≡ x.fetching → AnswersSo reliable failures gives n berths p p far (asked_ahead n (fetching_in x)) a
   told_idle p far a x e = subst (λ (k : Option RustFetching). AnswersSo reliable failures gives n berths p p far (asked_ahead n (option_map (λ y. fetching_of y x.words.items) k)) a) e refl
 
-  pub told_none : (p : Port S C) (far : ℕ → Far) (a : Answer) (x : Fetcher) (e : RustFetching) → Some e ≡ x.fetching → asked_in n (as_mode (fetching_of e x.words.items)) ≡ Nothing
+  pub told_none : (p : Port S C) (far : ℕ → Far) (a : Answer) (x : FetcherActor) (e : RustFetching) → Some e ≡ x.fetching → asked_in n (as_mode (fetching_of e x.words.items)) ≡ Nothing
       → AnswersSo reliable failures gives n berths p p far (asked_ahead n (fetching_in x)) a
   told_none p far a x e k none =
       unasked reliable failures gives n berths p p far a (asked_ahead n (fetching_in x))
       (ap (λ (y : Option RustFetching). asked_ahead n (option_map (λ y. fetching_of y x.words.items) y)) (sym k) ∙ none) refl
 
-  pub told_on : (h : Type 0) (s : State) (p q : Port S C) (x : Fetcher) (e : RustFetching) → Some e ≡ x.fetching → (a : Answer)
+  pub told_on : (h : Type 0) (s : State) (p q : Port S C) (x : FetcherActor) (e : RustFetching) → Some e ≡ x.fetching → (a : Answer)
       → (h → ReadsHonestly n s (as_mode (fetching_of e x.words.items)) a.read) × AnswersSo reliable failures gives n berths p q s.far (asked_in n (as_mode (fetching_of e x.words.items))) a
       → (h → FetchesHonestly n s (fetching_in x) a.read) × AnswersSo reliable failures gives n berths p q s.far (asked_ahead n (fetching_in x)) a
   told_on h s p q x e k a so =

@@ -6,7 +6,7 @@ use Rattle.world_actors.specs.Acting.{Shows}
 use Rattle.world_actors.specs.Asking.{asked_in}
 use Rattle.world_fetchers.specs.declared.fetch.Fetching.{Fetching as RustFetching}
 use Rattle.world_fetchers.specs.declared.fetch.Fetching.TheVariants as d
-use Rattle.world_fetchers.specs.declared.fetcher.Fetcher.{Fetcher}
+use Rattle.world_fetchers.specs.declared.fetcher.FetcherActor.{FetcherActor}
 use Rattle.world_memory.specs.Answered.{Asked, Nothing}
 use Rattle.world_memory.specs.Berths.{Berths}
 use Rattle.world_memory.specs.Tables.{Tables}
@@ -24,7 +24,7 @@ fetching_of (d.Releasing o f) words = Releasing o f
 fetching_of (d.Retreating o) words = Retreating o
 
 -- how far a fetcher is that code holds
-abbrev pub fetching_in : Fetcher → Option Fetching
+abbrev pub fetching_in : FetcherActor → Option Fetching
 fetching_in x = option_map (λ y. fetching_of y x.words.items) x.fetching
 
 -- a fetcher gets an object where it reads the store
@@ -40,7 +40,7 @@ module _ {C : Type 0} (content : C → Option (List ℕ)) where
     pub fits : FitsMode h z.cells s.far (s.hand m) (as_mode x)
 
   -- a fetcher that code holds has in hand what it says
-  pub record Fetches (h : Type 0) (z : Sizes) (t : Tables) (berths : Berths C) (x : Fetcher) (s : State) : Type 0 where
+  pub record Fetches (h : Type 0) (z : Sizes) (t : Tables) (berths : Berths C) (x : FetcherActor) (s : State) : Type 0 where
     pub shows : Shows content z t berths s
     pub inv : Inv h z.cells s
     pub fits : FitsFetcher h z.cells s.far (s.hand x.mover) (fetching_in x)

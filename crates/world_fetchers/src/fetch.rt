@@ -14,7 +14,7 @@ ghost use Rattle.world_semantics.specs.Turns.{brings, to_fill};
 ghost use Rattle.world_semantics.specs.Worlds.{ReadsHonestly, Sizes};
 
 use remote_store::{Port, RawStore};
-use world_memory::{Lock, Place};
+use world_memory::{Lock, ObjectPlace};
 
 /// How far a fetcher is with an object that it brings in.
 #[derive(Clone, Copy, PartialEq, Eq, Debug)]
@@ -72,7 +72,7 @@ pub(crate) fn begin<S: RawStore>(lock: &mut Lock<S>, mover: u16, object: usize) 
     let row = lock.memory.object(object);
     if row.count == 0 {
         if row.is_away() {
-            lock.memory.put_place(object, Place::Coming(mover));
+            lock.memory.put_place(object, ObjectPlace::Coming(mover));
             true
         } else {
             false
@@ -140,7 +140,8 @@ fn arrive<S: RawStore>(lock: &mut Lock<S>, object: usize, frame: usize)
     ensures { (m : ℕ) (z : Sizes) (s : State) → Inv S.honest z.cells s → (s.hand m).bringing ≡ Some object → Shows S.content z lock.old.memory lock.old.berths s
         → Shows S.content z lock.new.memory lock.new.berths (act s (Arrives m object frame false)) }
 {
-    lock.memory.put_place(object, Place::Here(frame, true));
+    lock.memory
+        .put_place(object, ObjectPlace::Here(frame, true));
 }
 
 /// Fills the next cell with what was read; behind the last the object arrives.
@@ -206,7 +207,7 @@ fn retreat<S: RawStore>(lock: &mut Lock<S>, object: usize)
     ensures { (m : ℕ) (z : Sizes) (s : State) → Inv S.honest z.cells s → (s.hand m).bringing ≡ Some object → Shows S.content z lock.old.memory lock.old.berths s
         → Shows S.content z lock.new.memory lock.new.berths (act s (Retreats m object)) }
 {
-    lock.memory.put_place(object, Place::Away);
+    lock.memory.put_place(object, ObjectPlace::Away);
 }
 
 /// What is next of a fetcher that brings an object in, and how far it is then. It is always enabled.

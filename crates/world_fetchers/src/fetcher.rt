@@ -19,18 +19,18 @@ use world_semantics::event::{Choice, Step};
 
 /// Its number as a mover, how far it is with an object that it brings in, if it does, and the words that it fills a frame with.
 #[derive(Drop)]
-pub struct Fetcher {
+pub struct FetcherActor {
     pub(crate) mover: u16,
     pub(crate) fetching: Option<Fetching>,
     pub(crate) words: Vec<u64>,
 }
 
-impl Fetcher {
+impl FetcherActor {
     /// A fetcher that is idle, of pieces of this size.
-    pub fn new(alloc: Global, mover: u16, piece: Piece) -> Result<Fetcher, AllocError>
+    pub fn new(alloc: Global, mover: u16, piece: Piece) -> Result<FetcherActor, AllocError>
         ensures { IfOk result (λ f. (f.mover ≡ mover) × (f.fetching ≡ None) × (length f.words.items ≡ cells_in piece)) }
     {
-        Ok(Fetcher {
+        Ok(FetcherActor {
             mover,
             fetching: None,
             words: Vec::from_elem(alloc, 0, piece.cells())?,

@@ -5,4 +5,4 @@ mod fetch;
 mod fetcher;
 
 pub use fetch::Fetching;
-pub use fetcher::Fetcher;
+pub use fetcher::FetcherActor;

@@ -1,8 +1,8 @@
 -- What code keeps of the machine: a row for each object, and for each frame its object and its cells.
 use Rattle.std.specs.Prelude.{◌≡◌, ℕ, suc, ◌+◌, ◌*◌, ◌<◌, cond, nat_lt, Bool, true, false, ◌&&◌, ◌==◌, Option, Some, None, List, length, slice_index_or, slice_set, replicate}
 use Rattle.pointer_word.specs.Words as words
-use Rattle.world_memory.specs.declared.memory.Place.{Place}
-use Rattle.world_memory.specs.declared.memory.Place.TheVariants as p
+use Rattle.world_memory.specs.declared.memory.ObjectPlace.{ObjectPlace}
+use Rattle.world_memory.specs.declared.memory.ObjectPlace.TheVariants as p
 use Rattle.world_memory.specs.declared.memory.Object.{Object}
 
 -- objects' words with what their owners know, by their numbers; the object, if any, for which each frame is held; and the cells of all frames, one
@@ -14,7 +14,7 @@ pub record Tables : Type 0 where
   pub size : ℕ
 
 -- the place that code holds
-abbrev pub place_of : Place → words.Place
+abbrev pub place_of : ObjectPlace → words.Place
 place_of p.Away = words.Away
 place_of (p.Coming m) = words.Coming m
 place_of (p.Here f k) = words.Here f k
@@ -62,7 +62,7 @@ abbrev pub with_cell : Tables → ℕ → ℕ → ℕ → Tables
 with_cell t f i v = record t { cells = slice_set t.cells (f * t.size + i) v }
 
 -- in this frame with no hold, and marked by this mover
-abbrev pub is_marked_at : Place → ℕ → ℕ → ℕ → Bool
+abbrev pub is_marked_at : ObjectPlace → ℕ → ℕ → ℕ → Bool
 is_marked_at (p.Leaving g j true) c f m = (g == f) && ((j == m) && (c == 0))
 is_marked_at _ c f m = false
 
@@ -71,7 +71,7 @@ abbrev pub is_marked_by : Object → ℕ → ℕ → Bool
 is_marked_by x f m = is_marked_at x.place x.count f m
 
 -- in this frame with no hold, not clean, and no mover moves it
-abbrev pub is_here_at : Place → ℕ → ℕ → Bool
+abbrev pub is_here_at : ObjectPlace → ℕ → ℕ → Bool
 is_here_at (p.Here g false) c f = (g == f) && (c == 0)
 is_here_at _ c f = false
 
@@ -80,7 +80,7 @@ abbrev pub is_at_rest_in : Object → ℕ → Bool
 is_at_rest_in x f = is_here_at x.place x.count f
 
 -- clean in this frame with no hold
-abbrev pub is_clean_at : Place → ℕ → ℕ → Bool
+abbrev pub is_clean_at : ObjectPlace → ℕ → ℕ → Bool
 is_clean_at (p.Here g true) c f = (g == f) && (c == 0)
 is_clean_at _ c f = false
 
@@ -89,7 +89,7 @@ abbrev pub is_clean_in : Object → ℕ → Bool
 is_clean_in x f = is_clean_at x.place x.count f
 
 -- in its store cell
-abbrev pub is_away_at : Place → Bool
+abbrev pub is_away_at : ObjectPlace → Bool
 is_away_at p.Away = true
 is_away_at _ = false
 

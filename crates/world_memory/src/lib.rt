@@ -5,4 +5,4 @@ mod lock;
 mod memory;
 
 pub use lock::{Berths, Lock};
-pub use memory::{Memory, Object, Place};
+pub use memory::{Object, ObjectPlace, WorldMemory};

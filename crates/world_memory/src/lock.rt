@@ -10,7 +10,7 @@ ghost use Rattle.world_semantics.specs.InHand.{WasPut};
 ghost use Rattle.world_semantics.specs.Turns.{put_of};
 ghost use Rattle.world_semantics.specs.Worlds.{IsHonestRead};
 
-use crate::memory::Memory;
+use crate::memory::WorldMemory;
 use cells::{Piece, Want};
 use remote_store::{Berth, Port, RawStore};
 use std::alloc::Global;
@@ -19,7 +19,7 @@ use std::marker::Model;
 /// The words, frames and cells, and the berth of each object.
 #[derive(Drop)]
 pub struct Lock<S: RawStore> {
-    pub memory: Memory,
+    pub memory: WorldMemory,
     pub berths: Berths<S>,
 }
 

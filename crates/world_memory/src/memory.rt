@@ -15,7 +15,7 @@ use std::marker::Model;
 
 /// Where an object is.
 #[derive(Clone, Copy, PartialEq, Eq, Debug)]
-pub enum Place {
+pub enum ObjectPlace {
     /// In its store cell.
     Away,
     /// A mover brings it in.
@@ -30,7 +30,7 @@ pub enum Place {
 #[derive(Clone, Copy, PartialEq, Eq, Debug)]
 pub struct Object {
     pub count: u8,
-    pub place: Place,
+    pub place: ObjectPlace,
     pub told: Option<usize>,
     pub writing: bool,
 }
@@ -39,14 +39,14 @@ pub struct Object {
 /// a frame stand behind those of the frame before it, `size` of each. The word of a frame is the number of its object and one more, and 0
 /// where it is free.
 #[derive(Drop)]
-pub struct Memory {
+pub struct WorldMemory {
     objects: Vec<Object>,
     frames: Vec<Option<usize>>,
     cells: Vec<u64>,
     size: usize,
 }
 
-impl Model for Memory {
+impl Model for WorldMemory {
     ghost use Rattle.std.specs.Prelude.{◌≡◌, ◌*◌, length};
     ghost use Rattle.world_memory.specs.Tables.{Tables};
 
@@ -57,31 +57,31 @@ impl Model for Memory {
     ghost invariant = { λ m. length m.cells.items ≡ length m.frames.items * m.size };
 }
 
-impl Place {
+impl ObjectPlace {
     /// The frame where the object is.
     pub fn frame(self) -> Option<usize>
         ensures { result ≡ framed (place_of self) }
     {
         match self {
-            Place::Away | Place::Coming(_) => None,
-            Place::Here(frame, _) | Place::Leaving(frame, _, _) => Some(frame),
+            ObjectPlace::Away | ObjectPlace::Coming(_) => None,
+            ObjectPlace::Here(frame, _) | ObjectPlace::Leaving(frame, _, _) => Some(frame),
         }
     }
 }
 
-impl Place {
+impl ObjectPlace {
     /// The bits of the place in a word.
     fn bits(self) -> u64
         ensures value { FrameFits (place_of self) → result ≡ place_bits (place_of self) }
         ensures room { result < 2 ^ 61 }
     {
         match self {
-            Place::Away => 0,
-            Place::Coming(mover) => 0x4_0000 + mover as u64 * 0x1000_0000_0000,
-            Place::Here(frame, clean) => {
+            ObjectPlace::Away => 0,
+            ObjectPlace::Coming(mover) => 0x4_0000 + mover as u64 * 0x1000_0000_0000,
+            ObjectPlace::Here(frame, clean) => {
                 clean_bits(clean) + 0x8_0000 + (frame as u64 % 0x100_0000) * 0x10_0000
             }
-            Place::Leaving(frame, mover, marked) => {
+            ObjectPlace::Leaving(frame, mover, marked) => {
                 let at = (frame as u64 % 0x100_0000) * 0x10_0000;
                 mark_bits(marked) + 0xa_0000 + at + mover as u64 * 0x1000_0000_0000
             }
@@ -96,7 +96,7 @@ impl Object {
     {
         Object {
             count: 0,
-            place: Place::Away,
+            place: ObjectPlace::Away,
             told: None,
             writing: false,
         }
@@ -115,7 +115,7 @@ impl Object {
     pub fn is_away(self) -> bool
         ensures { result ≡ is_away_at self.place }
     {
-        matches!(self.place, Place::Away)
+        matches!(self.place, ObjectPlace::Away)
     }
 
     /// Whether it has no hold, and this mover's mark in this frame stands.
@@ -123,7 +123,7 @@ impl Object {
         ensures { result ≡ is_marked_by self frame mover }
     {
         match self.place {
-            Place::Leaving(at, by, true) => at == frame && by == mover && self.count == 0,
+            ObjectPlace::Leaving(at, by, true) => at == frame && by == mover && self.count == 0,
             _ => false,
         }
     }
@@ -133,7 +133,7 @@ impl Object {
         ensures { result ≡ is_at_rest_in self frame }
     {
         match self.place {
-            Place::Here(at, false) => at == frame && self.count == 0,
+            ObjectPlace::Here(at, false) => at == frame && self.count == 0,
             _ => false,
         }
     }
@@ -143,36 +143,36 @@ impl Object {
         ensures { result ≡ is_clean_in self frame }
     {
         match self.place {
-            Place::Here(at, true) => at == frame && self.count == 0,
+            ObjectPlace::Here(at, true) => at == frame && self.count == 0,
             _ => false,
         }
     }
 
     /// The place with no mark, and not clean.
-    fn cleared(self) -> Place
+    fn cleared(self) -> ObjectPlace
         ensures { place_of result ≡ cleared (place_of self.place) }
     {
         match self.place {
-            Place::Here(frame, _) => Place::Here(frame, false),
-            Place::Leaving(frame, mover, _) => Place::Leaving(frame, mover, false),
+            ObjectPlace::Here(frame, _) => ObjectPlace::Here(frame, false),
+            ObjectPlace::Leaving(frame, mover, _) => ObjectPlace::Leaving(frame, mover, false),
             place => place,
         }
     }
 }
 
-impl Memory {
+impl WorldMemory {
     /// Every object away with no hold, and every frame free and zero. A frame has the cells of a piece.
     pub fn new(
         alloc: Global,
         objects: usize,
         frames: usize,
         piece: Piece,
-    ) -> Result<Memory, AllocError>
+    ) -> Result<WorldMemory, AllocError>
         requires { frames ≤ 1048576 }
         ensures { IfOk result (λ m. m ≡ opened objects frames (cells_in piece)) }
     {
         let size = piece.cells();
-        Ok(Memory {
+        Ok(WorldMemory {
             objects: Vec::from_elem(alloc, Object::resting(), objects)?,
             frames: Vec::from_elem(alloc, None, frames)?,
             cells: Vec::from_elem(alloc, 0, frames * size)?,
@@ -318,7 +318,7 @@ impl Memory {
     }
 
     /// The object is elsewhere.
-    pub fn put_place(&mut self, object: usize, place: Place)
+    pub fn put_place(&mut self, object: usize, place: ObjectPlace)
         ensures { (z : Sizes) (s : State) → Shown z self.old s → object < z.objects
             → Shown z self.new (record s { word = upd s.word object (counted (s.word object).count (place_of place)) }) }
     {

@@ -2,7 +2,7 @@ use Rattle.std.proofs.Common.{◌≡◌, ◌∙◌, Bor, List, inl, inr, map, re
 use Rattle.command_line.specs.Shell.{Names, command_of, compiling_of, replayed_of}
 use Rattle.command_line.specs.Shell as shell
 use Rattle.command_line.specs.declared.words.Line.{Line}
-use Rattle.command_line.specs.declared.words.Replay.{Replay as Asked}
+use Rattle.command_line.specs.declared.words.ReplayOptions.{ReplayOptions}
 use Rattle.command_line.specs.declared.words.Usage.{Usage}
 use Rattle.command_line.specs.declared.words.Usage.TheVariants.{Refused, OutOfMemory}
 use Rattle.c0far.proofs.Moved.{built_at, only_at}
@@ -43,7 +43,7 @@ returns-in-Ok-Replay g c =
     let out = writes g.O.Stream.contents g.O.Stream.failures c.args.out.now c.replay.new.out in
     let err = writes g.E.Stream.contents g.E.Stream.failures c.args.err.now c.replay.new.err in
     let names : c.deref.result.now ≡ asked.names.items = search rules in
-    let done = subst (λ (a : Asked). Replays g.F.Place.Folder.honest (replayed_of a) (map (λ n. n.now) c.deref.result.now) held out err c.replay.result) asked.asked-is c.replay.ensures.done in
+    let done = subst (λ (a : ReplayOptions). Replays g.F.Place.Folder.honest (replayed_of a) (map (λ n. n.now) c.deref.result.now) held out err c.replay.result) asked.asked-is c.replay.ensures.done in
     inl (
       shell.Replay (replayed_of asked.asked) (map (λ n. n.now) asked.names.items),
       subst (λ (l : Line). Names (map (λ w. w.now) c.args.words.now) (command_of l)) asked.field-0-is asked.ensures.named,

@@ -1,6 +1,6 @@
 use Rattle.std.proofs.Common.{◌≡◌, ◌+◌, suc, ◌∷◌, ◌++◌, [], length, length-append, ap, ◌∙◌, arith}
 use Rattle.remote_store.specs.declared.port.Port.{Port}
-use Rattle.world_actors.specs.declared.evacuator.Evacuator.{Evacuator}
+use Rattle.world_actors.specs.declared.evacuator.EvacuatorActor.{EvacuatorActor}
 use Rattle.cells.specs.Pieces.{cells_in}
 use Rattle.world.proofs.Opened.{idle_push}
 use Rattle.world.proofs.make.new_evacuators.Goals as goal
@@ -8,7 +8,7 @@ use Rattle.world.proofs.make.new_evacuators.Goals as goal
 pub loop-alloc-preserved : goal.loop-alloc-preserved
 loop-alloc-preserved g c =
     let movers = c.loop-alloc.evacuators.items in
-    let y : Evacuator × Port g.row.S.Denot g.row.S-Cell.Denot = (c.in-Ok.evacuator, c.new-port.result) in
+    let y : EvacuatorActor × Port g.row.S.Denot g.row.S-Cell.Denot = (c.in-Ok.evacuator, c.new-port.result) in
     let e = c.in_default-push.ensures.items in
     let made = c.in-Ok.ensures in
     let i = c.loop-alloc.invariant in

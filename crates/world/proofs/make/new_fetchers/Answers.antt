@@ -1,6 +1,6 @@
 use Rattle.std.proofs.Common.{◌≡◌, ◌+◌, suc, ◌∷◌, ◌++◌, [], length, length-append, ap, ◌∙◌, arith}
 use Rattle.remote_store.specs.declared.port.Port.{Port}
-use Rattle.world_fetchers.specs.declared.fetcher.Fetcher.{Fetcher}
+use Rattle.world_fetchers.specs.declared.fetcher.FetcherActor.{FetcherActor}
 use Rattle.cells.specs.Pieces.{cells_in}
 use Rattle.world.proofs.Opened.{rest_push}
 use Rattle.world.proofs.make.new_fetchers.Goals as goal
@@ -8,7 +8,7 @@ use Rattle.world.proofs.make.new_fetchers.Goals as goal
 pub loop-alloc-preserved : goal.loop-alloc-preserved
 loop-alloc-preserved g c =
     let movers = c.loop-alloc.fetchers.items in
-    let y : Fetcher × Port g.row.S.Denot g.row.S-Cell.Denot = (c.in-Ok.fetcher, c.new-port.result) in
+    let y : FetcherActor × Port g.row.S.Denot g.row.S-Cell.Denot = (c.in-Ok.fetcher, c.new-port.result) in
     let e = c.in_default-push.ensures.items in
     let made = c.in-Ok.ensures in
     let i = c.loop-alloc.invariant in
