@@ -67,9 +67,29 @@ fn each_call_fails<R: Wait>(alloc: Global, rt: &R, verified: &Verified) -> Optio
     None
 }
 
-/// Tells how the program of this text ends. False where a run did otherwise than it has to: where the store fails the program wants it, and
+/// Tells how this program ends. False where a run did otherwise than it has to: where the store fails the program wants it, and
 /// still does when it is asked again, and behind the last call it ends as if none had failed. Ten objects in four frames are moved out six times
 /// at least, and brought back, by at least eight calls.
+fn tell_calls<R: Wait, O: Write>(
+    alloc: Global,
+    rt: &R,
+    name: &str,
+    verified: &Verified,
+    out: &mut O,
+) -> io::Result<bool> {
+    match each_call_fails(alloc, rt, verified) {
+        Some((calls, run)) => {
+            writeln!(out, "{name}: {run}")?;
+            Ok(calls >= LEAST_CALLS)
+        }
+        None => {
+            writeln!(out, "{name}: a run did otherwise")?;
+            Ok(false)
+        }
+    }
+}
+
+/// Runs the program of this text with each call of the store failing in turn, and tells how it ends. False where it is refused, or a run did otherwise.
 pub(crate) fn fail_each_call<R: Wait, O: Write>(
     alloc: Global,
     rt: &R,
@@ -77,20 +97,10 @@ pub(crate) fn fail_each_call<R: Wait, O: Write>(
     text: &[u8],
     out: &mut O,
 ) -> io::Result<bool> {
-    let verified = match compile(alloc, text, false, Level::C0, Piece::Cells64) {
-        Ok(verified) => verified,
+    match compile(alloc, text, false, Level::C0, Piece::Cells64) {
+        Ok(verified) => tell_calls(alloc, rt, name, &verified, out),
         Err(fault) => {
             writeln!(out, "{name}: {fault}")?;
-            return Ok(false);
-        }
-    };
-    match each_call_fails(alloc, rt, &verified) {
-        Some((calls, run)) => {
-            writeln!(out, "{name}: {run}")?;
-            Ok(calls >= LEAST_CALLS)
-        }
-        None => {
-            writeln!(out, "{name}: a run did otherwise")?;
             Ok(false)
         }
     }

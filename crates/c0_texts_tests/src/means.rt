@@ -1,13 +1,12 @@
 //! Texts whose plain meaning is told, and compared with the run of their image.
-use crate::again::read_again;
+use crate::again::compile_again;
 use crate::asked::Asked;
 use crate::runs::execute;
-use c0_image::compile;
 use c0_meaning::Meant;
 use c0_plain::mean_text;
 use c0_source::fault::Fault;
 use c0_syntax::level::Level;
-use cells::{Piece, Run, Stop};
+use cells::{Run, Stop};
 use std::alloc::Global;
 use std::io;
 use std::io::Write;
@@ -36,8 +35,7 @@ fn runs_so<R: Threads + Wait + Clock + Sync>(
     output: &[u8],
     stop: &Stop,
 ) -> Result<bool, Fault> {
-    let compiled = compile(alloc, text, asked.checks, asked.level, Piece::Cells64)?;
-    let Some(read) = read_again(alloc, compiled.image()) else {
+    let Some(read) = compile_again(alloc, text, asked.checks, asked.level)? else {
         return Ok(false);
     };
     let ended = execute(alloc, rt, read)?;
@@ -48,8 +46,8 @@ fn runs_so<R: Threads + Wait + Clock + Sync>(
     Ok(same_end && ended.output.as_slice() == output)
 }
 
-/// Runs the compiled text where its meaning has ended, and tells whether it does what the meaning says. False where it does not.
-fn compare<R: Threads + Wait + Clock + Sync, O: Write>(
+/// Tells what a text means, and where that has ended whether the compiled text does the same. False where it does not.
+fn tell_both<R: Threads + Wait + Clock + Sync, O: Write>(
     alloc: Global,
     rt: &R,
     asked: Asked,
@@ -57,6 +55,7 @@ fn compare<R: Threads + Wait + Clock + Sync, O: Write>(
     meant: &Meant,
     out: &mut O,
 ) -> io::Result<bool> {
+    tell(out, meant)?;
     let Some(stop) = &meant.stop else {
         return Ok(true);
     };
@@ -93,10 +92,7 @@ pub(crate) fn mean<R: Threads + Wait + Clock + Sync, O: Write>(
     let turns = asked.number;
     writeln!(out, "mean{flag}{level} --turns {turns} {name}")?;
     match mean_text(alloc, rt, text, asked.checks, asked.level, turns) {
-        Ok(meant) => {
-            tell(out, &meant)?;
-            compare(alloc, rt, asked, text, &meant, out)
-        }
+        Ok(meant) => tell_both(alloc, rt, asked, text, &meant, out),
         Err(fault) => {
             writeln!(out, "{fault}")?;
             Ok(false)

@@ -56,8 +56,28 @@ fn count_opens<S: RawStore>(world: &mut World<'_, S>) -> u64 {
     opens
 }
 
-/// Runs the text alone in a world, and tells how it ends, and whether it opened a hold, and no more than it was asked for. False where it did not, where it is refused, or
-/// where memory ran out.
+/// Tells how the program of this world ends, and whether it opened a hold, and no more than it was asked for. False where it did not.
+fn tell_opens<S: RawStore, O: Write>(
+    alloc: Global,
+    most: u64,
+    name: &str,
+    world: &mut World<'_, S>,
+    out: &mut O,
+) -> io::Result<bool> {
+    let opens = count_opens(world);
+    if world.programs() == 0 {
+        return Ok(false);
+    }
+    let run = world.ended(alloc, 0)?.run;
+    if opens == 0 || opens > most {
+        writeln!(out, "{name}: {run}, with {opens} opens")?;
+        return Ok(false);
+    }
+    writeln!(out, "{name}: {run}, with at most {most} opens")?;
+    Ok(true)
+}
+
+/// Runs the text alone in a world, and tells of it. False where it opened no hold, or more than it was asked for, where it is refused, or where memory ran out.
 pub(crate) fn open_few<O: Write>(
     alloc: Global,
     asked: Asked,
@@ -79,19 +99,8 @@ pub(crate) fn open_few<O: Write>(
         stores: FarHeap::new(images[0].piece),
     };
     let world: Result<World<'_, FarHeap>, Want> = World::new(alloc, &images, &config);
-    let Ok(mut world) = world else {
-        return Ok(false);
-    };
-    let opens = count_opens(&mut world);
-    if world.programs() == 0 {
-        return Ok(false);
+    match world {
+        Ok(mut world) => tell_opens(alloc, asked.number, name, &mut world, out),
+        Err(_want) => Ok(false),
     }
-    let run = world.ended(alloc, 0)?.run;
-    let most = asked.number;
-    if opens == 0 || opens > most {
-        writeln!(out, "{name}: {run}, with {opens} opens")?;
-        return Ok(false);
-    }
-    writeln!(out, "{name}: {run}, with at most {most} opens")?;
-    Ok(true)
 }

@@ -1,13 +1,12 @@
 //! Texts that are printed from their trees and read back, and run with their contracts checked.
-use crate::again::read_again;
+use crate::again::compile_again;
 use crate::runs::execute;
 use c0_front::{check_text, read_text};
-use c0_image::compile;
 use c0_source::fault::Fault;
 use c0_source::position::line_column;
 use c0_syntax::level::Level;
 use c0_syntax::print::print;
-use cells::{Ended, Piece};
+use cells::Ended;
 use std::alloc::Global;
 use std::io;
 use std::io::Write;
@@ -36,8 +35,7 @@ fn ended<R: Threads + Wait + Clock + Sync>(
     level: Level,
     text: &[u8],
 ) -> Result<Option<Ended>, Fault> {
-    let compiled = compile(alloc, text, true, level, Piece::Cells64)?;
-    match read_again(alloc, compiled.image()) {
+    match compile_again(alloc, text, true, level)? {
         Some(read) => Ok(Some(execute(alloc, rt, read)?)),
         None => Ok(None),
     }

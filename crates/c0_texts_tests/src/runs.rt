@@ -5,6 +5,8 @@ use region::piece_of;
 use remote_store::{Config, FarHeap};
 use scope_verifier::Verified;
 use std::alloc::{AllocError, Global};
+use std::io;
+use std::io::Write;
 use std::sync::Wait;
 use std::thread::Threads;
 use std::time::Clock;
@@ -60,4 +62,13 @@ pub(crate) fn execute<R: Threads + Wait + Clock + Sync>(
         Some(ended) => Ok(ended),
         None => Err(AllocError),
     }
+}
+
+/// Tells how each of these programs ended.
+pub(crate) fn tell_runs<O: Write>(ends: &[Ended], out: &mut O) -> io::Result<()> {
+    for end in ends {
+        let run = &end.run;
+        writeln!(out, "{run}")?;
+    }
+    Ok(())
 }

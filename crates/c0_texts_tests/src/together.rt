@@ -1,8 +1,8 @@
 //! Texts that are run side by side: two that meet with two movers, and many at once.
-use crate::runs::{Sizes, run_together};
+use crate::runs::{Sizes, run_together, tell_runs};
 use c0_image::compile;
 use c0_syntax::level::Level;
-use cells::Piece;
+use cells::{Ended, Piece};
 use executor::{Gate, OpenGate};
 use scope_verifier::Verified;
 use std::alloc::{AllocError, Global};
@@ -89,6 +89,20 @@ pub(crate) fn compiled(alloc: Global, text: &[u8], count: usize) -> Option<Vec<V
     Some(programs)
 }
 
+/// Tells whether both programs met with an evacuator and a fetcher at this gate, and how each ended. False where one did not come.
+fn tell_meeting<O: Write>(
+    gate: &Meeting,
+    name: &str,
+    ends: &[Ended],
+    out: &mut O,
+) -> io::Result<bool> {
+    let missed = gate.missed.load(Ordering::SeqCst);
+    let ended = gate.ended.load(Ordering::SeqCst);
+    writeln!(out, "{name} twice at once: {missed} missed, {ended} ended")?;
+    tell_runs(ends, out)?;
+    Ok(missed == 0)
+}
+
 /// Runs this text twice at once on two workers, each over six frames, and tells whether both met with an evacuator and a fetcher, and how each ended. False where one did
 /// not come.
 pub(crate) fn meet<R: Threads + Wait + Clock + Sync, O: Write>(
@@ -111,14 +125,16 @@ pub(crate) fn meet<R: Threads + Wait + Clock + Sync, O: Write>(
     let Some(ends) = run_together(alloc, rt, programs, sizes, 1, &gate) else {
         return Ok(false);
     };
-    let missed = gate.missed.load(Ordering::SeqCst);
-    let ended = gate.ended.load(Ordering::SeqCst);
-    writeln!(out, "{name} twice at once: {missed} missed, {ended} ended")?;
-    for end in &ends {
-        let run = &end.run;
-        writeln!(out, "{run}")?;
+    tell_meeting(&gate, name, &ends, out)
+}
+
+/// Tells how each of these programs ended, by its name.
+fn tell_each<O: Write>(names: &[String], ends: &[Ended], out: &mut O) -> io::Result<()> {
+    for (name, ended) in names.iter().zip(ends) {
+        let run = &ended.run;
+        writeln!(out, "{name} among all: {run}")?;
     }
-    Ok(missed == 0)
+    Ok(())
 }
 
 /// Texts that are to be run side by side, each compiled.
@@ -174,10 +190,7 @@ impl Together {
         let Some(ends) = run_together(alloc, rt, programs, sizes, 2, &OpenGate) else {
             return Ok(false);
         };
-        for (name, ended) in names.iter().zip(&ends) {
-            let run = &ended.run;
-            writeln!(out, "{name} among all: {run}")?;
-        }
+        tell_each(&names, &ends, out)?;
         Ok(true)
     }
 }

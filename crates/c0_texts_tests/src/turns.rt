@@ -1,6 +1,7 @@
 //! Texts that are run by turns: one that waits for another on the same worker, and one that is asked for at each instruction.
-use crate::runs::{Sizes, run_together};
+use crate::runs::{Sizes, run_together, tell_runs};
 use crate::together::compiled;
+use cells::Ended;
 use executor::Gate;
 use std::alloc::Global;
 use std::io;
@@ -54,6 +55,35 @@ impl Gate for Asked {
     fn turned(&self, _mover: u32) {}
 }
 
+/// Tells whether the first of two programs waited for the second, and how each ended. False where it did not.
+fn tell_waited<O: Write>(
+    name: &str,
+    waited: bool,
+    ends: &[Ended],
+    out: &mut O,
+) -> io::Result<bool> {
+    writeln!(
+        out,
+        "{name} twice on one worker, the first behind the second: {waited}"
+    )?;
+    tell_runs(ends, out)?;
+    Ok(waited)
+}
+
+/// Tells of each of these programs whether the gate was asked so often as it completed an instruction, and how it ended. False where it is not one.
+fn tell_asked<O: Write>(name: &str, asked: u64, ends: &[Ended], out: &mut O) -> io::Result<bool> {
+    for end in ends {
+        let run = &end.run;
+        let same = asked == end.completed;
+        writeln!(
+            out,
+            "{name} one instruction at a time: asked for each: {same}"
+        )?;
+        writeln!(out, "{run}")?;
+    }
+    Ok(ends.len() == 1)
+}
+
 /// Runs this text twice at once on one worker, the first behind the second, and tells how each ended. False where the first was let go before the second had ended.
 pub(crate) fn one_behind_another<R: Threads + Wait + Clock + Sync, O: Write>(
     alloc: Global,
@@ -80,15 +110,7 @@ pub(crate) fn one_behind_another<R: Threads + Wait + Clock + Sync, O: Write>(
     };
     let held = gate.held.load(Ordering::SeqCst);
     let waited = held > 0 && held < PATIENCE;
-    writeln!(
-        out,
-        "{name} twice on one worker, the first behind the second: {waited}"
-    )?;
-    for end in &ends {
-        let run = &end.run;
-        writeln!(out, "{run}")?;
-    }
-    Ok(waited)
+    tell_waited(name, waited, &ends, out)
 }
 
 /// Runs this text by turns of one instruction, and tells whether the gate was asked as often as it completed one.
@@ -115,14 +137,5 @@ pub(crate) fn one_at_a_time<R: Threads + Wait + Clock + Sync, O: Write>(
         return Ok(false);
     };
     let asked = gate.times.load(Ordering::SeqCst);
-    for end in &ends {
-        let run = &end.run;
-        let same = asked == end.completed;
-        writeln!(
-            out,
-            "{name} one instruction at a time: asked for each: {same}"
-        )?;
-        writeln!(out, "{run}")?;
-    }
-    Ok(ends.len() == 1)
+    tell_asked(name, asked, &ends, out)
 }
