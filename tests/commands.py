@@ -303,6 +303,15 @@ def what_is_counted_beside_movers(it):
             want(found[program][name] == alone[program][name], f"{program} tells {found[program]}, and alone {alone[program]}")
 
 
+def no_rounds_while_frames_are_free(it):
+    """A program that has one object in 64 frames, and goes on for some thirty million instructions."""
+    turns = 3_000_000
+    it.write("a.c0", f"int main() {{ int[] a = alloc_array(int, 1); for (int i = 0; i < {turns}; i++) {{ a[0] = a[0] + i % 7; }} return a[0]; }}\n")
+    found = told_beside(it, "run --evacuators 2 a.c0", f"result: {sum(i % 7 for i in range(turns))}\n")
+    for evacuator in ("evacuator 0", "evacuator 1"):
+        want(found[evacuator]["rounds"] == 0, f"{evacuator} tells {found[evacuator]}")
+
+
 def many_programs(it):
     for number in range(256):
         it.write(f"{number}.c0", f"int main() {{ return {number}; }}\n")
@@ -535,6 +544,7 @@ TESTS = [
     an_array_in_files,
     what_is_counted,
     what_is_counted_beside_movers,
+    no_rounds_while_frames_are_free,
     many_programs,
     many_instructions,
     calls_that_nest,

@@ -1,4 +1,4 @@
-//! Texts whose hints are served: a session runs with nobody to serve them, and then a fetcher looks for one.
+//! Texts whose hints are looked at: a session runs with nobody to serve them, then one is taken, and a fetcher looks for another.
 ghost use Rattle.object_lock.specs.Fresh.{IsFresh, IsFreshMover};
 ghost use Rattle.std.specs.Prelude.{◌≡◌, ◌<◌, ◌≤◌, length};
 
@@ -41,23 +41,29 @@ fn run_alone<R: Wait>(
     }
 }
 
-/// What a fetcher comes to that looks for a hint.
+/// The object that the oldest hint names, if there is one, and what a fetcher comes to that looks for the next.
 fn serve<R: Wait>(
     rt: &R,
     region: &Region<FarHeap>,
     hints: &Hints,
     mut pass: HintPass,
     mut seat: MoverSeat<FarHeap>,
-) -> Served
+) -> (Option<usize>, Served)
     requires seat { IsFreshMover region.now.table seat }
     requires hints { hints.now.objects ≡ region.now.objects }
     requires pass { pass ≡ hints.now }
 {
-    serve_one(rt, region, hints, &mut pass, &mut seat)
+    let oldest = hints.pop(rt, &mut pass);
+    let served = serve_one(rt, region, hints, &mut pass, &mut seat);
+    (oldest, served)
 }
 
-/// What a fetcher comes to behind a run of this program, over eight frames and ten objects. None where memory ran out.
-fn served_behind<R: Wait>(alloc: Global, rt: &R, verified: Verified) -> Option<Served> {
+/// What was hinted behind a run of this program, over eight frames and ten objects. None where memory ran out.
+fn served_behind<R: Wait>(
+    alloc: Global,
+    rt: &R,
+    verified: Verified,
+) -> Option<(Option<usize>, Served)> {
     let mut programs = Vec::new(alloc);
     if programs.push(verified).is_err() {
         return None;
@@ -87,7 +93,7 @@ fn served_behind<R: Wait>(alloc: Global, rt: &R, verified: Verified) -> Option<S
     Some(serve(rt, &region, &hints, second, mover))
 }
 
-/// Runs the text alone, and tells whether it left a hint. False where it is refused, or memory ran out.
+/// Runs the text alone, and tells which hint it left first, and whether it left more. False where it is refused, or memory ran out.
 pub(crate) fn leave_hints<R: Wait, O: Write>(
     alloc: Global,
     rt: &R,
@@ -99,12 +105,16 @@ pub(crate) fn leave_hints<R: Wait, O: Write>(
         return Ok(false);
     };
     match served_behind(alloc, rt, verified) {
-        Some(Served::Nothing) => {
+        Some((None, _)) => {
             writeln!(out, "{name}: no hint")?;
             Ok(true)
         }
-        Some(Served::Dropped | Served::Brought | Served::Failed) => {
-            writeln!(out, "{name}: a hint")?;
+        Some((Some(object), Served::Nothing)) => {
+            writeln!(out, "{name}: a hint of object {object}")?;
+            Ok(true)
+        }
+        Some((Some(object), Served::Dropped | Served::Brought | Served::Failed)) => {
+            writeln!(out, "{name}: a hint of object {object}, and more")?;
             Ok(true)
         }
         None => Ok(false),

@@ -3,7 +3,7 @@
 //! where it ends, the text is compiled too, its image is written, read again and run, and a line tells whether that printed the same and ended the same
 //! way. Before a name may stand `-d`, for contracts to be checked, `-l`, for the level of the language that has `break` and `continue`, and a number of
 //! turns in place of 5,000. Behind `-p` it is checked, its tree is printed and read back, and its image runs with its contracts checked; behind `-f` it
-//! runs once for each call of the store, which fails; behind `-h` it runs alone, and a fetcher looks for a hint then; behind a number and `-o` it runs
+//! runs once for each call of the store, which fails; behind `-h` it runs alone, and what it hinted is looked at then; behind a number and `-o` it runs
 //! alone in a world, and opens no more holds than that; behind `-m` it runs twice at once, and both meet with two movers; behind `-w` it runs twice on
 //! one worker, the first behind the second; behind `-c` it runs by turns of one instruction, and what asks for them is counted; behind `-t` it is kept,
 //! and all that are kept run at once in the end, each of them twice. The status is 1 where a text is refused, or something is not as it has to be.

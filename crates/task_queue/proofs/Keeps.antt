@@ -119,5 +119,15 @@ forks pass v r is items views (inr h) at =
       omega arith,
     )
 
+-- the tasks in the queue and those in hand with a pass that knows the roster are no more than the programs
+pub few : (pass : ℕ) (v : KnowsRoster) (r : Roster) → v.roster ≡ Some r → Learns AreTasks pass v (λ items. v.in_hand + length items ≤ length (roster_in v).programs)
+few pass v r is items views (inl h) at = apart r v is (first_only views v pass h.0 at).0
+few pass v r is items views (inr h) at =
+    let mine : v.roster ≡ Some h.0 = h.1 pass v at in
+    let own : v.in_hand ≤ all_in_hand views = hand_of views pass v at in
+    let whole = h.3 in
+    let most : v.in_hand + length items ≤ length h.0.programs = omega arith in
+    subst (λ (m : Roster). v.in_hand + length items ≤ length m.programs) (sym (ap roster_or_none mine)) most
+
 pub learns : (pass : ℕ) (v : KnowsRoster) → Learns AreTasks pass v (λ items. ⊤)
 learns pass v items views h at = tt

@@ -1,5 +1,5 @@
 //! The queue of tasks, and its passes.
-ghost use Rattle.std.specs.Prelude.{◌≡◌, ◌+◌, ◌<◌, ◌≤◌, IfOk, MatchOption, length};
+ghost use Rattle.std.specs.Prelude.{◌≡◌, ◌+◌, ◌<◌, ◌≤◌, IfOk, IfSome, MatchOption, length};
 ghost use Rattle.task_queue.specs.Tasked.{IsTask, roster};
 
 use crate::rule::{Another, Founds, KnowsRoster, Puts, Takes, Tasked};
@@ -23,12 +23,16 @@ pub struct TaskQueue<'a, S: RawStore> {
 }
 
 impl<'a, S: RawStore> Model for TaskQueue<'a, S> {
+    ghost use Rattle.crossbeam_queue.specs.Passes.{ruled_capacity};
+    ghost use Rattle.std.specs.Prelude.{◌≡◌};
     ghost use Rattle.task_queue.specs.Queues.{QueueView};
     ghost use Rattle.task_queue.specs.Tasked.{roster};
 
     ghost Value = { QueueView };
 
     ghost view = { λ q. record { id = q.queue.table.shared.table_id; roster = roster q.region.now.programs q.objects } };
+
+    ghost invariant = { λ q. ruled_capacity q.queue ≡ 256 };
 }
 
 /// The right of one thread to take tasks from a queue and to put them back.
@@ -86,7 +90,7 @@ impl<'a, S: RawStore> TaskQueue<'a, S> {
         }
     }
 
-    /// Puts a task that is in hand. Where the queue is full it comes back.
+    /// Puts a task that is in hand. It comes back only where the queue is full, which it never is with no more programs than it has room for.
     pub fn put<R: Wait>(
         &self,
         rt: &R,
@@ -98,6 +102,7 @@ impl<'a, S: RawStore> TaskQueue<'a, S> {
         requires task { IsTask self.now.roster task }
         ensures queue { pass.new.queue ≡ self.now }
         ensures put { MatchOption result (pass.new.in_hand + 1 ≡ pass.old.in_hand) (λ t. (t ≡ task.entry) × (pass.new ≡ pass.old)) }
+        ensures full { IfSome result (λ _. 256 < length self.now.roster.programs) }
     {
         self.queue
             .push_as::<Puts, R>(rt, &mut pass.pass, task)

@@ -38,7 +38,7 @@ impl<'a, S: RawStore> Outcome<ProgramRun<'a, S>, KnowsRoster> for Founds {
     ghost then = { λ v x w. w ≡ knows (roster_of x) (length x.programs - 1) };
 }
 
-/// A task is put. It is in hand no more.
+/// A task is put. It is in hand no more. Where there is no room, those in hand and those in the queue are no more than the programs.
 pub struct Puts;
 
 impl<'a, S: RawStore> Outcome<ProgramRun<'a, S>, KnowsRoster> for Puts {
@@ -48,9 +48,10 @@ impl<'a, S: RawStore> Outcome<ProgramRun<'a, S>, KnowsRoster> for Puts {
 }
 
 impl<'a, S: RawStore> Lesson<ProgramRun<'a, S>, KnowsRoster> for Puts {
-    ghost use Rattle.std.specs.Prelude.{⊤};
+    ghost use Rattle.std.specs.Prelude.{◌+◌, ◌≤◌, length};
+    ghost use Rattle.task_queue.specs.Tasked.{roster_in};
 
-    ghost fact = { λ v items. ⊤ };
+    ghost fact = { λ v items. v.in_hand + length items ≤ length (roster_in v).programs };
 }
 
 /// A task is taken. It is one of the roster, and in hand, with no more than there are.
