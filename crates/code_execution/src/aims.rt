@@ -2,10 +2,11 @@
 ghost use Rattle.code_form.specs.Code.{all_shut, offset as offset_of, wanted, written};
 ghost use Rattle.code_form.specs.Touches.{cell_option};
 ghost use Rattle.code_execution.specs.Aimed.{index_of, scope_of};
+ghost use Rattle.code_operations.specs.Outcomes.{ReadsOffset};
 ghost use Rattle.std.specs.Prelude.{◌≡◌, ◌≤◌, drop, length, map, slice_index, slice_set, take};
 
 use code_form::Cell;
-use code_operations::{Allocations, offset_in, value_in};
+use code_operations::{Allocations, Registers, offset_in};
 
 /// What a scope is aimed at: the cell `displacement` cells behind `start`, in the allocation of number `reference`. These were
 /// in `register` and `offset` as the scope was aimed.
@@ -52,19 +53,21 @@ impl Scope {
 
 /// An aim at this place, where these are the registers.
 #[inline(always)]
-pub(crate) fn aim_by(
-    registers: &[u64],
+pub(crate) fn aim_by<R: Registers>(
+    registers: &R,
     register: u32,
     offset: Option<u32>,
     displacement: u32,
 ) -> Aim
-    ensures { result ≡ record { register = register; offset = offset; displacement = displacement; reference = slice_index registers.now register; start = offset_of registers.now offset } }
+    requires register { R.has registers.now register }
+    requires offset { ReadsOffset (R.has registers.now) offset }
+    ensures { result ≡ record { register = register; offset = offset; displacement = displacement; reference = slice_index (R.values registers.now) register; start = offset_of (R.values registers.now) offset } }
 {
     Aim {
         register,
         offset,
         displacement,
-        reference: value_in(registers, register),
+        reference: registers.value(register),
         start: offset_in(registers, offset),
     }
 }

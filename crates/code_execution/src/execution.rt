@@ -1,7 +1,8 @@
 //! The execution of an image up to its heap.
 ghost use Rattle.cells.specs.Stops.{Stop as Stopped, stop_of as stop_read};
 ghost use Rattle.code_execution.specs.Decisions.{decided, growth_touch, is_simple, makes, refuses, uses_scope};
-ghost use Rattle.code_execution.specs.Plain.{ArePassed, EndsPlain, plain_run};
+ghost use Rattle.code_execution.specs.Holding.{RanWithin};
+ghost use Rattle.code_execution.specs.Plain.{EndsPlain};
 ghost use Rattle.code_execution.specs.Planning.{Plans, touch_planned};
 ghost use Rattle.code_execution.specs.Statuses.{allocated, core_of, followed};
 ghost use Rattle.code_form.specs.Code.{Frame, Running, Stuck, begins, code, effect, most_scopes, output_of, stop_of, is_blocked as is_blocked_in};
@@ -18,6 +19,7 @@ use crate::calls::Calls;
 use crate::fitting::image_fits;
 use crate::halt::Halt;
 use crate::hinted::Hinted;
+use crate::holder::Holder;
 use crate::plan::Plan;
 use cells::Stop;
 use code_form::{Block, Function, Image, Touch};
@@ -269,15 +271,23 @@ impl<'a> Execution<'a> {
     }
 
     /// Does instructions one after the other, each decided once, as long as they touch nothing and find no scope open that must be shut, at
-    /// most `limit`, and tells how many. One that tells a cell is passed where a hint of it tells nothing new, or nobody listens. It ends before
-    /// another one, which touches something or finds such a scope, one that stops the program or is stuck, and one to which memory is refused:
-    /// of that one nothing is done.
+    /// most `limit`, and tells how many. One that tells a cell is passed where a hint of it tells nothing new, or nobody listens, and one that aims or uses a scope
+    /// where that holds, at this seat, the piece that it wants. It ends before another one, which touches something or finds such a scope, one that stops the program or is
+    /// stuck, and one to which memory is refused: of that one nothing is done.
     #[inline(always)]
-    pub fn run_plain(&mut self, hinted: &Hinted, limit: u64) -> u64
+    pub fn run_plain<H: Holder>(
+        &mut self,
+        hinted: &Hinted,
+        holder: &H,
+        seat: &mut H::Seat,
+        limit: u64,
+    ) -> u64
+        requires may { H.may holder.now seat.old }
         ensures within { result ≤ limit }
-        ensures ran { self.new ≡ record self.old { core = plain_run self.old.image result self.old.core } }
-        ensures passed { ArePassed self.old.image result self.old.core }
+        ensures same { self.new ≡ record self.old { core = self.new.core } }
+        ensures ran { RanWithin (H.uses holder.now) self.old.image result self.old.core seat.old self.new.core seat.new }
         ensures ends { result < limit → EndsPlain self.new.image self.new.core }
+        ensures may { H.may holder.now seat.new }
     {
         match &mut self.status {
             Status::Running(calls) => {
@@ -287,6 +297,8 @@ impl<'a> Execution<'a> {
                     &self.allocations,
                     self.fits,
                     hinted,
+                    holder,
+                    seat,
                     &mut self.output,
                     limit,
                 )

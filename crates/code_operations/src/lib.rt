@@ -7,6 +7,7 @@ mod fits;
 mod layouts;
 mod operations;
 mod output;
+mod registers;
 mod results;
 mod values;
 
@@ -16,5 +17,6 @@ pub use fits::{callee_fits, operation_fits};
 pub use layouts::are_small;
 pub use operations::{Command, Operands};
 pub use output::Printed;
+pub use registers::{AnyRegisters, KnownRegisters, Registers, offset_in};
 pub use results::{Outcome, outcome_of};
-pub use values::{number, offset_in, text_of, value_in};
+pub use values::{number, text_of, value_in};

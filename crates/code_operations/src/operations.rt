@@ -13,8 +13,9 @@ use crate::allocations::Allocations;
 use crate::fault::Fault;
 use crate::fits::operation_fits;
 use crate::output::Printed;
+use crate::registers::{AnyRegisters, offset_in};
 use crate::results::{Outcome, outcome_of};
-use crate::values::{natural_of, number, offset_in, text_of, value_in};
+use crate::values::{natural_of, number, text_of, value_in};
 use code_form::{Allocation, Cell, Image, Kind, Operation, Touch};
 
 /// What a simple instruction is to do.
@@ -77,7 +78,10 @@ impl<'a, 'r> Operands<'a, 'r> {
     fn prefetch(&self, register: u32, offset: Option<u32>, displacement: u32) -> Command<'a>
         ensures { did_of result ≡ done_by self.now (form.Prefetch register offset displacement) }
     {
-        let start = offset_in(self.registers, offset);
+        let registers = AnyRegisters {
+            values: self.registers,
+        };
+        let start = offset_in(&registers, offset);
         Command::Tells(
             self.allocations
                 .cell(self.register(register), start, displacement),
@@ -187,8 +191,13 @@ impl<'a, 'r> Operands<'a, 'r> {
         requires { are_small (image_of self.now.image.now).head.layouts ≡ true }
         ensures { did_of result ≡ done_by self.now operation.now }
     {
-        match outcome_of(operation, self.registers, self.allocations) {
-            Outcome::Sets { to, value } => Command::Sets { to, value },
+        let registers = AnyRegisters {
+            values: self.registers,
+        };
+        match outcome_of(operation, &registers, self.allocations) {
+            Outcome::Sets { to, value } | Outcome::SetsScalar { to, value } => {
+                Command::Sets { to, value }
+            }
             Outcome::Goes => Command::Goes,
             Outcome::Other => self.does_more(operation),
         }

@@ -1,5 +1,5 @@
 //! Values in the cells of registers: numbers and texts.
-ghost use Rattle.code_form.specs.Code.{compares, int_of, natural, of_bool, of_int, offset as offset_of, text_at};
+ghost use Rattle.code_form.specs.Code.{compares, int_of, natural, of_bool, of_int, text_at};
 ghost use Rattle.code_form.specs.Form.{image_of};
 ghost use Rattle.std.specs.Prelude.{◌≡◌, MatchOption, None, Some, slice_index};
 
@@ -12,17 +12,6 @@ pub fn value_in(registers: &[u64], register: u32) -> u64
 {
     match registers.get(register as usize) {
         Some(value) => *value,
-        None => 0,
-    }
-}
-
-/// The offset that a register holds; 0 where none is named.
-#[inline(always)]
-pub fn offset_in(registers: &[u64], offset: Option<u32>) -> u64
-    ensures { result ≡ offset_of registers.now offset }
-{
-    match offset {
-        Some(register) => value_in(registers, register),
         None => 0,
     }
 }

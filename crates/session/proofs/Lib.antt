@@ -4,8 +4,9 @@ mod Laws
 mod Missing
 mod Opening
 mod Places
-mod Plainly
+mod Together
 mod Running
 mod Scaling
+mod Seated
 mod Ways
 mod Writing

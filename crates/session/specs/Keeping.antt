@@ -7,7 +7,6 @@ use Rattle.cells.specs.declared.ending.Run.TheVariants.{Running, Stopped, Wanted
 use Rattle.cells.specs.Pieces.{is_piece}
 use Rattle.cells.specs.Stops.{stop_of as stop_read}
 pub use Rattle.code_execution.specs.Decisions.{is_simple, uses_scope}
-use Rattle.code_execution.specs.Plain.{plain_run}
 use Rattle.code_form.specs.Effects.{upd}
 use Rattle.code_form.specs.Code.{effect, stop_of, is_blocked, most_scopes}
 use Rattle.code_form.specs.Placed.{pieces}
@@ -143,10 +142,6 @@ written s h i v = record s { view = with_note s.view h.object (added (note s.vie
 -- the instruction is done, whose load gave v
 abbrev pub finished : State → ℕ → State
 finished s v = record s { core = resumed (effect s.image s.core) s.core v; completed = s.completed + 1 }
-
--- n instructions are done, none of which loads
-abbrev pub ran_on : State → ℕ → State
-ran_on s n = record s { core = plain_run s.image n s.core; completed = s.completed + n }
 
 -- the allocation of n cells is done
 abbrev pub extended : State → ℕ → State

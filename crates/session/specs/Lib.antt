@@ -1,4 +1,5 @@
 pub mod Keeping
+pub mod Pieces
 pub mod State
 pub mod Stepping
 pub mod Following

@@ -6,6 +6,7 @@ mod following;
 mod hint_sender;
 mod hold;
 mod kinds;
+mod pieces;
 mod program;
 mod run;
 mod scale;

@@ -1,5 +1,4 @@
 //! A program with what its scopes hold, at one seat of a table: single steps, and those that keep the holds right.
-ghost use Rattle.code_execution.specs.Plain.{ArePassed};
 ghost use Rattle.code_execution.specs.Planning.{Plans, touch_planned};
 ghost use Rattle.code_form.specs.Code.{effect, is_blocked as is_blocked_in, most_scopes, output_of, stop_of};
 ghost use Rattle.code_form.specs.Form.{image_of};
@@ -8,16 +7,19 @@ ghost use Rattle.code_form.specs.Placed.{pieces as pieces_of};
 ghost use Rattle.code_form.specs.Touches.{IsCell, IsCellOrNone, IsWithin, resumed};
 ghost use Rattle.code_form.specs.declared.touch.Touch.TheVariants.{Allocs, Ends, Plain};
 ghost use Rattle.cells.specs.Stops.{stop_of as stop_read};
-ghost use Rattle.session.specs.Keeping.{Changes, Closes, Fails, HasWriter, Holds, HoldsObject, IsHolding, IsNext, cleared, count_of, extended, finished, first_of, has_object, is_simple, Misses, ran_on, shut, shut_at, uses_scope, wants, written};
+ghost use Rattle.session.specs.Keeping.{Changes, Closes, Fails, HasWriter, Holds, HoldsObject, IsHolding, IsNext, cleared, count_of, extended, finished, first_of, has_object, is_simple, Misses, shut, shut_at, uses_scope, wants, written};
+ghost use Rattle.session.specs.Pieces.{RanHeld};
 ghost use Rattle.session.specs.State.{AllShut, Matches, State, begin, hold_at, latest_in, next_touch, object_of};
 ghost use Rattle.object_moves.specs.Taken.{IsQuiet};
 ghost use Rattle.object_lock.specs.SeatViews.{IsSeat};
-ghost use Rattle.object_lock.specs.Seats.{Owns, note};
+ghost use Rattle.object_lock.specs.Seats.{Owns, note, with_note};
+ghost use Rattle.pointer_word.specs.Hands.{added};
 ghost use Rattle.std.specs.Prelude.{◌≡◌, ◌≢◌, ◌⊎◌, ◌+◌, ◌-◌, ◌/◌, ◌%◌, ◌<◌, ◌≤◌, ◌^◌, ℕ, IfOk, MatchBool, MatchOption, MatchResult, None, Some, false, length, option_map, slice_index, true};
 
 use crate::counts::Counts;
 use crate::hint_sender::HintSender;
 use crate::hold::Hold;
+use crate::pieces::HeldPieces;
 use crate::scale::Scale;
 use cells::{Stop, Want};
 use code_execution::{Execution, Hinted, Plan};
@@ -28,7 +30,7 @@ use object_moves::{Moves, take};
 use pointer_word::{Word, WordState};
 use remote_store::{RawStore, Refusals};
 use std::alloc::{AllocError, Global};
-use std::marker::Model;
+use std::marker::{Model, PhantomData};
 use std::sync::Wait;
 
 /// A program with what its scopes hold, at one seat of a table.
@@ -365,16 +367,35 @@ impl<'a, S: RawStore> SeatedProgram<'a, S> {
         Ok(())
     }
 
-    /// Does instructions one after the other, as long as they touch nothing, or tell a cell of which a hint would tell nothing new, and find no
-    /// scope open that must be shut, at most `limit`, and tells how many.
+    /// Does instructions one after the other, as long as they touch nothing, tell a cell of which a hint would tell nothing new, or aim or use a scope that holds the
+    /// piece which it wants, and find no scope open that must be shut, at most `limit`, and tells how many.
     #[inline(always)]
     pub(crate) fn proceed_plainly(&mut self, limit: u64) -> u64
+        requires holding { IsHolding self.old }
         requires room { self.old.completed + limit < 2 ^ 64 }
         ensures within { result ≤ limit }
-        ensures ran { self.new ≡ ran_on self.old result }
-        ensures passed { ArePassed self.old.image result self.old.core }
+        ensures ran { RanHeld S.honest result self.old self.new }
     {
-        let done = self.execution.run_plain(&self.hinted, limit);
+        let table = self.table;
+        let load = |seat: &mut OwnerSeat<S>, object: usize, frame: usize, index: usize| -> u64
+            requires { IsSeat table.now seat.old × ((frame < table.now.sizes.frames) × (index < table.now.sizes.cells)) × (Owns seat.old.view object × ((note seat.old.view object).frame ≡ Some frame)) }
+            ensures { (seat.new ≡ seat.old) × (S.honest → result ≡ latest_in seat.old.view object index) }
+        { table.load(seat, object, frame, index) };
+        let store = |seat: &mut OwnerSeat<S>, object: usize, frame: usize, index: usize, value: u64|
+            requires { IsSeat table.now seat.old × ((frame < table.now.sizes.frames) × (index < table.now.sizes.cells)) × (Owns seat.old.view object × ((note seat.old.view object).frame ≡ Some frame) × ((note seat.old.view object).writing ≡ true)) }
+            ensures { IsSeat table.entry.now seat.new × (seat.new ≡ record seat.old { view = with_note seat.old.view object (added (note seat.old.view object) index value) }) }
+        { table.store(seat, object, frame, index, value) };
+        let held = HeldPieces {
+            scale: self.scale,
+            holds: &self.holds,
+            firsts: &self.firsts,
+            load: &load,
+            store: &store,
+            seats: PhantomData,
+        };
+        let done = self
+            .execution
+            .run_plain(&self.hinted, &held, &mut self.owner, limit);
         self.completed += done;
         done
     }
