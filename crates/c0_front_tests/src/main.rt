@@ -1,6 +1,6 @@
-//! Goes through rows of texts: their tokens, whether they are read or accepted, what is printed of them, their typed trees; and of tables of names. What
-//! is told of each text must be what stands beside it. Before each file's name stands what is asked of its texts: `tokens`, `kinds`, `count`, `read`,
-//! `read-loops`, `print`, `print-again`, `check`, `check-loops` or `typed`. Two questions are put to tables of names: `numbers`, where a text is a line
+//! Goes through rows of texts: their tokens, whether they are read or accepted, what is printed of them, their trees; and of tables of names. What is
+//! told of each text must be what stands beside it. Before each file's name stands what is asked of its texts: `tokens`, `kinds`, `count`, `read`,
+//! `read-loops`, `print`, `print-again`, `tree`, `shapes`, `check`, `check-loops` or `typed`. Two questions are put to tables of names: `numbers`, where a text is a line
 //! of names and a line of those that are looked for among them, and `pointer`, where it is the name of a type that stands for `int`, and a name. Each row
 //! of which something else is told is shown, and then how many rows there were; the status is 1 where one was shown.
 #![tactic(auto)]
@@ -8,6 +8,7 @@
 mod repeats;
 mod tables;
 mod tell;
+mod trees;
 
 use crate::repeats::expanded;
 use crate::tell::{Question, tell};

@@ -1,6 +1,7 @@
 //! What is told of a text.
 
 use crate::tables::{numbered, pointer};
+use crate::trees::{shapes, tree};
 use c0_front::{check_text, read_text};
 use c0_lexer::lex::lex;
 use c0_source::fault::Fault;
@@ -27,6 +28,10 @@ pub enum Question {
     Print,
     /// Whether what is printed so is printed of itself.
     PrintAgain,
+    /// The tree that it reads as, with the places of its parts.
+    Tree,
+    /// Of the expressions that it returns, which operand has an operator of its own.
+    Shapes,
     /// Whether it is a well-typed program.
     Check,
     /// The same, where loops may be left so.
@@ -50,6 +55,8 @@ impl Question {
             "read-loops" => Some(Question::ReadLoops),
             "print" => Some(Question::Print),
             "print-again" => Some(Question::PrintAgain),
+            "tree" => Some(Question::Tree),
+            "shapes" => Some(Question::Shapes),
             "check" => Some(Question::Check),
             "check-loops" => Some(Question::CheckLoops),
             "typed" => Some(Question::Typed),
@@ -131,6 +138,8 @@ fn answer(alloc: Global, question: Question, text: &[u8]) -> Result<Vec<u8>, Fau
         }
         Question::Print => printed(alloc, text),
         Question::PrintAgain => printed_again(alloc, text),
+        Question::Tree => tree(alloc, text),
+        Question::Shapes => shapes(alloc, text),
         Question::Check => {
             check_text(alloc, text, Level::C0)?;
             accepted(alloc)
