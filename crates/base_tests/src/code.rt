@@ -55,6 +55,9 @@ fn single(words: &[&str]) -> Option<ScopedCode> {
         }),
         ["leave", scope] => Some(ScopedCode::Leave(scope.parse().ok()?)),
         ["exit", depth] => Some(ScopedCode::Exit(depth.parse().ok()?)),
+        ["fail", text] => Some(ScopedCode::Fail {
+            text: text.parse().ok()?,
+        }),
         _ => simple(words).map(ScopedCode::Do),
     }
 }
