@@ -1,0 +1,5 @@
+mod Ready
+mod Fetching
+mod Seizing
+mod Ending
+mod Instructions
