@@ -1,6 +1,6 @@
 -- Visits, one behind the other, and what an owner did by which it came to an object.
 use Rattle.std.proofs.Common.{◌≡◌, ℕ, List, [], ◌∷◌, ◌++◌, append_assoc, refl, sym, ap, ◌∙◌}
-use Rattle.std.specs.Prelude.{Option, Some, None}
+use Rattle.std.specs.Prelude.{MatchResult, Option, Some, None, Result, Ok, Err}
 use Rattle.pointer_word.specs.Hands.{Hand, Move, Began, Claimed, Arrived, Unclaimed, Retreated, Marked, Aborted, leaving, marking, releasing}
 use Rattle.object_moves.specs.declared.moved.Moved.{Moved}
 use Rattle.object_moves.specs.declared.moved.Moved.TheVariants as M
@@ -128,3 +128,9 @@ comes_so o r before between after e x = record { way = x.way; leads = x.leads; d
 
 pub comes_and_stays : (o : ℕ) (r : Option ℕ) (before between after : List Move) → Comes o r before between → after ≡ between → Comes o r before after
 comes_and_stays o r before between after x e = record { way = x.way; leads = x.leads; did = e ∙ x.did }
+
+-- room was made, and then more, or the store refused a put
+pub room_or_lack : {A E : Type 0} (r : Result A E) (before between after : List Move) → MakesRoom before between → MatchResult r (λ _. MakesRoom between after) (λ _. LacksRoom between after)
+    → MatchResult r (λ _. MakesRoom before after) (λ _. LacksRoom before after)
+room_or_lack (Ok x) before between after a b = room_both before between after a b
+room_or_lack (Err x) before between after a b = lacks_behind before between after a b
