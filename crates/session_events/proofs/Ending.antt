@@ -1,5 +1,5 @@
 -- The events by which all scopes are shut, before a stop.
-use Rattle.std.proofs.Common.{◌≡◌, ◌≢◌, ℕ, zero, suc, ◌+◌, ◌<◌, ◌≤◌, List, [], ◌∷◌, length, map, refl, sym, ap, ◌∙◌, subst, inl, inr, arith}
+use Rattle.std.proofs.Common.{◌≡◌, ◌≢◌, ℕ, true, zero, suc, ◌+◌, ◌<◌, ◌≤◌, List, [], ◌∷◌, length, map, refl, sym, ap, ◌∙◌, subst, inl, inr, arith}
 use Rattle.std.specs.Prelude.{Option, Some, None}
 use Rattle.std.proofs.lemmas.Bool.Decides.{eqb_tells}
 use Rattle.std.proofs.lemmas.List.{get_or-set_same, get_or-set_other, length-set}
@@ -17,7 +17,7 @@ use Rattle.world_semantics.specs.Programs.{Setting, behind, finished, first_hold
 use Rattle.world_semantics.specs.Turns.{ends_by}
 use Rattle.session_events.specs.Knowing.{Known}
 use Rattle.session_events.specs.Laws.{IsKnown, hold_seen, program_of}
-use Rattle.session_events.proofs.Ready.{IsReady, alone, answers}
+use Rattle.session_events.proofs.Ready.{IsReady, alone, answers, with_closed}
 use Rattle.session_events.proofs.Seizing.{ComesTo, at_last, before, closed_then, finished_is, ready_of}
 
 -- ---- the lowest scope that holds something
@@ -68,6 +68,13 @@ shut_others : (s : session.State) (k i : ℕ) (x : Option own.Hold) → i ≢ k 
 shut_others s k i None ne = refl
 shut_others s k i (Some h) ne = get_or-set_other s.holds k i None None ne
 
+-- one scope more holds nothing
+freed : (u : session.State) (j : ℕ) (x : Option own.Hold) → j < length u.holds → ((k : ℕ) → k < j → session.hold_at u.holds k ≡ None) → session.hold_at u.holds j ≡ x → (k : ℕ) → k < suc j → session.hold_at (shut_at u j x).holds k ≡ None
+freed u j x low free d k l = elim (eqb_tells k j) [
+  | inl q ↦ ap (session.hold_at (shut_at u j x).holds) q.1 ∙ shut_none u j x low d
+  | inr q ↦ shut_others u j k x q.1 ∙ free k (let ne = q.1 in omega arith)
+]
+
 -- ---- all scopes
 
 module _ (g : Setting) (s t : session.State) (r : IsReady g (ready_of s) touch.Ends) (image : g.image ≡ s.image) (none : s.want ≡ None) (e : t ≡ keeping.finished (shut_all s) 0) where
@@ -85,36 +92,27 @@ module _ (g : Setting) (s t : session.State) (r : IsReady g (ready_of s) touch.E
       (λ l goes. alone g (ready_of u) (finished g (ready_of u) 0) (program_of t) n l 0 touch.Ends (ready_along g s u touch.Ends a.core r)
         (ap (ends_by g (ready_of u) (answers true)) (first_none u.holds (λ k l. free k (omega arith)))) goes)
       (at_last g (finished g (ready_of u) 0) n t (ap program_of done ∙ sym (finished_is g u 0 (a.want ∙ none) (image ∙ sym a.image))) (subst (λ (y : session.State). IsKnown y.view n) (sym done) is))
-  shuts_on (suc i) j n h ok free is = by_hold (session.hold_at (shut_first j s).holds j) refl
+  shuts_on (suc i) j n h ok free is = by_hold (λ m. shuts_on i (suc j) m (omega (arith, h))) (session.hold_at (shut_first j s).holds j) refl
     where
-      u : session.State
-      u = shut_first j s
-
-      low : j < length u.holds
-      unfolding u
-      low = let many = (first_stays j s).many in omega (arith, h)
-
-      freed : (x : Option own.Hold) → session.hold_at u.holds j ≡ x → (k : ℕ) → k < suc j → session.hold_at (shut_at u j x).holds k ≡ None
-      unfolding u low
-      freed x d k l = elim (eqb_tells k j) [
-        | inl q ↦ ap (session.hold_at (shut_at u j x).holds) q.1 ∙ shut_none u j x low d
-        | inr q ↦ shut_others u j k x q.1 ∙ free k (let ne = q.1 in omega arith)
-      ]
-
-      by_hold : (x : Option own.Hold) → session.hold_at u.holds j ≡ x → ComesTo g (ready_of u) n t
-      unfolding u low freed
-      by_hold None d =
+      by_hold : ((m : Known) → IsHolding (shut_first (suc j) s) → ((k : ℕ) → k < suc j → session.hold_at (shut_first (suc j) s).holds k ≡ None) → IsKnown (shut_first (suc j) s).view m → ComesTo g (ready_of (shut_first (suc j) s)) m t)
+          → (x : Option own.Hold) → session.hold_at (shut_first j s).holds j ≡ x → ComesTo g (ready_of (shut_first j s)) n t
+      by_hold on None d =
+          let u : session.State = shut_first j s in
+          let low : j < length u.holds = let many = (first_stays j s).many in omega (arith, h) in
           let same : shut_first (suc j) s ≡ u = ap (shut_at u j) d in
           subst (λ (y : session.State). ComesTo g (ready_of y) n t) same
-          (shuts_on i (suc j) n (omega (arith, h)) (subst IsHolding (sym same) ok)
-          (λ k l. ap (λ (y : session.State). session.hold_at y.holds k) same ∙ freed None d k l) (subst (λ (y : session.State). IsKnown y.view n) (sym same) is))
-      by_hold (Some x) d =
-          let same : shut_first (suc j) s ≡ shut_at u j (Some x) = ap (shut_at u j) d in
-          let a = first_stays j s in
-          closed_then g u t n j x touch.Ends (ready_along g s u touch.Ends a.core r) ok d is (λ m. ap (ends_by g (ready_of u) (answers true)) (first_some u.holds j x free d))
-          (λ known. subst (λ (y : session.State). ComesTo g (ready_of y) _ t) same
-            (shuts_on i (suc j) _ (omega (arith, h)) (subst IsHolding (sym same) (holding_shut u j (Some x) d ok low))
-            (λ k l. ap (λ (y : session.State). session.hold_at y.holds k) same ∙ freed (Some x) d k l) (subst (λ (y : session.State). IsKnown y.view _) (sym same) known)))
+          (on n (subst IsHolding (sym same) ok)
+          (λ k l. ap (λ (y : session.State). session.hold_at y.holds k) same ∙ freed u j None low free d k l) (subst (λ (y : session.State). IsKnown y.view n) (sym same) is))
+      by_hold on (Some x) d =
+          let u : session.State = shut_first j s in
+          let v : session.State = shut_at u j (Some x) in
+          let low : j < length u.holds = let many = (first_stays j s).many in omega (arith, h) in
+          let same : shut_first (suc j) s ≡ v = ap (shut_at u j) d in
+          let m : Known = with_closed n x.object in
+          closed_then g u t n j x touch.Ends (ready_along g s u touch.Ends (first_stays j s).core r) ok d is (λ y. ap (ends_by g (ready_of u) (answers true)) (first_some u.holds j x free d))
+          (λ known. subst (λ (y : session.State). ComesTo g (ready_of y) m t) same
+            (on m (subst IsHolding (sym same) (holding_shut u j (Some x) d ok low))
+            (λ k l. ap (λ (y : session.State). session.hold_at y.holds k) same ∙ freed u j (Some x) low free d k l) (subst (λ (y : session.State). IsKnown y.view m) (sym same) known)))
 
   pub shuts_all : (n : Known) → IsHolding s → IsKnown s.view n → ComesTo g (ready_of s) n t
   shuts_all n ok is = shuts_on (length s.holds) 0 n (omega arith) ok (λ k l. absurd (omega arith)) is

@@ -22,6 +22,46 @@ use Rattle.session_events.proofs.Ready.{Reaches, answers, stage, step, upd_same,
 abbrev pub HasOnly : ℕ → Hand → Type 0
 HasOnly o x = (x.bringing ≡ Some o) × (x.leaving ≡ None) × (x.claimed ≡ None) × (x.freed ≡ None)
 
+-- the hand behind a visit at which the store refused nothing
+abbrev pub behind_visit : ℕ → Hand → Visit → Hand
+behind_visit n x (MovesOut v f M.Left) = releasing (committing (after_copies x v f n) f)
+behind_visit n x (MovesOut v f M.Stayed) = aborting (after_copies x v f n)
+behind_visit n x (MovesOut v f M.Failed) = x
+behind_visit n x (LetsLeave f) = releasing (leaving x f)
+
+-- the hand behind some visits
+abbrev pub behind_visits : ℕ → Hand → List Visit → Hand
+behind_visits n x [] = x
+behind_visits n x (v ∷ vs) = behind_visits n (behind_visit n x v) vs
+
+pub still_only : (n o : ℕ) (vs : List Visit) (x : Hand) → AreServed vs → HasOnly o x → HasOnly o (behind_visits n x vs)
+still_only n o [] x served h = h
+still_only n o (MovesOut v f M.Left ∷ vs) x served h = still_only n o vs (behind_visit n x (MovesOut v f M.Left)) served (h.0, refl, h.2, refl)
+still_only n o (MovesOut v f M.Stayed ∷ vs) x served h = still_only n o vs (behind_visit n x (MovesOut v f M.Stayed)) served (h.0, refl, h.2, h.3)
+still_only n o (MovesOut v f M.Failed ∷ vs) x served h = absurd served
+still_only n o (LetsLeave f ∷ vs) x served h = still_only n o vs (behind_visit n x (LetsLeave f)) served (h.0, h.1, h.2, refl)
+
+past_visit : (n : ℕ) (x : Hand) (v : Visit) (vs : List Visit) → AreServed (v ∷ vs) → (behind_visit n x v).past ≡ x.past ++ moves_at v
+past_visit n x (MovesOut v f M.Left) vs served = append_assoc (x.past ++ _) _ _ ∙ append_assoc x.past _ _
+past_visit n x (MovesOut v f M.Stayed) vs served = append_assoc x.past _ _
+past_visit n x (MovesOut v f M.Failed) vs served = absurd served
+past_visit n x (LetsLeave f) vs served = append_assoc x.past _ _
+
+rest_served : (v : Visit) (vs : List Visit) → AreServed (v ∷ vs) → AreServed vs
+rest_served (MovesOut v f M.Left) vs served = served
+rest_served (MovesOut v f M.Stayed) vs served = served
+rest_served (MovesOut v f M.Failed) vs served = absurd served
+rest_served (LetsLeave f) vs served = served
+
+pub past_visits : (n : ℕ) (vs : List Visit) (x : Hand) → AreServed vs → (behind_visits n x vs).past ≡ x.past ++ moves_in vs
+past_visits n [] x served = nothing_more x.past
+past_visits n (v ∷ vs) x served =
+    past_visits n vs (behind_visit n x v) (rest_served v vs served) ∙ ap (λ ms. ms ++ moves_in vs) (past_visit n x v vs served) ∙ append_assoc x.past (moves_at v) (moves_in vs)
+
+-- what is known of the object that was brought into the frame
+abbrev pub with_arrived : Setting → ℕ → Known → Hand → ℕ → Known
+with_arrived g o k x f = record { hand = arriving (filled_with (claiming x f) g.size); notes = upd k.notes o (told (k.notes o) (Some f)) }
+
 module _ (g : Setting) (p : Program) (o : ℕ) where
   -- ---- it begins
 
@@ -95,14 +135,7 @@ module _ (g : Setting) (p : Program) (o : ℕ) where
       step g (in_mode p (Bringing o)) (in_mode p (Evicting o (Copying v f []))) q k (with_hand k (after_copies k.hand v f 0)) l s (after_mark s g.mover v f) (choice.Mark v f) (answers true)
       refl refl (marks_at k v f h) (upd_same s.hand g.mover (marking k.hand v f)) refl (copies_on k l q v f g.size 0 (omega arith) goes)
 
-  -- the hand behind a visit at which the store refused nothing
-  abbrev pub behind_visit : Hand → Visit → Hand
-  behind_visit x (MovesOut v f M.Left) = releasing (committing (after_copies x v f g.size) f)
-  behind_visit x (MovesOut v f M.Stayed) = aborting (after_copies x v f g.size)
-  behind_visit x (MovesOut v f M.Failed) = x
-  behind_visit x (LetsLeave f) = releasing (leaving x f)
-
-  left_then : (k l : Known) (q : Program) (v f : ℕ) → HasOnly o k.hand → Reaches g (in_mode p (Bringing o)) (with_hand k (behind_visit k.hand (MovesOut v f M.Left))) q l → Reaches g (in_mode p (Bringing o)) k q l
+  left_then : (k l : Known) (q : Program) (v f : ℕ) → HasOnly o k.hand → Reaches g (in_mode p (Bringing o)) (with_hand k (behind_visit g.size k.hand (MovesOut v f M.Left))) q l → Reaches g (in_mode p (Bringing o)) k q l
   left_then k l q v f h goes =
       let x : Hand = after_copies k.hand v f g.size in
       let y : Known = with_hand k x in
@@ -119,7 +152,7 @@ module _ (g : Setting) (p : Program) (o : ℕ) where
       (step g (in_mode p (Evicting o (Freed f))) (in_mode p (Bringing o)) q w z l freed (after_release freed g.mover f) choice.Next (answers true)
       refl refl (releases_at w f refl) (upd_same freed.hand g.mover (releasing (committing x f))) refl goes)))
 
-  stayed_then : (k l : Known) (q : Program) (v f : ℕ) → HasOnly o k.hand → Reaches g (in_mode p (Bringing o)) (with_hand k (behind_visit k.hand (MovesOut v f M.Stayed))) q l → Reaches g (in_mode p (Bringing o)) k q l
+  stayed_then : (k l : Known) (q : Program) (v f : ℕ) → HasOnly o k.hand → Reaches g (in_mode p (Bringing o)) (with_hand k (behind_visit g.size k.hand (MovesOut v f M.Stayed))) q l → Reaches g (in_mode p (Bringing o)) k q l
   stayed_then k l q v f h goes =
       let x : Hand = after_copies k.hand v f g.size in
       let y : Known = with_hand k x in
@@ -134,7 +167,7 @@ module _ (g : Setting) (p : Program) (o : ℕ) where
       (step g (in_mode p (Evicting o (Refused v f))) (in_mode p (Bringing o)) q y z l copied (after_abort copied g.mover v f) choice.Next (answers true)
       refl refl (aborts_at y v f refl refl) (upd_same copied.hand g.mover (aborting x)) refl goes)))
 
-  clean_then : (k l : Known) (q : Program) (f : ℕ) → HasOnly o k.hand → Reaches g (in_mode p (Bringing o)) (with_hand k (behind_visit k.hand (LetsLeave f))) q l → Reaches g (in_mode p (Bringing o)) k q l
+  clean_then : (k l : Known) (q : Program) (f : ℕ) → HasOnly o k.hand → Reaches g (in_mode p (Bringing o)) (with_hand k (behind_visit g.size k.hand (LetsLeave f))) q l → Reaches g (in_mode p (Bringing o)) k q l
   clean_then k l q f h goes =
       let w : Known = with_hand k (leaving k.hand f) in
       let z : Known = with_hand k (releasing (leaving k.hand f)) in
@@ -145,44 +178,15 @@ module _ (g : Setting) (p : Program) (o : ℕ) where
       (step g (in_mode p (Evicting o (Freed f))) (in_mode p (Bringing o)) q w z l freed (after_release freed g.mover f) choice.Next (answers true)
       refl refl (releases_at w f refl) (upd_same freed.hand g.mover (releasing (leaving k.hand f))) refl goes)
 
-  -- the hand behind some visits
-  abbrev pub behind_visits : Hand → List Visit → Hand
-  behind_visits x [] = x
-  behind_visits x (v ∷ vs) = behind_visits (behind_visit x v) vs
-
-  pub visited_then : (vs : List Visit) (k l : Known) (q : Program) → AreServed vs → HasOnly o k.hand → Reaches g (in_mode p (Bringing o)) (with_hand k (behind_visits k.hand vs)) q l → Reaches g (in_mode p (Bringing o)) k q l
+  pub visited_then : (vs : List Visit) (k l : Known) (q : Program) → AreServed vs → HasOnly o k.hand → Reaches g (in_mode p (Bringing o)) (with_hand k (behind_visits g.size k.hand vs)) q l → Reaches g (in_mode p (Bringing o)) k q l
   visited_then [] k l q served h goes = goes
   visited_then (MovesOut v f M.Left ∷ vs) k l q served h goes =
-      let x : Hand = behind_visit k.hand (MovesOut v f M.Left) in left_then k l q v f h (visited_then vs (with_hand k x) l q served (h.0, refl, h.2, refl) goes)
+      let x : Hand = behind_visit g.size k.hand (MovesOut v f M.Left) in left_then k l q v f h (visited_then vs (with_hand k x) l q served (h.0, refl, h.2, refl) goes)
   visited_then (MovesOut v f M.Stayed ∷ vs) k l q served h goes =
-      let x : Hand = behind_visit k.hand (MovesOut v f M.Stayed) in stayed_then k l q v f h (visited_then vs (with_hand k x) l q served (h.0, refl, h.2, h.3) goes)
+      let x : Hand = behind_visit g.size k.hand (MovesOut v f M.Stayed) in stayed_then k l q v f h (visited_then vs (with_hand k x) l q served (h.0, refl, h.2, h.3) goes)
   visited_then (MovesOut v f M.Failed ∷ vs) k l q served h goes = absurd served
   visited_then (LetsLeave f ∷ vs) k l q served h goes =
-      let x : Hand = behind_visit k.hand (LetsLeave f) in clean_then k l q f h (visited_then vs (with_hand k x) l q served (h.0, h.1, h.2, refl) goes)
-
-  pub still_only : (vs : List Visit) (x : Hand) → AreServed vs → HasOnly o x → HasOnly o (behind_visits x vs)
-  still_only [] x served h = h
-  still_only (MovesOut v f M.Left ∷ vs) x served h = still_only vs (behind_visit x (MovesOut v f M.Left)) served (h.0, refl, h.2, refl)
-  still_only (MovesOut v f M.Stayed ∷ vs) x served h = still_only vs (behind_visit x (MovesOut v f M.Stayed)) served (h.0, refl, h.2, h.3)
-  still_only (MovesOut v f M.Failed ∷ vs) x served h = absurd served
-  still_only (LetsLeave f ∷ vs) x served h = still_only vs (behind_visit x (LetsLeave f)) served (h.0, h.1, h.2, refl)
-
-  past_visit : (x : Hand) (v : Visit) (vs : List Visit) → AreServed (v ∷ vs) → (behind_visit x v).past ≡ x.past ++ moves_at v
-  past_visit x (MovesOut v f M.Left) vs served = append_assoc (x.past ++ _) _ _ ∙ append_assoc x.past _ _
-  past_visit x (MovesOut v f M.Stayed) vs served = append_assoc x.past _ _
-  past_visit x (MovesOut v f M.Failed) vs served = absurd served
-  past_visit x (LetsLeave f) vs served = append_assoc x.past _ _
-
-  rest_served : (v : Visit) (vs : List Visit) → AreServed (v ∷ vs) → AreServed vs
-  rest_served (MovesOut v f M.Left) vs served = served
-  rest_served (MovesOut v f M.Stayed) vs served = served
-  rest_served (MovesOut v f M.Failed) vs served = absurd served
-  rest_served (LetsLeave f) vs served = served
-
-  pub past_visits : (vs : List Visit) (x : Hand) → AreServed vs → (behind_visits x vs).past ≡ x.past ++ moves_in vs
-  past_visits [] x served = nothing_more x.past
-  past_visits (v ∷ vs) x served =
-      past_visits vs (behind_visit x v) (rest_served v vs served) ∙ ap (λ ms. ms ++ moves_in vs) (past_visit x v vs served) ∙ append_assoc x.past (moves_at v) (moves_in vs)
+      let x : Hand = behind_visit g.size k.hand (LetsLeave f) in clean_then k l q f h (visited_then vs (with_hand k x) l q served (h.0, h.1, h.2, refl) goes)
 
   -- ---- it claims a frame, fills it, and arrives
 
@@ -209,15 +213,11 @@ module _ (g : Setting) (p : Program) (o : ℕ) where
       step g (in_mode p (Filling o f [] j)) (in_mode p (Filling o f [] (suc j))) q y (with_hand k (filled_with k.hand (suc j))) l s (after_fill s g.mover f j 0) choice.Next (answers true)
       refl refl (fills_at y f j (omega (arith, h)) c) (upd_same s.hand g.mover (filling y.hand j 0)) refl (fills_on k l q f i (suc j) c (omega (arith, h)) goes)
 
-  -- what is known of the object that was brought into the frame
-  abbrev pub with_arrived : Known → Hand → ℕ → Known
-  with_arrived k x f = record { hand = arriving (filled_with (claiming x f) g.size); notes = upd k.notes o (told (k.notes o) (Some f)) }
-
   told_there : (k : Known) (f : ℕ) → let s : State = stage (counted 0 (Coming g.mover)) Never 0 k in
       (after_told (after_arrive s g.mover o f) o).note ≡ upd k.notes o (told (k.notes o) (Some f))
   told_there k f = ap (λ (w : Word). upd k.notes o (told (k.notes o) (framed w.place))) (upd_same (λ _. counted 0 (Coming g.mover)) o (counted 0 (Here f true)))
 
-  pub arrived_then : (k l : Known) (q : Program) (f : ℕ) → HasOnly o k.hand → 0 < (k.notes o).count → Reaches g (finished g p 0) (with_arrived k k.hand f) q l → Reaches g (in_mode p (Bringing o)) k q l
+  pub arrived_then : (k l : Known) (q : Program) (f : ℕ) → HasOnly o k.hand → 0 < (k.notes o).count → Reaches g (finished g p 0) (with_arrived g o k k.hand f) q l → Reaches g (in_mode p (Bringing o)) k q l
   arrived_then k l q f h some goes =
       let x : Hand = claiming k.hand f in
       let y : Known = with_hand k x in
@@ -227,5 +227,5 @@ module _ (g : Setting) (p : Program) (o : ℕ) where
       step g (in_mode p (Bringing o)) (in_mode p (Filling o f [] 0)) q k (with_hand k (filled_with x 0)) l coming (after_claim coming g.mover o f) (choice.Claim f) (answers true)
       refl refl (claims_at k f h.2) (upd_same coming.hand g.mover x) refl
       (fills_on y l q f g.size 0 refl (omega arith)
-      (step g (in_mode p (Filling o f [] g.size)) (finished g p 0) q z (with_arrived k k.hand f) l full (after_told (after_arrive full g.mover o f) o) choice.Next (answers true)
+      (step g (in_mode p (Filling o f [] g.size)) (finished g p 0) q z (with_arrived g o k k.hand f) l full (after_told (after_arrive full g.mover o f) o) choice.Next (answers true)
       refl refl (arrives_at z f h.0 refl (pairs_filled x g.size g.size (omega arith)) some) (upd_same full.hand g.mover (arriving (filled_with x g.size))) (told_there z f) goes))

@@ -24,7 +24,8 @@ use Rattle.session.specs.State as session
 use Rattle.session.proofs.Holding.{hold_counts, holding_shut, owned_here}
 use Rattle.session.proofs.Places.{next_is}
 use Rattle.session.proofs.Writing.{may_open}
-use Rattle.world_semantics.specs.Programs.{Hold, Program, Setting, Wanted, finished, in_mode, object_of}
+use Rattle.world_semantics.specs.declared.hold.Hold.{Hold}
+use Rattle.world_semantics.specs.Programs.{Program, Setting, Wanted, finished, in_mode, object_of}
 use Rattle.world_semantics.specs.Turns.{Alone, Calls, grows, program_turn, ready, stores_to, taken}
 use Rattle.mover_events.specs.Going.{Event}
 use Rattle.session_events.specs.Knowing.{Goes, Known, learned}
@@ -32,6 +33,10 @@ use Rattle.session_events.specs.Laws.{DoesByEvents, IsKnown, hold_seen, program_
 use Rattle.session_events.proofs.Ready.{IsReady, aims_elsewhere, aims_held, aims_turn, alone, answers, clearing, closing, leaves_turn, loads_turn, stage, store_or_clear, stores_turn, storing, upd_same, with_closed, with_note}
 use Rattle.session_events.proofs.Seizing.{ComesTo, at_last, before, behind_taking, closed_then, finished_is, going_is, holding_seen, known_noted, known_taken, ready_of, seen_at, took_then}
 use Rattle.session_events.proofs.Ending.{ready_along, shuts_all}
+
+-- a state that the seat's knowledge makes, whose cells are 0
+abbrev at_rest : Known → State
+at_rest n = stage (counted 0 Away) Never 0 n
 
 -- the instruction is done at u, by events that led there
 done_at : (g : Setting) (u t : session.State) (v : ℕ) (n : Known) → u.want ≡ None → g.image ≡ u.image → t ≡ keeping.finished u v → IsKnown u.view n → ComesTo g (finished g (ready_of u) v) n t
@@ -58,7 +63,7 @@ aims_at_none : (g : Setting) (s t : session.State) (k : ℕ) (n : Known) → let
     → t ≡ keeping.finished s 0 → IsKnown s.view n → ComesTo g (ready_of s) n t
 aims_at_none g s t k n r low none image e done is =
     alone_at g s t 0 n (touch.Aims k None) r none image done is
-    (aims_turn g _ (ready_of s) (answers true) k None None None (omega (arith, length-map hold_seen s.holds)) (seen_at s.holds k ∙ ap hold_seen e) refl)
+    (aims_turn g (at_rest n) (ready_of s) (answers true) k None None None (omega (arith, length-map s.holds hold_seen)) (seen_at s.holds k ∙ ap hold_seen e) refl)
 
 -- a scope that holds nothing takes the object of the cell
 takes_object : (g : Setting) (s u t : session.State) (k : ℕ) (a : Cell) (n : Known) → let x = touch.Aims k (Some a) in let o = object_of g (ready_of s) a in IsReady g (ready_of s) x → k < length s.holds → s.want ≡ None → g.image ≡ s.image
@@ -73,10 +78,10 @@ takes_object g s u t k a n r low none image free ok own h done is =
     let v : session.State = record s { holds = slice_set s.holds k (Some (a_hold o f false)); view = u.view } in
     let known = known_taken g s.view u.view n o f w h.came.leads (owned_here s o ok own) is h.takes.notes h.takes.low h.takes.high h.came.did own in
     took_then g s t n k o f u.view x w r h.came.leads is count
-    (λ m. aims_turn g m (ready_of s) (answers true) k (Some a) None (Some o) (omega (arith, length-map hold_seen s.holds)) (seen_at s.holds k ∙ ap hold_seen free) refl)
+    (λ m. aims_turn g m (ready_of s) (answers true) k (Some a) None (Some o) (omega (arith, length-map s.holds hold_seen)) (seen_at s.holds k ∙ ap hold_seen free) refl)
     (done_at g v t 0 (behind_taking g n o w f) none image (done ∙ ap (λ y. keeping.finished y 0) h.same) known)
 
-seen : own.Hold → Hold
+abbrev seen : own.Hold → Hold
 seen h = record { object = h.object; writes = h.writes }
 
 -- what scope k holds is let go, and then it is ready for the same instruction
@@ -94,7 +99,7 @@ aims_none g s u t k n r low none image ok e done is = by_hold (session.hold_at s
         let x : Touch = touch.Aims k None in
         let less : k < length v.holds = let z = length-set s.holds k None in omega arith in
         closed_then g s t n k h x r ok d is
-        (λ m. aims_turn g m (ready_of s) (answers true) k None (Some (seen h)) None (omega (arith, length-map hold_seen s.holds)) (seen_at s.holds k ∙ ap hold_seen d) refl)
+        (λ m. aims_turn g m (ready_of s) (answers true) k None (Some (seen h)) None (omega (arith, length-map s.holds hold_seen)) (seen_at s.holds k ∙ ap hold_seen d) refl)
         (λ known. aims_at_none g v t k (with_closed n h.object) (shut_ready g s k h x r) less none image (get_or-set_same s.holds k None None low) (done ∙ ap (λ z. keeping.finished z 0) (e ∙ ap (shut_at s k) d)) known)
 
 aims_some : (g : Setting) (s u t : session.State) (k : ℕ) (a : Cell) (n : Known) → let o : ℕ = object_of g (ready_of s) a in IsReady g (ready_of s) (touch.Aims k (Some a)) → k < length s.holds → s.want ≡ None → g.image ≡ s.image → IsHolding s
@@ -104,23 +109,18 @@ aims_some g s u t k a n r low none image ok (inl b) done is =
     let x : Touch = touch.Aims k (Some a) in
     let y = held_by (session.hold_at s.holds k) o b.0 in
     alone_at g s t 0 n x r none image (done ∙ ap (λ z. keeping.finished z 0) b.1) is
-    (aims_turn g _ (ready_of s) (answers true) k (Some a) (Some (seen y.0)) (Some o) (omega (arith, length-map hold_seen s.holds)) (seen_at s.holds k ∙ ap hold_seen y.1) refl ∙ aims_held g (ready_of s) k o (seen y.0) y.2)
+    (aims_turn g (at_rest n) (ready_of s) (answers true) k (Some a) (Some (seen y.0)) (Some o) (omega (arith, length-map s.holds hold_seen)) (seen_at s.holds k ∙ ap hold_seen y.1) refl ∙ aims_held g (ready_of s) k o (seen y.0) y.2)
 aims_some g s u t k a n r low none image ok (inr b) done is = by_hold (session.hold_at s.holds k) refl
   where
-    o : ℕ
-    o = object_of g (ready_of s) a
-
-    x : Touch
-    x = touch.Aims k (Some a)
-
     by_hold : (y : Option own.Hold) → session.hold_at s.holds k ≡ y → ComesTo g (ready_of s) n t
-    unfolding o x
-    by_hold None d = takes_object g s u t k a n r low none image d ok b.1 (subst (λ (z : session.State). Holds k o z u) (ap (shut_at s k) d) b.2) done is
+    by_hold None d = takes_object g s u t k a n r low none image d ok b.1 (subst (λ (z : session.State). Holds k (object_of g (ready_of s) a) z u) (ap (shut_at s k) d) b.2) done is
     by_hold (Some h) d =
+        let o : ℕ = object_of g (ready_of s) a in
+        let x : Touch = touch.Aims k (Some a) in
         let v : session.State = shut_at s k (Some h) in
         let less : k < length v.holds = let z = length-set s.holds k None in omega arith in
         closed_then g s t n k h x r ok d is
-        (λ m. aims_turn g m (ready_of s) (answers true) k (Some a) (Some (seen h)) (Some o) (omega (arith, length-map hold_seen s.holds)) (seen_at s.holds k ∙ ap hold_seen d) refl
+        (λ m. aims_turn g m (ready_of s) (answers true) k (Some a) (Some (seen h)) (Some o) (omega (arith, length-map s.holds hold_seen)) (seen_at s.holds k ∙ ap hold_seen d) refl
           ∙ aims_elsewhere g (ready_of s) k o (seen h) (not_held s k o h d b.0))
         (λ known. takes_object g v u t k a (with_closed n h.object) (shut_ready g s k h x r) less none image (get_or-set_same s.holds k None None low) (holding_shut s k (Some h) d ok low) b.1
           (subst (λ (z : session.State). Holds k o z u) (ap (shut_at s k) d) b.2) done known)
@@ -132,7 +132,7 @@ leaves_so : (g : Setting) (s t : session.State) (k : ℕ) (n : Known) → IsRead
 leaves_so g s t k n r low none image ok done is = by_hold (session.hold_at s.holds k) refl
   where
     by_hold : (y : Option own.Hold) → session.hold_at s.holds k ≡ y → ComesTo g (ready_of s) n t
-    by_hold None d = alone_at g s t 0 n (touch.Leaves k) r none image (done ∙ ap (λ z. keeping.finished z 0) (ap (shut_at s k) d)) is (leaves_turn g _ (ready_of s) (answers true) k None (seen_at s.holds k ∙ ap hold_seen d))
+    by_hold None d = alone_at g s t 0 n (touch.Leaves k) r none image (done ∙ ap (λ z. keeping.finished z 0) (ap (shut_at s k) d)) is (leaves_turn g (at_rest n) (ready_of s) (answers true) k None (seen_at s.holds k ∙ ap hold_seen d))
     by_hold (Some h) d =
         let v : session.State = shut_at s k (Some h) in
         let o : ℕ = h.object in
@@ -141,7 +141,7 @@ leaves_so g s t k n r low none image ok done is = by_hold (session.hold_at s.hol
         let known = known_noted s.view n o (closed (n.notes o)) (closed (note s.view o)) (owned_here s o ok own) is (ap closed (is.notes o own)) in
         before g (ready_of s) (finished g (ready_of v) 0) n (with_closed n o) t
         (λ l goes. closing g (ready_of s) (finished g (ready_of v) 0) (program_of t) n l (touch.Leaves k) o r
-          (leaves_turn g _ (ready_of s) (answers true) k (Some (seen h)) (seen_at s.holds k ∙ ap hold_seen d) ∙ ap (λ (c : Program). Calls (Closes o) (λ (m : State). finished g c 0)) (holding_seen s k None)) some goes)
+          (leaves_turn g (at_rest n) (ready_of s) (answers true) k (Some (seen h)) (seen_at s.holds k ∙ ap hold_seen d) ∙ ap (λ (c : Program). Calls (Closes o) (λ (m : State). finished g c 0)) (holding_seen s k None)) some goes)
         (done_at g v t 0 (with_closed n o) none image (done ∙ ap (λ z. keeping.finished z 0) (ap (shut_at s k) d)) known)
 
 loads_so : (g : Setting) (s t : session.State) (k : ℕ) (a : Cell) (v : ℕ) (h : own.Hold) (n : Known) → IsReady g (ready_of s) (touch.Loads k a) → s.want ≡ None → g.image ≡ s.image → IsHolding s → session.hold_at s.holds k ≡ Some h
@@ -149,7 +149,7 @@ loads_so : (g : Setting) (s t : session.State) (k : ℕ) (a : Cell) (v : ℕ) (h
 loads_so g s t k a v h n r none image ok d same done is =
     let held = ok.held k h d in
     let there : (n.notes h.object).frame ≡ Some h.frame = ap (λ (y : Note). y.frame) (is.notes h.object held.owns) ∙ held.here in
-    alone_at g s t v n (touch.Loads k a) r none image done is (loads_turn g _ (ready_of s) (answers true) k h.object h.frame a (seen h) (seen_at s.holds k ∙ ap hold_seen d) refl same there)
+    alone_at g s t v n (touch.Loads k a) r none image done is (loads_turn g (stage (counted 0 Away) Never v n) (ready_of s) (answers true) k h.object h.frame a (seen h) (seen_at s.holds k ∙ ap hold_seen d) refl same there)
 
 -- the object is written by a hold that is one for writing
 writes_so : (g : Setting) (s t : session.State) (k : ℕ) (a : Cell) (v o f i : ℕ) (n : Known) → IsReady g (ready_of s) (touch.Stores k a v) → s.want ≡ None → g.image ≡ s.image → session.hold_at s.holds k ≡ Some (a_hold o f true)
@@ -160,7 +160,7 @@ writes_so g s t k a v o f i n r none image d same place own here there writes do
     let known = known_noted s.view n o (added (n.notes o) i v) (added (note s.view o) i v) here is (ap (λ (y : Note). added y i v) (is.notes o own)) in
     before g (ready_of s) (finished g (ready_of u) 0) n (with_note n o (added (n.notes o) i v)) t
     (λ l goes. storing g (ready_of s) (finished g (ready_of u) 0) (program_of t) n l (touch.Stores k a v) o f i v r
-      (stores_turn g _ (ready_of s) (answers true) k o a v (seen (a_hold o f true)) (seen_at s.holds k ∙ ap hold_seen d) refl same
+      (stores_turn g (at_rest n) (ready_of s) (answers true) k o a v (seen (a_hold o f true)) (seen_at s.holds k ∙ ap hold_seen d) refl same
         ∙ ap (λ y. stores_to g (ready_of s) y o (a.index % g.size) v) there ∙ ap (λ j. Calls (Stores o f j v) (λ (m : State). finished g (ready_of s) 0)) (sym place)) there writes goes)
     (done_at g u t 0 (with_note n o (added (n.notes o) i v)) none image done known)
 
@@ -172,24 +172,20 @@ stores_so : (g : Setting) (s t : session.State) (k : ℕ) (a : Cell) (v : ℕ) (
     → object_of g (ready_of s) a ≡ h.object → g.size ≡ s.view.sizes.cells → t ≡ keeping.finished (written (writing_by s k h) h (a.index % s.view.sizes.cells) v) 0 → IsKnown s.view n → ComesTo g (ready_of s) n t
 stores_so g s t k a v h n r low none image ok d same size done is = by_way h.writes refl
   where
-    o : ℕ
-    o = h.object
-
-    f : ℕ
-    f = h.frame
-
-    i : ℕ
-    i = a.index % s.view.sizes.cells
-
     by_way : (b : Bool) → h.writes ≡ b → ComesTo g (ready_of s) n t
-    unfolding o f i
     by_way true e =
+        let o : ℕ = h.object in
+        let f : ℕ = h.frame in
+        let i : ℕ = a.index % s.view.sizes.cells in
         let held = ok.held k h d in
         let noted = is.notes o held.owns in
         let exact : t ≡ keeping.finished (written s (a_hold o f true) i v) 0 = done ∙ ap (λ b. keeping.finished (written (cond b s (cleared s k h)) h i v) 0) e in
         writes_so g s t k a v o f i n r none image (d ∙ ap Some (held_for h true e)) same (ap (λ m. a.index % m) (sym size)) held.owns (owned_here s o ok held.owns)
         (ap (λ (y : Note). y.frame) noted ∙ held.here) (ap (λ (y : Note). y.writing) noted ∙ held.writing e) exact is
     by_way false e =
+        let o : ℕ = h.object in
+        let f : ℕ = h.frame in
+        let i : ℕ = a.index % s.view.sizes.cells in
         let held = ok.held k h d in
         let noted = is.notes o held.owns in
         let here = owned_here s o ok held.owns in
@@ -197,16 +193,16 @@ stores_so g s t k a v h n r low none image ok d same size done is = by_way h.wri
         let y : Known = with_note n o (writable (n.notes o)) in
         let there : (n.notes o).frame ≡ Some f = ap (λ (z : Note). z.frame) noted ∙ held.here in
         let some : 0 < (n.notes o).count = subst (λ (z : Note). 0 < z.count) (sym noted) (hold_counts s k h ok d) in
-        let known = known_noted s.view n o (writable (n.notes o)) (writable (note s.view o)) here is (ap writable noted) in
+        let after = known_noted s.view n o (writable (n.notes o)) (writable (note s.view o)) here is (ap writable noted) in
         let now : y.notes o ≡ writable (n.notes o) = upd_same n.notes o (writable (n.notes o)) in
         let exact : t ≡ keeping.finished (written u (a_hold o f true) i v) 0 = done ∙ ap (λ b. keeping.finished (written (cond b s (cleared s k h)) h i v) 0) e in
         let less : o < length u.view.notes = let z = length-set s.view.notes o (writable (note s.view o)) in omega arith in
         before g (ready_of s) (ready_of u) n y t
         (λ l goes. clearing g (ready_of s) (ready_of u) (program_of t) n l (touch.Stores k a v) o r
-          (stores_turn g _ (ready_of s) (answers true) k o a v (seen h) (seen_at s.holds k ∙ ap hold_seen d) refl same
-            ∙ ap (store_or_clear g _ (ready_of s) k o (a.index % g.size) v) e ∙ ap (λ (c : Program). Calls (Clears o) (λ (m : State). c)) (holding_seen s k (Some (a_hold o f true)))) some goes)
+          (stores_turn g (at_rest n) (ready_of s) (answers true) k o a v (seen h) (seen_at s.holds k ∙ ap hold_seen d) refl same
+            ∙ ap (λ (b : Bool). store_or_clear g (at_rest n) (ready_of s) k o (a.index % g.size) v b) e ∙ ap (λ (c : Program). Calls (Clears o) (λ (m : State). c)) (holding_seen s k (Some (a_hold o f true)))) some goes)
         (writes_so g u t k a v o f i y (ready_along g s u (touch.Stores k a v) refl r) none image (get_or-set_same s.holds k (Some (a_hold o f true)) None low) same (ap (λ m. a.index % m) (sym size)) held.owns less
-          (ap (λ (z : Note). z.frame) now ∙ there) (ap (λ (z : Note). z.writing) now ∙ ap known there) exact known)
+          (ap (λ (z : Note). z.frame) now ∙ there) (ap (λ (z : Note). z.writing) now ∙ ap known there) exact after)
 
 -- ---- allocations
 

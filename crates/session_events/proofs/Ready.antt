@@ -12,7 +12,8 @@ use Rattle.code_form.specs.declared.touch.Touch.{Touch}
 use Rattle.code_form.specs.declared.touch.Touch.TheVariants as touch
 use Rattle.world_semantics.specs.declared.event.Choice.{Choice}
 use Rattle.world_semantics.specs.declared.event.Choice.TheVariants as choice
-use Rattle.world_semantics.specs.Programs.{Hold, Missing, Mode, Program, Ready, Setting, finished, hold_at, holding, in_mode, next_touch, object_of, object_or_none}
+use Rattle.world_semantics.specs.declared.hold.Hold.{Hold}
+use Rattle.world_semantics.specs.Programs.{Missing, Program, Ready, Setting, finished, hold_at, holding, in_mode, next_touch, object_of, object_or_none}
 use Rattle.world_semantics.specs.Turns.{Alone, Answer, Calls, NotEnabled, Turn, aims_at, by_mode, closes, leaves_by, loads_by, loads_from, program_turn, ready, stores_by, stores_to, taken}
 use Rattle.mover_events.specs.Going.{Event}
 use Rattle.session_events.specs.Knowing.{Goes, IsOwn, Known, learned}

@@ -8,7 +8,7 @@ use Rattle.cells.specs.declared.ending.Want.{Want}
 use Rattle.pointer_word.specs.Asked.{HasNothing}
 use Rattle.pointer_word.specs.Calls.{Closes}
 use Rattle.pointer_word.specs.Words.{Away, Here, counted}
-use Rattle.pointer_word.specs.Hands.{Hand, Note, arriving, blank, bringing, claiming, closed, known, opened, told, upd}
+use Rattle.pointer_word.specs.Hands.{Arrived, Began, Claimed, Hand, Note, arriving, blank, bringing, claiming, closed, known, opened, told, upd}
 use Rattle.pointer_word.specs.Machine.{Never, State, after_open}
 use Rattle.code_form.specs.Form.{Image}
 use Rattle.code_form.specs.Code.{effect}
@@ -17,13 +17,15 @@ use Rattle.code_form.specs.declared.touch.Touch.{Touch}
 use Rattle.object_lock.specs.Seats.{Owns, View, note}
 use Rattle.object_lock.specs.Seats as seats
 use Rattle.object_moves.proofs.Visiting.{nothing_more}
+use Rattle.object_moves.specs.Visits.{moves_in}
 use Rattle.object_moves.specs.Ways.{Begun, BroughtIn, Course, Found, LeadsTo, NotRead, NotWritten, Way, moves_on}
 use Rattle.session.specs.declared.hold.Hold as own
 use Rattle.session.specs.Keeping.{IsHolding, a_hold, shut, shut_at}
 use Rattle.session.specs.Keeping as keeping
 use Rattle.session.specs.State as session
 use Rattle.session.proofs.Holding.{hold_counts, note_set, owned_here}
-use Rattle.world_semantics.specs.Programs.{Hold, Missing, Program, Ready, Setting, finished, hold_at, holding, in_mode}
+use Rattle.world_semantics.specs.declared.hold.Hold.{Hold}
+use Rattle.world_semantics.specs.Programs.{Missing, Program, Ready, Setting, finished, hold_at, holding, in_mode}
 use Rattle.world_semantics.specs.Turns.{Calls, aims_at, closes, found, ready}
 use Rattle.mover_events.specs.Going.{Event}
 use Rattle.mover_events.proofs.Serving.{filled_with}
@@ -95,7 +97,7 @@ closed_then g s t n k h x r ok e is turn rest =
 
 -- the hand behind the way on which an owner came to an object
 abbrev pub behind_course : Setting → Hand → ℕ → Course → Hand
-behind_course g x o (BroughtIn vs f) = arriving (filled_with (claiming (behind_visits g (bringing x o []) vs) f) g.size)
+behind_course g x o (BroughtIn vs f) = arriving (filled_with (claiming (behind_visits g.size (bringing x o []) vs) f) g.size)
 behind_course g x o (NotRead vs f) = x
 behind_course g x o (NotWritten vs v f) = x
 
@@ -124,10 +126,11 @@ hand_taken g k o f Found leads h = (h, nothing_more k.hand.past)
 hand_taken g k o f (Begun (BroughtIn vs j)) leads h =
     let x : Hand = bringing k.hand o [] in
     let only : HasOnly o x = (refl, h.1, h.2.0, h.2.1) in
-    let still = still_only g o vs x leads.0 only in
-    let past = past_visits g o vs x leads.0 in
+    let still = still_only g.size o vs x leads.0 only in
+    let past = past_visits g.size vs x leads.0 in
     ((refl, still.1, (refl, still.3)),
-      ap (λ ms. (ms ++ _) ++ _) past ∙ append_assoc (x.past ++ _) _ _ ∙ append_assoc x.past _ _ ∙ append_assoc k.hand.past _ _)
+      ap (λ ms. (ms ++ Claimed j ∷ []) ++ Arrived ∷ []) past ∙ append_assoc (x.past ++ moves_in vs) (Claimed j ∷ []) (Arrived ∷ []) ∙ append_assoc x.past (moves_in vs) (Claimed j ∷ Arrived ∷ [])
+        ∙ append_assoc k.hand.past (Began o ∷ []) (moves_in vs ++ Claimed j ∷ Arrived ∷ []))
 hand_taken g k o f (Begun (NotRead vs j)) leads h = absurd leads
 hand_taken g k o f (Begun (NotWritten vs v j)) leads h = absurd leads
 
@@ -147,7 +150,7 @@ taken_by g p n l q k o f x (Begun (BroughtIn vs j)) r leads nothing few turn goe
     let y : Known = with_opened n o None in
     let z : Known = with_hand y (bringing y.hand o []) in
     let only : HasOnly o z.hand = (refl, nothing.1, nothing.2.0, nothing.2.1) in
-    let u : Known = with_hand z (behind_visits g z.hand vs) in
+    let u : Known = with_hand z (behind_visits g.size z.hand vs) in
     let there : upd n.notes o a o ≡ a = upd_same n.notes o a in
     let some : 0 < (y.notes o).count = subst (λ (b : Note). 0 < b.count) (sym there) (omega arith) in
     let same : with_arrived g o u u.hand j ≡ behind_taking g n o (Begun (BroughtIn vs j)) f = ap (λ (i : ℕ). record { hand = behind_course g n.hand o (BroughtIn vs j); notes = note_begun n o i }) (sym leads.1) in
@@ -155,7 +158,7 @@ taken_by g p n l q k o f x (Begun (BroughtIn vs j)) r leads nothing few turn goe
     (ap (λ (b : Note). cond (known b.frame) (finished g c 0) (in_mode c (Missing o))) there)
     (begun_then g c o y l q nothing.0 some
     (visited_then g c o vs z l q leads.0 only
-    (arrived_then g c o u l q j (still_only g o vs z.hand leads.0 only) some (subst (λ (b : Known). Reaches g (finished g c 0) b q l) (sym same) goes))))
+    (arrived_then g c o u l q j (still_only g.size o vs z.hand leads.0 only) some (subst (λ (b : Known). Reaches g (finished g c 0) b q l) (sym same) goes))))
 taken_by g p n l q k o f x (Begun (NotRead vs j)) r leads nothing few turn goes = absurd leads
 taken_by g p n l q k o f x (Begun (NotWritten vs v j)) r leads nothing few turn goes = absurd leads
 

@@ -6,7 +6,8 @@ use Rattle.object_lock.specs.Seats.{Owns, View, note}
 use Rattle.session.specs.declared.hold.Hold as own
 use Rattle.session.specs.Performing.{PerformsSome}
 use Rattle.session.specs.State as session
-use Rattle.world_semantics.specs.Programs.{Hold, Mode, Program, Ready, Setting, Wanted}
+use Rattle.world_semantics.specs.declared.hold.Hold.{Hold}
+use Rattle.world_semantics.specs.Programs.{Mode, Program, Ready, Setting, Wanted}
 use Rattle.mover_events.specs.Going.{Event}
 use Rattle.session_events.specs.Knowing.{Goes, Known}
 
