@@ -246,7 +246,7 @@ one s t touch.Nothing n ok none next done is = absurd done
 
 -- ---- one behind the other
 
-same_setting : (s t : session.State) → session.SameProgram s t → setting_of t ≡ setting_of s
+pub same_setting : (s t : session.State) → session.SameProgram s t → setting_of t ≡ setting_of s
 same_setting s t e =
     let size : t.view.sizes.cells ≡ s.view.sizes.cells = ap (λ (v : View). v.sizes.cells) e.3 in
     let number : t.view.number ≡ s.view.number = ap (λ (v : View). v.number) e.3 in
@@ -254,7 +254,7 @@ same_setting s t e =
     ∙ ap (λ z. record (setting_of t) { image = s.image; base = s.view.low; limit = s.view.high; size = z }) size ∙ ap (λ z. record (setting_of s) { mover = z }) number
 
 -- events behind events
-goes_on : (g : Setting) (p q r : Program) (k l m : Known) (es fs : List Event) → Goes g p k es q l → Goes g q l fs r m → Goes g p k (es ++ fs) r m
+pub goes_on : (g : Setting) (p q r : Program) (k l m : Known) (es fs : List Event) → Goes g p k es q l → Goes g q l fs r m → Goes g p k (es ++ fs) r m
 goes_on g p q r k l m [] fs a b = first_known fs b
   where
     first_known : (fs : List Event) → Goes g q l fs r m → Goes g p k fs r m

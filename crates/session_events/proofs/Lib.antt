@@ -3,3 +3,4 @@ mod Fetching
 mod Seizing
 mod Ending
 mod Instructions
+mod Wanting

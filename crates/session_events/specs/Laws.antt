@@ -1,10 +1,14 @@
 -- What sessions did on threads is what their programs do in events.
-use Rattle.std.specs.Prelude.{◌≡◌, ℕ, List, map, Option, Some, None}
+use Rattle.std.specs.Prelude.{◌≡◌, ◌≢◌, ℕ, List, map, Option, Some, None}
+use Rattle.cells.specs.declared.ending.Run as ending
+use Rattle.cells.specs.declared.ending.Run.TheVariants as Run
 use Rattle.cells.specs.declared.ending.Want.{Want}
+use Rattle.cells.specs.declared.ending.Want.TheVariants.{OutOfMemory, StoreFailed}
+use Rattle.code_form.specs.declared.touch.Touch.TheVariants.{Ends}
 use Rattle.pointer_word.specs.Asked.{HasNothing}
 use Rattle.object_lock.specs.Seats.{Owns, View, note}
 use Rattle.session.specs.declared.hold.Hold as own
-use Rattle.session.specs.Performing.{PerformsSome}
+use Rattle.session.specs.Performing.{Acts, PerformsSome}
 use Rattle.session.specs.State as session
 use Rattle.world_semantics.specs.declared.hold.Hold.{Hold}
 use Rattle.world_semantics.specs.Programs.{Mode, Program, Ready, Setting, Wanted}
@@ -42,3 +46,8 @@ DoesByEvents s t = (k : Known) → IsKnown s.view k → (es : List Event) × (l 
 -- so it does what a session did by which it completed instructions one behind the other
 abbrev pub InstructionsAreEvents : Type 0
 InstructionsAreEvents = (s t : session.State) → PerformsSome s t → DoesByEvents s t
+
+-- So it does what a session that was going on did in a run, behind which it goes on, has stopped, or wants objects or memory. A want of the store is left out, and one of memory for
+-- the text of an error: there the session keeps its holds, which the program of a world shuts before it stops
+abbrev pub RunsAreEvents : Type 0 → Type 0
+RunsAreEvents reliable = (s t : session.State) (r : ending.Run) → Acts reliable s t r → r ≢ Run.Wanted StoreFailed → (r ≡ Run.Wanted OutOfMemory → session.next_touch t ≢ Ends) → DoesByEvents s t
