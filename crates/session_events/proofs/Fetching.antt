@@ -6,12 +6,12 @@ use Rattle.pointer_word.specs.Asked.{HasNothing}
 use Rattle.pointer_word.specs.Legal.{copied_below, filled_below}
 use Rattle.object_moves.proofs.Visiting.{nothing_more}
 use Rattle.pointer_word.specs.Words.{Away, Coming, Here, Leaving, Word, counted, framed}
-use Rattle.pointer_word.specs.Hands.{Hand, Move, Arrived, Began, Claimed, aborting, arriving, bringing, claiming, committing, copying, filling, leaving, marking, releasing, told, upd}
-use Rattle.pointer_word.specs.Machine.{Far, Kept, Never, State, after_abort, after_arrive, after_begin, after_claim, after_commit, after_copy, after_fill, after_leave, after_mark, after_put, after_release, after_told}
+use Rattle.pointer_word.specs.Hands.{Hand, Move, Arrived, Began, Claimed, aborting, arriving, bringing, claiming, committing, copying, filling, leaving, marking, releasing, retreating, told, unclaiming, upd}
+use Rattle.pointer_word.specs.Machine.{Kept, Never, State, Unknown, after_abort, after_arrive, after_begin, after_claim, after_commit, after_copy, after_fill, after_leave, after_mark, after_put, after_release, after_retreat, after_told, after_unclaim}
 use Rattle.object_moves.specs.Visits.{AreServed, LetsLeave, MovesOut, Visit, moves_at, moves_in}
 use Rattle.object_moves.specs.declared.moved.Moved.TheVariants as M
 use Rattle.world_semantics.specs.declared.event.Choice.TheVariants as choice
-use Rattle.world_semantics.specs.Programs.{Bringing, Copying, Evicting, Filling, Freed, Missing, Program, Refused, Setting, Stored, finished, in_mode}
+use Rattle.world_semantics.specs.Programs.{Bringing, Closing, Copying, Evicting, Filling, Freed, Missing, NotStored, Program, Reading, Refused, Releasing, Retreating, Setting, Stored, finished, in_mode}
 use Rattle.world_semantics.specs.Turns.{program_turn, taken}
 use Rattle.mover_events.proofs.Visiting.{after_copies, all_copied, long, zeros}
 use Rattle.mover_events.proofs.Serving.{filled_with, pairs_filled}
@@ -229,3 +229,63 @@ module _ (g : Setting) (p : Program) (o : ℕ) where
       (fills_on y l q f g.size 0 refl (omega arith)
       (step g (in_mode p (Filling o f [] g.size)) (finished g p 0) q z (with_arrived g o k k.hand f) l full (after_told (after_arrive full g.mover o f) o) choice.Next (answers true)
       refl refl (arrives_at z f h.0 refl (pairs_filled x g.size g.size (omega arith)) some) (upd_same full.hand g.mover (arriving (filled_with x g.size))) (told_there z f) goes))
+
+  -- ---- or the store refuses a call
+
+  claims_to_read_at : (k : Known) (f : ℕ) → k.hand.claimed ≡ None → let s : State = stage (counted 0 (Coming g.mover)) Unknown 0 k in
+      taken g.size s (program_turn g s (in_mode p (Bringing o)) (choice.Claim f) (answers true)) ≡ Some (after_claim s g.mover o f, in_mode p (Reading o f))
+  claims_to_read_at k f h = simp (h, eq-eqb g.mover g.mover refl, eq-eqb f f refl) refl
+
+  reads_in_vain_at : (k : Known) (f : ℕ) → let s : State = stage (counted 0 (Coming g.mover)) Unknown 0 k in
+      taken g.size s (program_turn g s (in_mode p (Reading o f)) choice.Next (answers true)) ≡ Some (s, in_mode p (Releasing o f))
+  reads_in_vain_at k f = refl
+
+  unclaims_at : (k : Known) (f : ℕ) → k.hand.claimed ≡ Some f → let s : State = stage (counted 0 (Coming g.mover)) Never 0 k in
+      taken g.size s (program_turn g s (in_mode p (Releasing o f)) choice.Next (answers true)) ≡ Some (after_unclaim s g.mover f, in_mode p (Retreating o))
+  unclaims_at k f h = simp (h, eq-eqb f f refl) refl
+
+  retreats_at : (k : Known) → k.hand.bringing ≡ Some o → let s : State = stage (counted 0 (Coming g.mover)) Never 0 k in
+      taken g.size s (program_turn g s (in_mode p (Retreating o)) choice.Next (answers true)) ≡ Some (after_retreat s g.mover o, in_mode p Closing)
+  retreats_at k h = simp (h, eq-eqb o o refl) refl
+
+  puts_in_vain_at : (k : Known) (v f : ℕ) (words : List ℕ) → length words ≡ g.size → k.hand.leaving ≡ Some v → let s : State = stage (counted 0 (Leaving f g.mover true)) Never 0 k in
+      taken g.size s (program_turn g s (in_mode p (Evicting o (Copying v f words))) choice.Next (answers false)) ≡ Some (after_put s v Unknown, in_mode p (Evicting o (NotStored v f)))
+  puts_in_vain_at k v f words l h = simp (le-ltb (length words) g.size (omega (arith, l)), h, eq-eqb v v refl) refl
+
+  aborts_unstored_at : (k : Known) (v f : ℕ) → k.hand.leaving ≡ Some v → k.hand.source ≡ f → let s : State = stage (counted 0 (Leaving f g.mover true)) Never 0 k in
+      taken g.size s (program_turn g s (in_mode p (Evicting o (NotStored v f))) choice.Next (answers true)) ≡ Some (after_abort s g.mover v f, in_mode p (Retreating o))
+  aborts_unstored_at k v f h e = simp (h, e, eq-eqb f f refl, eq-eqb v v refl) refl
+
+  -- it gives the object up, and closes what its scopes hold then
+  retreated_then : (k l : Known) (q : Program) → k.hand.bringing ≡ Some o → Reaches g (in_mode p Closing) (with_hand k (retreating k.hand)) q l → Reaches g (in_mode p (Retreating o)) k q l
+  retreated_then k l q b goes =
+      let s : State = stage (counted 0 (Coming g.mover)) Never 0 k in
+      step g (in_mode p (Retreating o)) (in_mode p Closing) q k (with_hand k (retreating k.hand)) l s (after_retreat s g.mover o) choice.Next (answers true)
+      refl refl (retreats_at k b) (upd_same s.hand g.mover (retreating k.hand)) refl goes
+
+  pub not_read_then : (k l : Known) (q : Program) (f : ℕ) → HasOnly o k.hand → Reaches g (in_mode p Closing) (with_hand k (retreating (unclaiming (claiming k.hand f)))) q l → Reaches g (in_mode p (Bringing o)) k q l
+  not_read_then k l q f h goes =
+      let x : Hand = claiming k.hand f in
+      let y : Known = with_hand k x in
+      let z : Known = with_hand k (unclaiming x) in
+      let coming : State = stage (counted 0 (Coming g.mover)) Unknown 0 k in
+      let reading : State = stage (counted 0 (Coming g.mover)) Unknown 0 y in
+      let releasing : State = stage (counted 0 (Coming g.mover)) Never 0 y in
+      step g (in_mode p (Bringing o)) (in_mode p (Reading o f)) q k y l coming (after_claim coming g.mover o f) (choice.Claim f) (answers true)
+      refl refl (claims_to_read_at k f h.2) (upd_same coming.hand g.mover x) refl
+      (step g (in_mode p (Reading o f)) (in_mode p (Releasing o f)) q y y l reading reading choice.Next (answers true) refl refl (reads_in_vain_at y f) refl refl
+      (step g (in_mode p (Releasing o f)) (in_mode p (Retreating o)) q y z l releasing (after_unclaim releasing g.mover f) choice.Next (answers true)
+      refl refl (unclaims_at y f refl) (upd_same releasing.hand g.mover (unclaiming x)) refl (retreated_then z l q h.0 goes)))
+
+  pub not_written_then : (k l : Known) (q : Program) (v f : ℕ) → HasOnly o k.hand → Reaches g (in_mode p Closing) (with_hand k (retreating (aborting (after_copies k.hand v f g.size)))) q l
+      → Reaches g (in_mode p (Bringing o)) k q l
+  not_written_then k l q v f h goes =
+      let x : Hand = after_copies k.hand v f g.size in
+      let y : Known = with_hand k x in
+      let z : Known = with_hand k (aborting x) in
+      let copied : State = stage (counted 0 (Leaving f g.mover true)) Never 0 y in
+      marked_then k l q v f h.1
+      (step g (in_mode p (Evicting o (Copying v f (zeros g.size)))) (in_mode p (Evicting o (NotStored v f))) q y y l copied (after_put copied v Unknown) choice.Next (answers false)
+      refl refl (puts_in_vain_at y v f (zeros g.size) (long g.size) refl) refl refl
+      (step g (in_mode p (Evicting o (NotStored v f))) (in_mode p (Retreating o)) q y z l copied (after_abort copied g.mover v f) choice.Next (answers true)
+      refl refl (aborts_unstored_at y v f refl refl) (upd_same copied.hand g.mover (aborting x)) refl (retreated_then z l q h.0 goes)))

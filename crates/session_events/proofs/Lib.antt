@@ -1,6 +1,7 @@
 mod Ready
 mod Fetching
 mod Seizing
+mod Closing
 mod Ending
 mod Instructions
 mod Wanting
