@@ -1,4 +1,4 @@
-mod CountsOf
+pub mod CountsOf
 pub mod Holding
 mod Laws
 mod Missing

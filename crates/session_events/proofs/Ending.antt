@@ -64,12 +64,12 @@ pub shut_none : (s : session.State) (k : ℕ) (x : Option own.Hold) → k < leng
 shut_none s k None l e = e
 shut_none s k (Some h) l e = get_or-set_same s.holds k None None l
 
-shut_others : (s : session.State) (k i : ℕ) (x : Option own.Hold) → i ≢ k → session.hold_at (shut_at s k x).holds i ≡ session.hold_at s.holds i
+pub shut_others : (s : session.State) (k i : ℕ) (x : Option own.Hold) → i ≢ k → session.hold_at (shut_at s k x).holds i ≡ session.hold_at s.holds i
 shut_others s k i None ne = refl
 shut_others s k i (Some h) ne = get_or-set_other s.holds k i None None ne
 
 -- one scope more holds nothing
-freed : (u : session.State) (j : ℕ) (x : Option own.Hold) → j < length u.holds → ((k : ℕ) → k < j → session.hold_at u.holds k ≡ None) → session.hold_at u.holds j ≡ x → (k : ℕ) → k < suc j → session.hold_at (shut_at u j x).holds k ≡ None
+pub freed : (u : session.State) (j : ℕ) (x : Option own.Hold) → j < length u.holds → ((k : ℕ) → k < j → session.hold_at u.holds k ≡ None) → session.hold_at u.holds j ≡ x → (k : ℕ) → k < suc j → session.hold_at (shut_at u j x).holds k ≡ None
 freed u j x low free d k l = elim (eqb_tells k j) [
   | inl q ↦ ap (session.hold_at (shut_at u j x).holds) q.1 ∙ shut_none u j x low d
   | inr q ↦ shut_others u j k x q.1 ∙ free k (let ne = q.1 in omega arith)

@@ -1,3 +1,4 @@
+mod Losing
 mod Ready
 mod Fetching
 mod Seizing
