@@ -27,7 +27,7 @@ use Rattle.world_semantics.specs.Programs.{Bringing, Closing, Missing, Program, 
 use Rattle.world_semantics.specs.Turns.{aims_at, found, ready}
 use Rattle.mover_events.proofs.Visiting.{after_copies}
 use Rattle.session_events.specs.Knowing.{Known}
-use Rattle.session_events.specs.Laws.{IsKnown, hold_seen, mode_of, program_of}
+use Rattle.session_events.specs.Laws.{IsKnown, hold_seen, program_of}
 use Rattle.session_events.proofs.Closing.{after_closings, all_none, all_open, closed_more, closed_times, closings, hand_stays, nones, notes_closed, some_held, with_holds}
 use Rattle.session_events.proofs.Ending.{first_none, first_stays, freed, shut_others}
 use Rattle.session_events.proofs.Fetching.{HasOnly, begun_then, behind_visits, not_read_then, not_written_then, past_visits, still_only, visited_then}
@@ -168,3 +168,127 @@ shut_holds u =
     let many = (first_stays (length u.holds) u).many in
     let none : first_hold (map hold_seen v.holds) ≡ None = first_none v.holds (λ i l. first_free (length u.holds) u (omega arith) i (omega arith)) in
     all_none (map hold_seen v.holds) none ∙ ap nones (length-map v.holds hold_seen ∙ many)
+
+-- no scope holds an object of which no frame is known
+count_zero : (hs : List (Option own.Hold)) (o : ℕ) → ((k : ℕ) (h : own.Hold) → session.hold_at hs k ≡ Some h → h.object ≢ o) → count_of o hs ≡ 0
+count_zero [] o none = refl
+count_zero (None ∷ hs) o none = let a = count_zero hs o (λ k h e. none (suc k) h e) in omega arith
+count_zero (Some x ∷ hs) o none =
+    let a = count_zero hs o (λ k h e. none (suc k) h e) in
+    let b : one o (Some x) ≡ 0 = ap (λ c. cond c 1 0) (ne_eqb x.object o (none 0 x refl)) in
+    omega arith
+
+-- ---- the store refuses a call for an object that scope k, which holds nothing, was to hold
+
+module _ (reliable : Type 0) (s u t : session.State) (k o : ℕ) (n : Known) (c : Course) (low : k < length s.holds) (free : session.hold_at s.holds k ≡ None) (ok : IsHolding s) (mine : Owns s.view o) (m : Misses reliable o s u)
+    (leads : Leads c None) (did : u.view.hand.past ≡ s.view.hand.past ++ moves_on o (Begun c)) (e : t ≡ wants (shut_all u) StoreFailed) (is : IsKnown s.view n) (g : Setting) where
+  -- what its scopes hold as they are to be closed
+  abbrev held_then : List (Option own.Hold)
+  held_then = slice_set s.holds k (Some (a_hold o 0 false))
+
+  counts : (p : ℕ) → count_of p held_then ≡ count_of p s.holds + one p (Some (a_hold o 0 false))
+  counts p =
+      let a = count-set p s.holds k (Some (a_hold o 0 false)) low in
+      let b : one p (session.hold_at s.holds k) ≡ 0 = ap (one p) free in
+      omega arith
+
+  none_before : count_of o s.holds ≡ 0
+  none_before = count_zero s.holds o (λ j h d z.
+    let here : (note s.view o).frame ≡ Some h.frame = ap (λ i. (note s.view i).frame) (sym z) ∙ (ok.held j h d).here in
+    let clash : None ≡ Some h.frame = sym m.gives.unknown ∙ here in
+    cc)
+
+  owned_then : (j : ℕ) (h : own.Hold) → session.hold_at held_then j ≡ Some h → Owns s.view h.object
+  owned_then j h d =
+      elim (eqb_tells j k) [
+        | inl q ↦
+            let same : Some (a_hold o 0 false) ≡ Some h = sym (get_or-set_same s.holds k (Some (a_hold o 0 false)) None low) ∙ ap (session.hold_at held_then) (sym q.1) ∙ d in
+            let is_it : a_hold o 0 false ≡ h = cc in
+            subst (λ (y : own.Hold). Owns s.view y.object) is_it mine
+        | inr q ↦ (ok.held j h (sym (get_or-set_other s.holds k j (Some (a_hold o 0 false)) None q.1) ∙ d)).owns
+      ]
+
+  enough_then : (p : ℕ) → Owns s.view p → count_of p held_then ≤ ((with_lost g n o c).notes p).count
+  enough_then p w =
+      let a = counts p in
+      let b = ok.counted p w in
+      let d = ap (λ (y : Note). y.count) (is.notes p w) in
+      elim (eqb_tells p o) [
+        | inl q ↦
+            let x : one p (Some (a_hold o 0 false)) ≡ 1 = ap (λ b. cond b 1 0) (eq-eqb o p (sym q.1)) in
+            let y : ((with_lost g n o c).notes p).count ≡ (n.notes o).count + 1 = ap (λ b. (cond b (opened (n.notes o) None) (n.notes p)).count) q.0 in
+            let z : (n.notes o).count ≡ (n.notes p).count = ap (λ i. (n.notes i).count) (sym q.1) in
+            omega arith
+        | inr q ↦
+            let x : one p (Some (a_hold o 0 false)) ≡ 0 = ap (λ b. cond b 1 0) (ne_eqb o p (λ z. q.1 (sym z))) in
+            let y : ((with_lost g n o c).notes p).count ≡ (n.notes p).count = ap (λ b. (cond b (opened (n.notes o) None) (n.notes p)).count) q.0 in
+            omega arith
+      ]
+
+  here_then : o < length s.view.notes
+  here_then = owned_here s o ok mine
+
+  wide_then : (j : ℕ) (h : own.Hold) → session.hold_at u.holds j ≡ Some h → h.object < length u.view.notes
+  wide_then j h d =
+      let same : session.hold_at s.holds j ≡ Some h = ap (λ (y : session.State). session.hold_at y.holds j) (sym m.same) ∙ d in
+      let a = owned_here s h.object ok (ok.held j h same).owns in
+      let b : length u.view.notes ≡ length s.view.notes = ap length m.gives.notes ∙ length-set s.view.notes o (closed (opened (note s.view o) None)) in
+      omega arith
+
+  note_lost : (p : ℕ) → note u.view p ≡ note (seats.with_note s.view o (closed (opened (note s.view o) None))) p
+  note_lost p = ap (λ (ns : List Note). slice_index_or ns p blank) m.gives.notes
+
+  notes_lost : (p : ℕ) → Owns s.view p → (after_closings held_then (with_lost g n o c)).notes p ≡ note (shut_all u).view p
+  notes_lost p w =
+      let l : Known = with_lost g n o c in
+      let world = notes_closed held_then l p in
+      let there = all_shut_notes u p wide_then in
+      let holds : count_of p u.holds ≡ count_of p s.holds = ap (λ (y : session.State). count_of p y.holds) m.same in
+      let a = counts p in
+      elim (note_set s.view o (closed (opened (note s.view o) None)) p here_then) [
+        | inl q ↦
+            let x : one p (Some (a_hold o 0 false)) ≡ 1 = ap (λ b. cond b 1 0) (eq-eqb o p (sym q.0)) in
+            let zero_p : count_of p s.holds ≡ 0 = ap (λ i. count_of i s.holds) q.0 ∙ none_before in
+            let one_p : count_of p held_then ≡ 1 = omega arith in
+            let none_p : 0 ≡ count_of p u.holds = omega arith in
+            let at : l.notes p ≡ opened (note s.view o) None = ap (λ b. cond b (opened (n.notes o) None) (n.notes p)) (eq-eqb p o q.0) ∙ ap (λ (y : Note). opened y None) (is.notes o mine) in
+            world ∙ ap (λ i. closed_times i (l.notes p)) one_p ∙ ap closed at ∙ sym q.1 ∙ sym (note_lost p) ∙ ap (λ i. closed_times i (note u.view p)) none_p ∙ sym there
+        | inr q ↦
+            let x : one p (Some (a_hold o 0 false)) ≡ 0 = ap (λ b. cond b 1 0) (ne_eqb o p (λ z. q.0 (sym z))) in
+            let same_p : count_of p held_then ≡ count_of p u.holds = omega arith in
+            let at : l.notes p ≡ note u.view p = ap (λ b. cond b (opened (n.notes o) None) (n.notes p)) (ne_eqb p o q.0) ∙ is.notes p w ∙ sym q.1 ∙ sym (note_lost p) in
+            world ∙ ap (λ i. closed_times i (l.notes p)) same_p ∙ ap (closed_times (count_of p u.holds)) at ∙ sym there
+      ]
+
+  known_lost : IsKnown t.view (after_closings held_then (with_lost g n o c))
+  known_lost =
+      let l : Known = with_lost g n o c in
+      let stays = first_stays (length u.holds) u in
+      let hand = hand_lost g n.hand o c leads is.nothing in
+      let same = hand_stays held_then l in
+      subst (λ (y : session.State). IsKnown y.view (after_closings held_then l)) (sym e) (record {
+        nothing = subst HasNothing (sym same) hand.0;
+        past = ap (λ (x : Hand). x.past) same ∙ hand.1 ∙ ap (λ ms. ms ++ moves_on o (Begun c)) is.past ∙ sym did ∙ ap (λ (x : Hand). x.past) (sym stays.hand);
+        notes = λ p w. notes_lost p (let a = w.0 in let b = stays.low in let d = m.gives.low in omega arith, let a = w.1 in let b = stays.high in let d = m.gives.high in omega arith);
+      })
+
+  program_lost : program_of t ≡ with_holds (ready_of s) (nones (0 + length held_then)) (Wanted StoreFailed)
+  program_lost =
+      let stays = first_stays (length u.holds) u in
+      let many : length u.holds ≡ 0 + length held_then = let a = ap (λ (y : session.State). length y.holds) m.same in let b = length-set s.holds k (Some (a_hold o 0 false)) in omega arith in
+      ap program_of e
+      ∙ ap (λ hs. record (program_of t) { core = (shut_all u).core; holds = hs; mode = Wanted StoreFailed; completed = (shut_all u).completed }) (shut_holds u ∙ ap nones many)
+      ∙ ap (λ d. record (program_of t) { core = d; holds = nones (0 + length held_then); mode = Wanted StoreFailed; completed = (shut_all u).completed }) (stays.core ∙ ap (λ (y : session.State). y.core) m.same)
+      ∙ ap (λ d. record (program_of t) { core = s.core; holds = nones (0 + length held_then); mode = Wanted StoreFailed; completed = d }) (stays.completed ∙ ap (λ (y : session.State). y.completed) m.same)
+
+  pub lost_then : (x : Touch) → IsReady g (ready_of s) x → (n.notes o).count < 4 → ((y : State) → ready g y (ready_of s) (answers true) x ≡ aims_at g (ready_of s) k None (Some o)) → ComesTo g (ready_of s) n t
+  lost_then x r few turn =
+      let l : Known = with_lost g n o c in
+      let p : Program = with_holds (ready_of s) (nones (0 + length held_then)) (Wanted StoreFailed) in
+      let seen_so = map-set hold_seen s.holds k (Some (a_hold o 0 false)) in
+      before g (ready_of s) p n (after_closings held_then l) t
+      (λ y goes. lost_by g (ready_of s) n y (program_of t) k o x c r leads is.nothing few turn
+        (subst (λ (hs : List (Option Hold)). Reaches g (with_holds (ready_of s) hs Closing) l (program_of t) y) seen_so
+        (closings g (ready_of s) y (program_of t) held_then 0 l (all_open (Owns s.view) held_then l owned_then enough_then)
+          (some_held held_then k (a_hold o 0 false) (get_or-set_same s.holds k (Some (a_hold o 0 false)) None low)) goes)))
+      (at_last g p (after_closings held_then l) t program_lost known_lost)
