@@ -55,7 +55,7 @@ held_by : (x : Option own.Hold) (o : ℕ) → has_object x o ≡ true → (h : o
 held_by None o e = absurd (cc)
 held_by (Some h) o e = elim (eqb_tells h.object o) [ inl q ↦ (h, refl, q.1) | inr q ↦ absurd (let d : true ≡ false = sym e ∙ q.0 in cc) ]
 
-not_held : (s : session.State) (k o : ℕ) (h : own.Hold) → session.hold_at s.holds k ≡ Some h → has_object (session.hold_at s.holds k) o ≡ false → (h.object == o) ≡ false
+pub not_held : (s : session.State) (k o : ℕ) (h : own.Hold) → session.hold_at s.holds k ≡ Some h → has_object (session.hold_at s.holds k) o ≡ false → (h.object == o) ≡ false
 not_held s k o h e f = sym (ap (λ y. has_object y o) e) ∙ f
 
 -- a scope that holds nothing comes to hold nothing
@@ -81,11 +81,11 @@ takes_object g s u t k a n r low none image free ok own h done is =
     (λ m. aims_turn g m (ready_of s) (answers true) k (Some a) None (Some o) (omega (arith, length-map s.holds hold_seen)) (seen_at s.holds k ∙ ap hold_seen free) refl)
     (done_at g v t 0 (behind_taking g n o w f) none image (done ∙ ap (λ y. keeping.finished y 0) h.same) known)
 
-abbrev seen : own.Hold → Hold
+abbrev pub seen : own.Hold → Hold
 seen h = record { object = h.object; writes = h.writes }
 
 -- what scope k holds is let go, and then it is ready for the same instruction
-shut_ready : (g : Setting) (s : session.State) (k : ℕ) (h : own.Hold) (x : Touch) → IsReady g (ready_of s) x → IsReady g (ready_of (shut_at s k (Some h))) x
+pub shut_ready : (g : Setting) (s : session.State) (k : ℕ) (h : own.Hold) (x : Touch) → IsReady g (ready_of s) x → IsReady g (ready_of (shut_at s k (Some h))) x
 shut_ready g s k h x r = ready_along g s (shut_at s k (Some h)) x refl r
 
 aims_none : (g : Setting) (s u t : session.State) (k : ℕ) (n : Known) → IsReady g (ready_of s) (touch.Aims k None) → k < length s.holds → s.want ≡ None → g.image ≡ s.image → IsHolding s → u ≡ shut s k → t ≡ keeping.finished u 0
@@ -221,7 +221,7 @@ allocates_so g s t many n r none image size base limit ok room done is =
 -- ---- one instruction
 
 -- the scope of an instruction is one of four
-scope_low : (s : session.State) (k : ℕ) → IsHolding s → k < most_scopes s.image.functions → k < length s.holds
+pub scope_low : (s : session.State) (k : ℕ) → IsHolding s → k < most_scopes s.image.functions → k < length s.holds
 scope_low s k h l = let a = h.four in let b = h.few in omega arith
 
 one : (s t : session.State) (x : Touch) (n : Known) → IsHolding s → s.want ≡ None → IsNext x s → Performs x s t → IsKnown s.view n → ComesTo (setting_of s) (ready_of s) n t

@@ -47,7 +47,7 @@ DoesByEvents s t = (k : Known) → IsKnown s.view k → (es : List Event) × (l 
 abbrev pub InstructionsAreEvents : Type 0
 InstructionsAreEvents = (s t : session.State) → PerformsSome s t → DoesByEvents s t
 
--- So it does what a session that was going on did in a run, behind which it goes on, has stopped, or wants objects or memory. A want of the store is left out, and one of memory for
--- the text of an error: there the session keeps its holds, which the program of a world shuts before it stops
+-- So it does what a session that was going on did in a run. Left out are a want of the store as the code is halted, which is never so over an honest store; and one of memory for the
+-- text of an error, where the session keeps its holds, which the program of a world shuts before it stops
 abbrev pub RunsAreEvents : Type 0 → Type 0
-RunsAreEvents reliable = (s t : session.State) (r : ending.Run) → Acts reliable s t r → r ≢ Run.Wanted StoreFailed → (r ≡ Run.Wanted OutOfMemory → session.next_touch t ≢ Ends) → DoesByEvents s t
+RunsAreEvents reliable = (s t : session.State) (r : ending.Run) → Acts reliable s t r → (r ≡ Run.Wanted StoreFailed → session.IsHalted t → ⊥) → (r ≡ Run.Wanted OutOfMemory → session.next_touch t ≢ Ends) → DoesByEvents s t

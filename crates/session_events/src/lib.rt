@@ -11,7 +11,8 @@ pub fn instructions_are_events()
     ensures { InstructionsAreEvents }
 {}
 
-/// So is what a session did in a run, but where it wants the store, or memory for the text of an error.
+/// So is what a session that was going on did in a run, also where it wants objects, memory or the store; but for memory for the text of an error, and for code that is halted,
+/// which is never so over an honest store.
 pub fn runs_are_events<S: RawStore>()
     ensures { RunsAreEvents S.reliable }
 {}
