@@ -1,7 +1,7 @@
 -- Visits of a round, one behind the other.
-use Rattle.std.proofs.Common.{◌≡◌, ℕ, List, [], ◌∷◌, ◌++◌, append_assoc, refl, sym, ap, ◌∙◌, arith}
+use Rattle.std.proofs.Common.{◌≡◌, ℕ, List, [], ◌∷◌, ◌++◌, append_assoc, sym, ap, ◌∙◌, arith}
 use Rattle.object_moves.specs.Moving.{hand_after}
-use Rattle.object_moves.specs.Visits.{LetsLeave, MovesOut, Visit, moves_in}
+use Rattle.object_moves.specs.Visits.{LetsLeave, MovesOut, Visit}
 use Rattle.object_moves.specs.declared.moved.Moved.{Moved}
 use Rattle.object_moves.proofs.Visiting.{moved_past, nothing_more, then_more}
 use Rattle.pointer_word.specs.Hands.{Hand, Move, leaving, marking, releasing}

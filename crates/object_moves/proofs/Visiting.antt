@@ -26,7 +26,6 @@ moved_past x o f M.Left ps = append_assoc (x.past ++ _) _ _ ∙ append_assoc x.p
 moved_past x o f M.Stayed ps = append_assoc x.past _ _
 moved_past x o f M.Failed ps = append_assoc x.past _ _
 
-
 pub served_both : (xs ys : List Visit) → AreServed xs → AreServed ys → AreServed (xs ++ ys)
 served_both [] ys h k = k
 served_both (MovesOut o f M.Left ∷ xs) ys h k = served_both xs ys h k

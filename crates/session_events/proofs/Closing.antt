@@ -1,12 +1,12 @@
 -- The events by which a program whose store failed closes what its scopes hold.
-use Rattle.std.proofs.Common.{◌≡◌, ◌≢◌, ℕ, zero, suc, ◌+◌, ◌-◌, ◌<◌, ◌≤◌, Bool, true, false, cond, List, [], ◌∷◌, ◌++◌, length, map, take, refl, sym, ap, ◌∙◌, subst, inl, inr, arith, ne_eqb, eq-eqb, zero-add}
-use Rattle.std.specs.Prelude.{◌==◌, Option, Some, None, slice_set}
+use Rattle.std.proofs.Common.{◌≡◌, ◌≢◌, ℕ, zero, suc, ◌+◌, ◌<◌, ◌≤◌, true, cond, List, [], ◌∷◌, ◌++◌, length, map, refl, sym, ap, ◌∙◌, subst, inl, inr, arith, ne_eqb, eq-eqb, zero-add}
+use Rattle.std.specs.Prelude.{Option, Some, None, slice_set}
 use Rattle.std.proofs.lemmas.Bool.{lt-ltb}
 use Rattle.std.proofs.lemmas.Bool.Decides.{eqb_tells}
 use Rattle.std.proofs.lemmas.List.{length-map}
 use Rattle.cells.specs.declared.ending.Want.TheVariants.{StoreFailed}
 use Rattle.pointer_word.specs.Calls.{Closes}
-use Rattle.pointer_word.specs.Hands.{Hand, Note, closed, upd}
+use Rattle.pointer_word.specs.Hands.{Note, closed}
 use Rattle.pointer_word.specs.Machine.{Never, State, after_close}
 use Rattle.pointer_word.specs.Words.{Away, counted}
 use Rattle.session.specs.declared.hold.Hold as own
@@ -15,7 +15,7 @@ use Rattle.session.specs.State as session
 use Rattle.world_semantics.specs.declared.event.Choice.TheVariants as choice
 use Rattle.world_semantics.specs.declared.hold.Hold.{Hold}
 use Rattle.world_semantics.specs.Programs.{Closing, Mode, Program, Setting, Wanted, behind, first_hold}
-use Rattle.world_semantics.specs.Turns.{Calls, closed_so, gives_up, program_turn, taken}
+use Rattle.world_semantics.specs.Turns.{Calls, closed_so, gives_up, taken}
 use Rattle.session_events.specs.Knowing.{Known}
 use Rattle.session_events.specs.Laws.{hold_seen}
 use Rattle.session_events.proofs.Ready.{Reaches, answers, stage, step, with_closed}
@@ -103,7 +103,7 @@ module _ (g : Setting) (p : Program) (l : Known) (q : Program) where
       let go : List (Option Hold) → Program = λ xs. closed_so (with_holds p xs Closing) (first_hold xs) in
       step g d c q n (with_closed n h.object) l s (after_close s h.object) choice.Next (answers true) refl refl
       (ap (taken g.size s) (ap (gives_up d) (first_behind j h r)) ∙ closes_at g.size h.object n (λ t. go (slice_set hs j None)) some
-        ∙ ap (λ x. Some (after_close s h.object, x)) (ap go (set_behind j h r) ∙ is)) refl refl goes
+      ∙ ap (λ x. Some (after_close s h.object, x)) (ap go (set_behind j h r) ∙ is)) refl refl goes
 
   pub closings : (r : List (Option own.Hold)) (j : ℕ) (n : Known) → AreOpen r n → first_hold (map hold_seen r) ≢ None
       → Reaches g (with_holds p (nones (j + length r)) (Wanted StoreFailed)) (after_closings r n) q l → Reaches g (with_holds p (nones j ++ map hold_seen r) Closing) n q l
@@ -115,7 +115,7 @@ module _ (g : Setting) (p : Program) (l : Known) (q : Program) where
   closings (Some h ∷ r) j n opened_so some goes = by_rest (closings r (suc j) (with_closed n h.object) opened_so.1) (first_hold (map hold_seen r)) refl
     where
       by_rest : (first_hold (map hold_seen r) ≢ None → Reaches g (with_holds p (nones (suc j + length r)) (Wanted StoreFailed)) (after_closings r (with_closed n h.object)) q l
-            → Reaches g (with_holds p (nones (suc j) ++ map hold_seen r) Closing) (with_closed n h.object) q l)
+          → Reaches g (with_holds p (nones (suc j) ++ map hold_seen r) Closing) (with_closed n h.object) q l)
           → (x : Option (ℕ × Hold)) → first_hold (map hold_seen r) ≡ x → Reaches g (with_holds p (nones j ++ map hold_seen (Some h ∷ r)) Closing) n q l
       by_rest on None d =
           let rest : List (Option Hold) = map hold_seen r in
@@ -181,10 +181,12 @@ all_open Own (None ∷ r) n owned enough = all_open Own r n (λ k h e. owned (su
 all_open Own (Some h ∷ r) n owned enough =
     let mine = enough h.object (owned 0 h refl) in
     let here = one_here h.object h refl in
-    let some : 0 < (n.notes h.object).count = omega arith in
-    (some, all_open Own r (with_closed n h.object) (λ k x e. owned (suc k) x e) (λ p w.
-      let a = enough p w in
-      elim (eqb_tells p h.object) [
-        | inl e ↦ let b = one_here p h e.1 in let c = ap (λ (x : Note). x.count) (note_here n p h e.1) in omega arith
-        | inr e ↦ let b = one_elsewhere p h e.1 in let c = ap (λ (x : Note). x.count) (note_elsewhere n p h e.1) in omega arith
-      ]))
+    let some : 0 < (n.notes h.object).count = omega arith in (
+      some,
+      all_open Own r (with_closed n h.object) (λ k x e. owned (suc k) x e) (λ p w.
+          let a = enough p w in
+          elim (eqb_tells p h.object) [
+            | inl e ↦ let b = one_here p h e.1 in let c = ap (λ (x : Note). x.count) (note_here n p h e.1) in omega arith
+            | inr e ↦ let b = one_elsewhere p h e.1 in let c = ap (λ (x : Note). x.count) (note_elsewhere n p h e.1) in omega arith
+          ]),
+    )

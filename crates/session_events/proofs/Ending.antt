@@ -1,5 +1,5 @@
 -- The events by which all scopes are shut, before a stop.
-use Rattle.std.proofs.Common.{◌≡◌, ◌≢◌, ℕ, true, zero, suc, ◌+◌, ◌<◌, ◌≤◌, List, [], ◌∷◌, length, map, refl, sym, ap, ◌∙◌, subst, inl, inr, arith}
+use Rattle.std.proofs.Common.{◌≡◌, ◌≢◌, ℕ, true, zero, suc, ◌+◌, ◌<◌, List, [], ◌∷◌, length, map, refl, sym, ap, ◌∙◌, subst, inl, inr, arith}
 use Rattle.std.specs.Prelude.{Option, Some, None}
 use Rattle.std.proofs.lemmas.Bool.Decides.{eqb_tells}
 use Rattle.std.proofs.lemmas.List.{get_or-set_same, get_or-set_other, length-set}
@@ -94,7 +94,7 @@ module _ (g : Setting) (s t : session.State) (r : IsReady g (ready_of s) touch.E
       let done : t ≡ keeping.finished u 0 = e ∙ ap (λ y. keeping.finished y 0) shut_all_is in
       before g (ready_of u) (finished g (ready_of u) 0) n n t
       (λ l goes. alone g (ready_of u) (finished g (ready_of u) 0) (program_of t) n l 0 touch.Ends (ready_along g s u touch.Ends a.core r)
-        (ap (ends_by g (ready_of u) (answers true)) (first_none u.holds (λ k l. free k (omega arith)))) goes)
+      (ap (ends_by g (ready_of u) (answers true)) (first_none u.holds (λ k l. free k (omega arith)))) goes)
       (at_last g (finished g (ready_of u) 0) n t (ap program_of done ∙ sym (finished_is g u 0 (a.want ∙ none) (image ∙ sym a.image))) (subst (λ (y : session.State). IsKnown y.view n) (sym done) is))
   shuts_on (suc i) j n h ok free is = by_hold (λ m. shuts_on i (suc j) m (omega (arith, h))) (session.hold_at (shut_first j s).holds j) refl
     where
@@ -115,8 +115,8 @@ module _ (g : Setting) (s t : session.State) (r : IsReady g (ready_of s) touch.E
           let m : Known = with_closed n x.object in
           closed_then g u t n j x touch.Ends (ready_along g s u touch.Ends (first_stays j s).core r) ok d is (λ y. ap (ends_by g (ready_of u) (answers true)) (first_some u.holds j x free d))
           (λ known. subst (λ (y : session.State). ComesTo g (ready_of y) m t) same
-            (on m (subst IsHolding (sym same) (holding_shut u j (Some x) d ok low))
-            (λ k l. ap (λ (y : session.State). session.hold_at y.holds k) same ∙ freed u j (Some x) low free d k l) (subst (λ (y : session.State). IsKnown y.view m) (sym same) known)))
+          (on m (subst IsHolding (sym same) (holding_shut u j (Some x) d ok low))
+          (λ k l. ap (λ (y : session.State). session.hold_at y.holds k) same ∙ freed u j (Some x) low free d k l) (subst (λ (y : session.State). IsKnown y.view m) (sym same) known)))
 
   pub shuts_all : (n : Known) → IsHolding s → IsKnown s.view n → ComesTo g (ready_of s) n t
   shuts_all n ok is = shuts_on (length s.holds) 0 n (omega arith) ok (λ k l. absurd (omega arith)) is

@@ -1,12 +1,11 @@
 -- The events by which a program brings an object in, and makes room for it.
-use Rattle.std.proofs.Common.{◌≡◌, ℕ, zero, suc, ◌+◌, ◌<◌, ◌≤◌, Bool, true, false, cond, ◌&&◌, List, [], ◌∷◌, ◌++◌, append_assoc, length, refl, sym, ap, ◌∙◌, subst, arith}
-use Rattle.std.specs.Prelude.{◌==◌, Option, Some, None, nat_lt}
+use Rattle.std.proofs.Common.{◌≡◌, ℕ, zero, suc, ◌+◌, ◌<◌, true, false, List, [], ◌∷◌, ◌++◌, append_assoc, length, refl, ap, ◌∙◌, subst, arith}
+use Rattle.std.specs.Prelude.{Some, None}
 use Rattle.std.proofs.lemmas.Bool.{eq-eqb, lt-ltb, le-ltb}
-use Rattle.pointer_word.specs.Asked.{HasNothing}
 use Rattle.pointer_word.specs.Legal.{copied_below, filled_below}
 use Rattle.object_moves.proofs.Visiting.{nothing_more}
 use Rattle.pointer_word.specs.Words.{Away, Coming, Here, Leaving, Word, counted, framed}
-use Rattle.pointer_word.specs.Hands.{Hand, Move, Arrived, Began, Claimed, aborting, arriving, bringing, claiming, committing, copying, filling, leaving, marking, releasing, retreating, told, unclaiming, upd}
+use Rattle.pointer_word.specs.Hands.{Hand, aborting, arriving, bringing, claiming, committing, copying, filling, leaving, marking, releasing, retreating, told, unclaiming, upd}
 use Rattle.pointer_word.specs.Machine.{Kept, Never, State, Unknown, after_abort, after_arrive, after_begin, after_claim, after_commit, after_copy, after_fill, after_leave, after_mark, after_put, after_release, after_retreat, after_told, after_unclaim}
 use Rattle.object_moves.specs.Visits.{AreServed, LetsLeave, MovesOut, Visit, moves_at, moves_in}
 use Rattle.object_moves.specs.declared.moved.Moved.TheVariants as M
@@ -16,7 +15,7 @@ use Rattle.world_semantics.specs.Turns.{program_turn, taken}
 use Rattle.mover_events.proofs.Visiting.{after_copies, all_copied, long, zeros}
 use Rattle.mover_events.proofs.Serving.{filled_with, pairs_filled}
 use Rattle.session_events.specs.Knowing.{Known}
-use Rattle.session_events.proofs.Ready.{Reaches, answers, stage, step, upd_same, with_hand, with_note}
+use Rattle.session_events.proofs.Ready.{Reaches, answers, stage, step, upd_same, with_hand}
 
 -- the object is being brought in, and nothing else is in hand
 abbrev pub HasOnly : ℕ → Hand → Type 0

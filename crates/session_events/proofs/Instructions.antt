@@ -1,7 +1,7 @@
 -- The events of each instruction, and of instructions one behind the other.
-use Rattle.std.proofs.Common.{◌≡◌, ℕ, zero, suc, ◌+◌, ◌<◌, ◌≤◌, ◌%◌, Bool, true, false, cond, List, [], ◌∷◌, ◌++◌, length, map, refl, sym, ap, ◌∙◌, subst, inl, inr, arith}
-use Rattle.std.specs.Prelude.{◌==◌, ◌⊎◌, Option, Some, None, nat_le, slice_set}
-use Rattle.std.proofs.lemmas.Bool.{eq-eqb, le-leb}
+use Rattle.std.proofs.Common.{◌≡◌, ℕ, ◌+◌, ◌<◌, ◌≤◌, ◌%◌, Bool, true, false, cond, List, [], ◌∷◌, ◌++◌, length, refl, sym, ap, ◌∙◌, subst, inl, inr, arith}
+use Rattle.std.specs.Prelude.{◌==◌, Option, Some, None, slice_set}
+use Rattle.std.proofs.lemmas.Bool.{le-leb}
 use Rattle.std.proofs.lemmas.Bool.Decides.{eqb_tells}
 use Rattle.std.proofs.lemmas.List.{get_or-set_same, length-map, length-set}
 use Rattle.pointer_word.specs.Hands.{Note, added, closed, known, writable}
@@ -15,7 +15,6 @@ use Rattle.code_form.specs.declared.touch.Cell.{Cell}
 use Rattle.code_form.specs.declared.touch.Touch.{Touch}
 use Rattle.code_form.specs.declared.touch.Touch.TheVariants as touch
 use Rattle.object_lock.specs.Seats.{Owns, View, note}
-use Rattle.object_lock.specs.Seats as seats
 use Rattle.session.specs.declared.hold.Hold as own
 use Rattle.session.specs.Keeping.{Holds, IsHolding, IsNext, a_hold, cleared, count_of, extended, has_object, shut, shut_at, written}
 use Rattle.session.specs.Keeping as keeping
@@ -121,9 +120,9 @@ aims_some g s u t k a n r low none image ok (inr b) done is = by_hold (session.h
         let less : k < length v.holds = let z = length-set s.holds k None in omega arith in
         closed_then g s t n k h x r ok d is
         (λ m. aims_turn g m (ready_of s) (answers true) k (Some a) (Some (seen h)) (Some o) (omega (arith, length-map s.holds hold_seen)) (seen_at s.holds k ∙ ap hold_seen d) refl
-          ∙ aims_elsewhere g (ready_of s) k o (seen h) (not_held s k o h d b.0))
+        ∙ aims_elsewhere g (ready_of s) k o (seen h) (not_held s k o h d b.0))
         (λ known. takes_object g v u t k a (with_closed n h.object) (shut_ready g s k h x r) less none image (get_or-set_same s.holds k None None low) (holding_shut s k (Some h) d ok low) b.1
-          (subst (λ (z : session.State). Holds k o z u) (ap (shut_at s k) d) b.2) done known)
+        (subst (λ (z : session.State). Holds k o z u) (ap (shut_at s k) d) b.2) done known)
 
 -- ---- leaves, loads and stores
 
@@ -141,7 +140,7 @@ leaves_so g s t k n r low none image ok done is = by_hold (session.hold_at s.hol
         let known = known_noted s.view n o (closed (n.notes o)) (closed (note s.view o)) (owned_here s o ok own) is (ap closed (is.notes o own)) in
         before g (ready_of s) (finished g (ready_of v) 0) n (with_closed n o) t
         (λ l goes. closing g (ready_of s) (finished g (ready_of v) 0) (program_of t) n l (touch.Leaves k) o r
-          (leaves_turn g (at_rest n) (ready_of s) (answers true) k (Some (seen h)) (seen_at s.holds k ∙ ap hold_seen d) ∙ ap (λ (c : Program). Calls (Closes o) (λ (m : State). finished g c 0)) (holding_seen s k None)) some goes)
+        (leaves_turn g (at_rest n) (ready_of s) (answers true) k (Some (seen h)) (seen_at s.holds k ∙ ap hold_seen d) ∙ ap (λ (c : Program). Calls (Closes o) (λ (m : State). finished g c 0)) (holding_seen s k None)) some goes)
         (done_at g v t 0 (with_closed n o) none image (done ∙ ap (λ z. keeping.finished z 0) (ap (shut_at s k) d)) known)
 
 loads_so : (g : Setting) (s t : session.State) (k : ℕ) (a : Cell) (v : ℕ) (h : own.Hold) (n : Known) → IsReady g (ready_of s) (touch.Loads k a) → s.want ≡ None → g.image ≡ s.image → IsHolding s → session.hold_at s.holds k ≡ Some h
@@ -160,8 +159,8 @@ writes_so g s t k a v o f i n r none image d same place own here there writes do
     let known = known_noted s.view n o (added (n.notes o) i v) (added (note s.view o) i v) here is (ap (λ (y : Note). added y i v) (is.notes o own)) in
     before g (ready_of s) (finished g (ready_of u) 0) n (with_note n o (added (n.notes o) i v)) t
     (λ l goes. storing g (ready_of s) (finished g (ready_of u) 0) (program_of t) n l (touch.Stores k a v) o f i v r
-      (stores_turn g (at_rest n) (ready_of s) (answers true) k o a v (seen (a_hold o f true)) (seen_at s.holds k ∙ ap hold_seen d) refl same
-        ∙ ap (λ y. stores_to g (ready_of s) y o (a.index % g.size) v) there ∙ ap (λ j. Calls (Stores o f j v) (λ (m : State). finished g (ready_of s) 0)) (sym place)) there writes goes)
+    (stores_turn g (at_rest n) (ready_of s) (answers true) k o a v (seen (a_hold o f true)) (seen_at s.holds k ∙ ap hold_seen d) refl same
+    ∙ ap (λ y. stores_to g (ready_of s) y o (a.index % g.size) v) there ∙ ap (λ j. Calls (Stores o f j v) (λ (m : State). finished g (ready_of s) 0)) (sym place)) there writes goes)
     (done_at g u t 0 (with_note n o (added (n.notes o) i v)) none image done known)
 
 -- the hold of scope k, by whether it is one for writing
@@ -199,10 +198,10 @@ stores_so g s t k a v h n r low none image ok d same size done is = by_way h.wri
         let less : o < length u.view.notes = let z = length-set s.view.notes o (writable (note s.view o)) in omega arith in
         before g (ready_of s) (ready_of u) n y t
         (λ l goes. clearing g (ready_of s) (ready_of u) (program_of t) n l (touch.Stores k a v) o r
-          (stores_turn g (at_rest n) (ready_of s) (answers true) k o a v (seen h) (seen_at s.holds k ∙ ap hold_seen d) refl same
-            ∙ ap (λ (b : Bool). store_or_clear g (at_rest n) (ready_of s) k o (a.index % g.size) v b) e ∙ ap (λ (c : Program). Calls (Clears o) (λ (m : State). c)) (holding_seen s k (Some (a_hold o f true)))) some goes)
+        (stores_turn g (at_rest n) (ready_of s) (answers true) k o a v (seen h) (seen_at s.holds k ∙ ap hold_seen d) refl same
+        ∙ ap (λ (b : Bool). store_or_clear g (at_rest n) (ready_of s) k o (a.index % g.size) v b) e ∙ ap (λ (c : Program). Calls (Clears o) (λ (m : State). c)) (holding_seen s k (Some (a_hold o f true)))) some goes)
         (writes_so g u t k a v o f i y (ready_along g s u (touch.Stores k a v) refl r) none image (get_or-set_same s.holds k (Some (a_hold o f true)) None low) same (ap (λ m. a.index % m) (sym size)) held.owns less
-          (ap (λ (z : Note). z.frame) now ∙ there) (ap (λ (z : Note). z.writing) now ∙ ap known there) exact after)
+        (ap (λ (z : Note). z.frame) now ∙ there) (ap (λ (z : Note). z.writing) now ∙ ap known there) exact after)
 
 -- ---- allocations
 
@@ -215,7 +214,7 @@ allocates_so g s t many n r none image size base limit ok room done is =
     let fits : next_object g.size g.base (session.cells_in s) + pieces g.size many ≤ g.limit = omega arith in
     before g (ready_of s) (finished g (ready_of s) 0) n n t
     (λ l goes. alone g (ready_of s) (finished g (ready_of s) 0) (program_of t) n l 0 (touch.Allocs many) r
-      (ap (λ b. cond b (Alone (grows g (ready_of s) (answers true))) (Alone (in_mode (ready_of s) (Wanted NoObjects)))) (le-leb (next_object g.size g.base (session.cells_in s) + pieces g.size many) g.limit fits)) goes)
+    (ap (λ b. cond b (Alone (grows g (ready_of s) (answers true))) (Alone (in_mode (ready_of s) (Wanted NoObjects)))) (le-leb (next_object g.size g.base (session.cells_in s) + pieces g.size many) g.limit fits)) goes)
     (at_last g (finished g (ready_of s) 0) n t (ap program_of done ∙ sym (finished_is g s 0 none image)) (subst (λ (y : session.State). IsKnown y.view n) (sym done) is))
 
 -- ---- one instruction

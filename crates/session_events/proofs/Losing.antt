@@ -1,21 +1,18 @@
 -- The events of an aim for which the store refuses a call.
-use Rattle.std.proofs.Common.{◌≡◌, ◌≢◌, ℕ, zero, suc, ◌+◌, ◌<◌, ◌≤◌, Bool, true, false, cond, List, [], ◌∷◌, ◌++◌, append_assoc, length, map, take, refl, sym, ap, ◌∙◌, subst, inl, inr, arith, ne_eqb, eq-eqb, zero-add}
-use Rattle.std.specs.Prelude.{◌==◌, ◌⊎◌, Option, Some, None, slice_index_or, slice_set}
+use Rattle.std.proofs.Common.{◌≡◌, ◌≢◌, ℕ, zero, suc, ◌+◌, ◌<◌, ◌≤◌, true, false, cond, List, [], ◌∷◌, ◌++◌, append_assoc, length, map, take, refl, sym, ap, ◌∙◌, subst, inl, inr, arith, ne_eqb, eq-eqb}
+use Rattle.std.specs.Prelude.{Option, Some, None, slice_index_or, slice_set}
 use Rattle.std.proofs.lemmas.Bool.Decides.{eqb_tells}
 use Rattle.std.proofs.lemmas.List.{get_or-set_same, get_or-set_other, length-map, length-set, map-set}
-use Rattle.cells.specs.declared.ending.Want.{Want}
 use Rattle.cells.specs.declared.ending.Want.TheVariants.{StoreFailed}
 use Rattle.pointer_word.specs.Asked.{HasNothing}
 use Rattle.pointer_word.specs.Hands.{Aborted, Began, Claimed, Hand, Marked, Note, Retreated, Unclaimed, aborting, blank, bringing, claiming, closed, known, opened, retreating, unclaiming, upd}
 use Rattle.pointer_word.specs.Machine.{Never, State}
 use Rattle.pointer_word.specs.Words.{Away, counted}
-use Rattle.code_form.specs.declared.touch.Cell.{Cell}
 use Rattle.code_form.specs.declared.touch.Touch.{Touch}
-use Rattle.code_form.specs.declared.touch.Touch.TheVariants as touch
 use Rattle.object_lock.specs.Seats.{Owns, View, note}
 use Rattle.object_lock.specs.Seats as seats
 use Rattle.object_moves.specs.Visits.{moves_in}
-use Rattle.object_moves.specs.Ways.{Begun, BroughtIn, Course, Found, Leads, NotRead, NotWritten, moves_along, moves_on}
+use Rattle.object_moves.specs.Ways.{Begun, BroughtIn, Course, Leads, NotRead, NotWritten, moves_on}
 use Rattle.session.specs.declared.hold.Hold as own
 use Rattle.session.specs.Keeping.{IsHolding, Misses, a_hold, count_of, one, shut_at, wants}
 use Rattle.session.specs.Performing.{shut_all, shut_first}
@@ -47,19 +44,21 @@ hand_lost g x o (BroughtIn vs f) leads h = absurd leads
 hand_lost g x o (NotRead vs f) leads h =
     let y : Hand = bringing x o [] in
     let only : HasOnly o y = (refl, h.1, h.2.0, h.2.1) in
-    let still = still_only g.size o vs y leads only in
-    ((refl, still.1, (refl, still.3)),
+    let still = still_only g.size o vs y leads only in (
+      (refl, still.1, (refl, still.3)),
       ap (λ ms. ((ms ++ Claimed f ∷ []) ++ Unclaimed ∷ []) ++ Retreated ∷ []) (past_visits g.size vs y leads) ∙ append_assoc ((y.past ++ moves_in vs) ++ Claimed f ∷ []) (Unclaimed ∷ []) (Retreated ∷ [])
-        ∙ append_assoc (y.past ++ moves_in vs) (Claimed f ∷ []) (Unclaimed ∷ Retreated ∷ []) ∙ append_assoc y.past (moves_in vs) (Claimed f ∷ Unclaimed ∷ Retreated ∷ [])
-        ∙ append_assoc x.past (Began o ∷ []) (moves_in vs ++ Claimed f ∷ Unclaimed ∷ Retreated ∷ []))
+          ∙ append_assoc (y.past ++ moves_in vs) (Claimed f ∷ []) (Unclaimed ∷ Retreated ∷ []) ∙ append_assoc y.past (moves_in vs) (Claimed f ∷ Unclaimed ∷ Retreated ∷ [])
+          ∙ append_assoc x.past (Began o ∷ []) (moves_in vs ++ Claimed f ∷ Unclaimed ∷ Retreated ∷ []),
+    )
 hand_lost g x o (NotWritten vs v f) leads h =
     let y : Hand = bringing x o [] in
     let only : HasOnly o y = (refl, h.1, h.2.0, h.2.1) in
-    let still = still_only g.size o vs y leads only in
-    ((refl, refl, (still.2, still.3)),
+    let still = still_only g.size o vs y leads only in (
+      (refl, refl, (still.2, still.3)),
       ap (λ ms. ((ms ++ Marked v f ∷ []) ++ Aborted ∷ []) ++ Retreated ∷ []) (past_visits g.size vs y leads) ∙ append_assoc ((y.past ++ moves_in vs) ++ Marked v f ∷ []) (Aborted ∷ []) (Retreated ∷ [])
-        ∙ append_assoc (y.past ++ moves_in vs) (Marked v f ∷ []) (Aborted ∷ Retreated ∷ []) ∙ append_assoc y.past (moves_in vs) (Marked v f ∷ Aborted ∷ Retreated ∷ [])
-        ∙ append_assoc x.past (Began o ∷ []) (moves_in vs ++ Marked v f ∷ Aborted ∷ Retreated ∷ []))
+          ∙ append_assoc (y.past ++ moves_in vs) (Marked v f ∷ []) (Aborted ∷ Retreated ∷ []) ∙ append_assoc y.past (moves_in vs) (Marked v f ∷ Aborted ∷ Retreated ∷ [])
+          ∙ append_assoc x.past (Began o ∷ []) (moves_in vs ++ Marked v f ∷ Aborted ∷ Retreated ∷ []),
+    )
 
 -- what is known as the holds are to be closed
 abbrev with_lost : Setting → Known → ℕ → Course → Known
@@ -194,9 +193,9 @@ module _ (reliable : Type 0) (s u t : session.State) (k o : ℕ) (n : Known) (c 
 
   none_before : count_of o s.holds ≡ 0
   none_before = count_zero s.holds o (λ j h d z.
-    let here : (note s.view o).frame ≡ Some h.frame = ap (λ i. (note s.view i).frame) (sym z) ∙ (ok.held j h d).here in
-    let clash : None ≡ Some h.frame = sym m.gives.unknown ∙ here in
-    cc)
+      let here : (note s.view o).frame ≡ Some h.frame = ap (λ i. (note s.view i).frame) (sym z) ∙ (ok.held j h d).here in
+      let clash : None ≡ Some h.frame = sym m.gives.unknown ∙ here in
+      cc)
 
   owned_then : (j : ℕ) (h : own.Hold) → session.hold_at held_then j ≡ Some h → Owns s.view h.object
   owned_then j h d =
@@ -288,7 +287,7 @@ module _ (reliable : Type 0) (s u t : session.State) (k o : ℕ) (n : Known) (c 
       let seen_so = map-set hold_seen s.holds k (Some (a_hold o 0 false)) in
       before g (ready_of s) p n (after_closings held_then l) t
       (λ y goes. lost_by g (ready_of s) n y (program_of t) k o x c r leads is.nothing few turn
-        (subst (λ (hs : List (Option Hold)). Reaches g (with_holds (ready_of s) hs Closing) l (program_of t) y) seen_so
-        (closings g (ready_of s) y (program_of t) held_then 0 l (all_open (Owns s.view) held_then l owned_then enough_then)
-          (some_held held_then k (a_hold o 0 false) (get_or-set_same s.holds k (Some (a_hold o 0 false)) None low)) goes)))
+      (subst (λ (hs : List (Option Hold)). Reaches g (with_holds (ready_of s) hs Closing) l (program_of t) y) seen_so
+      (closings g (ready_of s) y (program_of t) held_then 0 l (all_open (Owns s.view) held_then l owned_then enough_then)
+      (some_held held_then k (a_hold o 0 false) (get_or-set_same s.holds k (Some (a_hold o 0 false)) None low)) goes)))
       (at_last g p (after_closings held_then l) t program_lost known_lost)

@@ -1,6 +1,6 @@
 -- Single events of a program between two instructions.
-use Rattle.std.proofs.Common.{◌≡◌, ℕ, suc, ◌+◌, ◌<◌, ◌%◌, Bool, true, false, cond, not, ◌&&◌, List, [], ◌∷◌, ◌++◌, length, refl, sym, ap, ◌∙◌, subst, arith}
-use Rattle.std.specs.Prelude.{◌==◌, Option, Some, None, nat_lt, slice_set}
+use Rattle.std.proofs.Common.{◌≡◌, ℕ, ◌<◌, ◌%◌, Bool, true, false, cond, List, [], ◌∷◌, length, refl, sym, ap, ◌∙◌, subst}
+use Rattle.std.specs.Prelude.{◌==◌, Option, Some, None}
 use Rattle.std.proofs.lemmas.Bool.{eq-eqb, lt-ltb}
 use Rattle.pointer_word.specs.Calls.{Clears, Closes, Opens, Stores}
 use Rattle.pointer_word.specs.Words.{Away, Word, counted, framed}
@@ -13,10 +13,10 @@ use Rattle.code_form.specs.declared.touch.Touch.TheVariants as touch
 use Rattle.world_semantics.specs.declared.event.Choice.{Choice}
 use Rattle.world_semantics.specs.declared.event.Choice.TheVariants as choice
 use Rattle.world_semantics.specs.declared.hold.Hold.{Hold}
-use Rattle.world_semantics.specs.Programs.{Missing, Program, Ready, Setting, finished, hold_at, holding, in_mode, next_touch, object_of, object_or_none}
+use Rattle.world_semantics.specs.Programs.{Program, Ready, Setting, finished, hold_at, holding, next_touch, object_of, object_or_none}
 use Rattle.world_semantics.specs.Turns.{Alone, Answer, Calls, NotEnabled, Turn, aims_at, by_mode, closes, leaves_by, loads_by, loads_from, program_turn, ready, stores_by, stores_to, taken}
 use Rattle.mover_events.specs.Going.{Event}
-use Rattle.session_events.specs.Knowing.{Goes, IsOwn, Known, learned}
+use Rattle.session_events.specs.Knowing.{Goes, Known}
 
 -- ---- events, one behind the other
 
@@ -53,9 +53,10 @@ known_is h n y e f =
 -- one event at a state that the seat's knowledge makes, and then others
 pub step : (g : Setting) (p c q : Program) (k y l : Known) (s t : State) (x : Choice) (a : Answer) → s.hand g.mover ≡ k.hand → s.note ≡ k.notes
     → taken g.size s (program_turn g s p x a) ≡ Some (t, c) → t.hand g.mover ≡ y.hand → t.note ≡ y.notes → Reaches g c y q l → Reaches g p k q l
-step g p c q k y l s t x a at notes does hand kept rest =
-    (record { state = s; choice = x; answer = a } ∷ rest.0,
-      ((at, λ o w. ap (λ (n : ℕ → Note). n o) notes), (t, c, does, subst (λ z. Goes g c z rest.0 q l) (sym (known_is (t.hand g.mover) t.note y hand kept)) rest.1)))
+step g p c q k y l s t x a at notes does hand kept rest = (
+  record { state = s; choice = x; answer = a } ∷ rest.0,
+  ((at, λ o w. ap (λ (n : ℕ → Note). n o) notes), (t, c, does, subst (λ z. Goes g c z rest.0 q l) (sym (known_is (t.hand g.mover) t.note y hand kept)) rest.1)),
+)
 
 -- ---- the next instruction
 

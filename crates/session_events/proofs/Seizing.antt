@@ -1,5 +1,5 @@
 -- The events by which a scope is shut, and an object taken for it.
-use Rattle.std.proofs.Common.{◌≡◌, ◌≢◌, ℕ, zero, suc, ◌+◌, ◌<◌, ◌≤◌, Bool, true, false, cond, List, [], ◌∷◌, ◌++◌, append_assoc, length, map, refl, sym, ap, ◌∙◌, subst, inl, inr, arith, ne_eqb, add-one}
+use Rattle.std.proofs.Common.{◌≡◌, ℕ, suc, ◌+◌, ◌<◌, Bool, true, false, cond, List, [], ◌∷◌, ◌++◌, append_assoc, length, map, refl, sym, ap, ◌∙◌, subst, inl, inr, arith, ne_eqb, add-one}
 use Rattle.std.specs.Prelude.{◌==◌, Option, Some, None, slice_index_or, slice_set}
 use Rattle.std.proofs.lemmas.Bool.{eq-eqb}
 use Rattle.std.proofs.lemmas.List.{map-set}
@@ -9,7 +9,7 @@ use Rattle.pointer_word.specs.Asked.{HasNothing}
 use Rattle.pointer_word.specs.Calls.{Closes}
 use Rattle.pointer_word.specs.Words.{Away, Here, counted}
 use Rattle.pointer_word.specs.Hands.{Arrived, Began, Claimed, Hand, Note, arriving, blank, bringing, claiming, closed, known, opened, told, upd}
-use Rattle.pointer_word.specs.Machine.{Never, State, after_open}
+use Rattle.pointer_word.specs.Machine.{Never, State}
 use Rattle.code_form.specs.Form.{Image}
 use Rattle.code_form.specs.Code.{effect}
 use Rattle.code_form.specs.Touches.{resumed}
@@ -90,7 +90,7 @@ closed_then g s t n k h x r ok e is turn rest =
     let after = known_noted s.view n o (closed (n.notes o)) (closed (note s.view o)) here is (ap closed (is.notes o own)) in
     before g (ready_of s) (ready_of (shut_at s k (Some h))) n (with_closed n o) t
     (λ l goes. closing g (ready_of s) (ready_of (shut_at s k (Some h))) (program_of t) n l x o r
-      (turn (stage (counted 0 Away) Never 0 n) ∙ ap (λ (c : Program). Calls (Closes o) (λ (m : State). c)) (holding_seen s k None)) some goes)
+    (turn (stage (counted 0 Away) Never 0 n) ∙ ap (λ (c : Program). Calls (Closes o) (λ (m : State). c)) (holding_seen s k None)) some goes)
     (rest after)
 
 -- ---- an object is taken
@@ -127,10 +127,11 @@ hand_taken g k o f (Begun (BroughtIn vs j)) leads h =
     let x : Hand = bringing k.hand o [] in
     let only : HasOnly o x = (refl, h.1, h.2.0, h.2.1) in
     let still = still_only g.size o vs x leads.0 only in
-    let past = past_visits g.size vs x leads.0 in
-    ((refl, still.1, (refl, still.3)),
+    let past = past_visits g.size vs x leads.0 in (
+      (refl, still.1, (refl, still.3)),
       ap (λ ms. (ms ++ Claimed j ∷ []) ++ Arrived ∷ []) past ∙ append_assoc (x.past ++ moves_in vs) (Claimed j ∷ []) (Arrived ∷ []) ∙ append_assoc x.past (moves_in vs) (Claimed j ∷ Arrived ∷ [])
-        ∙ append_assoc k.hand.past (Began o ∷ []) (moves_in vs ++ Claimed j ∷ Arrived ∷ []))
+          ∙ append_assoc k.hand.past (Began o ∷ []) (moves_in vs ++ Claimed j ∷ Arrived ∷ []),
+    )
 hand_taken g k o f (Begun (NotRead vs j)) leads h = absurd leads
 hand_taken g k o f (Begun (NotWritten vs v j)) leads h = absurd leads
 
@@ -182,4 +183,4 @@ took_then g s t n k o f w x y r leads is few turn rest =
     let u : session.State = record s { holds = slice_set s.holds k (Some (a_hold o f false)); view = w } in
     before g (ready_of s) (finished g (ready_of u) 0) n (behind_taking g n o y f) t
     (λ l goes. taken_by g (ready_of s) n l (program_of t) k o f x y r leads is.nothing few turn
-      (subst (λ (c : Program). Reaches g (finished g c 0) (behind_taking g n o y f) (program_of t) l) (sym (holding_seen s k (Some (a_hold o f false)))) goes)) rest
+    (subst (λ (c : Program). Reaches g (finished g c 0) (behind_taking g n o y f) (program_of t) l) (sym (holding_seen s k (Some (a_hold o f false)))) goes)) rest

@@ -111,9 +111,9 @@ loses_some reliable g s u t k a n r low ok b e is = by_hold (session.hold_at s.h
         let less : k < length v.holds = let z = length-set s.holds k None in omega arith in
         closed_then g s t n k h x r ok d is
         (λ m. aims_turn g m (ready_of s) (answers true) k (Some a) (Some (seen h)) (Some o) (omega (arith, length-map s.holds hold_seen)) (seen_at s.holds k ∙ ap hold_seen d) refl
-          ∙ aims_elsewhere g (ready_of s) k o (seen h) (not_held s k o h d b.0))
+        ∙ aims_elsewhere g (ready_of s) k o (seen h) (not_held s k o h d b.0))
         (λ known. loses_object reliable g v u t k a (with_closed n h.object) (shut_ready g s k h x r) less (get_or-set_same s.holds k None None low) (holding_shut s k (Some h) d ok low) b.1
-          (subst (λ (z : session.State). Misses reliable o z u) (ap (shut_at s k) d) b.2) e known)
+        (subst (λ (z : session.State). Misses reliable o z u) (ap (shut_at s k) d) b.2) e known)
 
 lost_so : (reliable : Type 0) (x : Touch) (s u t : session.State) (n : Known) → IsHolding s → IsNext x s → LosesAt reliable x s u → t ≡ wants (shut_all u) StoreFailed → IsKnown s.view n → ComesTo (setting_of s) (ready_of s) n t
 lost_so reliable (touch.Aims k (Some a)) s u t n ok next lost e is =
@@ -134,8 +134,8 @@ halted_still : (s t : session.State) → t ≡ wants (shut_all s) StoreFailed �
 halted_still s t e h =
     let a = first_stays (length s.holds) s in
     let there : session.IsHalted (shut_all s) =
-        subst (λ (i : Image). (touch_of (effect i (shut_all s).core) ≡ touch.Wrong) ⊎ ((touch_of (effect i (shut_all s).core) ≡ touch.Nothing) ⊎ (is_blocked (shut_all s).core ≡ true))) (sym a.image)
-        (subst (λ (c : Core). (touch_of (effect s.image c) ≡ touch.Wrong) ⊎ ((touch_of (effect s.image c) ≡ touch.Nothing) ⊎ (is_blocked c ≡ true))) (sym a.core) h) in
+    subst (λ (i : Image). (touch_of (effect i (shut_all s).core) ≡ touch.Wrong) ⊎ ((touch_of (effect i (shut_all s).core) ≡ touch.Nothing) ⊎ (is_blocked (shut_all s).core ≡ true))) (sym a.image)
+    (subst (λ (c : Core). (touch_of (effect s.image c) ≡ touch.Wrong) ⊎ ((touch_of (effect s.image c) ≡ touch.Nothing) ⊎ (is_blocked c ≡ true))) (sym a.core) h) in
     subst (λ (y : session.State). session.IsHalted y) (sym e) there
 
 -- what is wanted for a cause

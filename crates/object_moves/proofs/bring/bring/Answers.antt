@@ -1,4 +1,4 @@
-use Rattle.std.proofs.Common.{◌<◌, ap, subst, sym}
+use Rattle.std.proofs.Common.{ap, subst, sym}
 use Rattle.object_lock.specs.Plays.{Holds}
 use Rattle.object_moves.proofs.Visiting.{arrives_so, not_read, not_written}
 use Rattle.object_moves.proofs.bring.bring.Goals as goal

@@ -34,6 +34,9 @@ carry_out-requires-clause-plan g c κs within =
 pub returns-clause-performed : goal.returns-clause-performed
 returns-clause-performed g c =
     let laws : Laws = record { tidy = c.effect_laws.ensures.tidy; tracked = c.effect_laws.ensures.tracked; waits = c.effect_laws.ensures.waits; ends = c.effect_laws.ensures.ends } in
-    let h = c.held-hold.result in
-    (h, c.held-hold.ensures, object_is c.args.self.now c.args.scope c.args.cell h c.requires.safe (loads_cell laws c.args.self.now c.args.scope c.args.cell c.requires.safe c.requires.next) c.held-hold.ensures,
-      (c.load_cell-value.result, loaded_from c.args.self.now c.load_cell-value.new.self c.carry_out.new.self c.load_cell-value.result c.load_cell-value.ensures.same c.carry_out.ensures))
+    let h = c.held-hold.result in (
+      h,
+      c.held-hold.ensures,
+      object_is c.args.self.now c.args.scope c.args.cell h c.requires.safe (loads_cell laws c.args.self.now c.args.scope c.args.cell c.requires.safe c.requires.next) c.held-hold.ensures,
+      (c.load_cell-value.result, loaded_from c.args.self.now c.load_cell-value.new.self c.carry_out.new.self c.load_cell-value.result c.load_cell-value.ensures.same c.carry_out.ensures),
+    )

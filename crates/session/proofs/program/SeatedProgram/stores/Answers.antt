@@ -39,6 +39,9 @@ pub returns-clause-performed : goal.returns-clause-performed
 returns-clause-performed g c =
     let laws : Laws = record { tidy = c.effect_laws.ensures.tidy; tracked = c.effect_laws.ensures.tracked; waits = c.effect_laws.ensures.waits; ends = c.effect_laws.ensures.ends } in
     let s = c.args.self.now in
-    let h = c.held-hold.result in
-    (h, c.held-hold.ensures, object_is s c.args.scope c.args.cell h c.requires.safe (stores_cell laws s c.args.scope c.args.cell c.args.value c.requires.safe c.requires.next) c.held-hold.ensures,
-      stored_exactly s c.make_writable.new.self c.store_cell.new.self c.carry_out.new.self c.args.scope h c.args.cell.index _ c.args.value c.make_writable.ensures.exact c.make_writable.ensures.changes c.place-index.ensures c.store_cell.ensures c.carry_out.ensures)
+    let h = c.held-hold.result in (
+      h,
+      c.held-hold.ensures,
+      object_is s c.args.scope c.args.cell h c.requires.safe (stores_cell laws s c.args.scope c.args.cell c.args.value c.requires.safe c.requires.next) c.held-hold.ensures,
+      stored_exactly s c.make_writable.new.self c.store_cell.new.self c.carry_out.new.self c.args.scope h c.args.cell.index _ c.args.value c.make_writable.ensures.exact c.make_writable.ensures.changes c.place-index.ensures c.store_cell.ensures c.carry_out.ensures,
+    )
