@@ -1,11 +1,12 @@
 -- Visits of a round, one behind the other.
-use Rattle.std.proofs.Common.{◌≡◌, ℕ, List, [], ◌∷◌, ◌++◌, append_assoc, refl, sym, ap, ◌∙◌, arith}
+use Rattle.std.proofs.Common.{◌≡◌, ℕ, List, [], ◌∷◌, ◌++◌, append_assoc, sym, ap, ◌∙◌, arith}
 use Rattle.object_moves.specs.Moving.{hand_after}
+use Rattle.object_moves.specs.Visits.{LetsLeave, MovesOut, Visit}
 use Rattle.object_moves.specs.declared.moved.Moved.{Moved}
-use Rattle.object_moves.specs.declared.moved.Moved.TheVariants as M
+use Rattle.object_moves.proofs.Visiting.{moved_past, nothing_more, then_more}
 use Rattle.pointer_word.specs.Hands.{Hand, Move, leaving, marking, releasing}
 use Rattle.evacuator.specs.declared.counts.Round.{Round}
-use Rattle.evacuator.specs.Rounds.{LetsLeave, MovesOut, Visit, Visits, both, moves_at, moves_in, moves_of, round_at, round_in}
+use Rattle.evacuator.specs.Rounds.{Visits, both, moves_of, round_at, round_in}
 
 abbrev counts : ℕ → ℕ → ℕ → Round
 counts a b c = record { left = a; aborted = b; failed = c }
@@ -29,19 +30,6 @@ pub rounds_in_order : (xs ys : List Visit) → round_in (xs ++ ys) ≡ both (rou
 rounds_in_order [] ys = sym (both_first (round_in ys))
 rounds_in_order (x ∷ xs) ys = ap (both (round_at x)) (rounds_in_order xs ys) ∙ sym (both_in_order (round_at x) (round_in xs) (round_in ys))
 
-pub moves_in_order : (xs ys : List Visit) → moves_in (xs ++ ys) ≡ moves_in xs ++ moves_in ys
-moves_in_order [] ys = refl
-moves_in_order (x ∷ xs) ys = ap (λ ms. moves_at x ++ ms) (moves_in_order xs ys) ∙ sym (append_assoc (moves_at x) (moves_in xs) (moves_in ys))
-
--- what was done before, then by some visits, and then by others
-pub then_more : (past between later : List Move) (xs ys : List Visit) → between ≡ past ++ moves_in xs → later ≡ between ++ moves_in ys → later ≡ past ++ moves_in (xs ++ ys)
-then_more past between later xs ys e f = f ∙ ap (λ ms. ms ++ moves_in ys) e ∙ append_assoc past (moves_in xs) (moves_in ys) ∙ ap (λ ms. past ++ ms) (sym (moves_in_order xs ys))
-
--- nothing more was done
-pub nothing_more : (ms : List Move) → ms ≡ ms ++ moves_in []
-nothing_more [] = refl
-nothing_more (m ∷ ms) = ap (λ l. m ∷ l) (nothing_more ms)
-
 pub visits_none : (before after : List Move) (r : Round) → after ≡ before → moves_of r ≡ 0 → Visits before after r
 visits_none before after r e h = record { visits = []; did = e ∙ nothing_more before; counted = nothing_counted r h }
 
@@ -55,11 +43,6 @@ visits_both before between after a b x y = record {
 -- the object that was clean in the frame f left it
 pub visits_clean : (x : Hand) (after : List Move) (f : ℕ) → after ≡ (releasing (leaving x f)).past → Visits x.past after (round_at (LetsLeave f))
 visits_clean x after f e = record { visits = LetsLeave f ∷ []; did = e ∙ append_assoc x.past _ _; counted = one_counted (LetsLeave f) }
-
-moved_past : (x : Hand) (o f : ℕ) (r : Moved) (ps : List (ℕ × ℕ)) → (hand_after r (marking x o f) ps).past ≡ x.past ++ moves_in (MovesOut o f r ∷ [])
-moved_past x o f M.Left ps = append_assoc (x.past ++ _) _ _ ∙ append_assoc x.past _ _
-moved_past x o f M.Stayed ps = append_assoc x.past _ _
-moved_past x o f M.Failed ps = append_assoc x.past _ _
 
 -- the object o was marked in the frame f, and this became of it
 pub visits_marked : (x y : Hand) (o f : ℕ) (r : Moved) (ps : List (ℕ × ℕ)) → y ≡ hand_after r (marking x o f) ps → Visits x.past y.past (round_at (MovesOut o f r))

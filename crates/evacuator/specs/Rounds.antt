@@ -1,10 +1,11 @@
 -- What a round of an evacuator tells, and what it leaves of its seat.
 use Rattle.std.specs.Prelude.{◌≡◌, ℕ, ◌+◌, ◌%◌, ◌≤◌, List, [], ◌∷◌, ◌++◌}
-use Rattle.pointer_word.specs.Hands.{Move, Marked, Committed, Aborted, Left, Released}
+use Rattle.pointer_word.specs.Hands.{Move}
 use Rattle.object_lock.specs.Seats.{with_hand}
 use Rattle.object_lock.specs.SeatViews.{SeatView}
 use Rattle.object_moves.specs.declared.moved.Moved.{Moved}
 use Rattle.object_moves.specs.declared.moved.Moved.TheVariants as M
+use Rattle.object_moves.specs.Visits.{LetsLeave, MovesOut, Visit, moves_in}
 use Rattle.evacuator.specs.declared.counts.Round.{Round}
 
 -- how many objects a round marked, or had leave as they were clean
@@ -20,23 +21,6 @@ one_of M.Failed = record { left = 0; aborted = 0; failed = 1 }
 -- the one round and then the other
 abbrev pub both : Round → Round → Round
 both a b = record { left = a.left + b.left; aborted = a.aborted + b.aborted; failed = a.failed + b.failed }
-
--- what a round did at a frame: an object was marked there, and this became of it; or one left that was clean
-pub data Visit : Type 0 where
-  MovesOut : (object frame : ℕ) → (became : Moved) → Visit
-  LetsLeave : (frame : ℕ) → Visit
-
--- what the mover did then by calls that had their effect, in order, but the copies
-abbrev pub moves_at : Visit → List Move
-moves_at (MovesOut o f M.Left) = Marked o f ∷ Committed f ∷ Released ∷ []
-moves_at (MovesOut o f M.Stayed) = Marked o f ∷ Aborted ∷ []
-moves_at (MovesOut o f M.Failed) = Marked o f ∷ Aborted ∷ []
-moves_at (LetsLeave f) = Left f ∷ Released ∷ []
-
--- the same of visits, one behind the other
-abbrev pub moves_in : List Visit → List Move
-moves_in [] = []
-moves_in (x ∷ xs) = moves_at x ++ moves_in xs
 
 -- the round of one visit
 abbrev pub round_at : Visit → Round

@@ -1,4 +1,4 @@
 mod Beginning
 mod Marking
-mod Serving
-mod Visiting
+pub mod Serving
+pub mod Visiting

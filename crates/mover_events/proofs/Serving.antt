@@ -16,13 +16,17 @@ use Rattle.mover_events.proofs.Marking.{there, upd_same}
 use Rattle.mover_events.proofs.Visiting.{later_last}
 
 -- k cells filled with 0
-abbrev pairs : ℕ → List (ℕ × ℕ)
+abbrev pub pairs : ℕ → List (ℕ × ℕ)
 pairs zero = []
 pairs (suc k) = pairs k ++ (k, 0) ∷ []
 
+-- the hand of a mover that has filled k cells since its claim
+abbrev pub filled_with : Hand → ℕ → Hand
+filled_with x k = record x { filled = pairs k }
+
 -- the hand of a mover that has begun an object, of which nothing was ever put, claimed a frame, and filled k cells
 abbrev after_fills : Hand → ℕ → ℕ → ℕ → Hand
-after_fills x o f k = record (claiming (bringing x o []) f) { filled = pairs k }
+after_fills x o f k = filled_with (claiming (bringing x o []) f) k
 
 known_at : (b : Bool) (s : Option ℕ) → (b ≡ false → known s ≡ true) → known (cond b (Some 0) s) ≡ true
 known_at true s h = refl
@@ -37,11 +41,11 @@ filled_there (suc k) i l =
     below : (k == i) ≡ false → i < k
     below e = grind arith
 
-all_filled : (x : Hand) (o f n k : ℕ) → k ≤ n → filled_below k (after_fills x o f n) ≡ true
-all_filled x o f n zero h = refl
-all_filled x o f n (suc k) h =
+pub pairs_filled : (x : Hand) (n k : ℕ) → k ≤ n → filled_below k (filled_with x n) ≡ true
+pairs_filled x n zero h = refl
+pairs_filled x n (suc k) h =
     let there_is : known (seen (pairs n) k) ≡ true = filled_there n k (omega arith) in
-    let others : filled_below k (after_fills x o f n) ≡ true = all_filled x o f n k (omega arith) in
+    let others : filled_below k (filled_with x n) ≡ true = pairs_filled x n k (omega arith) in
     simp (there_is, others) refl
 
 fills_on : (n m o f : ℕ) (x z : Hand) (e : Option Fetching) (j k : ℕ) → k + j ≡ n → Brings n m (Some (Filling o f [] n)) (after_fills x o f n) e z → Brings n m (Some (Filling o f [] k)) (after_fills x o f k) e z
@@ -95,5 +99,5 @@ served n m o f x words filled h =
     let all = begun_then n m o x z h
     (then_brings n m (Some (Bringing o)) (Some (Filling o f [] 0)) None y (after_fills x o f 0) z s (after_claim s m o f) (choice.Claim f) refl (claims n m o f y h.2.0) (upd_same s.hand m (claiming y f))
     (fills_on n m o f x z None n 0 (omega arith)
-    (then_brings n m (Some (Filling o f [] n)) None None w z z full (after_arrive full m o f) choice.Next refl (arrives n m o f w refl refl (all_filled x o f n n (omega arith))) (upd_same full.hand m z) ([], (refl, refl))))) in
+    (then_brings n m (Some (Filling o f [] n)) None None w z z full (after_arrive full m o f) choice.Next refl (arrives n m o f w refl refl (pairs_filled (claiming (bringing x o []) f) n n (omega arith))) (upd_same full.hand m z) ([], (refl, refl))))) in
     (all.0, z, all.1, (refl, h.1, (refl, h.2.1)), refl)

@@ -10,26 +10,26 @@ use Rattle.object_moves.specs.declared.moved.Moved.TheVariants as M
 use Rattle.world_semantics.specs.declared.event.Choice.TheVariants as choice
 use Rattle.world_semantics.specs.Turns.{evacuator_turn}
 use Rattle.world_semantics.specs.Programs.{Copying, Eviction, Freed, NotStored, Refused, Stored}
-use Rattle.evacuator.specs.Rounds.{LetsLeave, MovesOut, Visit, moves_at, moves_in}
+use Rattle.object_moves.specs.Visits.{LetsLeave, MovesOut, Visit, moves_at, moves_in}
 use Rattle.mover_events.specs.Laws.{DoesByEvents}
 use Rattle.mover_events.proofs.Marking.{Reaches, aborts, aborts_unstored, and_then, commits, commits_in_vain, copies, leaves, marks, puts, puts_in_vain, releases, there, upd_same}
 
 -- ---- what is copied: k cells that hold 0
 
-abbrev zeros : ℕ → List ℕ
+abbrev pub zeros : ℕ → List ℕ
 zeros zero = []
 zeros (suc k) = zeros k ++ 0 ∷ []
 
-long : (k : ℕ) → length (zeros k) ≡ k
+pub long : (k : ℕ) → length (zeros k) ≡ k
 long zero = refl
 long (suc k) = omega (arith, length-append (zeros k) (0 ∷ []), long k)
 
-abbrev pairs : ℕ → List (ℕ × ℕ)
+abbrev pub pairs : ℕ → List (ℕ × ℕ)
 pairs zero = []
 pairs (suc k) = pairs k ++ (length (zeros k), 0) ∷ []
 
 -- the hand of a mover that has marked an object and copied k cells
-abbrev after_copies : Hand → ℕ → ℕ → ℕ → Hand
+abbrev pub after_copies : Hand → ℕ → ℕ → ℕ → Hand
 after_copies x o f k = record (marking x o f) { copied = pairs k }
 
 zero_behind : (xs : List ℕ) (i : ℕ) → slice_index_or xs i 0 ≡ 0 → slice_index_or (xs ++ 0 ∷ []) i 0 ≡ 0
@@ -59,7 +59,7 @@ copied_there (suc k) i l =
     below : (length (zeros k) == i) ≡ false → i < k
     below e = grind (arith, long k)
 
-all_copied : (x : Hand) (o f n k : ℕ) → k ≤ n → copied_below k (after_copies x o f n) (zeros n) ≡ true
+pub all_copied : (x : Hand) (o f n k : ℕ) → k ≤ n → copied_below k (after_copies x o f n) (zeros n) ≡ true
 all_copied x o f n zero h = refl
 all_copied x o f n (suc k) h =
     let told : seen (pairs n) k ≡ Some 0 = copied_there n k (omega arith) in

@@ -2,3 +2,4 @@ mod Copying
 pub mod Filling
 mod Looking
 mod Taking
+pub mod Visiting

@@ -1,2 +1,4 @@
 pub mod Moving
 pub mod Taken
+pub mod Visits
+pub mod Ways

@@ -3,6 +3,7 @@ ghost use Rattle.std.specs.Prelude.{◌≡◌, ◌<◌, None, IfOk, IfSome, Matc
 ghost use Rattle.object_lock.specs.SeatViews.{IsSeat};
 ghost use Rattle.object_lock.specs.Seats.{Owns, note};
 ghost use Rattle.object_moves.specs.Taken.{BringsOr, Claims, ClaimsOne, ClaimsOr, FetchesOr, HandOnly, HasOnly, IsQuiet, Refused, StillBrings, TakesOr};
+ghost use Rattle.object_moves.specs.Ways.{Comes, GoesOn, LacksRoom, MakesRoomAt, MakesRoomFor};
 
 use crate::arrival::bring_into;
 use crate::moved::StoreRefused;
@@ -52,6 +53,7 @@ fn claim_once<S: RawStore>(
     ensures table { IsSeat table.now owner.new }
     ensures told { MatchResult result (λ claimed. ClaimsOr owner.old owner.new claimed)
         (λ _. HandOnly owner.old owner.new × StillBrings owner.old.view.hand owner.new.view.hand × Refused S.reliable owner.old.refusals owner.new.refusals) }
+    ensures visits { MatchResult result (λ claimed. MakesRoomFor claimed owner.old.view.hand.past owner.new.view.hand.past) (λ _. LacksRoom owner.old.view.hand.past owner.new.view.hand.past) }
 {
     if let Some(frame) = find_near(table, owner, obj, from) {
         return Ok(Some(frame));
@@ -95,6 +97,7 @@ fn claim<R: Wait, S: RawStore>(
     ensures table { IsSeat table.now owner.new }
     ensures told { MatchResult result (λ frame. Claims owner.old owner.new frame)
         (λ _. HandOnly owner.old owner.new × StillBrings owner.old.view.hand owner.new.view.hand × Refused S.reliable owner.old.refusals owner.new.refusals) }
+    ensures visits { MatchResult result (λ frame. MakesRoomAt frame owner.old.view.hand.past owner.new.view.hand.past) (λ _. LacksRoom owner.old.view.hand.past owner.new.view.hand.past) }
 {
     for _ in rt.forever() {
         match claim_once(table, owner, obj, *from, &mut *moves) {
@@ -123,6 +126,7 @@ fn bring<R: Wait, S: RawStore>(
     requires hands { HasOnly obj owner.old.view }
     ensures table { IsSeat table.now owner.new }
     ensures told { BringsOr S.reliable obj owner.old owner.new result }
+    ensures course { GoesOn result owner.old.view.hand.past owner.new.view.hand.past }
 {
     let Ok(frame) = claim(rt, table, owner, obj, from, moves) else {
         table.retreat(owner, obj);
@@ -153,6 +157,7 @@ fn fetch<R: Wait, S: RawStore>(
     requires quiet { IsQuiet owner.old.view }
     ensures table { IsSeat table.now owner.new }
     ensures told { BringsOr S.reliable obj owner.old owner.new result }
+    ensures way { Comes obj result owner.old.view.hand.past owner.new.view.hand.past }
 {
     for _ in rt.forever() {
         match table.try_begin(owner, obj, count) {
@@ -180,6 +185,7 @@ fn fetch_or_close<R: Wait, S: RawStore>(
     requires quiet { IsQuiet owner.old.view }
     ensures table { IsSeat table.now owner.new }
     ensures told { FetchesOr S.reliable obj owner.old owner.new result }
+    ensures way { Comes obj result owner.old.view.hand.past owner.new.view.hand.past }
 {
     let fetched = fetch(rt, table, owner, obj, count, from, moves);
     match fetched {
@@ -207,6 +213,7 @@ pub fn take<R: Wait, S: RawStore>(
     requires quiet { IsQuiet owner.old.view }
     ensures table { IsSeat table.now owner.new }
     ensures told { TakesOr S.reliable obj owner.old owner.new result }
+    ensures way { Comes obj result owner.old.view.hand.past owner.new.view.hand.past }
 {
     match table.open(owner, obj) {
         Held::Here(frame) => Some(frame),

@@ -6,6 +6,7 @@ ghost use Rattle.object_lock.specs.Seats.{Owns};
 ghost use Rattle.object_lock.specs.Telling.{HasPut};
 ghost use Rattle.object_moves.specs.Moving.{LeavesClean, LeavesOne, LetsGo, MovesAway};
 ghost use Rattle.object_moves.specs.Taken.{CopiesOnly, HandOnly, HasOnly, MovesOut, Refused, StillBrings};
+ghost use Rattle.object_moves.specs.Ways.{LacksRoom, MakesRoom};
 ghost use Rattle.pointer_word.specs.Asked.{HasNoFrame};
 ghost use Rattle.pointer_word.specs.Ordered.{IsCopied};
 ghost use Rattle.pointer_word.specs.Words.{Here, counted};
@@ -183,6 +184,7 @@ fn move_one_out<S: RawStore>(
     ensures brings { StillBrings owner.old.view.hand owner.new.view.hand }
     ensures low { IfOk result (λ freed. IfSome freed (λ frame. frame < table.now.sizes.frames)) }
     ensures told { MatchResult result (λ _. owner.new.refusals ≡ owner.old.refusals) (λ _. Refused S.reliable owner.old.refusals owner.new.refusals) }
+    ensures visits { MatchResult result (λ _. MakesRoom owner.old.view.hand.past owner.new.view.hand.past) (λ _. LacksRoom owner.old.view.hand.past owner.new.view.hand.past) }
 {
     // For the proof alone: the clauses speak of the object that is being brought in.
     let _ = obj;
@@ -223,6 +225,7 @@ fn make_room_among<S: RawStore>(
     ensures brings { StillBrings owner.old.view.hand owner.new.view.hand }
     ensures low { IfOk result (λ freed. IfSome freed (λ frame. frame < table.now.sizes.frames)) }
     ensures told { MatchResult result (λ _. owner.new.refusals ≡ owner.old.refusals) (λ _. Refused S.reliable owner.old.refusals owner.new.refusals) }
+    ensures visits { MatchResult result (λ _. MakesRoom owner.old.view.hand.past owner.new.view.hand.past) (λ _. LacksRoom owner.old.view.hand.past owner.new.view.hand.past) }
 {
     match leave_one(table, owner, obj, many) {
         Some(frame) => {
@@ -248,6 +251,7 @@ pub(crate) fn make_room<S: RawStore>(
     ensures brings { StillBrings owner.old.view.hand owner.new.view.hand }
     ensures low { IfOk result (λ freed. IfSome freed (λ frame. frame < table.now.sizes.frames)) }
     ensures told { MatchResult result (λ _. owner.new.refusals ≡ owner.old.refusals) (λ _. Refused S.reliable owner.old.refusals owner.new.refusals) }
+    ensures visits { MatchResult result (λ _. MakesRoom owner.old.view.hand.past owner.new.view.hand.past) (λ _. LacksRoom owner.old.view.hand.past owner.new.view.hand.past) }
 {
     let count = table.frames();
     match make_room_among(table, owner, obj, count.min(FEW), &mut *moves) {

@@ -1,12 +1,13 @@
-mod CountsOf
-mod Holding
+pub mod CountsOf
+pub mod Holding
 mod Laws
 mod Missing
 mod Opening
-mod Places
+mod Performing
+pub mod Places
 mod Together
 mod Running
 mod Scaling
 mod Seated
 mod Ways
-mod Writing
+pub mod Writing

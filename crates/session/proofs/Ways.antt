@@ -158,10 +158,10 @@ match_object s a (Some h) m = (h, refl, m)
 used_hold : (s : State) (k : ℕ) (a : Cell) → IsSafe s → cell_option (held s.core k) ≡ Some a → (h : Hold) × (hold_at s.holds k ≡ Some h) × (h.object ≡ object_of s a)
 used_hold s k a safe e = match_object s a (hold_at s.holds k) (subst (λ z. Matches s z (hold_at s.holds k)) e (safe.scopes k))
 
-loads_cell : Laws → (s : State) (k : ℕ) (a : Cell) → IsSafe s → IsNext (touch.Loads k a) s → cell_option (held s.core k) ≡ Some a
+pub loads_cell : Laws → (s : State) (k : ℕ) (a : Cell) → IsSafe s → IsNext (touch.Loads k a) s → cell_option (held s.core k) ≡ Some a
 loads_cell laws s k a safe next = (does laws s (touch.Loads k a) 0 safe.waits next).tracks.0
 
-stores_cell : Laws → (s : State) (k : ℕ) (a : Cell) (v : ℕ) → IsSafe s → IsNext (touch.Stores k a v) s → cell_option (held s.core k) ≡ Some a
+pub stores_cell : Laws → (s : State) (k : ℕ) (a : Cell) (v : ℕ) → IsSafe s → IsNext (touch.Stores k a v) s → cell_option (held s.core k) ≡ Some a
 stores_cell laws s k a v safe next = (does laws s (touch.Stores k a v) 0 safe.waits next).tracks.0
 
 is_some_hold : (x : Option Hold) (h : Hold) → x ≡ Some h → x ≢ None
@@ -173,7 +173,7 @@ load_held laws s k a safe next = let h = used_hold s k a safe (loads_cell laws s
 pub store_held : Laws → (s : State) (k : ℕ) (a : Cell) (v : ℕ) → IsSafe s → IsNext (touch.Stores k a v) s → hold_at s.holds k ≢ None
 store_held laws s k a v safe next = let h = used_hold s k a safe (stores_cell laws s k a v safe next) in is_some_hold (hold_at s.holds k) h.0 h.1
 
-object_is : (s : State) (k : ℕ) (a : Cell) (h : Hold) → IsSafe s → cell_option (held s.core k) ≡ Some a → hold_at s.holds k ≡ Some h → h.object ≡ object_of s a
+pub object_is : (s : State) (k : ℕ) (a : Cell) (h : Hold) → IsSafe s → cell_option (held s.core k) ≡ Some a → hold_at s.holds k ≡ Some h → h.object ≡ object_of s a
 object_is s k a h safe c e =
     let z = used_hold s k a safe c in
     let there = z.1 in

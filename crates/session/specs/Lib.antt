@@ -1,4 +1,5 @@
 pub mod Keeping
+pub mod Performing
 pub mod Pieces
 pub mod State
 pub mod Stepping

@@ -4,8 +4,9 @@ ghost use Rattle.code_execution.specs.Planning.{Plans, touch_planned};
 ghost use Rattle.code_form.specs.Growth.{may_grow, rest_of};
 ghost use Rattle.code_form.specs.Placed.{pieces as pieces_of};
 ghost use Rattle.session.specs.Keeping.{Allocated, IsNext, IsSafe, Made, Moves};
+ghost use Rattle.session.specs.Performing.{LosesAt, LosesWanted, Performs};
 ghost use Rattle.session.specs.State.{next_touch};
-ghost use Rattle.std.specs.Prelude.{◌≡◌, ◌+◌, ◌%◌, ◌<◌, ◌^◌, MatchResult, true};
+ghost use Rattle.std.specs.Prelude.{◌≡◌, ◌+◌, ◌%◌, ◌<◌, ◌^◌, IfOk, MatchBool, MatchOption, MatchResult, true};
 
 use crate::program::SeatedProgram;
 use cells::Want;
@@ -38,8 +39,9 @@ impl<'a, S: RawStore> SeatedProgram<'a, S> {
         requires safe { IsSafe self.old }
         requires next { IsNext Plain self.old }
         requires room { self.old.completed + 1 < 2 ^ 64 }
-        ensures { MatchResult result (λ _. IsSafe self.new × Moves S.honest Plain self.old self.new)
+        ensures told { MatchResult result (λ _. IsSafe self.new × Moves S.honest Plain self.old self.new)
             (λ _. (self.new ≡ self.old) × (may_grow (next_touch self.old) (rest_of self.old.core) ≡ true)) }
+        ensures performed { IfOk result (λ _. Performs Plain self.old self.new) }
     {
         effect_laws();
         match self.proceed() {
@@ -56,6 +58,7 @@ impl<'a, S: RawStore> SeatedProgram<'a, S> {
         requires room { self.old.completed + 1 < 2 ^ 64 }
         ensures safe { IsSafe self.new }
         ensures moves { Moves S.honest (Hints wanted) self.old self.new }
+        ensures performed { Performs (Hints wanted) self.old self.new }
     {
         effect_laws();
         self.hint_wanted(rt, wanted);
@@ -69,7 +72,8 @@ impl<'a, S: RawStore> SeatedProgram<'a, S> {
         requires next { IsNext (Aims scope wanted) self.old }
         requires plan { Plans plan self.old.image self.old.core }
         requires room { self.old.completed + 1 < 2 ^ 64 }
-        ensures { Made S.honest S.reliable (Aims scope wanted) self.old self.new result }
+        ensures told { Made S.honest S.reliable (Aims scope wanted) self.old self.new result }
+        ensures performed { MatchBool result (Performs (Aims scope wanted) self.old self.new) (LosesWanted S.reliable scope wanted self.old self.new) }
     {
         effect_laws();
         if self.hold_wanted(rt, scope, wanted) {
@@ -88,6 +92,7 @@ impl<'a, S: RawStore> SeatedProgram<'a, S> {
         requires room { self.old.completed + 1 < 2 ^ 64 }
         ensures safe { IsSafe self.new }
         ensures moves { Moves S.honest (Leaves scope) self.old self.new }
+        ensures performed { Performs (Leaves scope) self.old self.new }
     {
         effect_laws();
         self.shut(scope);
@@ -102,6 +107,7 @@ impl<'a, S: RawStore> SeatedProgram<'a, S> {
         requires room { self.old.completed + 1 < 2 ^ 64 }
         ensures safe { IsSafe self.new }
         ensures moves { Moves S.honest (Loads scope cell) self.old self.new }
+        ensures performed { Performs (Loads scope cell) self.old self.new }
     {
         effect_laws();
         let hold = self.held(scope);
@@ -118,6 +124,7 @@ impl<'a, S: RawStore> SeatedProgram<'a, S> {
         requires room { self.old.completed + 1 < 2 ^ 64 }
         ensures safe { IsSafe self.new }
         ensures moves { Moves S.honest (Stores scope cell value) self.old self.new }
+        ensures performed { Performs (Stores scope cell value) self.old self.new }
     {
         effect_laws();
         let hold = self.held(scope);
@@ -135,6 +142,7 @@ impl<'a, S: RawStore> SeatedProgram<'a, S> {
         requires room { self.old.completed + 1 < 2 ^ 64 }
         ensures safe { IsSafe self.new }
         ensures moves { Moves S.honest Ends self.old self.new }
+        ensures performed { Performs Ends self.old self.new }
     {
         effect_laws();
         self.close_all();
@@ -147,7 +155,8 @@ impl<'a, S: RawStore> SeatedProgram<'a, S> {
         requires safe { IsSafe self.old }
         requires next { IsNext (Allocs cells) self.old }
         requires room { self.old.completed + 1 < 2 ^ 64 }
-        ensures { Allocated S.honest cells self.old self.new result }
+        ensures told { Allocated S.honest cells self.old self.new result }
+        ensures performed { MatchOption result (Performs (Allocs cells) self.old self.new) (λ _. Unit) }
     {
         effect_laws();
         let many = self.pieces(cells);
@@ -167,7 +176,8 @@ impl<'a, S: RawStore> SeatedProgram<'a, S> {
         requires next { IsNext (touch_planned plan) self.old }
         requires plan { Plans plan self.old.image self.old.core }
         requires room { self.old.completed + 1 < 2 ^ 64 }
-        ensures { Made S.honest S.reliable (touch_planned plan) self.old self.new result }
+        ensures told { Made S.honest S.reliable (touch_planned plan) self.old self.new result }
+        ensures performed { MatchBool result (Performs (touch_planned plan) self.old self.new) (LosesAt S.reliable (touch_planned plan) self.old self.new) }
     {
         match plan {
             Plan::Aims { scope, wanted, .. } => return self.aims(rt, scope as usize, wanted, plan),

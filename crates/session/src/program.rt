@@ -8,6 +8,7 @@ ghost use Rattle.code_form.specs.Touches.{IsCell, IsCellOrNone, IsWithin, resume
 ghost use Rattle.code_form.specs.declared.touch.Touch.TheVariants.{Allocs, Ends, Plain};
 ghost use Rattle.cells.specs.Stops.{stop_of as stop_read};
 ghost use Rattle.session.specs.Keeping.{Changes, Closes, Fails, HasWriter, Holds, HoldsObject, IsHolding, IsNext, cleared, count_of, extended, finished, first_of, has_object, is_simple, Misses, shut, shut_at, uses_scope, wants, written};
+ghost use Rattle.session.specs.Performing.{HoldsWanted, Loses, LosesWanted, Seizes, shut_all, writing_by};
 ghost use Rattle.session.specs.Pieces.{RanHeld};
 ghost use Rattle.session.specs.State.{AllShut, Matches, State, begin, hold_at, latest_in, next_touch, object_of};
 ghost use Rattle.object_moves.specs.Taken.{IsQuiet};
@@ -488,6 +489,7 @@ impl<'a, S: RawStore> SeatedProgram<'a, S> {
         requires own { Owns self.old.view object }
         ensures holding { IsHolding self.new }
         ensures told { MatchBool result (Changes scope self.old self.new × HoldsObject self.new scope object) (Fails S.reliable self.old self.new) }
+        ensures exact { MatchBool result (Holds scope object self.old self.new) (Misses S.reliable object self.old self.new) }
     {
         let count = self.count(object);
         self.open_hold(rt, scope, object, count)
@@ -501,6 +503,7 @@ impl<'a, S: RawStore> SeatedProgram<'a, S> {
         requires cell { IsCell self.old.core cell }
         ensures holding { IsHolding self.new }
         ensures told { MatchBool result (Changes scope self.old self.new × HoldsObject self.new scope (object_of self.old cell)) (Fails S.reliable self.old self.new) }
+        ensures exact { MatchBool result (Seizes scope (object_of self.old cell) self.old self.new) (Loses S.reliable scope (object_of self.old cell) self.old self.new) }
     {
         let object = self.object_at(cell);
         if self.has(scope, object) {
@@ -524,6 +527,7 @@ impl<'a, S: RawStore> SeatedProgram<'a, S> {
         requires cell { IsCellOrNone self.old.core wanted }
         ensures holding { IsHolding self.new }
         ensures told { MatchBool result (Changes scope self.old self.new × Matches self.old wanted (hold_at self.new.holds scope)) (Fails S.reliable self.old self.new) }
+        ensures exact { MatchBool result (HoldsWanted scope wanted self.old self.new) (LosesWanted S.reliable scope wanted self.old self.new) }
     {
         match wanted {
             None => {
@@ -571,6 +575,7 @@ impl<'a, S: RawStore> SeatedProgram<'a, S> {
         ensures holding { IsHolding self.new }
         ensures changes { Changes scope self.old self.new }
         ensures writer { HasWriter self.new scope hold }
+        ensures exact { self.new ≡ writing_by self.old scope hold }
     {
         if !hold.writes {
             self.clear_hold(scope, hold);
@@ -596,6 +601,7 @@ impl<'a, S: RawStore> SeatedProgram<'a, S> {
         requires holding { IsHolding self.old }
         ensures holding { IsHolding self.new }
         ensures closes { Closes self.old self.new }
+        ensures exact { self.new ≡ shut_all self.old }
         ensures shut { AllShut self.new }
     {
         for scope in 0..self.scopes() {

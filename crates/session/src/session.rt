@@ -5,6 +5,7 @@ ghost use Rattle.cells.specs.Stops.{Stop};
 ghost use Rattle.code_form.specs.Code.{output_of, stop_of};
 ghost use Rattle.code_form.specs.Form.{image_of};
 ghost use Rattle.session.specs.Keeping.{IsSession};
+ghost use Rattle.session.specs.Performing.{Acts};
 ghost use Rattle.session.specs.State.{AllShut, IsAt, IsGoing, IsUntold, Ran, ScopesHold, State, begin};
 ghost use Rattle.object_moves.specs.Taken.{IsQuiet, Refused};
 ghost use Rattle.object_lock.specs.Fresh.{IsFresh};
@@ -117,6 +118,7 @@ impl<'a, S: RawStore> Session<'a, S> {
         ensures failed { self.new.want ≡ Some StoreFailed → AllShut self.new }
         ensures quiet { IsQuiet self.new.view }
         ensures refused { S.honest → IsGoing self.old → result ≡ Wanted StoreFailed → Refused S.reliable self.old.refusals self.new.refusals }
+        ensures acts { IsGoing self.old → Acts S.reliable self.old self.new result }
         ensures ended { (IsGoing self.old → ⊥) → self.new ≡ self.old }
     {
         effect_laws();

@@ -2,8 +2,8 @@ use Rattle.session.proofs.Laws.{Laws}
 use Rattle.session.proofs.Ways.{moves_aimed, plan_stays, safe_aimed}
 use Rattle.session.proofs.program.SeatedProgram.aims.Goals as goal
 
-pub returns-then-hold_wanted : goal.returns-then-hold_wanted
-returns-then-hold_wanted g c =
+pub returns-then-hold_wanted-clause-told : goal.returns-then-hold_wanted-clause-told
+returns-then-hold_wanted-clause-told g c =
     let laws : Laws = record { tidy = c.effect_laws.ensures.tidy; tracked = c.effect_laws.ensures.tracked; waits = c.effect_laws.ensures.waits; ends = c.effect_laws.ensures.ends } in
     let t = c.if-hold_wanted.ensures.told in (
       safe_aimed laws c.args.self.now c.hold_wanted.new.self c.carry_out.new.self c.args.scope c.args.wanted c.requires.safe c.requires.next c.hold_wanted.ensures.holding t.0 t.1 c.carry_out.ensures,

@@ -3,7 +3,7 @@ use Rattle.session.proofs.Laws.{Laws}
 use Rattle.session.proofs.Ways.{extended_so}
 use Rattle.session.proofs.program.SeatedProgram.allocs.Goals as goal
 
-pub returns-in-Ok : goal.returns-in-Ok
-returns-in-Ok g c =
+pub returns-in-Ok-clause-told : goal.returns-in-Ok-clause-told
+returns-in-Ok-clause-told g c =
     let laws : Laws = record { tidy = c.effect_laws.ensures.tidy; tracked = c.effect_laws.ensures.tracked; waits = c.effect_laws.ensures.waits; ends = c.effect_laws.ensures.ends } in
     extended_so g.S.RawStore.honest laws c.args.self.now c.extend.new.self c.args.cells c.requires.safe c.requires.next (let a = c.requires.safe.holding.room in omega arith) c.in-Ok.ensures

@@ -1,7 +1,7 @@
 use Rattle.std.proofs.Common.{ap}
 use Rattle.session.specs.State.{State}
 use Rattle.session.proofs.Laws.{Laws}
-use Rattle.session.proofs.Ways.{load_held, load_low, load_may, loaded_from, moves_loaded, plan_stays, safe_loaded}
+use Rattle.session.proofs.Ways.{load_held, load_low, load_may, loaded_from, loads_cell, moves_loaded, object_is, plan_stays, safe_loaded}
 use Rattle.session.proofs.program.SeatedProgram.loads.Goals as goal
 
 pub held-hold-requires-clause-held : goal.held-hold-requires-clause-held
@@ -30,3 +30,13 @@ returns-clause-moves g c =
 pub carry_out-requires-clause-plan : goal.carry_out-requires-clause-plan
 carry_out-requires-clause-plan g c κs within =
     let e = c.load_cell-value.ensures.same in plan_stays c.args.plan c.args.self.now c.load_cell-value.new.self (ap (λ (x : State). x.image) e) (ap (λ (x : State). x.core) e) c.requires.plan
+
+pub returns-clause-performed : goal.returns-clause-performed
+returns-clause-performed g c =
+    let laws : Laws = record { tidy = c.effect_laws.ensures.tidy; tracked = c.effect_laws.ensures.tracked; waits = c.effect_laws.ensures.waits; ends = c.effect_laws.ensures.ends } in
+    let h = c.held-hold.result in (
+      h,
+      c.held-hold.ensures,
+      object_is c.args.self.now c.args.scope c.args.cell h c.requires.safe (loads_cell laws c.args.self.now c.args.scope c.args.cell c.requires.safe c.requires.next) c.held-hold.ensures,
+      (c.load_cell-value.result, loaded_from c.args.self.now c.load_cell-value.new.self c.carry_out.new.self c.load_cell-value.result c.load_cell-value.ensures.same c.carry_out.ensures),
+    )

@@ -1,7 +1,8 @@
 use Rattle.std.proofs.Common.{ap}
 use Rattle.session.specs.State.{State}
 use Rattle.session.proofs.Laws.{Laws}
-use Rattle.session.proofs.Ways.{moves_stored, plan_stays, safe_stored, scope_low, store_held, store_low, store_may}
+use Rattle.session.proofs.Performing.{stored_exactly}
+use Rattle.session.proofs.Ways.{moves_stored, object_is, plan_stays, safe_stored, scope_low, store_held, store_low, store_may, stores_cell}
 use Rattle.session.proofs.program.SeatedProgram.stores.Goals as goal
 
 pub held-hold-requires-clause-held : goal.held-hold-requires-clause-held
@@ -33,3 +34,14 @@ carry_out-requires-clause-plan g c κs within =
     let e = c.store_cell.ensures in
     let before = plan_stays c.args.plan c.args.self.now c.make_writable.new.self t.image t.core c.requires.plan in
     plan_stays c.args.plan c.make_writable.new.self c.store_cell.new.self (ap (λ (x : State). x.image) e) (ap (λ (x : State). x.core) e) before
+
+pub returns-clause-performed : goal.returns-clause-performed
+returns-clause-performed g c =
+    let laws : Laws = record { tidy = c.effect_laws.ensures.tidy; tracked = c.effect_laws.ensures.tracked; waits = c.effect_laws.ensures.waits; ends = c.effect_laws.ensures.ends } in
+    let s = c.args.self.now in
+    let h = c.held-hold.result in (
+      h,
+      c.held-hold.ensures,
+      object_is s c.args.scope c.args.cell h c.requires.safe (stores_cell laws s c.args.scope c.args.cell c.args.value c.requires.safe c.requires.next) c.held-hold.ensures,
+      stored_exactly s c.make_writable.new.self c.store_cell.new.self c.carry_out.new.self c.args.scope h c.args.cell.index _ c.args.value c.make_writable.ensures.exact c.make_writable.ensures.changes c.place-index.ensures c.store_cell.ensures c.carry_out.ensures,
+    )

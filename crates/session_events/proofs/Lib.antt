@@ -1,0 +1,8 @@
+mod Losing
+mod Ready
+mod Fetching
+mod Seizing
+mod Closing
+mod Ending
+mod Instructions
+mod Wanting

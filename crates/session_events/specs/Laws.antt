@@ -1,0 +1,53 @@
+-- What sessions did on threads is what their programs do in events.
+use Rattle.std.specs.Prelude.{◌≡◌, ◌≢◌, ℕ, List, map, Option, Some, None}
+use Rattle.cells.specs.declared.ending.Run as ending
+use Rattle.cells.specs.declared.ending.Run.TheVariants as Run
+use Rattle.cells.specs.declared.ending.Want.{Want}
+use Rattle.cells.specs.declared.ending.Want.TheVariants.{OutOfMemory, StoreFailed}
+use Rattle.code_form.specs.declared.touch.Touch.TheVariants.{Ends}
+use Rattle.pointer_word.specs.Asked.{HasNothing}
+use Rattle.object_lock.specs.Seats.{Owns, View, note}
+use Rattle.session.specs.declared.hold.Hold as own
+use Rattle.session.specs.Performing.{Acts, PerformsSome}
+use Rattle.session.specs.State as session
+use Rattle.world_semantics.specs.declared.hold.Hold.{Hold}
+use Rattle.world_semantics.specs.Programs.{Mode, Program, Ready, Setting, Wanted}
+use Rattle.mover_events.specs.Going.{Event}
+use Rattle.session_events.specs.Knowing.{Goes, Known}
+
+-- what a scope of the program holds in the world, of what it holds in the session
+abbrev pub hold_seen : Option own.Hold → Option Hold
+hold_seen None = None
+hold_seen (Some h) = Some (record { object = h.object; writes = h.writes })
+
+-- between two instructions, or wanting something
+abbrev pub mode_of : Option Want → Mode
+mode_of None = Ready
+mode_of (Some w) = Wanted w
+
+-- the session's program in a world
+abbrev pub program_of : session.State → Program
+program_of s = record { core = s.core; holds = map hold_seen s.holds; mode = mode_of s.want; completed = s.completed }
+
+-- what it runs on there
+abbrev pub setting_of : session.State → Setting
+setting_of s = record { size = s.view.sizes.cells; base = s.view.low; limit = s.view.high; mover = s.view.number; image = s.image }
+
+-- with nothing in hand, a seat of this view did so much as a mover, and knows this of the objects of its own
+pub record IsKnown (v : View) (k : Known) : Type 0 where
+  pub nothing : HasNothing k.hand
+  pub past : k.hand.past ≡ v.hand.past
+  pub notes : (o : ℕ) → Owns v o → k.notes o ≡ note v o
+
+-- what a session did from s to t its program does by some events
+abbrev pub DoesByEvents : session.State → session.State → Type 0
+DoesByEvents s t = (k : Known) → IsKnown s.view k → (es : List Event) × (l : Known) × Goes (setting_of s) (program_of s) k es (program_of t) l × IsKnown t.view l
+
+-- so it does what a session did by which it completed instructions one behind the other
+abbrev pub InstructionsAreEvents : Type 0
+InstructionsAreEvents = (s t : session.State) → PerformsSome s t → DoesByEvents s t
+
+-- So it does what a session that was going on did in a run. Left out are a want of the store as the code is halted, which is never so over an honest store; and one of memory for the
+-- text of an error, where the session keeps its holds, which the program of a world shuts before it stops
+abbrev pub RunsAreEvents : Type 0 → Type 0
+RunsAreEvents reliable = (s t : session.State) (r : ending.Run) → Acts reliable s t r → (r ≡ Run.Wanted StoreFailed → session.IsHalted t → ⊥) → (r ≡ Run.Wanted OutOfMemory → session.next_touch t ≢ Ends) → DoesByEvents s t
