@@ -37,10 +37,6 @@ module _ (honest reliable : Type 0) (q : QueueView) where
       let back : IsTask q.roster b = subst (IsTask q.roster) (sym put.0) task in
       subst (λ (x : PassView). Works honest reliable q x (Some b) done count most) (sym put.1) (record { queue = w.queue; hand = w.hand; few = w.few; room = w.room; task = back; ends = w.ends })
 
-  -- a task in hand is kept
-  pub works_kept : (p : PassView) (u t : RunView) (done : List Done) (count most : ℕ) → Works honest reliable q p (Some u) done count most → IsTask q.roster t → Works honest reliable q p (Some t) done count most
-  works_kept p u t done count most w task = record { queue = w.queue; hand = w.hand; few = w.few; room = w.room; task = task; ends = w.ends }
-
   -- the end of a task in hand was filed
   pub works_filed : (p : PassView) (u : RunView) (done new : List Done) (d : Done) (count more most : ℕ) → Works honest reliable q p (Some u) done count most → new ≡ done ++ d ∷ [] → more ≡ count + 1
       → IsDone honest reliable q.roster d → Works honest reliable q p None new more most

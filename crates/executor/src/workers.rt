@@ -1,6 +1,7 @@
 //! Workers, which take programs in turn from the queue of tasks.
-ghost use Rattle.std.specs.Prelude.{◌≡◌, ◌≤◌, IfOk, length};
+ghost use Rattle.std.specs.Prelude.{◌≡◌, ◌+◌, ◌<◌, ◌≤◌, IfOk, MatchOption, length};
 ghost use Rattle.executor.specs.Ends.{AreDone};
+ghost use Rattle.task_queue.specs.Tasked.{IsTask};
 
 use crate::movers::rest;
 use program_run::{Finished, Gate, ProgramRun, Turn};
@@ -44,6 +45,28 @@ impl<'q, 'a, S: RawStore> Model for Worker<'q, 'a, S> {
     ghost invariant = { λ w. Works S.honest S.reliable w.queue.now (manually_drop_value w.pass) w.kept w.done.items (vec_len w.done) (vec_capacity w.done) };
 }
 
+/// Puts a task that is in hand, unless it is to be kept. It comes back where it is kept, or the queue is full.
+#[inline(always)]
+fn put_unless<'a, S: RawStore, R: Wait>(
+    queue: &TaskQueue<'a, S>,
+    rt: &R,
+    pass: &mut TaskPass<ProgramRun<'a, S>>,
+    task: ProgramRun<'a, S>,
+    is_kept: bool,
+) -> Option<ProgramRun<'a, S>>
+    requires pass { pass.old.queue ≡ queue.now }
+    requires in_hand { 0 < pass.old.in_hand }
+    requires task { IsTask queue.now.roster task }
+    ensures queue { pass.new.queue ≡ queue.now }
+    ensures put { MatchOption result (pass.new.in_hand + 1 ≡ pass.old.in_hand) (λ t. (t ≡ task.entry) × (pass.new ≡ pass.old)) }
+{
+    if is_kept {
+        Some(task)
+    } else {
+        queue.put(rt, pass, task)
+    }
+}
+
 impl<'q, 'a, S: RawStore> Worker<'q, 'a, S> {
     /// A worker with this pass of the queue, and room for so many ends.
     pub(crate) fn new(
@@ -84,15 +107,12 @@ impl<'q, 'a, S: RawStore> Worker<'q, 'a, S> {
         };
         match task.turn(rt, gate, quantum) {
             Turn::Held => {
-                self.kept = self.queue.put(rt, &mut self.pass, task);
+                self.kept = put_unless(self.queue, rt, &mut self.pass, task, false);
                 false
             }
             Turn::Ran => {
-                if left.load(Ordering::SeqCst) == 1 {
-                    self.kept = Some(task);
-                    return true;
-                }
-                self.kept = self.queue.put(rt, &mut self.pass, task);
+                let is_last = left.load(Ordering::SeqCst) == 1;
+                self.kept = put_unless(self.queue, rt, &mut self.pass, task, is_last);
                 true
             }
             Turn::Ended => {
