@@ -1,6 +1,7 @@
 //! Workers, which take programs in turn from the queue of tasks.
-ghost use Rattle.std.specs.Prelude.{◌≡◌, ◌≤◌, IfOk, length};
+ghost use Rattle.std.specs.Prelude.{◌≡◌, ◌+◌, ◌<◌, ◌≤◌, IfOk, MatchOption, length};
 ghost use Rattle.executor.specs.Ends.{AreDone};
+ghost use Rattle.task_queue.specs.Tasked.{IsTask};
 
 use crate::movers::rest;
 use program_run::{Finished, Gate, ProgramRun, Turn};
@@ -21,8 +22,8 @@ pub(crate) struct Done {
 }
 
 // The pass has no bytes, and nothing to drop: a type that borrows and has a pass as it is has no proof of its drop.
-/// A worker: the queue from which it takes tasks, with a pass of it; a task that the queue refused; and the ends of the programs that ended with it. Each
-/// task that it took it put back, or it has ended, or is kept.
+/// A worker: the queue from which it takes tasks, with a pass of it; a task that it keeps, as the queue refused it, or as no other has yet to end; and the ends of the programs that
+/// ended with it. Each task that it took it put back, or it has ended, or is kept.
 #[derive(Drop)]
 pub(crate) struct Worker<'q, 'a, S: RawStore> {
     queue: &'q TaskQueue<'a, S>,
@@ -42,6 +43,28 @@ impl<'q, 'a, S: RawStore> Model for Worker<'q, 'a, S> {
     ghost view = { λ w. w.queue.now };
 
     ghost invariant = { λ w. Works S.honest S.reliable w.queue.now (manually_drop_value w.pass) w.kept w.done.items (vec_len w.done) (vec_capacity w.done) };
+}
+
+/// Puts a task that is in hand, unless it is to be kept. It comes back where it is kept, or the queue is full.
+#[inline(always)]
+fn put_unless<'a, S: RawStore, R: Wait>(
+    queue: &TaskQueue<'a, S>,
+    rt: &R,
+    pass: &mut TaskPass<ProgramRun<'a, S>>,
+    task: ProgramRun<'a, S>,
+    is_kept: bool,
+) -> Option<ProgramRun<'a, S>>
+    requires pass { pass.old.queue ≡ queue.now }
+    requires in_hand { 0 < pass.old.in_hand }
+    requires task { IsTask queue.now.roster task }
+    ensures queue { pass.new.queue ≡ queue.now }
+    ensures put { MatchOption result (pass.new.in_hand + 1 ≡ pass.old.in_hand) (λ t. (t ≡ task.entry) × (pass.new ≡ pass.old)) }
+{
+    if is_kept {
+        Some(task)
+    } else {
+        queue.put(rt, pass, task)
+    }
 }
 
 impl<'q, 'a, S: RawStore> Worker<'q, 'a, S> {
@@ -74,7 +97,8 @@ impl<'q, 'a, S: RawStore> Worker<'q, 'a, S> {
         }
     }
 
-    /// Gives the task that it keeps a turn, and puts it back unless it has ended. False where there was nothing to do.
+    /// Gives the task that it keeps a turn, and puts it back, unless it has ended, or goes on and is the only one that has not: that is kept, as no other waits for a turn.
+    /// False where there was nothing to do.
     fn turn<G: Gate, R: Wait>(&mut self, rt: &R, gate: &G, left: &AtomicUsize, quantum: u64) -> bool
         ensures { self.new ≡ self.old }
     {
@@ -83,11 +107,12 @@ impl<'q, 'a, S: RawStore> Worker<'q, 'a, S> {
         };
         match task.turn(rt, gate, quantum) {
             Turn::Held => {
-                self.kept = self.queue.put(rt, &mut self.pass, task);
+                self.kept = put_unless(self.queue, rt, &mut self.pass, task, false);
                 false
             }
             Turn::Ran => {
-                self.kept = self.queue.put(rt, &mut self.pass, task);
+                let is_last = left.load(Ordering::SeqCst) == 1;
+                self.kept = put_unless(self.queue, rt, &mut self.pass, task, is_last);
                 true
             }
             Turn::Ended => {

@@ -13,15 +13,15 @@ invariant_of-self-in-Ran g c =
     let r = g.S.RawStore.reliable in
     let q = c.self.inside.queue.now in
     let p : PassView = manually_drop_value c.self.inside.pass in
-    let after : PassView = c.put-in-Ran.new.pass in
+    let after : PassView = c.put_unless-in-Ran.new.pass in
     let items = c.self.inside.done.items in
     let long = vec_len c.self.inside.done in
     let most = vec_capacity c.self.inside.done in
     let was : c.self.inside.kept ≡ Some c.in-Some.task = search rules in
     let w : Works h r q p (Some c.in-Some.task) items long most = subst (λ k. Works h r q p k items long most) was c.self.invariant in
     let ran : c.turn.new.self ≡ record c.in-Some.task { completed = c.in-Some.task.completed + c.args.quantum; printed = c.turn.new.self.printed } = search rules in
-    let put : MatchOption c.put-in-Ran.result (after.in_hand + 1 ≡ p.in_hand) (λ b. (b ≡ c.turn.new.self) × (after ≡ p)) = search rules in
-    works_put h r q p after c.in-Some.task c.turn.new.self c.put-in-Ran.result items long most w c.put-in-Ran.ensures.queue put (still_task q.roster c.in-Some.task c.turn.new.self c.args.quantum w.task ran)
+    let put : MatchOption c.put_unless-in-Ran.result (after.in_hand + 1 ≡ p.in_hand) (λ b. (b ≡ c.turn.new.self) × (after ≡ p)) = search rules in
+    works_put h r q p after c.in-Some.task c.turn.new.self c.put_unless-in-Ran.result items long most w c.put_unless-in-Ran.ensures.queue put (still_task q.roster c.in-Some.task c.turn.new.self c.args.quantum w.task ran)
 
 pub invariant_of-self-in-Ended : goal.invariant_of-self-in-Ended
 invariant_of-self-in-Ended g c =
