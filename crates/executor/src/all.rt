@@ -102,10 +102,11 @@ pub fn run_all_counted<
 
 /// Runs the programs to their ends over a region of these numbers, by turns on the threads of so many workers, beside evacuators and fetchers on threads of
 /// theirs. A worker takes the program that waits longest, asks the gate once whether it may go, runs it for `quantum` instructions where it may, and puts it
-/// back; the only one that has not ended it keeps. The ends stand in the programs' order: over an honest store each is that of the code's run with an equal share of the objects, whatever the others
-/// do. The gate is told of each end and of each turn of a mover. Movers go on until every program has ended. A worker or a mover whose thread cannot be made is
-/// not run; where none can be made the calling thread is the one worker. The faults are those of `admit`; `OutOfMemory` also where a growth for the programs,
-/// the workers, the movers or the queues was refused before any of them ran, and only where the programs are admitted.
+/// back; the only one that has not ended it keeps. The ends stand in the programs' order: over an honest store each is that of the code's run with an equal
+/// share of the objects, whatever the others do. The gate is told of each end and of each turn of a mover. Movers go on until every program has ended. A
+/// worker or a mover whose thread cannot be made is not run; where none can be made the calling thread is the one worker. The faults are those of `admit`;
+/// `OutOfMemory` also where a growth for the programs, the workers, the movers or the queues was refused before any of them ran, and only where the programs
+/// are admitted.
 pub fn run_all<
     S: RawStore + Send,
     M: Stores<S = S> + Drop,

@@ -22,8 +22,8 @@ pub(crate) struct Done {
 }
 
 // The pass has no bytes, and nothing to drop: a type that borrows and has a pass as it is has no proof of its drop.
-/// A worker: the queue from which it takes tasks, with a pass of it; a task that it keeps, as the queue refused it, or as no other has yet to end; and the ends of the programs that
-/// ended with it. Each task that it took it put back, or it has ended, or is kept.
+/// A worker: the queue from which it takes tasks, with a pass of it; a task that it keeps, as the queue refused it, or as no other has yet to end; and the
+/// ends of the programs that ended with it. Each task that it took it put back, or it has ended, or is kept.
 #[derive(Drop)]
 pub(crate) struct Worker<'q, 'a, S: RawStore> {
     queue: &'q TaskQueue<'a, S>,
@@ -97,8 +97,8 @@ impl<'q, 'a, S: RawStore> Worker<'q, 'a, S> {
         }
     }
 
-    /// Gives the task that it keeps a turn, and puts it back, unless it has ended, or goes on and is the only one that has not: that is kept, as no other waits for a turn.
-    /// False where there was nothing to do.
+    /// Gives the task that it keeps a turn, and puts it back, unless it has ended, or goes on and is the only one that has not: that is kept, as no other
+    /// waits for a turn. False where there was nothing to do.
     fn turn<G: Gate, R: Wait>(&mut self, rt: &R, gate: &G, left: &AtomicUsize, quantum: u64) -> bool
         ensures { self.new ≡ self.old }
     {
