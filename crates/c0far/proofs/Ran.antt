@@ -11,6 +11,7 @@ use Rattle.code_form.specs.Form.{Image, image_of}
 use Rattle.command_line.specs.Shell.{Memory}
 use Rattle.executor.specs.Ends.{AreFinished}
 use Rattle.executor.specs.declared.counts.Counted.{Counted}
+use Rattle.program_run.proofs.Acting.{acted_less}
 use Rattle.program_run.specs.Executed.{EndsAs, IsExecutedOver, IsFinishedOver}
 use Rattle.program_run.specs.declared.run.Finished.{Finished}
 use Rattle.region.specs.Admission.{IsAdmitted, IsDenied, IsRefused, IsWithinWork}
@@ -32,7 +33,7 @@ executed_less r s objects C e less h = record { going = h.going; few = h.few; ou
 
 -- ... and how many calls were refused is the same
 finished_less : (r s : Type 0) (objects : ℕ) (C : Image) (f : Finished) → (s → r) → IsFinishedOver r objects C f → IsFinishedOver s objects C f
-finished_less r s objects C f less h = record { executed = executed_less r s objects C f.end less h.executed; own = h.own }
+finished_less r s objects C f less h = record { executed = executed_less r s objects C f.end less h.executed; own = h.own; acted = acted_less r s objects C f less h.acted }
 
 -- a store that is honest and reliable in fewer cases
 ends_fewer : (h r g s : Type 0) (objects : ℕ) (programs : List Verified) (ends : List Finished) → (g → h) → (g → s → r) → AreFinished h r objects programs ends → AreFinished g s objects programs ends

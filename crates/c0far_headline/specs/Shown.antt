@@ -13,6 +13,7 @@ use Rattle.program_run.specs.Executed.{WantsFor}
 use Rattle.program_run.specs.declared.run.Finished.{Finished}
 use Rattle.region.specs.Admission.{image_at}
 use Rattle.scope_verifier.specs.declared.acceptance.Verified.{Verified}
+use Rattle.session_events.specs.Laws.{EndsByEvents}
 use Rattle.streams.specs.Streams.{Writes}
 use Rattle.world.specs.Opened.{sizes_of}
 use Rattle.world_semantics.specs.Causes.{HasCause}
@@ -30,6 +31,13 @@ RunShows = (asked : Started) (files : List Text) (held : Text → Known) (out er
     → (k : ℕ) (v : Verified) (f : Finished) → slice_get did.programs k ≡ Some v → slice_get did.finished k ≡ Some f
     → (loops : Bool) (text : List ℕ) (checks : Bool) (cells : ℕ) (meant : Typed) → IsCompiled loops text checks cells (image_of v.image) → IsTypedAs loops text meant
     → PromisedEnd meant checks f.end (WantsFor (IsReliableIn asked.memory) (asked.memory.objects / length did.programs) (image_of v.image) (code_run (code (image_of v.image)) f.end.completed).0)
+
+-- Each end that `run` shows, over the store in memory or over folders that are honest, of a program with an equal share of the objects, is that to which the program of its image comes in a
+-- world by some events, from its beginning on
+abbrev pub RunShowsEvents : Type 0
+RunShowsEvents = (asked : Started) (files : List Text) (held : Text → Known) (out err : Writes) (result : ℕ) → (did : HasRun (Unit {0}) asked files held out err result)
+    → (k : ℕ) (v : Verified) (f : Finished) → slice_get did.programs k ≡ Some v → slice_get did.finished k ≡ Some f
+    → EndsByEvents (asked.memory.objects / length did.programs) (image_of v.image) f
 
 -- Of the ends that `replay` shows, over the store in memory or over folders that are honest: each, of a program whose image a text was compiled to, is as promised of that text, and a
 -- want has its cause among the events of the schedule

@@ -4,7 +4,7 @@
 ghost use Rattle.c0far_headline.specs.Admitted.{AdmittedHeadline, ReplayedHeadline};
 ghost use Rattle.c0far_headline.specs.Headline.{Headline};
 ghost use Rattle.c0far_headline.specs.Ran.{EndsSettle, RunHeadline};
-ghost use Rattle.c0far_headline.specs.Shown.{ReplayShows, RunShows};
+ghost use Rattle.c0far_headline.specs.Shown.{ReplayShows, RunShows, RunShowsEvents};
 
 use c0_image::one_image;
 use c0_typed::more_turns;
@@ -67,3 +67,9 @@ pub fn headline_of_commands()
     programs_follow();
     wants();
 }
+
+/// Each end that the command `run` shows is that to which its program comes in a world by some events: what is promised over every list of events
+/// speaks of what was run on threads, program by program.
+pub fn events_of_commands()
+    ensures { RunShowsEvents }
+{}

@@ -1,5 +1,5 @@
 //! Workers, which take programs in turn from the queue of tasks.
-ghost use Rattle.std.specs.Prelude.{◌≡◌, ◌+◌, ◌<◌, ◌≤◌, IfOk, MatchOption, length};
+ghost use Rattle.std.specs.Prelude.{◌≡◌, ◌≢◌, ◌+◌, ◌<◌, ◌≤◌, IfOk, IfSome, MatchOption, None, false, length, true};
 ghost use Rattle.executor.specs.Ends.{AreDone};
 ghost use Rattle.task_queue.specs.Tasked.{IsTask};
 
@@ -45,7 +45,7 @@ impl<'q, 'a, S: RawStore> Model for Worker<'q, 'a, S> {
     ghost invariant = { λ w. Works S.honest S.reliable w.queue.now (manually_drop_value w.pass) w.kept w.done.items (vec_len w.done) (vec_capacity w.done) };
 }
 
-/// Puts a task that is in hand, unless it is to be kept. It comes back where it is kept, or the queue is full.
+/// Puts a task that is in hand, unless it is to be kept. It comes back where it is kept, and else where the queue is full alone.
 #[inline(always)]
 fn put_unless<'a, S: RawStore, R: Wait>(
     queue: &TaskQueue<'a, S>,
@@ -59,6 +59,8 @@ fn put_unless<'a, S: RawStore, R: Wait>(
     requires task { IsTask queue.now.roster task }
     ensures queue { pass.new.queue ≡ queue.now }
     ensures put { MatchOption result (pass.new.in_hand + 1 ≡ pass.old.in_hand) (λ t. (t ≡ task.entry) × (pass.new ≡ pass.old)) }
+    ensures kept { is_kept ≡ true → result ≢ None }
+    ensures full { is_kept ≡ false → IfSome result (λ _. 256 < length queue.now.roster.programs) }
 {
     if is_kept {
         Some(task)

@@ -47,11 +47,15 @@ ends_as reliable objects before t Running other size share over = over
 ends_as reliable objects before t (Stopped x) other size share over = over
 ends_as reliable objects before t (Wanted w) other size share over = (over.0, wants_for reliable objects before t w (λ e. other (ap Wanted e)) size share over.1)
 
+-- where a session's program is, the code's run is
+pub reached : (C : Image) (t : State) (n : ℕ) → t.image ≡ C → IsAt t → n ≡ t.completed → t.core ≡ (code_run (code C) n).0
+reached C t n image at count = at.core ∙ ap (λ D. (code_run (code D) t.completed).0) image ∙ ap (λ k. (code_run (code C) k).0) (sym count)
+
 -- what a session came to is what the code's run came to
 pub executed : (reliable : Type 0) (objects : ℕ) (before : Refusals) (C : Image) (t : State) (out : Vec ℕ Global) (r : Run) (n : ℕ) → t.image ≡ C → t.view.sizes.cells ≡ t.image.piece → t.view.high ≡ t.view.low + objects → IsAt t → out.items ≡ output_of t.core → n ≡ t.completed → IsOver reliable before t r → (r ≡ Wanted StoreFailed → reliable → ⊥)
     → IsExecutedOver reliable objects C (record { output = out; run = r; completed = n })
 executed reliable objects before C t out r n image size share at printed count over other =
-    let reached : t.core ≡ (code_run (code C) n).0 = at.core ∙ ap (λ D. (code_run (code D) t.completed).0) image ∙ ap (λ k. (code_run (code C) k).0) (sym count) in
+    let there : t.core ≡ (code_run (code C) n).0 = reached C t n image at count in
     let p : ℕ = t.view.sizes.cells in
     let from : next_object p t.view.low (cells_in t) ≡ t.view.low + next_object p 0 (cells_in t) = from_zero p t.view.low (cells_in t) in
     let fits : next_object p t.view.low (cells_in t) ≤ t.view.high = at.fits in
@@ -60,9 +64,9 @@ executed reliable objects before C t out r n image size share at printed count o
     let OfCore : Core → Type 0 = λ c. EndsAs reliable objects C c r in
     record {
       going = λ k less. ap (λ D. stop_of (code_run (code D) k).0) (sym image) ∙ at.going k (subst (λ j. k < j) count less);
-      few = subst (λ (c : Core). objects_of C (sizes (allocations_of c)) ≤ objects) reached (subst (λ q. next_object q 0 (cells_in t) ≤ objects) (size ∙ ap (λ (D : Image). D.piece) image) less);
-      output = printed ∙ ap output_of reached;
-      ends = subst OfCore reached (subst OfImage image (ends_as reliable objects before t r other size share over));
+      few = subst (λ (c : Core). objects_of C (sizes (allocations_of c)) ≤ objects) there (subst (λ q. next_object q 0 (cells_in t) ≤ objects) (size ∙ ap (λ (D : Image). D.piece) image) less);
+      output = printed ∙ ap output_of there;
+      ends = subst OfCore there (subst OfImage image (ends_as reliable objects before t r other size share over));
     }
 
 -- a run that is over has come to its end

@@ -7,6 +7,7 @@ use Rattle.session.specs.State.{CompletesUpTo, IsAt, IsGoing, State}
 use Rattle.remote_store.specs.Refusing.{no_refusals}
 use Rattle.remote_store.specs.declared.port.Refusals.{Refusals}
 use Rattle.scope_verifier.specs.declared.acceptance.Verified.{Verified}
+use Rattle.program_run.specs.Acting.{HasActed}
 use Rattle.program_run.specs.Executed.{HasRefused, IsOver}
 use Rattle.program_run.specs.declared.run.Turn.{Turn}
 use Rattle.program_run.specs.declared.run.Turn.TheVariants as turn
@@ -45,7 +46,7 @@ HasCome reliable s (Stopped x) = IsOver reliable no_refusals s (Stopped x)
 HasCome reliable s (Wanted w) = IsOver reliable no_refusals s (Wanted w)
 
 -- A session of a verified image, over a table of its pieces, that has come so far; over an honest store a call was refused through its port exactly where it wants
--- the store, and over one that is reliable, too, it never does
+-- the store, and over one that is reliable, too, it never does. It came there by what it did from its beginning on
 pub record IsOnRun (honest reliable : Type 0) (s : State) (r : Run) : Type 0 where
   pub at : honest → IsAt s
   pub cells : s.view.sizes.cells ≡ s.image.piece
@@ -53,3 +54,4 @@ pub record IsOnRun (honest reliable : Type 0) (s : State) (r : Run) : Type 0 whe
   pub come : HasCome reliable s r
   pub own : honest → HasRefused r s.refusals
   pub sure : honest → reliable → r ≢ Wanted StoreFailed
+  pub acted : HasActed reliable s.image s r

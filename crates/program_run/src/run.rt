@@ -1,10 +1,11 @@
 //! A program that is run to its end.
 ghost use Rattle.std.specs.Prelude.{◌≡◌, ◌≢◌, ◌+◌, ◌-◌, ◌<◌, ◌≤◌, ◌^◌, IfErr, IfOk, length, true};
-ghost use Rattle.cells.specs.declared.ending.Run.TheVariants.{Wanted};
+ghost use Rattle.cells.specs.declared.ending.Run.TheVariants.{Running, Wanted};
 ghost use Rattle.cells.specs.declared.ending.Want.TheVariants.{OutOfMemory, StoreFailed};
 ghost use Rattle.cells.specs.Outcomes.{IsPrefix};
 ghost use Rattle.code_form.specs.Code.{output_of};
 ghost use Rattle.object_lock.specs.Fresh.{IsFresh};
+ghost use Rattle.program_run.specs.Acting.{HasActed};
 ghost use Rattle.program_run.specs.Executed.{HasRefused, HasRunOn, IsFinishedOver};
 ghost use Rattle.program_run.specs.Runs.{HasTurned, begun};
 ghost use Rattle.region.specs.Admission.{image_at};
@@ -44,6 +45,7 @@ fn run_on<S: RawStore, W: Wait>(rt: &W, session: &mut Session<'_, S>, quantum: u
     ensures told { HasRunOn S.reliable quantum session.old session.new result }
     ensures sure { S.honest → S.reliable → result ≢ Wanted StoreFailed }
     ensures own { S.honest → session.old.refusals ≡ no_refusals → HasRefused result session.new.refusals }
+    ensures acted { HasActed S.reliable session.old.image session.old Running → HasActed S.reliable session.new.image session.new result }
     ensures grows { S.honest → IsAt session.old → IsPrefix (output_of session.old.core) (output_of session.new.core) }
 {
     run_laws();
@@ -189,8 +191,9 @@ impl<'a, S: RawStore> ProgramRun<'a, S> {
         }
     }
 
-    /// What it printed, how it ended, and how many instructions it completed: over an honest store those of the code's run. Beside it, what was refused through its own port to the
-    /// store: over an honest store one call where it wants the store, and else none.
+    /// What it printed, how it ended, and how many instructions it completed: over an honest store those of the code's run, and what its session came to by what it did,
+    /// instruction by instruction, in all its turns. Beside it, what was refused through its own port to the store: over an honest store one call where it wants the store, and
+    /// else none.
     pub fn into_finished(self) -> Finished
         requires over { self.over ≡ true }
         ensures end { S.honest → IsFinishedOver S.reliable self.entry.objects (image_at self.entry.programs self.entry.number) result }

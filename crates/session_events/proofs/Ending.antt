@@ -47,18 +47,19 @@ pub record StaysSo (s t : session.State) : Type 0 where
   pub hand : t.view.hand ≡ s.view.hand
   pub low : t.view.low ≡ s.view.low
   pub high : t.view.high ≡ s.view.high
+  pub refusals : t.refusals ≡ s.refusals
 
-shut_stays : (s : session.State) (k : ℕ) (x : Option own.Hold) → StaysSo s (shut_at s k x)
-shut_stays s k None = record { core = refl; image = refl; want = refl; many = refl; completed = refl; hand = refl; low = refl; high = refl }
-shut_stays s k (Some h) = record { core = refl; image = refl; want = refl; many = length-set s.holds k None; completed = refl; hand = refl; low = refl; high = refl }
+pub shut_stays : (s : session.State) (k : ℕ) (x : Option own.Hold) → StaysSo s (shut_at s k x)
+shut_stays s k None = record { core = refl; image = refl; want = refl; many = refl; completed = refl; hand = refl; low = refl; high = refl; refusals = refl }
+shut_stays s k (Some h) = record { core = refl; image = refl; want = refl; many = length-set s.holds k None; completed = refl; hand = refl; low = refl; high = refl; refusals = refl }
 
 pub first_stays : (j : ℕ) (s : session.State) → StaysSo s (shut_first j s)
-first_stays zero s = record { core = refl; image = refl; want = refl; many = refl; completed = refl; hand = refl; low = refl; high = refl }
+first_stays zero s = record { core = refl; image = refl; want = refl; many = refl; completed = refl; hand = refl; low = refl; high = refl; refusals = refl }
 first_stays (suc j) s =
     let a = first_stays j s in
     let u : session.State = shut_first j s in
     let b = shut_stays u j (session.hold_at u.holds j) in
-    record { core = b.core ∙ a.core; image = b.image ∙ a.image; want = b.want ∙ a.want; many = b.many ∙ a.many; completed = b.completed ∙ a.completed; hand = b.hand ∙ a.hand; low = b.low ∙ a.low; high = b.high ∙ a.high }
+    record { core = b.core ∙ a.core; image = b.image ∙ a.image; want = b.want ∙ a.want; many = b.many ∙ a.many; completed = b.completed ∙ a.completed; hand = b.hand ∙ a.hand; low = b.low ∙ a.low; high = b.high ∙ a.high; refusals = b.refusals ∙ a.refusals }
 
 pub ready_along : (g : Setting) (s t : session.State) (x : Touch) → t.core ≡ s.core → IsReady g (ready_of s) x → IsReady g (ready_of t) x
 ready_along g s t x e r = record { mode = refl; free = ap is_blocked e ∙ r.free; is = ap (λ (c : Core). touch_of (effect g.image c)) e ∙ r.is }

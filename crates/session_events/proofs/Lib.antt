@@ -6,3 +6,4 @@ mod Closing
 mod Ending
 mod Instructions
 mod Wanting
+pub mod Told

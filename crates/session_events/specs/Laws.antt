@@ -1,17 +1,24 @@
 -- What sessions did on threads is what their programs do in events.
-use Rattle.std.specs.Prelude.{◌≡◌, ◌≢◌, ℕ, List, map, Option, Some, None}
+use Rattle.std.specs.Prelude.{◌≡◌, ◌≢◌, ◌⊎◌, ◌+◌, ℕ, List, map, Option, Some, None}
 use Rattle.cells.specs.declared.ending.Run as ending
 use Rattle.cells.specs.declared.ending.Run.TheVariants as Run
 use Rattle.cells.specs.declared.ending.Want.{Want}
-use Rattle.cells.specs.declared.ending.Want.TheVariants.{OutOfMemory, StoreFailed}
+use Rattle.cells.specs.declared.ending.Want.TheVariants.{NoObjects, OutOfMemory, StoreFailed}
+use Rattle.cells.specs.Stops.{stop_of as stop_read}
+use Rattle.code_form.specs.Code.{effect, output_of, stop_of}
+use Rattle.code_form.specs.Form.{Image}
+use Rattle.code_form.specs.Touches.{touch_of}
 use Rattle.code_form.specs.declared.touch.Touch.TheVariants.{Ends}
 use Rattle.pointer_word.specs.Asked.{HasNothing}
+use Rattle.pointer_word.specs.Hands.{blank, empty_handed}
 use Rattle.object_lock.specs.Seats.{Owns, View, note}
 use Rattle.session.specs.declared.hold.Hold as own
 use Rattle.session.specs.Performing.{Acts, PerformsSome}
 use Rattle.session.specs.State as session
+use Rattle.program_run.specs.Executed.{IsFinishedOver}
+use Rattle.program_run.specs.declared.run.Finished.{Finished}
 use Rattle.world_semantics.specs.declared.hold.Hold.{Hold}
-use Rattle.world_semantics.specs.Programs.{Mode, Program, Ready, Setting, Wanted}
+use Rattle.world_semantics.specs.Programs.{Mode, Program, Ready, Setting, Wanted, begun}
 use Rattle.mover_events.specs.Going.{Event}
 use Rattle.session_events.specs.Knowing.{Goes, Known}
 
@@ -51,3 +58,36 @@ InstructionsAreEvents = (s t : session.State) → PerformsSome s t → DoesByEve
 -- text of an error, where the session keeps its holds, which the program of a world shuts before it stops
 abbrev pub RunsAreEvents : Type 0 → Type 0
 RunsAreEvents reliable = (s t : session.State) (r : ending.Run) → Acts reliable s t r → (r ≡ Run.Wanted StoreFailed → session.IsHalted t → ⊥) → (r ≡ Run.Wanted OutOfMemory → session.next_touch t ≢ Ends) → DoesByEvents s t
+
+-- an unused seat has nothing in hand, and knows of no store and no hold
+abbrev pub unused : Known
+unused = record { hand = empty_handed; notes = λ o. blank }
+
+-- Where the program of this image is in a world at an end that is told so: it has stopped so, or wants this. Where memory was refused for the text of an error, the program of a world
+-- is at that instruction still
+abbrev pub IsAtEnd : Image → Program → ending.Run → Type 0
+IsAtEnd C q Run.Running = ⊥
+IsAtEnd C q (Run.Stopped x) = (q.mode ≡ Ready) × (stop_of q.core ≡ Some (stop_read x))
+IsAtEnd C q (Run.Wanted NoObjects) = q.mode ≡ Wanted NoObjects
+IsAtEnd C q (Run.Wanted OutOfMemory) = (q.mode ≡ Wanted OutOfMemory) ⊎ ((q.mode ≡ Ready) × (touch_of (effect C q.core) ≡ Ends))
+IsAtEnd C q (Run.Wanted StoreFailed) = q.mode ≡ Wanted StoreFailed
+
+-- The end that is told of a program of this image, with so many objects, is that to which its program comes in a world, from its beginning on, by some events
+pub record EndsByEvents (objects : ℕ) (C : Image) (f : Finished) : Type 0 where
+  -- what the program runs on there
+  pub setting : Setting
+  pub image : setting.image ≡ C
+  pub size : setting.size ≡ C.piece
+  pub share : setting.limit ≡ setting.base + objects
+  pub events : List Event
+  -- where the program is at last, and what its seat knows then
+  pub program : Program
+  pub known : Known
+  pub goes : Goes setting (begun C) unused events program known
+  pub ended : IsAtEnd C program f.end.run
+  pub completed : program.completed ≡ f.end.completed
+  pub printed : output_of program.core ≡ f.end.output.items
+
+-- so is each end that is told of a program that was run on threads, over an honest store
+abbrev pub EndsAreEvents : Type 0 → Type 0
+EndsAreEvents reliable = (objects : ℕ) (C : Image) (f : Finished) → IsFinishedOver reliable objects C f → EndsByEvents objects C f

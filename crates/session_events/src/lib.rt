@@ -1,7 +1,7 @@
 //! What a session does on threads, as events of its program in a world: laws.
 #![tactic(auto)]
 
-ghost use Rattle.session_events.specs.Laws.{InstructionsAreEvents, RunsAreEvents};
+ghost use Rattle.session_events.specs.Laws.{EndsAreEvents, InstructionsAreEvents, RunsAreEvents};
 
 use remote_store::RawStore;
 
@@ -15,4 +15,11 @@ pub fn instructions_are_events()
 /// which is never so over an honest store.
 pub fn runs_are_events<S: RawStore>()
     ensures { RunsAreEvents S.reliable }
+{}
+
+/// Each end that is told of a program that was run on threads over an honest store, by whatever number of turns, is that to which its program comes in a world by some events, from
+/// its beginning on: with that output and as many instructions completed, stopped so or wanting this. Where memory was refused for the text of an error, the program of a world is
+/// at that instruction still.
+pub fn ends_are_events<S: RawStore>()
+    ensures { EndsAreEvents S.reliable }
 {}

@@ -1,3 +1,4 @@
+use Rattle.program_run.proofs.Acting.{acted_on}
 use Rattle.program_run.proofs.Ending.{refused_own}
 use Rattle.program_run.proofs.Growing.{grown}
 use Rattle.program_run.proofs.run.run_on.Goals as goal
@@ -9,3 +10,6 @@ returns-clause-own g c = λ honest none.
 pub returns-clause-grows : goal.returns-clause-grows
 returns-clause-grows g c = λ honest at.
     grown c.run_laws.ensures.add c.run_laws.ensures.output g.S.RawStore.reliable c.args.quantum c.args.session.now c.run.new.self c.run.result at (c.run.ensures.at honest) c.run.ensures.told
+
+pub returns-clause-acted : goal.returns-clause-acted
+returns-clause-acted g c = λ was. acted_on g.S.RawStore.reliable c.args.session.now c.run.new.self c.run.result was (c.run.ensures.acts c.requires.going) (search rules)

@@ -1,10 +1,12 @@
 use Rattle.std.proofs.Common.{◌≡◌, ◌∙◌, ◌+◌, ◌-◌, ap, arith, subst, sym}
 use Rattle.remote_store.specs.Refusing.{no_refusals}
+use Rattle.program_run.specs.Acting.{HasActed}
 use Rattle.program_run.specs.Executed.{HasRefused}
+use Rattle.code_form.specs.Form.{Image}
 use Rattle.region.specs.Admission.{image_at}
 use Rattle.program_run.specs.Runs.{IsOnRun, RunView}
 use Rattle.session.specs.State.{State}
-use Rattle.program_run.proofs.Ending.{executed, has_come}
+use Rattle.program_run.proofs.Ending.{executed, has_come, reached}
 use Rattle.program_run.proofs.run.ProgramRun.into_finished.Goals as goal
 
 pub returns-clause-end : goal.returns-clause-end
@@ -21,4 +23,14 @@ returns-clause-end g c = λ honest.
     record {
       executed = executed reliable c.args.self.objects no_refusals (image_at c.args.self.programs c.args.self.number) t c.into_output.result c.self.inside.run c.completed-completed.result image here.cells share (here.at honest) c.into_output.ensures c.completed-completed.ensures over (λ failed sure. here.sure honest sure failed);
       own = subst (HasRefused c.self.inside.run) (sym c.refusals-refusals.ensures) (here.own honest);
+      acted = record {
+        last = t;
+        acted = subst (λ D. HasActed reliable D t c.self.inside.run) image here.acted;
+        core = reached (image_at c.args.self.programs c.args.self.number) t c.completed-completed.result image (here.at honest) c.completed-completed.ensures;
+        cells = here.cells ∙ ap (λ (D : Image). D.piece) image;
+        share = share;
+        printed = c.into_output.ensures;
+        completed = c.completed-completed.ensures;
+        refusals = c.refusals-refusals.ensures;
+      };
     }

@@ -1,0 +1,33 @@
+-- What the session of a program did from its beginning on.
+use Rattle.std.specs.Prelude.{◌≡◌, ◌+◌, ℕ, replicate}
+use Rattle.cells.specs.declared.ending.Run.{Run}
+use Rattle.code_form.specs.Form.{Image}
+use Rattle.code_form.specs.Effects.{code_run}
+use Rattle.code_form.specs.Code.{code, output_of}
+use Rattle.pointer_word.specs.Hands.{blank, empty_handed}
+use Rattle.object_lock.specs.Seats.{View}
+use Rattle.remote_store.specs.Refusing.{no_refusals}
+use Rattle.session.specs.Performing.{Acts}
+use Rattle.session.specs.State.{SameProgram, State, begin}
+use Rattle.program_run.specs.declared.run.Finished.{Finished}
+
+-- the seat has stored nothing, and has no holds and nothing in hand
+abbrev pub IsUnused : View → Type 0
+IsUnused v = (v.hand ≡ empty_handed) × (v.notes ≡ replicate v.sizes.objects blank)
+
+-- A session of this image came to where it is, or to its end, from its beginning at this seat, which was unused: it completed instructions one behind the other, and where it wants
+-- something, it came to that then
+abbrev pub HasActed : Type 0 → Image → State → Run → Type 0
+HasActed reliable C t r = (v : View) × IsUnused v × SameProgram (begin C v no_refusals) t × Acts reliable (begin C v no_refusals) t r
+
+-- What is told of a program's end is what its session came to in all its turns, at a seat with so many objects
+pub record IsActedOver (reliable : Type 0) (objects : ℕ) (C : Image) (f : Finished) : Type 0 where
+  -- where the session was then
+  pub last : State
+  pub acted : HasActed reliable C last f.end.run
+  pub core : last.core ≡ (code_run (code C) f.end.completed).0
+  pub cells : last.view.sizes.cells ≡ C.piece
+  pub share : last.view.high ≡ last.view.low + objects
+  pub printed : f.end.output.items ≡ output_of last.core
+  pub completed : f.end.completed ≡ last.completed
+  pub refusals : f.refusals ≡ last.refusals

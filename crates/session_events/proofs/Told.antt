@@ -1,0 +1,218 @@
+-- The events of a program that was run to its end.
+use Rattle.std.proofs.Common.{◌≡◌, ◌≢◌, ℕ, zero, suc, ◌+◌, Bool, true, false, cond, List, ◌∷◌, [], replicate, refl, sym, ap, ◌∙◌, subst, inl, inr}
+use Rattle.std.specs.Prelude.{◌⊎◌, None, Option, Some, slice_index_or}
+use Rattle.cells.specs.declared.ending.Run as ending
+use Rattle.cells.specs.declared.ending.Run.TheVariants as Run
+use Rattle.cells.specs.declared.ending.Want.{Want}
+use Rattle.cells.specs.declared.ending.Want.TheVariants.{NoObjects, OutOfMemory, StoreFailed}
+use Rattle.code_form.specs.Code.{Core, effect, is_blocked, output_of, stop_of}
+use Rattle.code_form.specs.Form.{Image}
+use Rattle.code_form.specs.Touches.{touch_of}
+use Rattle.code_form.specs.declared.touch.Cell.{Cell}
+use Rattle.code_form.specs.declared.touch.Touch.{Touch}
+use Rattle.code_form.specs.declared.touch.Touch.TheVariants as touch
+use Rattle.pointer_word.specs.Hands.{Hand, Note, blank, empty_handed}
+use Rattle.object_lock.specs.Seats.{View}
+use Rattle.remote_store.specs.Refusing.{no_refusals}
+use Rattle.remote_store.specs.declared.port.Refusals.{Refusals}
+use Rattle.session.specs.declared.hold.Hold as own
+use Rattle.session.specs.Keeping.{IsNext, cleared, finished, shut_at, wants}
+use Rattle.session.specs.Performing.{Acts, HoldsWanted, LosesAt, Performs, PerformsBy, WantsNext, shut_all, writing_by}
+use Rattle.session.specs.State as session
+use Rattle.program_run.specs.Acting.{IsUnused}
+use Rattle.program_run.specs.Executed.{EndsAs, HasRefused, IsFinishedOver}
+use Rattle.program_run.specs.declared.run.Finished.{Finished}
+use Rattle.world_semantics.specs.Programs.{Mode, Program, Ready, Wanted}
+use Rattle.session_events.specs.Knowing.{Known}
+use Rattle.session_events.specs.Laws.{DoesByEvents, EndsByEvents, IsAtEnd, IsKnown, mode_of, program_of, setting_of, unused}
+use Rattle.session_events.proofs.Ending.{first_stays, shut_stays}
+use Rattle.session_events.proofs.Instructions.{all}
+use Rattle.session_events.proofs.Wanting.{runs}
+
+-- ---- what instructions that are completed leave
+
+-- nothing is wanted that was not before, and no call was refused
+record Keeps (s t : session.State) : Type 0 where
+  want : t.want ≡ s.want
+  refusals : t.refusals ≡ s.refusals
+
+same_keeps : (s t : session.State) → t ≡ s → Keeps s t
+same_keeps s t e = record { want = ap (λ (x : session.State). x.want) e; refusals = ap (λ (x : session.State). x.refusals) e }
+
+then_keeps : (s u t : session.State) → Keeps s u → Keeps u t → Keeps s t
+then_keeps s u t a b = record { want = b.want ∙ a.want; refusals = b.refusals ∙ a.refusals }
+
+shut_keeps : (s : session.State) (k : ℕ) (x : Option own.Hold) → Keeps s (shut_at s k x)
+shut_keeps s k x = let a = shut_stays s k x in record { want = a.want; refusals = a.refusals }
+
+holds_keeps : (k : ℕ) (w : Option Cell) (s u : session.State) → HoldsWanted k w s u → Keeps s u
+holds_keeps k None s u h = then_keeps s (shut_at s k (session.hold_at s.holds k)) u (shut_keeps s k (session.hold_at s.holds k)) (same_keeps (shut_at s k (session.hold_at s.holds k)) u h)
+holds_keeps k (Some a) s u h =
+    elim h [
+      | inl b ↦ same_keeps s u b.1
+      | inr b ↦
+        let v : session.State = shut_at s k (session.hold_at s.holds k) in
+        let c = shut_keeps s k (session.hold_at s.holds k) in
+        record { want = ap (λ (x : session.State). x.want) b.2.same ∙ c.want; refusals = ap (λ (x : session.State). x.refusals) b.2.same ∙ c.refusals }
+    ]
+
+writing_keeps : (s : session.State) (k : ℕ) (h : own.Hold) (b : Bool) → Keeps s (cond b s (cleared s k h))
+writing_keeps s k h true = same_keeps s s refl
+writing_keeps s k h false = record { want = refl; refusals = refl }
+
+performs_keeps : (x : Touch) (s t : session.State) → Performs x s t → Keeps s t
+performs_keeps touch.Plain s t d = record { want = ap (λ (y : session.State). y.want) d; refusals = ap (λ (y : session.State). y.refusals) d }
+performs_keeps (touch.Hints w) s t d = record { want = ap (λ (y : session.State). y.want) d; refusals = ap (λ (y : session.State). y.refusals) d }
+performs_keeps (touch.Aims k w) s t d =
+    let a = holds_keeps k w s d.0 d.1 in
+    record { want = ap (λ (y : session.State). y.want) d.2 ∙ a.want; refusals = ap (λ (y : session.State). y.refusals) d.2 ∙ a.refusals }
+performs_keeps (touch.Loads k a) s t d = record { want = ap (λ (y : session.State). y.want) d.3.1; refusals = ap (λ (y : session.State). y.refusals) d.3.1 }
+performs_keeps (touch.Stores k a v) s t d =
+    let c = writing_keeps s k d.0 d.0.writes in
+    record { want = ap (λ (y : session.State). y.want) d.3 ∙ c.want; refusals = ap (λ (y : session.State). y.refusals) d.3 ∙ c.refusals }
+performs_keeps (touch.Leaves k) s t d =
+    let c = shut_keeps s k (session.hold_at s.holds k) in
+    record { want = ap (λ (y : session.State). y.want) d ∙ c.want; refusals = ap (λ (y : session.State). y.refusals) d ∙ c.refusals }
+performs_keeps (touch.Allocs n) s t d = record { want = ap (λ (y : session.State). y.want) d.1; refusals = ap (λ (y : session.State). y.refusals) d.1 }
+performs_keeps touch.Ends s t d =
+    let c = first_stays (length s.holds) s in
+    record { want = ap (λ (y : session.State). y.want) d ∙ c.want; refusals = ap (λ (y : session.State). y.refusals) d ∙ c.refusals }
+performs_keeps touch.Wrong s t d = absurd d
+performs_keeps touch.Nothing s t d = absurd d
+
+all_keep : (us : List session.State) (s t : session.State) → PerformsBy us s t → Keeps s t
+all_keep [] s t d = same_keeps s t d
+all_keep (u ∷ us) s t d = then_keeps s u t (performs_keeps d.0.touch s u d.0.performed) (all_keep us u t d.1)
+
+-- ---- a want of the store is for a call that was refused
+
+-- a call was refused for an aim, which is the next instruction still
+still_next : (reliable : Type 0) (x : Touch) (u z t : session.State) → IsNext x u → LosesAt reliable x u z → t ≡ wants (shut_all z) StoreFailed → (k : ℕ) × (a : Cell) × (session.next_touch t ≡ touch.Aims k (Some a)) × (is_blocked t.core ≡ false)
+still_next reliable (touch.Aims k (Some a)) u z t next lost e =
+    let v : session.State = shut_at u k (session.hold_at u.holds k) in
+    let c = shut_stays u k (session.hold_at u.holds k) in
+    let b = first_stays (length z.holds) z in
+    let core : t.core ≡ u.core = ap (λ (y : session.State). y.core) e ∙ b.core ∙ ap (λ (y : session.State). y.core) lost.1.same ∙ c.core in
+    let image : t.image ≡ u.image = ap (λ (y : session.State). y.image) e ∙ b.image ∙ ap (λ (y : session.State). y.image) lost.1.same ∙ c.image in
+    (k, a, ap (λ (i : Image). touch_of (effect i t.core)) image ∙ ap (λ (d : Core). touch_of (effect u.image d)) core ∙ next.is, ap is_blocked core ∙ next.free)
+still_next reliable (touch.Aims k None) u z t next lost e = absurd lost
+still_next reliable touch.Plain u z t next lost e = absurd lost
+still_next reliable (touch.Hints w) u z t next lost e = absurd lost
+still_next reliable (touch.Loads k a) u z t next lost e = absurd lost
+still_next reliable (touch.Stores k a v) u z t next lost e = absurd lost
+still_next reliable (touch.Leaves k) u z t next lost e = absurd lost
+still_next reliable (touch.Allocs m) u z t next lost e = absurd lost
+still_next reliable touch.Ends u z t next lost e = absurd lost
+still_next reliable touch.Wrong u z t next lost e = absurd lost
+still_next reliable touch.Nothing u z t next lost e = absurd lost
+
+not_halted : (t : session.State) (k : ℕ) (a : Cell) → session.next_touch t ≡ touch.Aims k (Some a) → is_blocked t.core ≡ false → session.IsHalted t → ⊥
+not_halted t k a next free h = elim h [
+  | inl wrong ↦ cc
+  | inr more ↦ elim more [
+      | inl nothing ↦ cc
+      | inr blocked ↦ cc
+    ]
+]
+
+never_halted : (reliable : Type 0) (s u t : session.State) → Keeps s u → s.refusals ≡ no_refusals → WantsNext reliable StoreFailed u t → HasRefused (Run.Wanted StoreFailed) t.refusals → session.IsHalted t → ⊥
+never_halted reliable s u t kept none d refused halted = elim d.came [
+  | inl b ↦ let n = still_next reliable b.0 u b.1 t b.2 b.3 b.4 in not_halted t n.0 n.1 n.2 n.3 halted
+  | inr b ↦
+    let a = first_stays (length u.holds) u in
+    let same : t.refusals ≡ no_refusals = ap (λ (y : session.State). y.refusals) b.1 ∙ a.refusals ∙ kept.refusals ∙ none in
+    let count : 0 ≡ 1 = sym (ap (λ (r : Refusals). r.count) same) ∙ refused.0 in
+    cc
+]
+
+-- ---- the end
+
+-- what a session came to, from its beginning on, is what its program does by events that lead to its end
+abbrev ComesToEnd : Image → session.State → session.State → ending.Run → Type 0
+ComesToEnd C s t r = (q : session.State) × DoesByEvents s q × IsAtEnd C (program_of q) r × (q.core ≡ t.core) × (q.completed ≡ t.completed)
+
+is_text : (x : Touch) → (x ≡ touch.Ends) ⊎ (x ≢ touch.Ends)
+is_text touch.Ends = inl refl
+is_text touch.Plain = inr (λ e. cc)
+is_text (touch.Hints w) = inr (λ e. cc)
+is_text (touch.Aims k w) = inr (λ e. cc)
+is_text (touch.Loads k a) = inr (λ e. cc)
+is_text (touch.Stores k a v) = inr (λ e. cc)
+is_text (touch.Leaves k) = inr (λ e. cc)
+is_text (touch.Allocs m) = inr (λ e. cc)
+is_text touch.Wrong = inr (λ e. cc)
+is_text touch.Nothing = inr (λ e. cc)
+
+wanting : (reliable : Type 0) (w : Want) (u t : session.State) → WantsNext reliable w u t → t.want ≡ Some w
+wanting reliable NoObjects u t d = ap (λ (y : session.State). y.want) d.came.2
+wanting reliable OutOfMemory u t d = ap (λ (y : session.State). y.want) d.came.2
+wanting reliable StoreFailed u t d = elim d.came [
+  | inl b ↦ ap (λ (y : session.State). y.want) b.4
+  | inr b ↦ ap (λ (y : session.State). y.want) b.1
+]
+
+module _ (reliable : Type 0) (objects : ℕ) (C : Image) (s t : session.State) (none : s.refusals ≡ no_refusals) (open_want : s.want ≡ None) (image : t.image ≡ C) where
+  refused_memory : (d : Acts reliable s t (Run.Wanted OutOfMemory)) → (session.next_touch t ≡ touch.Ends) ⊎ (session.next_touch t ≢ touch.Ends) → ComesToEnd C s t (Run.Wanted OutOfMemory)
+  refused_memory d (inl text) =
+      let u : session.State = d.0 in
+      let e : t ≡ wants u OutOfMemory = d.2.came.2 in
+      let core : u.core ≡ t.core = sym (ap (λ (y : session.State). y.core) e) in
+      let kept = all_keep d.1.0 s u d.1.1 in
+      let next : touch_of (effect C u.core) ≡ touch.Ends = ap (λ (x : Core). touch_of (effect C x)) core ∙ ap (λ (i : Image). touch_of (effect i t.core)) (sym image) ∙ text in
+      (u, all d.1.0 s u d.1.1, inr (ap mode_of (kept.want ∙ open_want), next), core, sym (ap (λ (y : session.State). y.completed) e))
+  refused_memory d (inr other) =
+      (t, runs reliable s t (Run.Wanted OutOfMemory) d (λ e. absurd (let no : ⊥ = cc in no)) (λ e. other), inl (ap mode_of (wanting reliable OutOfMemory d.0 t d.2)), refl, refl)
+
+  comes_to : (r : ending.Run) → Acts reliable s t r → EndsAs reliable objects C t.core r → HasRefused r t.refusals → ComesToEnd C s t r
+  comes_to Run.Running d ends refused = absurd ends
+  comes_to (Run.Stopped x) d ends refused =
+      let kept = all_keep d.0 s t d.1 in
+      (t, all d.0 s t d.1, (ap mode_of (kept.want ∙ open_want), ends), refl, refl)
+  comes_to (Run.Wanted NoObjects) d ends refused =
+      (t, runs reliable s t (Run.Wanted NoObjects) d (λ e. absurd (let no : ⊥ = cc in no)) (λ e. absurd (let no : ⊥ = cc in no)), ap mode_of (wanting reliable NoObjects d.0 t d.2), refl, refl)
+  comes_to (Run.Wanted OutOfMemory) d ends refused = refused_memory d (is_text (session.next_touch t))
+  comes_to (Run.Wanted StoreFailed) d ends refused =
+      let kept = all_keep d.1.0 s d.0 d.1.1 in
+      (t, runs reliable s t (Run.Wanted StoreFailed) d (λ e. never_halted reliable s d.0 t kept none d.2 refused) (λ e. absurd (let no : ⊥ = cc in no)), ap mode_of (wanting reliable StoreFailed d.0 t d.2), refl, refl)
+
+note_blank : (n o : ℕ) → slice_index_or (replicate n blank) o blank ≡ blank
+note_blank zero o = refl
+note_blank (suc n) zero = refl
+note_blank (suc n) (suc o) = note_blank n o
+
+-- what an unused seat knows
+knows_unused : (v : View) → IsUnused v → IsKnown v unused
+knows_unused v is = record {
+  nothing = (refl, refl, refl, refl);
+  past = sym (ap (λ (h : Hand). h.past) is.0);
+  notes = λ o mine. sym (ap (λ (ns : List Note). slice_index_or ns o blank) is.1 ∙ note_blank v.sizes.objects o);
+}
+
+pub told : (reliable : Type 0) (objects : ℕ) (C : Image) (f : Finished) → IsFinishedOver reliable objects C f → EndsByEvents objects C f
+told reliable objects C f is =
+    let a = is.acted in
+    let t : session.State = a.last in
+    let v : View = a.acted.0 in
+    let s : session.State = session.begin C v no_refusals in
+    let same = a.acted.2 in
+    let refused : HasRefused f.end.run t.refusals = subst (HasRefused f.end.run) a.refusals is.own in
+    let ends : EndsAs reliable objects C t.core f.end.run = subst (λ (c : Core). EndsAs reliable objects C c f.end.run) (sym a.core) is.executed.ends in
+    let end = comes_to reliable objects C s t refl refl same.0 f.end.run a.acted.3 ends refused in
+    let q : session.State = end.0 in
+    let by = end.1 unused (knows_unused v a.acted.1) in
+    let low : t.view.low ≡ v.low = same.1 in
+    let high : t.view.high ≡ v.high = same.2 in
+    let share = a.share in
+    record {
+      setting = setting_of s;
+      image = refl;
+      size = sym (ap (λ (w : View). w.sizes.cells) same.3) ∙ a.cells;
+      share = omega arith;
+      events = by.0;
+      program = program_of q;
+      known = by.1;
+      goes = by.2;
+      ended = end.2;
+      completed = end.4 ∙ sym a.completed;
+      printed = ap output_of end.3 ∙ sym a.printed;
+    }

@@ -1,0 +1,5 @@
+use Rattle.session_events.proofs.Told.{told}
+use Rattle.session_events.proofs.ends_are_events.Goals as goal
+
+pub returns : goal.returns
+returns g c = λ objects C f is. told g.S.RawStore.reliable objects C f is
