@@ -31,8 +31,8 @@ ends_less r s objects C c (Wanted StoreFailed) less h = (h.0, λ reliable. h.1 (
 pub executed_less : (r s : Type 0) (objects : ℕ) (C : Image) (e : Ended) → (s → r) → IsExecutedOver r objects C e → IsExecutedOver s objects C e
 executed_less r s objects C e less h = record { going = h.going; few = h.few; output = h.output; ends = ends_less r s objects C _ e.run less h.ends }
 
--- ... and how many calls were refused is the same
-finished_less : (r s : Type 0) (objects : ℕ) (C : Image) (f : Finished) → (s → r) → IsFinishedOver r objects C f → IsFinishedOver s objects C f
+-- ... and what its session did, and how many calls were refused, is the same
+pub finished_less : (r s : Type 0) (objects : ℕ) (C : Image) (f : Finished) → (s → r) → IsFinishedOver r objects C f → IsFinishedOver s objects C f
 finished_less r s objects C f less h = record { executed = executed_less r s objects C f.end less h.executed; own = h.own; acted = acted_less r s objects C f less h.acted }
 
 -- a store that is honest and reliable in fewer cases

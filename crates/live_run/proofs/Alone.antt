@@ -9,8 +9,6 @@ use Rattle.object_lock.specs.SeatViews.{SeatView, TableView}
 use Rattle.region.specs.Admission.{image_at}
 use Rattle.program_run.specs.declared.run.Finished.{Finished}
 use Rattle.scope_verifier.specs.declared.acceptance.Verified.{Verified}
-use Rattle.streams.specs.Streams.{Writes}
-use Rattle.live_run.specs.Lives.{EndsLive}
 use Rattle.live_run.specs.declared.live.LiveError.{LiveError}
 
 -- what holds of all holds of the last
@@ -30,12 +28,12 @@ pub seat_alone : {W C : Type 0} (t : TableView) (n share : ℕ) (seats before : 
 seat_alone t n share seats before s one items numbered own =
     (number_of_one before s (subst (AreNumbered 1 1) items (subst (λ m. AreNumbered 1 m seats) one numbered)), all_last (IsFreshOwner t share) before s (subst (All (IsFreshOwner t share)) items own))
 
--- its share is all objects, and its image that of the one program
-pub ends_alone : (honest reliable : Type 0) (objects : ℕ) (programs now : List Verified) (number low high : ℕ) (w : Writes) (r : Result Finished LiveError) → length programs ≡ 1 → now ≡ programs → number ≡ 1
-    → high ≡ low + objects / length programs → IfOk r (λ f. EndsLive honest reliable (high - low) (image_at now (number - 1)) w f.end) → IfOk r (λ f. EndsLive honest reliable objects (image_at programs 0) w f.end)
-ends_alone honest reliable objects programs now number low high w (Ok f) one same first end ends =
+-- its share is all objects, and its image that of the one program: what is so of its end is so with these
+pub ends_alone : (Q : ℕ → Image → Finished → Type 0) (objects : ℕ) (programs now : List Verified) (number low high : ℕ) (r : Result Finished LiveError) → length programs ≡ 1 → now ≡ programs → number ≡ 1
+    → high ≡ low + objects / length programs → IfOk r (λ f. Q (high - low) (image_at now (number - 1)) f) → IfOk r (λ f. Q objects (image_at programs 0) f)
+ends_alone Q objects programs now number low high (Ok f) one same first end ends =
     let share : high - low ≡ objects / length programs = omega arith in
     let all : high - low ≡ objects = share ∙ ap (λ n. objects / n) one ∙ div-one objects in
     let image : image_at now (number - 1) ≡ image_at programs 0 = ap₂ image_at same (ap (λ n. n - 1) first) in
-    subst (λ (C : Image). EndsLive honest reliable objects C w f.end) image (subst (λ m. EndsLive honest reliable m (image_at now (number - 1)) w f.end) all ends)
-ends_alone honest reliable objects programs now number low high w (Err e) one same first end ends = tt
+    subst (λ (C : Image). Q objects C f) image (subst (λ m. Q m (image_at now (number - 1)) f) all ends)
+ends_alone Q objects programs now number low high (Err e) one same first end ends = tt

@@ -8,12 +8,12 @@ use Rattle.c0far.proofs.lives.live_program.Goals as goal
 
 pub returns-in-None-clause-ended : goal.returns-in-None-clause-ended
 returns-in-None-clause-ended g c =
-    lived_in_memory g.F.Place.Folder.honest (memory_of c.args.asked.memory) c.args.programs.items (writes g.O.Stream.contents g.O.Stream.failures c.args.out.now c.live_over.new.out) c.live_over.result c.requires c.live_over.ensures.ended c.live_over.ensures.own
+    lived_in_memory g.F.Place.Folder.honest (memory_of c.args.asked.memory) c.args.programs.items (writes g.O.Stream.contents g.O.Stream.failures c.args.out.now c.live_over.new.out) c.live_over.result c.requires c.live_over.ensures.ended c.live_over.ensures.finished
 
 pub returns-in-Ok-clause-ended : goal.returns-in-Ok-clause-ended
 returns-in-Ok-clause-ended g c =
     lived_in_folder g.F.Place.Folder.honest (memory_of c.args.asked.memory) c.in-Some.name.now c.args.programs.items (writes g.O.Stream.contents g.O.Stream.failures c.args.out.now c.live_over-in-Ok.new.out) c.live_over-in-Ok.result
-    c.requires (ap (option_map (λ s. s.now)) c.in-Some.is) c.live_over-in-Ok.ensures.ended c.live_over-in-Ok.ensures.own
+    c.requires (ap (option_map (λ s. s.now)) c.in-Some.is) c.live_over-in-Ok.ensures.ended c.live_over-in-Ok.ensures.finished
 
 pub live_over-requires-in-Ok-clause-makes : goal.live_over-requires-in-Ok-clause-makes
 live_over-requires-in-Ok-clause-makes g c κs within = has_room c.args.programs.items
