@@ -14,7 +14,7 @@ use Rattle.c0_rules.specs.Types.{Environment, ResolvedType, Signature, and_so, p
 use Rattle.c0_types_tables.specs.Views.{resolved_of}
 use Rattle.c0_types_tables.specs.declared.resolved.ResolvedType as r
 use Rattle.c0_types.specs.DeclareViews.{in_use_by, use_of_conio}
-use Rattle.c0_types.proofs.HeaderLists.{first_left, same_self}
+use Rattle.c0_types_declarations.proofs.HeaderLists.{first_left, same_self}
 
 -- ---- functions
 

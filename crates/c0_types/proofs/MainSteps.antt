@@ -8,7 +8,7 @@ use Rattle.c0_syntax.specs.declared.program.Declaration.{Declaration}
 use Rattle.c0_rules.specs.FaultPrograms.{MainAmong, MainDefined}
 use Rattle.c0_rules.specs.Programs.{function_names_of, main_name}
 use Rattle.c0_rules.specs.Types.{is_among}
-use Rattle.c0_types.proofs.HeaderLists.{first_left}
+use Rattle.c0_types_declarations.proofs.HeaderLists.{first_left}
 
 -- whether one of these declarations defines `main`
 abbrev pub defines_main : List s.Declaration → Bool

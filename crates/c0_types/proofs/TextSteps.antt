@@ -6,10 +6,10 @@ use Rattle.c0_syntax.specs.Views.{declaration_of}
 use Rattle.c0_syntax.specs.declared.program.Declaration.{Declaration}
 use Rattle.c0_rules.specs.Mentions.{Mention, OfVariable, OfFunction, OfText, argument_mentions, condition_of, declaration_mentions, mentions, part_mentions, program_mentions, simple_mentions, spec_mentions, specs_in, statement_mentions, statements_mentions, text_of, texts_of}
 use Rattle.c0_rules.specs.Types.{Name, is_among, number_in}
-use Rattle.c0_types_expressions.specs.Terms.{HasTexts, HaveTexts, IsText}
-use Rattle.c0_types_statements.specs.Bodies.{PartHasTexts, SimpleHasTexts, SpecsHaveTexts, StatementHasTexts, StatementsHaveTexts}
+use Rattle.c0_types_terms.specs.Terms.{HasTexts, HaveTexts, IsText}
+use Rattle.c0_types_bodies.specs.Bodies.{PartHasTexts, SimpleHasTexts, SpecsHaveTexts, StatementHasTexts, StatementsHaveTexts}
 use Rattle.c0_types.specs.FunctionViews.{DeclarationHasTexts, DeclarationsHaveTexts}
-use Rattle.c0_types.proofs.HeaderLists.{same_self}
+use Rattle.c0_types_declarations.proofs.HeaderLists.{same_self}
 
 -- ---- one of the texts
 

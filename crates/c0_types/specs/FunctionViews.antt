@@ -10,7 +10,7 @@ use Rattle.c0_rules.specs.Statements as b
 use Rattle.c0_rules.specs.Types.{Name, Environment, Signature}
 use Rattle.c0_types_tables.specs.Views.{resolved_of}
 use Rattle.c0_types_tables.specs.declared.resolved.ResolvedType.{ResolvedType}
-use Rattle.c0_types_statements.specs.Bodies.{SpecsHaveTexts, StatementsHaveTexts, scope_of}
+use Rattle.c0_types_bodies.specs.Bodies.{SpecsHaveTexts, StatementsHaveTexts, scope_of}
 use Rattle.c0_types.specs.declared.functions.CheckedBody.{CheckedBody}
 use Rattle.c0_types.specs.declared.functions.Parts.{Parts}
 

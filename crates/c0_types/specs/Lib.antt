@@ -1,3 +1,2 @@
-pub mod ContractViews
 pub mod DeclareViews
 pub mod FunctionViews

@@ -5,8 +5,9 @@ ghost use Rattle.c0_source.specs.declared.fault.FaultKind.TheVariants.{OutOfMemo
 ghost use Rattle.c0_syntax.specs.Trees.{DeclareFunction, DeclareStruct, DefineFunction, DefineStruct, Typedef as TypedefOf};
 ghost use Rattle.c0_syntax.specs.Views.{declaration_of, header_of, name_of, statements_of, type_of, typed_name_of};
 ghost use Rattle.c0_typed.specs.Views.{function_of};
-ghost use Rattle.c0_types_statements.specs.Bodies.{SpecsHaveTexts, StatementsHaveTexts};
-ghost use Rattle.c0_types.specs.DeclareViews.{InDefinition, InStruct, elaboration_of, typed_field_of, use_of_conio};
+ghost use Rattle.c0_types_bodies.specs.Bodies.{SpecsHaveTexts, StatementsHaveTexts};
+ghost use Rattle.c0_types.specs.DeclareViews.{InDefinition, elaboration_of, use_of_conio};
+ghost use Rattle.c0_types_declarations.specs.DeclarationViews.{InStruct, typed_field_of};
 ghost use Rattle.c0_types.specs.FunctionViews.{DeclarationHasTexts, DeclarationsHaveTexts};
 ghost use Rattle.c0_rules.specs.FaultExpressions.{TypeCause};
 ghost use Rattle.c0_rules.specs.FaultPrograms.{AnySpecs, InDeclaration, InDeclarations, InHeader};
@@ -16,17 +17,17 @@ ghost use Rattle.c0_rules.specs.Types.{Name as Word, same_types};
 ghost use Rattle.c0_rules.specs.Answers.{Answers};
 ghost use Rattle.c0_types_tables.specs.Views.{environment_of, signature_of};
 
-use crate::definitions::{
-    NewStruct, check_use, field_table, is_conio, new_struct, numbered_fields,
-};
 use crate::functions::typed_function;
-use crate::headers::{add_function, refuse_specs, signature};
 use c0_source::fault::Fault;
 use c0_syntax::name::Name;
 use c0_syntax::program::{Declaration, DeclarationKind, Header, TypedName};
 use c0_syntax::statement::Statement;
 use c0_syntax::value_type::ValueType;
 use c0_typed::{Function, Struct};
+use c0_types_declarations::definitions::{
+    NewStruct, check_use, field_table, is_conio, new_struct, numbered_fields,
+};
+use c0_types_declarations::headers::{add_function, refuse_specs, signature};
 use c0_types_tables::environment::Environment;
 use c0_types_tables::names::Names;
 use c0_types_tables::resolved::ResolvedType;

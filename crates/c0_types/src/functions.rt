@@ -4,8 +4,8 @@ ghost use Rattle.std.specs.Prelude.{◌≡◌, ◌⊎◌, IfErr, IfOk, List, map
 ghost use Rattle.c0_source.specs.declared.fault.FaultKind.TheVariants.{OutOfMemory};
 ghost use Rattle.c0_syntax.specs.Views.{header_of, statements_of};
 ghost use Rattle.c0_typed.specs.Views.{function_of, type_of};
-ghost use Rattle.c0_types_statements.specs.Bodies.{SpecsHaveTexts, StatementsHaveTexts, scope_of};
-ghost use Rattle.c0_types.specs.ContractViews.{conditions_of, contract_of};
+ghost use Rattle.c0_types_bodies.specs.Bodies.{SpecsHaveTexts, StatementsHaveTexts, scope_of};
+ghost use Rattle.c0_types_contracts.specs.ContractViews.{conditions_of, contract_of};
 ghost use Rattle.c0_types.specs.FunctionViews.{at_entry, at_return, checked_of, first_scope as scope_at_first, numbers_in, parts_of};
 ghost use Rattle.c0_rules.specs.FaultPrograms.{AssignedParameters, InContracts, InFunction, InTypes, is_assigned_in};
 ghost use Rattle.c0_rules.specs.FaultStatements.{InBody};
@@ -15,22 +15,22 @@ ghost use Rattle.c0_rules.specs.Statements.{typed_statements};
 ghost use Rattle.c0_rules.specs.Types.{Name, VoidType, provided, same_type};
 ghost use Rattle.c0_rules.specs.Answers.{Answers};
 ghost use Rattle.c0_types_tables.specs.Views.{environment_of, resolved_of, signature_of};
-ghost use Rattle.c0_types_expressions.specs.Terms.{local_of};
+ghost use Rattle.c0_types_terms.specs.Terms.{local_of};
 
-use crate::contracts::{Conditions, contract, kept_conditions};
-use crate::headers::parameter_locals;
 use c0_source::fault::Fault;
 use c0_syntax::program::Header;
 use c0_syntax::statement::Statement;
 use c0_typed::{Function, Statement as TypedStatement, ValueType};
-use c0_types_expressions::typing::{Local, Terms};
+use c0_types_bodies::scope::Scope;
+use c0_types_contracts::contracts::{Conditions, contract, kept_conditions};
+use c0_types_declarations::headers::parameter_locals;
 use c0_types_flow::flow::paths::{check_ensures, check_paths};
 use c0_types_statements::bodies::Body;
-use c0_types_statements::scope::Scope;
 use c0_types_tables::environment::Environment;
 use c0_types_tables::names::Names;
 use c0_types_tables::resolved::ResolvedType;
 use c0_types_tables::signatures::Signature;
+use c0_types_terms::typing::{Local, Terms};
 use std::alloc::{AllocError, Global};
 
 /// The statements of a body, and what is in scope behind them.

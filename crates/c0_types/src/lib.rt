@@ -1,11 +1,8 @@
-//! `check`: the static rules of a whole program, its contracts and declarations in order, and the typed program of those that are well typed.
+//! `check`: the static rules of a whole program, its declarations in order, and the typed program of those that are well typed.
 #![tactic(auto)]
 
-mod contracts;
 mod declare;
-mod definitions;
 mod functions;
-mod headers;
 mod programs;
 
 pub use c0_rules::{accepted_texts, elaborated, refused_texts};

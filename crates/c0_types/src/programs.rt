@@ -7,7 +7,8 @@ ghost use Rattle.c0_source.specs.declared.fault.FaultKind.TheVariants.{BadMain a
 ghost use Rattle.c0_source.specs.FaultNumbers.{memory_fault};
 ghost use Rattle.c0_syntax.specs.Views.{declaration_of, program_of as tree_of};
 ghost use Rattle.c0_typed.specs.Views.{program_of as typed_of};
-ghost use Rattle.c0_types.specs.DeclareViews.{Accepts, elaboration_of};
+ghost use Rattle.c0_types.specs.DeclareViews.{elaboration_of};
+ghost use Rattle.c0_types_declarations.specs.DeclarationViews.{Accepts};
 ghost use Rattle.c0_rules.specs.Answers.{Answers};
 ghost use Rattle.c0_rules.specs.FaultExpressions.{Told};
 ghost use Rattle.c0_rules.specs.FaultPrograms.{FaultAt, InDeclarations, InWhole, MainAmong, MainCause, MainDefined, ending};
@@ -17,10 +18,10 @@ ghost use Rattle.c0_rules.specs.Types.{is_among, is_ascii};
 ghost use Rattle.c0_types_tables.specs.Views.{environment_of};
 
 use crate::declare::{Elaborated, has_main};
-use crate::headers::earlier;
 use c0_source::fault::{Fault, FaultKind, Span};
 use c0_syntax::program::{Declaration, DeclarationKind, Program};
 use c0_typed::Typed;
+use c0_types_declarations::headers::earlier;
 use c0_types_flow::mentioned::texts::collect_texts;
 use c0_types_flow::mentioned::{check_calls, check_texts};
 use c0_types_tables::environment::Environment;

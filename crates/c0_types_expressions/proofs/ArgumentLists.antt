@@ -23,7 +23,7 @@ use Rattle.c0_rules.specs.FaultExpressions.{AsValue, CallCause, InArguments, InE
 use Rattle.c0_rules.specs.FaultStatements.{InEvaluated}
 use Rattle.c0_rules.specs.Statements.{Scope, within}
 use Rattle.c0_types_expressions.specs.Forms.{ArgumentsCause, CalledCause, InAmong, MistypedAmong}
-use Rattle.c0_types_expressions.specs.Terms.{HasTexts, HaveTexts}
+use Rattle.c0_types_terms.specs.Terms.{HasTexts, HaveTexts}
 
 -- ---- expressions behind others
 

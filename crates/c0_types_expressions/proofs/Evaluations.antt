@@ -19,7 +19,7 @@ use Rattle.c0_rules.specs.FaultStatements.{InEvaluated}
 use Rattle.c0_rules.specs.Statements.{Scope, evaluated, within, is_call}
 use Rattle.c0_rules.specs.Answers.{Answers}
 use Rattle.c0_types_expressions.specs.Forms.{CalledCause, InAmong, discarded}
-use Rattle.c0_types_expressions.specs.Terms.{valued}
+use Rattle.c0_types_terms.specs.Terms.{valued}
 use Rattle.c0_types_expressions.proofs.ArgumentLists.{call_evaluated}
 use Rattle.c0_types_expressions.proofs.FormAnswers.{then_answers}
 use Rattle.c0_types_expressions.proofs.Operands.{valued_is}

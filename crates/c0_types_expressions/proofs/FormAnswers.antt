@@ -13,8 +13,9 @@ use Rattle.c0_rules.specs.Types.{Environment, ResolvedType, IntType, BoolType, A
 use Rattle.c0_rules.specs.Expressions.{Typing, Has, Context, OperatorRule, as_wanted, chosen, dereferenced, held_type, num, operated, operator_rule, prefixed, typed_expression, typed_place, wanted}
 use Rattle.c0_rules.specs.FaultExpressions.{AsPlace, AsValue, InExpression, NoPlace}
 use Rattle.c0_rules.specs.Answers.{Answers}
-use Rattle.c0_types_expressions.specs.Forms.{array_of, has_form}
-use Rattle.c0_types_expressions.specs.Terms.{valued}
+use Rattle.c0_types_expressions.specs.Forms.{has_form}
+use Rattle.c0_types_places.specs.Places.{array_of}
+use Rattle.c0_types_terms.specs.Terms.{valued}
 use Rattle.c0_types_expressions.proofs.Operands.{valued_is}
 use Rattle.c0_types_expressions.proofs.Refusals.{none_so}
 

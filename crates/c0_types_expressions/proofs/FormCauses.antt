@@ -14,40 +14,13 @@ use Rattle.c0_rules.specs.Types.{Environment, ResolvedType, IntType, BoolType, a
 use Rattle.c0_rules.specs.Expressions.{Typing, Place, Context, OperatorRule, OnNumbers, Compares, Conjunction, Disjunction, as_wanted, lengthed, operated, pointed, prefixed, typed_expression, typed_place}
 use Rattle.c0_rules.specs.FaultExpressions.{AsValue, ArmsCause, ArrowCause, FieldCause, IndexCause, Mistyped, PointerCause, PrefixCause, Told, element_of, has_common, is_value}
 use Rattle.c0_rules.specs.Answers.{Answers}
-use Rattle.c0_types_expressions.specs.Forms.{BinaryCause, PointedCause, PrefixedCause, takes_left}
-use Rattle.c0_types_expressions.specs.Terms.{ArrayCause, LeftCause, OperatedCause, valued}
+use Rattle.c0_types_expressions.specs.Forms.{BinaryCause, PrefixedCause}
+use Rattle.c0_types_operators.specs.Operators.{takes_left}
+use Rattle.c0_types_places.specs.Places.{PointedCause}
+use Rattle.c0_types_terms.specs.Terms.{valued}
+use Rattle.c0_types_operators.specs.Operators.{LeftCause, OperatedCause}
+use Rattle.c0_types_places.specs.Places.{ArrayCause}
 use Rattle.c0_types_expressions.proofs.Operands.{valued_is}
-
--- want of memory, or a cause
-abbrev pub OrMemory : (Fault → Type 0) → Fault → Type 0
-OrMemory X f = (f.kind ≡ k.OutOfMemory) ⊎ X f
-
-pub causes : {T : Type 0} (r : Result T Fault) (X Y : Fault → Type 0) → ((f : Fault) → X f → Y f) → IfErr r (OrMemory X) → IfErr r (OrMemory Y)
-causes (Ok z) X Y go h = tt
-causes (Err f) X Y go (inl h) = inl h
-causes (Err f) X Y go (inr h) = inr (go f h)
-
--- the same, where the rules give nothing
-pub none_causes : {T A : Type 0} (view : T → A) (r : Result T Fault) (o : Option A) (X Y : Fault → Type 0) → ((f : Fault) → o ≡ None → X f → Y f) → Answers view r o → IfErr r (OrMemory X) → IfErr r (OrMemory Y)
-none_causes view (Ok z) o X Y go a h = tt
-none_causes view (Err f) o X Y go a (inl h) = inl h
-none_causes view (Err f) o X Y go (inl a) (inr h) = inl a
-none_causes view (Err f) o X Y go (inr a) (inr h) = inr (go f a h)
-
--- one of more causes
-pub among : {A B C : Type 0} → A ⊎ B → A ⊎ B ⊎ C
-among (inl a) = inl a
-among (inr b) = inr (inl b)
-
-pub beyond : {A B C : Type 0} → A ⊎ C → A ⊎ B ⊎ C
-beyond (inl a) = inl a
-beyond (inr c) = inr (inr c)
-
--- three causes, of more
-pub first_three : {A B C D : Type 0} → A ⊎ B ⊎ C → A ⊎ B ⊎ C ⊎ D
-first_three (inl a) = inl a
-first_three (inr (inl b)) = inr (inl b)
-first_three (inr (inr c)) = inr (inr (inl c))
 
 not_wanted : {A B : Type 0} (o : Option A) (go : A → B) → and_so o (λ a. Some (go a)) ≡ None → o ≡ None
 not_wanted None go h = refl

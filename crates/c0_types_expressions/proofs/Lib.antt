@@ -3,11 +3,6 @@ pub mod CallForms
 pub mod Evaluations
 pub mod FormAnswers
 pub mod FormCauses
-pub mod Locals
 pub mod Operands
 pub mod PlaceForms
 pub mod Refusals
-pub mod StructFields
-pub mod Texts
-pub mod TypedCalls
-pub mod Wrapped

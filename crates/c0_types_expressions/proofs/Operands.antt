@@ -11,7 +11,7 @@ use Rattle.c0_rules.specs.Types.{Environment, ResolvedType, VoidType, and_so, pr
 use Rattle.c0_rules.specs.Expressions.{Typing, Has, IsNull, Context, Callee, as_wanted, call_of, callee, gives, typed_expression, wanted}
 use Rattle.c0_rules.specs.FaultExpressions.{AsValue, InExpression, Mistyped, Told, is_value}
 use Rattle.c0_types_expressions.specs.Forms.{NoValue}
-use Rattle.c0_types_expressions.specs.Terms.{valued}
+use Rattle.c0_types_terms.specs.Terms.{valued}
 use Rattle.c0_rules.specs.Answers.{Answers}
 
 pub valued_is : (o : Option Typing) (x : Typing) → valued o ≡ Some x → (o ≡ Some x) × (is_value x ≡ true)

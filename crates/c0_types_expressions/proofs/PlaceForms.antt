@@ -17,9 +17,9 @@ use Rattle.c0_rules.specs.Expressions.{Typing, Place, Context, typed_expression,
 use Rattle.c0_rules.specs.FaultExpressions.{AsPlace, AsValue, InExpression, Told}
 use Rattle.c0_rules.specs.Answers.{Answers}
 use Rattle.c0_types_expressions.specs.Forms.{has_form}
-use Rattle.c0_types_expressions.specs.Terms.{valued}
+use Rattle.c0_types_terms.specs.Terms.{valued}
 use Rattle.c0_types_expressions.proofs.FormAnswers.{fault_there, value_there}
-use Rattle.c0_types_expressions.proofs.FormCauses.{causes}
+use Rattle.c0_types_terms.proofs.Causes.{causes}
 use Rattle.c0_types_expressions.proofs.Operands.{valued_is}
 
 -- whether an expression is an element or a field

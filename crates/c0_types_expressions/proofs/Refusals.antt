@@ -13,8 +13,10 @@ use Rattle.c0_rules.specs.Types.{Environment, Name, VoidType, IntType, BoolType,
 use Rattle.c0_rules.specs.Expressions.{Typing, Has, IsNull, Context, OperatorRule, OnNumbers, Compares, Conjunction, Disjunction, as_wanted, chosen, fielded, held_type, indexed, is_compared, is_equality, lengthed, num, operated, operator_rule, pointed, prefixed, typed_expression, typed_place, wanted}
 use Rattle.c0_rules.specs.FaultExpressions.{Told}
 use Rattle.c0_rules.proofs.Comparisons.{not_compared}
-use Rattle.c0_types_expressions.specs.Forms.{takes_left}
-use Rattle.c0_types_expressions.specs.Terms.{ArrayCause, LeftCause, valued}
+use Rattle.c0_types_operators.specs.Operators.{takes_left}
+use Rattle.c0_types_terms.specs.Terms.{valued}
+use Rattle.c0_types_operators.specs.Operators.{LeftCause}
+use Rattle.c0_types_places.specs.Places.{ArrayCause}
 use Rattle.c0_types_expressions.proofs.Operands.{skipped, valued_is}
 
 -- ---- steps in a row
@@ -70,15 +72,6 @@ left_alone env f (OnNumbers o) x here h y = ap (λ z. and_so z (λ a. and_so (as
 left_alone env f (Compares r) x here h y = not_compared env r x y h.0
 left_alone env f Conjunction x here h y = ap (λ z. and_so z (λ a. and_so (as_wanted env BoolType y) (λ b. Some (Has BoolType (t.And a b))))) h.0
 left_alone env f Disjunction x here h y = ap (λ z. and_so z (λ a. and_so (as_wanted env BoolType y) (λ b. Some (Has BoolType (t.Or a b))))) h.0
-
-pub left_cause : (env : Environment) (f : Fault) (rule : OperatorRule) (x : Typing) (here : Span) → takes_left rule x ≡ false → Told k.TypeMismatch here f → LeftCause env f rule x here
-left_cause env f (OnNumbers o) (Has a e) here h told = (ap (λ z. provided z (Some e)) h, told)
-left_cause env f (OnNumbers o) (IsNull e) here h told = (refl, told)
-left_cause env f (Compares r) x here h told = (h, told)
-left_cause env f Conjunction (Has a e) here h told = (ap (λ z. provided z (Some e)) h, told)
-left_cause env f Conjunction (IsNull e) here h told = (refl, told)
-left_cause env f Disjunction (Has a e) here h told = (ap (λ z. provided z (Some e)) h, told)
-left_cause env f Disjunction (IsNull e) here h told = (refl, told)
 
 -- what has no element has none at any index
 pub no_element : (env : Environment) (f : Fault) (x : Typing) (here span : Span) → ArrayCause env f x here span → (z : t.Exp) → indexed env x z ≡ None

@@ -14,24 +14,7 @@ use Rattle.c0_typed.specs.Views as v
 use Rattle.c0_rules.specs.Types as t
 use Rattle.c0_rules.specs.Expressions as x
 use Rattle.c0_rules.specs.FaultExpressions.{AsValue, ComparedCause, InExpression, Mistyped, OperandCause, PointerCause, Told, is_comparable, is_null}
-use Rattle.c0_types_tables.specs.Views.{signature_of}
-use Rattle.c0_types_expressions.specs.declared.terms.names.Callee.{Callee}
-use Rattle.c0_types_expressions.specs.declared.terms.names.Callee.TheVariants as c
-
--- whether an operator takes an operand of this type on its left, with some operand on its right
-abbrev pub takes_left : x.OperatorRule → x.Typing → Bool
-takes_left (x.OnNumbers o) (x.Has a e) = t.same_type a t.IntType
-takes_left (x.OnNumbers o) (x.IsNull e) = false
-takes_left (x.Compares r) a = is_comparable r a
-takes_left x.Conjunction (x.Has a e) = t.same_type a t.BoolType
-takes_left x.Conjunction (x.IsNull e) = false
-takes_left x.Disjunction (x.Has a e) = t.same_type a t.BoolType
-takes_left x.Disjunction (x.IsNull e) = false
-
--- what is called
-abbrev pub callee_of : Callee → x.Callee
-callee_of (c.Output o) = x.ToOutput (v.output_of o)
-callee_of (c.Function k f) = x.ToFunction k (signature_of f.now)
+use Rattle.c0_types_places.specs.Places.{PointedCause}
 
 -- whether an expression has the form of a place, or stands in parentheses
 abbrev pub has_form : ExpressionKind → Bool
@@ -69,11 +52,6 @@ UnaryCause env at fault o.Dereference e here span =
 abbrev pub NoValue : Option x.Typing → Type 0
 NoValue o = (o ≡ None) ⊎ ((e : y.Exp) × (o ≡ Some (x.Has t.VoidType e)))
 
--- what is wrong with an operand that `*` or `->` is applied to
-abbrev pub PointedCause : t.Environment → Fault → x.Typing → Span → Span → Type 0
-PointedCause env fault operand here sign =
-    ((is_null operand ≡ true) × Told k.NullDereference sign fault) ⊎ ((is_null operand ≡ false) × (x.pointed env operand ≡ None) × Told k.TypeMismatch here fault)
-
 -- what is wrong with the operand of an operator before it
 abbrev pub PrefixedCause : t.Environment → Fault → PrefixOperator → x.Typing → Span → Span → Type 0
 PrefixedCause env fault o.Not operand here span = (x.as_wanted env t.BoolType operand ≡ None) × Told k.TypeMismatch here fault
@@ -81,10 +59,6 @@ PrefixedCause env fault o.Complement operand here span = (x.as_wanted env t.IntT
 PrefixedCause env fault o.Negate operand here span = (x.as_wanted env t.IntType operand ≡ None) × Told k.TypeMismatch here fault
 PrefixedCause env fault o.Dereference operand here span =
     PointedCause env fault operand here span ⊎ ((q : x.Place) × (x.pointed env operand ≡ Some q) × (t.is_small q.resolved ≡ false) × Told k.NotSmall span fault)
-
--- an array of elements of this type, of this length
-abbrev pub array_of : t.Environment → t.ResolvedType → x.Typing → Option x.Typing
-array_of env r length = t.and_so (x.as_wanted env t.IntType length) (λ n. Some (x.Has (t.ArrayOf r) (y.AllocArray (x.num env r) n)))
 
 -- an expression whose value is not used: small, NULL, or a void call
 abbrev pub discarded : x.Typing → Option y.Exp

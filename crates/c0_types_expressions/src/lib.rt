@@ -2,4 +2,3 @@
 #![tactic(auto)]
 
 pub mod terms;
-pub mod typing;

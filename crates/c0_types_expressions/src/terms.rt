@@ -3,11 +3,6 @@
 //! variant.
 
 mod forms;
-mod names;
-mod operators;
-mod places;
-mod retyping;
-mod steps;
 
 ghost use Rattle.std.specs.Prelude.{◌≡◌, ◌⊎◌, Some, false, true, IfErr, IfOk, map};
 ghost use Rattle.c0_source.specs.declared.fault.FaultKind.TheVariants.{OutOfMemory, TypeMismatch};
@@ -20,22 +15,30 @@ ghost use Rattle.c0_rules.specs.Expressions.{typed_expression, typed_place, want
 ghost use Rattle.c0_rules.specs.FaultExpressions.{AsPlace, AsValue, InExpression, Mistyped, Told, is_value};
 ghost use Rattle.c0_rules.specs.FaultStatements.{InEvaluated};
 ghost use Rattle.c0_rules.specs.Statements.{Scope, evaluated, is_call, within};
-ghost use Rattle.c0_types_expressions.specs.Forms.{ArgumentsCause, CalledCause, InAmong, callee_of, has_form, is_composed, is_conditional};
-ghost use Rattle.c0_types_expressions.specs.Terms.{HasTexts, HaveTexts, context_of, env_of, place_of, typing_of, valued};
+ghost use Rattle.c0_types_expressions.specs.Forms.{ArgumentsCause, CalledCause, InAmong, has_form, is_composed, is_conditional};
+ghost use Rattle.c0_types_places.specs.Places.{callee_of};
+ghost use Rattle.c0_types_terms.specs.Terms.{HasTexts, HaveTexts, context_of, env_of, place_of, typing_of, valued};
 ghost use Rattle.c0_rules.specs.Types.{VoidType, and_so, same_type};
 ghost use Rattle.c0_rules.specs.Answers.{Answers};
 ghost use Rattle.c0_types_tables.specs.Views.{resolved_of};
 
-use crate::typing::{ResolvedPlace, Terms, Typing};
 use c0_source::fault::{Fault, FaultKind, Span};
 use c0_syntax::expression::{Expression, ExpressionKind};
 use c0_syntax::name::Name;
 use c0_syntax::operator::PrefixOperator;
 use c0_typed::{Constant, Expression as TypedExpression, ValueType};
+use c0_types_operators::operands::{chosen, left_operand, operated};
+use c0_types_operators::operators::operator_rule;
+use c0_types_places::memory::{allocated, allocated_array, held, lengthed};
+use c0_types_places::names::{
+    Callee, call_of, character, declared, number, output_takes, returned, text, variable,
+};
+use c0_types_places::places::{array_operand, element, fielded, pointed, pointer_field, read_of};
 use c0_types_tables::resolved::ResolvedType;
-use names::{Callee, output_takes};
-use operators::operator_rule;
-use steps::{fault_at, left_operand, sited};
+use c0_types_terms::steps;
+use c0_types_terms::steps::fault_at;
+use c0_types_terms::typing::{ResolvedPlace, Terms, Typing};
+use forms::{discarded, required, unary};
 
 // Whether this type is `void`.
 fn is_void(resolved: &ResolvedType) -> bool
@@ -76,317 +79,328 @@ fn no_place(value: Result<Typing, Fault>, span: Span) -> Fault
     }
 }
 
-impl<'a> Terms<'a> {
-    /// An expression that has a value, NULL among them.
-    #[cycle(expression)]
-    pub fn value(&self, kind: &ExpressionKind, span: Span) -> Result<Typing, Fault>
-        requires { HasTexts self.now.texts.now (expression_of_kind kind.now) }
-        ensures answers { Answers (typing_of self.now.texts.now) result (valued (typed_expression (env_of self.now) (context_of self.now) (expression_of_kind kind.now))) }
-        ensures cause { IfErr result (λ f. (f.kind ≡ OutOfMemory) ⊎ InExpression (env_of self.now) (context_of self.now) f AsValue kind.now span) }
-    {
-        let typing = self.typing(kind, span)?;
-        if self.has_value(&typing) {
-            Ok(typing)
-        } else {
-            drop(typing);
-            Err(self.void_use(kind, span))
-        }
+/// An expression that has a value, NULL among them.
+#[cycle(expression)]
+pub fn value(terms: &Terms<'_>, kind: &ExpressionKind, span: Span) -> Result<Typing, Fault>
+    requires { HasTexts terms.now.texts.now (expression_of_kind kind.now) }
+    ensures answers { Answers (typing_of terms.now.texts.now) result (valued (typed_expression (env_of terms.now) (context_of terms.now) (expression_of_kind kind.now))) }
+    ensures cause { IfErr result (λ f. (f.kind ≡ OutOfMemory) ⊎ InExpression (env_of terms.now) (context_of terms.now) f AsValue kind.now span) }
+{
+    let typing = typing(terms, kind, span)?;
+    if has_value(terms, &typing) {
+        Ok(typing)
+    } else {
+        drop(typing);
+        Err(void_use(terms, kind, span))
     }
+}
 
-    // Whether an expression has a value; a void call has none.
-    pub(crate) fn has_value(&self, typing: &Typing) -> bool
-        ensures { result ≡ is_value (typing_of self.now.texts.now typing.now) }
-    {
-        match typing {
-            Typing::Has(resolved, _) => !is_void(resolved),
-            Typing::Null(_) => true,
-        }
+// Whether an expression has a value; a void call has none.
+fn has_value(terms: &Terms<'_>, typing: &Typing) -> bool
+    ensures { result ≡ is_value (typing_of terms.now.texts.now typing.now) }
+{
+    match typing {
+        Typing::Has(resolved, _) => !is_void(resolved),
+        Typing::Null(_) => true,
     }
+}
 
-    // A void call where a value is needed, which may stand in parentheses.
-    fn void_use(&self, kind: &ExpressionKind, span: Span) -> Fault
-        ensures { (e : y.Exp) → typed_expression (env_of self.now) (context_of self.now) (expression_of_kind kind.now) ≡ Some (x.Has VoidType e) → (result.kind ≡ OutOfMemory) ⊎ InExpression (env_of self.now) (context_of self.now) result AsValue kind.now span }
-    {
-        match kind {
-            ExpressionKind::Parenthesized(inner) => self.void_use(&inner.kind, inner.span),
-            ExpressionKind::Call(_, _) => fault_at(FaultKind::VoidUse, span),
-            // Nothing else that is declared has the type `void`.
-            _ => Fault::out_of_memory(),
-        }
+// A void call where a value is needed, which may stand in parentheses.
+fn void_use(terms: &Terms<'_>, kind: &ExpressionKind, span: Span) -> Fault
+    ensures { (e : y.Exp) → typed_expression (env_of terms.now) (context_of terms.now) (expression_of_kind kind.now) ≡ Some (x.Has VoidType e) → (result.kind ≡ OutOfMemory) ⊎ InExpression (env_of terms.now) (context_of terms.now) result AsValue kind.now span }
+{
+    match kind {
+        ExpressionKind::Parenthesized(inner) => void_use(terms, &inner.kind, inner.span),
+        ExpressionKind::Call(_, _) => fault_at(FaultKind::VoidUse, span),
+        // Nothing else that is declared has the type `void`.
+        _ => Fault::out_of_memory(),
     }
+}
 
-    // An expression, a void call among them.
-    #[cycle(expression)]
-    fn typing(&self, kind: &ExpressionKind, span: Span) -> Result<Typing, Fault>
-        requires { HasTexts self.now.texts.now (expression_of_kind kind.now) }
-        ensures answers { Answers (typing_of self.now.texts.now) result (typed_expression (env_of self.now) (context_of self.now) (expression_of_kind kind.now)) }
-        ensures cause { IfErr result (λ f. (f.kind ≡ OutOfMemory) ⊎ InExpression (env_of self.now) (context_of self.now) f AsValue kind.now span) }
-    {
-        match kind {
-            ExpressionKind::Number(value) => Ok(self.number(*value)),
-            ExpressionKind::Character(code) => self.character(*code, span),
-            ExpressionKind::Truth(truth) => Ok(Typing::Has(
-                ResolvedType::Bool,
-                TypedExpression::Constant(Constant::Truth(*truth)),
-            )),
-            ExpressionKind::Null => Ok(Typing::Null(TypedExpression::Null(ValueType::Int))),
-            ExpressionKind::Text(text) => Ok(self.text(text)),
-            ExpressionKind::Variable(name) => self.variable(name),
-            ExpressionKind::Parenthesized(inner) => self.typing(&inner.kind, inner.span),
-            ExpressionKind::Alloc(written) => self.allocated(written),
-            ExpressionKind::Result => self.returned(span),
-            ExpressionKind::AllocArray(written, length) => {
-                let element = self.held(written)?;
-                match self.value(&length.kind, length.span) {
-                    Ok(number) => self.allocated_array(element, number, length.span),
-                    Err(fault) => {
-                        drop(element);
-                        Err(fault)
-                    }
+// An expression, a void call among them.
+#[cycle(expression)]
+fn typing(terms: &Terms<'_>, kind: &ExpressionKind, span: Span) -> Result<Typing, Fault>
+    requires { HasTexts terms.now.texts.now (expression_of_kind kind.now) }
+    ensures answers { Answers (typing_of terms.now.texts.now) result (typed_expression (env_of terms.now) (context_of terms.now) (expression_of_kind kind.now)) }
+    ensures cause { IfErr result (λ f. (f.kind ≡ OutOfMemory) ⊎ InExpression (env_of terms.now) (context_of terms.now) f AsValue kind.now span) }
+{
+    match kind {
+        ExpressionKind::Number(value) => Ok(number(terms, *value)),
+        ExpressionKind::Character(code) => character(terms, *code, span),
+        ExpressionKind::Truth(truth) => Ok(Typing::Has(
+            ResolvedType::Bool,
+            TypedExpression::Constant(Constant::Truth(*truth)),
+        )),
+        ExpressionKind::Null => Ok(Typing::Null(TypedExpression::Null(ValueType::Int))),
+        ExpressionKind::Text(content) => Ok(text(terms, content)),
+        ExpressionKind::Variable(name) => variable(terms, name),
+        ExpressionKind::Parenthesized(inner) => typing(terms, &inner.kind, inner.span),
+        ExpressionKind::Alloc(written) => allocated(terms, written),
+        ExpressionKind::Result => returned(terms, span),
+        ExpressionKind::AllocArray(written, length) => {
+            let element = held(terms, written)?;
+            match value(terms, &length.kind, length.span) {
+                Ok(number) => allocated_array(terms, element, number, length.span),
+                Err(fault) => {
+                    drop(element);
+                    Err(fault)
                 }
             }
-            ExpressionKind::Length(array) => {
-                let sized = self.value(&array.kind, array.span)?;
-                self.lengthed(sized, array.span)
-            }
-            ExpressionKind::Unary(operator, operand) => {
-                let only = self.value(&operand.kind, operand.span)?;
-                self.unary(*operator, only, operand.span, span)
-            }
-            ExpressionKind::Conditional(_, _, _) => self.conditional(kind, span),
-            _ => self.composed(kind, span),
         }
+        ExpressionKind::Length(array) => {
+            let sized = value(terms, &array.kind, array.span)?;
+            lengthed(terms, sized, array.span)
+        }
+        ExpressionKind::Unary(operator, operand) => {
+            let only = value(terms, &operand.kind, operand.span)?;
+            unary(terms, *operator, only, operand.span, span)
+        }
+        ExpressionKind::Conditional(_, _, _) => conditional(terms, kind, span),
+        _ => composed(terms, kind, span),
     }
+}
 
-    // One of two values by a condition.
-    #[cycle(expression)]
-    fn conditional(&self, kind: &ExpressionKind, span: Span) -> Result<Typing, Fault>
-        requires texts { HasTexts self.now.texts.now (expression_of_kind kind.now) }
-        requires form { is_conditional kind.now ≡ true }
-        ensures answers { Answers (typing_of self.now.texts.now) result (typed_expression (env_of self.now) (context_of self.now) (expression_of_kind kind.now)) }
-        ensures cause { IfErr result (λ f. (f.kind ≡ OutOfMemory) ⊎ InExpression (env_of self.now) (context_of self.now) f AsValue kind.now span) }
-    {
-        match kind {
-            ExpressionKind::Conditional(condition, first, second) => {
-                let test = self.value(&condition.kind, condition.span)?;
-                let truth = self.as_wanted(&ResolvedType::Bool, test, condition.span)?;
-                let one = match self.value(&first.kind, first.span) {
-                    Ok(one) => one,
-                    Err(fault) => {
-                        drop(truth);
-                        return Err(fault);
-                    }
-                };
-                match self.value(&second.kind, second.span) {
-                    Ok(other) => self.chosen(truth, one, other, second.span),
-                    Err(fault) => {
-                        drop(truth);
-                        drop(one);
-                        Err(fault)
-                    }
+// One of two values by a condition.
+#[cycle(expression)]
+fn conditional(terms: &Terms<'_>, kind: &ExpressionKind, span: Span) -> Result<Typing, Fault>
+    requires texts { HasTexts terms.now.texts.now (expression_of_kind kind.now) }
+    requires form { is_conditional kind.now ≡ true }
+    ensures answers { Answers (typing_of terms.now.texts.now) result (typed_expression (env_of terms.now) (context_of terms.now) (expression_of_kind kind.now)) }
+    ensures cause { IfErr result (λ f. (f.kind ≡ OutOfMemory) ⊎ InExpression (env_of terms.now) (context_of terms.now) f AsValue kind.now span) }
+{
+    match kind {
+        ExpressionKind::Conditional(condition, first, second) => {
+            let test = value(terms, &condition.kind, condition.span)?;
+            let truth = terms.as_wanted(&ResolvedType::Bool, test, condition.span)?;
+            let one = match value(terms, &first.kind, first.span) {
+                Ok(one) => one,
+                Err(fault) => {
+                    drop(truth);
+                    return Err(fault);
+                }
+            };
+            match value(terms, &second.kind, second.span) {
+                Ok(other) => chosen(terms, truth, one, other, second.span),
+                Err(fault) => {
+                    drop(truth);
+                    drop(one);
+                    Err(fault)
                 }
             }
-            _ => unreachable!(),
         }
+        _ => unreachable!(),
     }
+}
 
-    // An expression of two operands, a call, an element or a field.
-    #[cycle(expression)]
-    fn composed(&self, kind: &ExpressionKind, span: Span) -> Result<Typing, Fault>
-        requires texts { HasTexts self.now.texts.now (expression_of_kind kind.now) }
-        requires form { is_composed kind.now ≡ true }
-        ensures answers { Answers (typing_of self.now.texts.now) result (typed_expression (env_of self.now) (context_of self.now) (expression_of_kind kind.now)) }
-        ensures cause { IfErr result (λ f. (f.kind ≡ OutOfMemory) ⊎ InExpression (env_of self.now) (context_of self.now) f AsValue kind.now span) }
-    {
-        match kind {
-            ExpressionKind::Binary(operator, left, right) => {
-                let rule = operator_rule(*operator);
-                let value = self.value(&left.kind, left.span)?;
-                let first = left_operand(rule, value, left.span)?;
-                match self.value(&right.kind, right.span) {
-                    Ok(second) => self.operated(rule, first, second, (left.span, right.span)),
-                    Err(fault) => {
-                        drop(first);
-                        Err(fault)
-                    }
+// An expression of two operands, a call, an element or a field.
+#[cycle(expression)]
+fn composed(terms: &Terms<'_>, kind: &ExpressionKind, span: Span) -> Result<Typing, Fault>
+    requires texts { HasTexts terms.now.texts.now (expression_of_kind kind.now) }
+    requires form { is_composed kind.now ≡ true }
+    ensures answers { Answers (typing_of terms.now.texts.now) result (typed_expression (env_of terms.now) (context_of terms.now) (expression_of_kind kind.now)) }
+    ensures cause { IfErr result (λ f. (f.kind ≡ OutOfMemory) ⊎ InExpression (env_of terms.now) (context_of terms.now) f AsValue kind.now span) }
+{
+    match kind {
+        ExpressionKind::Binary(operator, left, right) => {
+            let rule = operator_rule(*operator);
+            let operand = value(terms, &left.kind, left.span)?;
+            let first = left_operand(rule, operand, left.span)?;
+            match value(terms, &right.kind, right.span) {
+                Ok(second) => operated(terms, rule, first, second, (left.span, right.span)),
+                Err(fault) => {
+                    drop(first);
+                    Err(fault)
                 }
             }
-            ExpressionKind::Call(name, arguments) => self.called(name, arguments, span),
-            ExpressionKind::Index(_, _)
-            | ExpressionKind::Field(_, _)
-            | ExpressionKind::PointerField(_, _) => {
-                let place = self.place_at(kind, span, span)?;
-                self.read_of(place, span)
-            }
-            _ => unreachable!(),
+        }
+        ExpressionKind::Call(name, arguments) => called(terms, name, arguments, span),
+        ExpressionKind::Index(_, _)
+        | ExpressionKind::Field(_, _)
+        | ExpressionKind::PointerField(_, _) => {
+            let place = place_at(terms, kind, span, span)?;
+            read_of(terms, place, span)
+        }
+        _ => unreachable!(),
+    }
+}
+
+// A call.
+#[cycle(expression)]
+fn called(
+    terms: &Terms<'_>,
+    name: &Name,
+    arguments: &Vec<Expression>,
+    span: Span,
+) -> Result<Typing, Fault>
+    requires texts { HaveTexts terms.now.texts.now (expressions_of arguments.now.items) }
+    ensures answers { Answers (typing_of terms.now.texts.now) result (typed_expression (env_of terms.now) (context_of terms.now) (s.Call (name_of name.now) (expressions_of arguments.now.items))) }
+    ensures cause { IfErr result (λ f. (f.kind ≡ OutOfMemory) ⊎ CalledCause (env_of terms.now) (context_of terms.now) f name.now arguments.now.items span ⊎ InAmong (env_of terms.now) (context_of terms.now) f arguments.now.items) }
+{
+    let callee = declared(terms, name)?;
+    let typed = arguments_of(terms, callee, arguments, span)?;
+    Ok(call_of(terms, callee, typed)?)
+}
+
+// The arguments of a call of this.
+#[cycle(expression)]
+fn arguments_of(
+    terms: &Terms<'_>,
+    callee: Callee<'_>,
+    arguments: &Vec<Expression>,
+    span: Span,
+) -> Result<Vec<TypedExpression>, Fault>
+    requires texts { HaveTexts terms.now.texts.now (expressions_of arguments.now.items) }
+    ensures answers { Answers (λ v. exps_of terms.now.texts.now v.items) result (x.typed_arguments (env_of terms.now) (context_of terms.now) (expressions_of arguments.now.items) (x.takes (callee_of callee.entry))) }
+    ensures cause { IfErr result (λ f. (f.kind ≡ OutOfMemory) ⊎ ArgumentsCause (env_of terms.now) (context_of terms.now) f arguments.now.items (x.takes (callee_of callee.entry)) span ⊎ InAmong (env_of terms.now) (context_of terms.now) f arguments.now.items) }
+{
+    match callee {
+        Callee::Output(output) => {
+            let takes = output_takes(terms.alloc, output)?;
+            arguments_wanted(terms, arguments, &takes, span)
+        }
+        Callee::Function(_, signature) => {
+            arguments_wanted(terms, arguments, &signature.parameters, span)
         }
     }
+}
 
-    // A call.
-    #[cycle(expression)]
-    fn called(&self, name: &Name, arguments: &Vec<Expression>, span: Span) -> Result<Typing, Fault>
-        requires texts { HaveTexts self.now.texts.now (expressions_of arguments.now.items) }
-        ensures answers { Answers (typing_of self.now.texts.now) result (typed_expression (env_of self.now) (context_of self.now) (s.Call (name_of name.now) (expressions_of arguments.now.items))) }
-        ensures cause { IfErr result (λ f. (f.kind ≡ OutOfMemory) ⊎ CalledCause (env_of self.now) (context_of self.now) f name.now arguments.now.items span ⊎ InAmong (env_of self.now) (context_of self.now) f arguments.now.items) }
-    {
-        let callee = self.declared(name)?;
-        let typed = self.arguments_of(callee, arguments, span)?;
-        Ok(self.call_of(callee, typed)?)
+// Arguments of these types, as many as there are types.
+#[cycle(expression)]
+fn arguments_wanted(
+    terms: &Terms<'_>,
+    arguments: &[Expression],
+    wants: &[ResolvedType],
+    span: Span,
+) -> Result<Vec<TypedExpression>, Fault>
+    requires texts { HaveTexts terms.now.texts.now (expressions_of arguments.now) }
+    ensures answers { Answers (λ v. exps_of terms.now.texts.now v.items) result (x.typed_arguments (env_of terms.now) (context_of terms.now) (expressions_of arguments.now) (map resolved_of wants.now)) }
+    ensures cause { IfErr result (λ f. (f.kind ≡ OutOfMemory) ⊎ ArgumentsCause (env_of terms.now) (context_of terms.now) f arguments.now (map resolved_of wants.now) span ⊎ InAmong (env_of terms.now) (context_of terms.now) f arguments.now) }
+{
+    if arguments.len() != wants.len() {
+        return Err(fault_at(FaultKind::ArgumentCount, span));
     }
-
-    // The arguments of a call of this.
-    #[cycle(expression)]
-    fn arguments_of(
-        &self,
-        callee: Callee<'a>,
-        arguments: &Vec<Expression>,
-        span: Span,
-    ) -> Result<Vec<TypedExpression>, Fault>
-        requires texts { HaveTexts self.now.texts.now (expressions_of arguments.now.items) }
-        ensures answers { Answers (λ v. exps_of self.now.texts.now v.items) result (x.typed_arguments (env_of self.now) (context_of self.now) (expressions_of arguments.now.items) (x.takes (callee_of callee.entry))) }
-        ensures cause { IfErr result (λ f. (f.kind ≡ OutOfMemory) ⊎ ArgumentsCause (env_of self.now) (context_of self.now) f arguments.now.items (x.takes (callee_of callee.entry)) span ⊎ InAmong (env_of self.now) (context_of self.now) f arguments.now.items) }
-    {
-        match callee {
-            Callee::Output(output) => {
-                let takes = output_takes(self.alloc, output)?;
-                self.arguments(arguments, &takes, span)
-            }
-            Callee::Function(_, signature) => {
-                self.arguments(arguments, &signature.parameters, span)
-            }
-        }
+    let mut typed = Vec::new(terms.alloc);
+    for i in 0..arguments.len() {
+        let want = &wants[i];
+        let argument = &arguments[i];
+        let typing = typing(terms, &argument.kind, argument.span)?;
+        let found = required(terms, want, argument, typing)?;
+        typed.push(found)?;
     }
+    Ok(typed)
+}
 
-    // Arguments of these types, as many as there are types.
-    #[cycle(expression)]
-    fn arguments(
-        &self,
-        arguments: &[Expression],
-        wants: &[ResolvedType],
-        span: Span,
-    ) -> Result<Vec<TypedExpression>, Fault>
-        requires texts { HaveTexts self.now.texts.now (expressions_of arguments.now) }
-        ensures answers { Answers (λ v. exps_of self.now.texts.now v.items) result (x.typed_arguments (env_of self.now) (context_of self.now) (expressions_of arguments.now) (map resolved_of wants.now)) }
-        ensures cause { IfErr result (λ f. (f.kind ≡ OutOfMemory) ⊎ ArgumentsCause (env_of self.now) (context_of self.now) f arguments.now (map resolved_of wants.now) span ⊎ InAmong (env_of self.now) (context_of self.now) f arguments.now) }
-    {
-        if arguments.len() != wants.len() {
-            return Err(fault_at(FaultKind::ArgumentCount, span));
-        }
-        let mut typed = Vec::new(self.alloc);
-        for i in 0..arguments.len() {
-            let want = &wants[i];
-            let argument = &arguments[i];
-            let typing = self.typing(&argument.kind, argument.span)?;
-            let found = self.required(want, argument, typing)?;
-            typed.push(found)?;
-        }
-        Ok(typed)
+/// A place of the heap, small or a struct. With all its parentheses it stands at `whole`, where it is told that it is none.
+#[cycle(expression)]
+pub fn place(
+    terms: &Terms<'_>,
+    kind: &ExpressionKind,
+    span: Span,
+    whole: Span,
+) -> Result<ResolvedPlace, Fault>
+    requires { HasTexts terms.now.texts.now (expression_of_kind kind.now) }
+    ensures answers { Answers (place_of terms.now.texts.now) result (typed_place (env_of terms.now) (context_of terms.now) (expression_of_kind kind.now)) }
+    ensures cause { IfErr result (λ f. (f.kind ≡ OutOfMemory) ⊎ InExpression (env_of terms.now) (context_of terms.now) f (AsPlace whole) kind.now span) }
+{
+    if has_form(kind) {
+        place_at(terms, kind, span, whole)
+    } else {
+        Err(no_place(value(terms, kind, span), whole))
     }
+}
 
-    /// A place of the heap, small or a struct. With all its parentheses it stands at `whole`, where it is told that it is none.
-    #[cycle(expression)]
-    pub fn place(
-        &self,
-        kind: &ExpressionKind,
-        span: Span,
-        whole: Span,
-    ) -> Result<ResolvedPlace, Fault>
-        requires { HasTexts self.now.texts.now (expression_of_kind kind.now) }
-        ensures answers { Answers (place_of self.now.texts.now) result (typed_place (env_of self.now) (context_of self.now) (expression_of_kind kind.now)) }
-        ensures cause { IfErr result (λ f. (f.kind ≡ OutOfMemory) ⊎ InExpression (env_of self.now) (context_of self.now) f (AsPlace whole) kind.now span) }
-    {
-        if has_form(kind) {
-            self.place_at(kind, span, whole)
-        } else {
-            Err(no_place(self.value(kind, span), whole))
-        }
-    }
-
-    // A place by its form.
-    #[cycle(expression)]
-    fn place_at(
-        &self,
-        kind: &ExpressionKind,
-        span: Span,
-        whole: Span,
-    ) -> Result<ResolvedPlace, Fault>
-        requires texts { HasTexts self.now.texts.now (expression_of_kind kind.now) }
-        requires form { has_form kind.now ≡ true }
-        ensures answers { Answers (place_of self.now.texts.now) result (typed_place (env_of self.now) (context_of self.now) (expression_of_kind kind.now)) }
-        ensures cause { IfErr result (λ f. (f.kind ≡ OutOfMemory) ⊎ InExpression (env_of self.now) (context_of self.now) f (AsPlace whole) kind.now span) }
-    {
-        match kind {
-            ExpressionKind::Parenthesized(inner) => self.place(&inner.kind, inner.span, whole),
-            ExpressionKind::Index(array, index) => {
-                let value = self.value(&array.kind, array.span)?;
-                let sized = self.array_operand(value, array.span, span)?;
-                match self.value(&index.kind, index.span) {
-                    Ok(number) => self.element(sized, number, (array.span, index.span), span),
-                    Err(fault) => {
-                        drop(sized);
-                        Err(fault)
-                    }
+// A place by its form.
+#[cycle(expression)]
+fn place_at(
+    terms: &Terms<'_>,
+    kind: &ExpressionKind,
+    span: Span,
+    whole: Span,
+) -> Result<ResolvedPlace, Fault>
+    requires texts { HasTexts terms.now.texts.now (expression_of_kind kind.now) }
+    requires form { has_form kind.now ≡ true }
+    ensures answers { Answers (place_of terms.now.texts.now) result (typed_place (env_of terms.now) (context_of terms.now) (expression_of_kind kind.now)) }
+    ensures cause { IfErr result (λ f. (f.kind ≡ OutOfMemory) ⊎ InExpression (env_of terms.now) (context_of terms.now) f (AsPlace whole) kind.now span) }
+{
+    match kind {
+        ExpressionKind::Parenthesized(inner) => place(terms, &inner.kind, inner.span, whole),
+        ExpressionKind::Index(array, index) => {
+            let operand = value(terms, &array.kind, array.span)?;
+            let sized = array_operand(terms, operand, array.span, span)?;
+            match value(terms, &index.kind, index.span) {
+                Ok(number) => element(terms, sized, number, (array.span, index.span), span),
+                Err(fault) => {
+                    drop(sized);
+                    Err(fault)
                 }
             }
-            ExpressionKind::Field(of, name) => {
-                let outer = self.place(&of.kind, of.span, of.span)?;
-                self.fielded(outer, of.span, name, span)
-            }
-            ExpressionKind::PointerField(of, name) => {
-                let pointer = self.value(&of.kind, of.span)?;
-                self.pointer_field(pointer, of.span, name, span)
-            }
-            ExpressionKind::Unary(_, operand) => {
-                let pointer = self.value(&operand.kind, operand.span)?;
-                self.pointed(pointer, operand.span, span)
-            }
-            _ => unreachable!(),
         }
-    }
-
-    /// An expression of this type.
-    pub fn wanted(&self, want: &ResolvedType, e: &Expression) -> Result<TypedExpression, Fault>
-        requires { HasTexts self.now.texts.now (expression_of e.now) }
-        ensures answers { Answers (exp_of self.now.texts.now) result (wanted (env_of self.now) (resolved_of want.now) (typed_expression (env_of self.now) (context_of self.now) (expression_of e.now))) }
-        ensures cause { IfErr result (λ f. (f.kind ≡ OutOfMemory) ⊎ InExpression (env_of self.now) (context_of self.now) f AsValue e.now.kind e.now.span ⊎ Mistyped (env_of self.now) (context_of self.now) f (resolved_of want.now) e.now.kind e.now.span) }
-    {
-        let typing = self.typing(&e.kind, e.span)?;
-        self.required(want, e, typing)
-    }
-
-    /// The same, of an expression that tells where it stands.
-    pub fn sited(&self, want: &ResolvedType, e: &Expression) -> Result<TypedExpression, Fault>
-        requires { HasTexts self.now.texts.now (expression_of e.now) }
-        ensures answers { Answers (exp_of self.now.texts.now) result (wanted (env_of self.now) (resolved_of want.now) (typed_expression (env_of self.now) (context_of self.now) (expression_of e.now))) }
-        ensures cause { IfErr result (λ f. (f.kind ≡ OutOfMemory) ⊎ InExpression (env_of self.now) (context_of self.now) f AsValue e.now.kind e.now.span ⊎ Mistyped (env_of self.now) (context_of self.now) f (resolved_of want.now) e.now.kind e.now.span) }
-    {
-        let found = self.wanted(want, e)?;
-        Ok(sited(self.alloc, found, e.span)?)
-    }
-
-    /// An expression as a statement: it has a small value or NULL's type, or is a call.
-    pub fn evaluated(&self, e: &Expression) -> Result<TypedExpression, Fault>
-        requires { HasTexts self.now.texts.now (expression_of e.now) }
-        ensures answers { Answers (exp_of self.now.texts.now) result (and_so (typed_expression (env_of self.now) (context_of self.now) (expression_of e.now)) (evaluated (env_of self.now) (expression_of e.now))) }
-        ensures cause { (s : Scope) → within s ≡ (context_of self.now) → IfErr result (λ f. (f.kind ≡ OutOfMemory) ⊎ InEvaluated (env_of self.now) f s e.now.kind e.now.span) }
-    {
-        match &e.kind {
-            ExpressionKind::Call(name, arguments) => {
-                let typing = self.called(name, arguments, e.span)?;
-                self.discarded(typing)
-            }
-            _ => self.evaluated_value(e),
+        ExpressionKind::Field(of, name) => {
+            let outer = place(terms, &of.kind, of.span, of.span)?;
+            fielded(terms, outer, of.span, name, span)
         }
+        ExpressionKind::PointerField(of, name) => {
+            let pointer = value(terms, &of.kind, of.span)?;
+            pointer_field(terms, pointer, of.span, name, span)
+        }
+        ExpressionKind::Unary(_, operand) => {
+            let pointer = value(terms, &operand.kind, operand.span)?;
+            pointed(terms, pointer, operand.span, span)
+        }
+        _ => unreachable!(),
     }
+}
 
-    // The same of what is no call.
-    fn evaluated_value(&self, e: &Expression) -> Result<TypedExpression, Fault>
-        requires texts { HasTexts self.now.texts.now (expression_of e.now) }
-        requires value { is_call (expression_of e.now) ≡ false }
-        ensures answers { Answers (exp_of self.now.texts.now) result (and_so (typed_expression (env_of self.now) (context_of self.now) (expression_of e.now)) (evaluated (env_of self.now) (expression_of e.now))) }
-        ensures cause { (s : Scope) → within s ≡ (context_of self.now) → IfErr result (λ f. (f.kind ≡ OutOfMemory) ⊎ InEvaluated (env_of self.now) f s e.now.kind e.now.span) }
-    {
-        let typing = self.value(&e.kind, e.span)?;
-        self.discarded(typing)
+/// An expression of this type.
+pub fn wanted(
+    terms: &Terms<'_>,
+    want: &ResolvedType,
+    e: &Expression,
+) -> Result<TypedExpression, Fault>
+    requires { HasTexts terms.now.texts.now (expression_of e.now) }
+    ensures answers { Answers (exp_of terms.now.texts.now) result (wanted (env_of terms.now) (resolved_of want.now) (typed_expression (env_of terms.now) (context_of terms.now) (expression_of e.now))) }
+    ensures cause { IfErr result (λ f. (f.kind ≡ OutOfMemory) ⊎ InExpression (env_of terms.now) (context_of terms.now) f AsValue e.now.kind e.now.span ⊎ Mistyped (env_of terms.now) (context_of terms.now) f (resolved_of want.now) e.now.kind e.now.span) }
+{
+    let typing = typing(terms, &e.kind, e.span)?;
+    required(terms, want, e, typing)
+}
+
+/// The same, of an expression that tells where it stands.
+pub fn sited(
+    terms: &Terms<'_>,
+    want: &ResolvedType,
+    e: &Expression,
+) -> Result<TypedExpression, Fault>
+    requires { HasTexts terms.now.texts.now (expression_of e.now) }
+    ensures answers { Answers (exp_of terms.now.texts.now) result (wanted (env_of terms.now) (resolved_of want.now) (typed_expression (env_of terms.now) (context_of terms.now) (expression_of e.now))) }
+    ensures cause { IfErr result (λ f. (f.kind ≡ OutOfMemory) ⊎ InExpression (env_of terms.now) (context_of terms.now) f AsValue e.now.kind e.now.span ⊎ Mistyped (env_of terms.now) (context_of terms.now) f (resolved_of want.now) e.now.kind e.now.span) }
+{
+    let found = wanted(terms, want, e)?;
+    Ok(steps::sited(terms.alloc, found, e.span)?)
+}
+
+/// An expression as a statement: it has a small value or NULL's type, or is a call.
+pub fn evaluated(terms: &Terms<'_>, e: &Expression) -> Result<TypedExpression, Fault>
+    requires { HasTexts terms.now.texts.now (expression_of e.now) }
+    ensures answers { Answers (exp_of terms.now.texts.now) result (and_so (typed_expression (env_of terms.now) (context_of terms.now) (expression_of e.now)) (evaluated (env_of terms.now) (expression_of e.now))) }
+    ensures cause { (s : Scope) → within s ≡ (context_of terms.now) → IfErr result (λ f. (f.kind ≡ OutOfMemory) ⊎ InEvaluated (env_of terms.now) f s e.now.kind e.now.span) }
+{
+    match &e.kind {
+        ExpressionKind::Call(name, arguments) => {
+            let typing = called(terms, name, arguments, e.span)?;
+            discarded(terms, typing)
+        }
+        _ => evaluated_value(terms, e),
     }
+}
+
+// The same of what is no call.
+fn evaluated_value(terms: &Terms<'_>, e: &Expression) -> Result<TypedExpression, Fault>
+    requires texts { HasTexts terms.now.texts.now (expression_of e.now) }
+    requires value { is_call (expression_of e.now) ≡ false }
+    ensures answers { Answers (exp_of terms.now.texts.now) result (and_so (typed_expression (env_of terms.now) (context_of terms.now) (expression_of e.now)) (evaluated (env_of terms.now) (expression_of e.now))) }
+    ensures cause { (s : Scope) → within s ≡ (context_of terms.now) → IfErr result (λ f. (f.kind ≡ OutOfMemory) ⊎ InEvaluated (env_of terms.now) f s e.now.kind e.now.span) }
+{
+    let typing = value(terms, &e.kind, e.span)?;
+    discarded(terms, typing)
 }

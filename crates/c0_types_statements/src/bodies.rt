@@ -3,28 +3,28 @@
 ghost use Rattle.std.specs.Prelude.{◌≡◌, ◌⊎◌, List, IfErr, map};
 ghost use Rattle.c0_source.specs.declared.fault.FaultKind.TheVariants.{OutOfMemory};
 ghost use Rattle.c0_syntax.specs.Views.{annotation_of, expression_of, expression_of_kind, spec_of};
-ghost use Rattle.c0_typed.specs.Trees.{Skip};
-ghost use Rattle.c0_typed.specs.Views.{exp_of, exps_of, stmt_of};
-ghost use Rattle.c0_types_statements.specs.Bodies.{SpecsHaveTexts, scope_of};
+ghost use Rattle.c0_typed.specs.Views.{exp_of, exps_of};
+ghost use Rattle.c0_types_bodies.specs.Bodies.{SpecsHaveTexts, scope_of};
 ghost use Rattle.c0_rules.specs.Expressions.{typed_expression, typed_place};
 ghost use Rattle.c0_rules.specs.FaultExpressions.{AsPlace, InExpression};
 ghost use Rattle.c0_rules.specs.FaultStatements.{InAnnotations, InEvaluated, InSpecs, InWanted};
 ghost use Rattle.c0_rules.specs.Mentions.{specs_in};
 ghost use Rattle.c0_rules.specs.Statements.{Assertion, Invariant, conditions_of_all, evaluated, expression_as, within};
-ghost use Rattle.c0_types_expressions.specs.Terms.{HasTexts, context_of, env_of, place_of};
+ghost use Rattle.c0_types_terms.specs.Terms.{HasTexts, context_of, env_of, place_of};
 ghost use Rattle.c0_rules.specs.Types.{Name, and_so};
 ghost use Rattle.c0_rules.specs.Answers.{Answers};
 ghost use Rattle.c0_types_tables.specs.Views.{environment_of, resolved_of};
 
-use crate::scope::Scope;
 use c0_source::fault::{Fault, Span};
 use c0_syntax::expression::{Expression, ExpressionKind};
 use c0_syntax::statement::{Annotation, Spec};
-use c0_typed::{Expression as TypedExpression, Statement as TypedStatement};
-use c0_types_expressions::typing::{ResolvedPlace, Terms};
+use c0_typed::Expression as TypedExpression;
+use c0_types_bodies::scope::Scope;
+use c0_types_expressions::terms;
 use c0_types_tables::environment::Environment;
 use c0_types_tables::names::Names;
 use c0_types_tables::resolved::ResolvedType;
+use c0_types_terms::typing::{ResolvedPlace, Terms};
 use std::alloc::Global;
 
 mod conditions;
@@ -39,13 +39,6 @@ pub struct Body<'a> {
     pub environment: &'a Environment,
     pub texts: &'a Names,
     pub scope: Scope,
-}
-
-// The statement that does nothing.
-fn skip(alloc: Global) -> TypedStatement
-    ensures { (texts : List Name) → stmt_of texts result ≡ Skip }
-{
-    TypedStatement::Block(Vec::new(alloc))
 }
 
 impl<'a> Body<'a> {
@@ -70,7 +63,7 @@ impl<'a> Body<'a> {
         ensures answers { Answers (exp_of self.now.texts.now) result (expression_as (environment_of self.now.environment.now) (resolved_of want.now) (scope_of self.now.scope) (expression_of e.now)) }
         ensures cause { IfErr result (λ f. (f.kind ≡ OutOfMemory) ⊎ InWanted (environment_of self.now.environment.now) f (scope_of self.now.scope) (resolved_of want.now) e.now) }
     {
-        self.terms().wanted(want, e)
+        terms::wanted(&self.terms(), want, e)
     }
 
     // The same, of an expression that tells where it stands.
@@ -79,7 +72,7 @@ impl<'a> Body<'a> {
         ensures answers { Answers (exp_of self.now.texts.now) result (expression_as (environment_of self.now.environment.now) (resolved_of want.now) (scope_of self.now.scope) (expression_of e.now)) }
         ensures cause { IfErr result (λ f. (f.kind ≡ OutOfMemory) ⊎ InWanted (environment_of self.now.environment.now) f (scope_of self.now.scope) (resolved_of want.now) e.now) }
     {
-        self.terms().sited(want, e)
+        terms::sited(&self.terms(), want, e)
     }
 
     // A place of the heap; `whole` is its place with all parentheses.
@@ -88,7 +81,7 @@ impl<'a> Body<'a> {
         ensures answers { Answers (place_of self.now.texts.now) result (typed_place (environment_of self.now.environment.now) (within (scope_of self.now.scope)) (expression_of_kind kind.now)) }
         ensures cause { IfErr result (λ f. (f.kind ≡ OutOfMemory) ⊎ InExpression (environment_of self.now.environment.now) (within (scope_of self.now.scope)) f (AsPlace whole) kind.now span) }
     {
-        self.terms().place(kind, span, whole)
+        terms::place(&self.terms(), kind, span, whole)
     }
 
     // An expression as a statement.
@@ -97,7 +90,7 @@ impl<'a> Body<'a> {
         ensures answers { Answers (exp_of self.now.texts.now) result (and_so (typed_expression (environment_of self.now.environment.now) (within (scope_of self.now.scope)) (expression_of e.now)) (evaluated (environment_of self.now.environment.now) (expression_of e.now))) }
         ensures cause { IfErr result (λ f. (f.kind ≡ OutOfMemory) ⊎ InEvaluated (environment_of self.now.environment.now) f (scope_of self.now.scope) e.now.kind e.now.span) }
     {
-        self.terms().evaluated(e)
+        terms::evaluated(&self.terms(), e)
     }
 
     // The conditions of an annotation that stands where a statement may.

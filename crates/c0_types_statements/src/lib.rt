@@ -2,4 +2,3 @@
 #![tactic(auto)]
 
 pub mod bodies;
-pub mod scope;

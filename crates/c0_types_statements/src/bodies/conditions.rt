@@ -5,20 +5,21 @@ ghost use Rattle.c0_source.specs.declared.fault.FaultKind.TheVariants as k;
 ghost use Rattle.c0_source.specs.declared.fault.FaultKind.TheVariants.{OutOfMemory};
 ghost use Rattle.c0_syntax.specs.Views.{annotation_of, expression_of, spec_of};
 ghost use Rattle.c0_typed.specs.Views.{exp_of, exps_of};
-ghost use Rattle.c0_types_statements.specs.Bodies.{GivesMore, SpecsHaveTexts, role_by, rule_of, with_front};
+ghost use Rattle.c0_types_bodies.specs.Bodies.{GivesMore, SpecsHaveTexts, role_by, rule_of, with_front};
 ghost use Rattle.c0_rules.specs.FaultExpressions.{Told};
 ghost use Rattle.c0_rules.specs.FaultStatements.{InAnnotations, InCondition, InSpecs};
 ghost use Rattle.c0_rules.specs.Mentions.{specs_in};
 ghost use Rattle.c0_rules.specs.Statements.{Assertion, Invariant, conditions_of_all, role_of, same_role};
-ghost use Rattle.c0_types_expressions.specs.Terms.{HasTexts, context_of, env_of};
+ghost use Rattle.c0_types_terms.specs.Terms.{HasTexts, context_of, env_of};
 ghost use Rattle.c0_rules.specs.Answers.{Answers};
 
 use c0_source::fault::{Fault, FaultKind};
 use c0_source::kind::Clause;
 use c0_syntax::statement::{Annotation, Spec, SpecKind};
 use c0_typed::Expression as TypedExpression;
-use c0_types_expressions::typing::Terms;
+use c0_types_expressions::terms::sited;
 use c0_types_tables::resolved::ResolvedType;
+use c0_types_terms::typing::Terms;
 
 // Whether both are for the same thing.
 fn is_role(kind: SpecKind, role: SpecKind) -> bool
@@ -47,7 +48,7 @@ fn condition(terms: &Terms<'_>, role: SpecKind, spec: &Spec) -> Result<TypedExpr
             span: spec.word,
         });
     }
-    terms.sited(&ResolvedType::Bool, &spec.condition)
+    sited(terms, &ResolvedType::Bool, &spec.condition)
 }
 
 // The conditions of specs, which must all have this role, behind those so far.

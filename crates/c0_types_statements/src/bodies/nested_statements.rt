@@ -8,111 +8,23 @@ ghost use Rattle.c0_syntax.specs.Trees as t;
 ghost use Rattle.c0_syntax.specs.Views.{annotation_of, expression_of, simple_of, statement_of, statement_of_kind, statements_of};
 ghost use Rattle.c0_typed.specs.Trees as y;
 ghost use Rattle.c0_typed.specs.Views.{block_of, exp_of, exps_of, stmt_of};
-ghost use Rattle.c0_types_statements.specs.Bodies.{Gives, GivesBy, InFor, InIfElse, InLoop, PartHasTexts, SpecsHaveTexts, StatementHasTexts, StatementsHaveTexts, block_in_scope, in_scope, loop_behind, scope_of, turn_in_scope};
+ghost use Rattle.c0_types_bodies.specs.Bodies.{Gives, GivesBy, InFor, InIfElse, InLoop, PartHasTexts, SpecsHaveTexts, StatementHasTexts, StatementsHaveTexts, block_in_scope, in_scope, loop_behind, scope_of, turn_in_scope};
 ghost use Rattle.c0_rules.specs.FaultStatements.{InAnnotations, InBody, InPart, InStatement, InWanted, ReturnCause, ThirdCause};
 ghost use Rattle.c0_rules.specs.FaultExpressions.{Told};
 ghost use Rattle.c0_rules.specs.Mentions.{specs_in};
 ghost use Rattle.c0_rules.specs.Statements.{Invariant, declares, in_body, typed_part, typed_statement, typed_statements, within};
-ghost use Rattle.c0_types_expressions.specs.Terms.{HasTexts};
+ghost use Rattle.c0_types_terms.specs.Terms.{HasTexts};
 ghost use Rattle.c0_rules.specs.Types.{BoolType, Environment, Name};
 ghost use Rattle.c0_types_tables.specs.Views.{environment_of};
 
-use super::loops::{refused_with, repeated};
-use super::{Body, skip};
+use super::Body;
 use c0_source::fault::{Fault, FaultKind, Span};
 use c0_syntax::expression::Expression;
 use c0_syntax::statement::{Annotation, SimpleKind, SimpleStatement, Statement, StatementKind};
-use c0_typed::{Expression as TypedExpression, Statement as TypedStatement};
+use c0_typed::Statement as TypedStatement;
+use c0_types_bodies::branches::{choice, chosen, followed, skip};
+use c0_types_bodies::loops::repeated;
 use c0_types_tables::resolved::ResolvedType;
-use std::alloc::{AllocError, Global};
-
-// An `if` whose first statement is boxed.
-fn choice_of_boxed(
-    alloc: Global,
-    condition: TypedExpression,
-    first: Box<TypedStatement>,
-    second: TypedStatement,
-) -> Result<TypedStatement, AllocError>
-    ensures { IfOk result (λ b. (texts : List Name) → stmt_of texts b ≡ y.If (exp_of texts condition) (stmt_of texts (box_value first)) (stmt_of texts second)) }
-{
-    match Box::new(alloc, second) {
-        Ok(second) => Ok(TypedStatement::If(condition, first, second)),
-        Err(error) => {
-            drop(condition);
-            Err(error.into())
-        }
-    }
-}
-
-// An `if` with both of its statements.
-fn choice(
-    alloc: Global,
-    condition: TypedExpression,
-    first: TypedStatement,
-    second: TypedStatement,
-) -> Result<TypedStatement, AllocError>
-    ensures { IfOk result (λ b. (texts : List Name) → stmt_of texts b ≡ y.If (exp_of texts condition) (stmt_of texts first) (stmt_of texts second)) }
-{
-    match Box::new(alloc, first) {
-        Ok(first) => choice_of_boxed(alloc, condition, first, second),
-        Err(error) => {
-            drop(condition);
-            drop(second);
-            Err(error.into())
-        }
-    }
-}
-
-// An `if` whose other statement has this result.
-fn chosen(
-    alloc: Global,
-    condition: TypedExpression,
-    first: TypedStatement,
-    second: Result<TypedStatement, Fault>,
-) -> Result<TypedStatement, Fault>
-    ensures answers { IfOk result (λ r. IsOkAnd second (λ b. (texts : List Name) → stmt_of texts r ≡ y.If (exp_of texts condition) (stmt_of texts first) (stmt_of texts b))) }
-    ensures cause { IfErr result (λ f. (f.kind ≡ OutOfMemory) ⊎ (second ≡ Err f)) }
-{
-    match second {
-        Ok(second) => Ok(choice(alloc, condition, first, second)?),
-        Err(fault) => Err(refused_with(condition, first, fault)),
-    }
-}
-
-// Two statements in order.
-fn in_turn(
-    alloc: Global,
-    first: TypedStatement,
-    second: TypedStatement,
-) -> Result<TypedStatement, AllocError>
-    ensures { IfOk result (λ b. (texts : List Name) → stmt_of texts b ≡ y.Seq (stmt_of texts first) (y.Seq (stmt_of texts second) y.Skip)) }
-{
-    let mut both = Vec::new(alloc);
-    if let Err(error) = both.push(first) {
-        drop(second);
-        return Err(error.into());
-    }
-    both.push(second)?;
-    Ok(TypedStatement::Block(both))
-}
-
-// Two statements in order, the second of which has this result.
-fn followed(
-    alloc: Global,
-    first: TypedStatement,
-    second: Result<TypedStatement, Fault>,
-) -> Result<TypedStatement, Fault>
-    ensures answers { IfOk result (λ r. IsOkAnd second (λ b. (texts : List Name) → stmt_of texts r ≡ y.Seq (stmt_of texts first) (y.Seq (stmt_of texts b) y.Skip))) }
-    ensures cause { IfErr result (λ f. (f.kind ≡ OutOfMemory) ⊎ (second ≡ Err f)) }
-{
-    match second {
-        Ok(second) => Ok(in_turn(alloc, first, second)?),
-        Err(fault) => {
-            drop(first);
-            Err(fault)
-        }
-    }
-}
 
 impl<'a> Body<'a> {
     // A `return` without a value.

@@ -7,18 +7,17 @@ ghost use Rattle.c0_source.specs.declared.fault.FaultKind.TheVariants.{OutOfMemo
 ghost use Rattle.c0_syntax.specs.Trees as t;
 ghost use Rattle.c0_syntax.specs.Views.{expression_of, expression_of_kind, name_of, simple_of, type_of};
 ghost use Rattle.c0_typed.specs.Views.{exp_of};
-ghost use Rattle.c0_types_statements.specs.Bodies.{Declares, Gives, InAssigned, InDestinationOf, InUpdated, NoNumber, SimpleHasTexts, destination_of, scope_of};
+ghost use Rattle.c0_types_bodies.specs.Bodies.{Declares, Gives, InAssigned, InDestinationOf, InUpdated, NoNumber, SimpleHasTexts, destination_of, scope_of};
 ghost use Rattle.c0_rules.specs.Expressions.{operator_rule};
 ghost use Rattle.c0_rules.specs.FaultStatements.{InDestination, InSimple, TakenCause, destination_type};
 ghost use Rattle.c0_rules.specs.Mentions.{as_variable};
 ghost use Rattle.c0_rules.specs.Statements.{assigned, change_of, declared, destination as destination_by_rules, destination_by, is_taken, step_of, typed_simple, updated};
-ghost use Rattle.c0_types_expressions.specs.Terms.{HasTexts};
+ghost use Rattle.c0_types_terms.specs.Terms.{HasTexts};
 ghost use Rattle.c0_rules.specs.Answers.{Answers};
 ghost use Rattle.c0_rules.specs.Types.{IntType, Name as Word, same_type};
 ghost use Rattle.c0_types_tables.specs.Views.{environment_of, resolved_of};
 
-use super::{Body, skip};
-use crate::scope::Destination;
+use super::Body;
 use c0_source::fault::{Fault, FaultKind, Span};
 use c0_source::kind::Operator;
 use c0_syntax::expression::{Expression, ExpressionKind};
@@ -27,67 +26,12 @@ use c0_syntax::operator::{Change, PrefixOperator};
 use c0_syntax::statement::{SimpleKind, SimpleStatement};
 use c0_syntax::value_type::ValueType;
 use c0_typed::{Constant, Expression as TypedExpression, Statement as TypedStatement};
-use c0_types_expressions::typing::ResolvedPlace;
+use c0_types_bodies::branches::skip;
+use c0_types_bodies::changes::{change_of_operator, check_number, no_number, operator_of_step};
+use c0_types_bodies::scope::Destination;
 use c0_types_tables::resolved::ResolvedType;
+use c0_types_terms::typing::ResolvedPlace;
 use cells::Int32Op;
-
-// The operator of `op=`, which works on numbers.
-fn change_of_operator(operator: Operator) -> Option<Int32Op>
-    ensures { result ≡ change_of (operator_rule operator) }
-{
-    match operator {
-        Operator::BitOr => Some(Int32Op::Or),
-        Operator::BitXor => Some(Int32Op::Xor),
-        Operator::BitAnd => Some(Int32Op::And),
-        Operator::ShiftLeft => Some(Int32Op::Shl),
-        Operator::ShiftRight => Some(Int32Op::Shr),
-        Operator::Add => Some(Int32Op::Add),
-        Operator::Subtract => Some(Int32Op::Sub),
-        Operator::Multiply => Some(Int32Op::Mul),
-        Operator::Divide => Some(Int32Op::Div),
-        Operator::Modulo => Some(Int32Op::Mod),
-        Operator::Or | Operator::And => None,
-        Operator::Equal | Operator::NotEqual => None,
-        Operator::Less | Operator::LessEqual | Operator::Greater | Operator::GreaterEqual => None,
-    }
-}
-
-// The operator of `++` or `--`.
-fn operator_of_step(change: Change) -> Int32Op
-    ensures { result ≡ step_of change }
-{
-    match change {
-        Change::Increment => Int32Op::Add,
-        Change::Decrement => Int32Op::Sub,
-    }
-}
-
-// Why a value of this type at this place is not changed by an operator on numbers.
-fn no_number(resolved: &ResolvedType, span: Span) -> Fault
-    ensures { same_type (resolved_of resolved.now) IntType ≡ false → NoNumber result (resolved_of resolved.now) span }
-{
-    let kind = if resolved.is_small() {
-        FaultKind::TypeMismatch
-    } else {
-        FaultKind::NotSmall
-    };
-    Fault { kind, span }
-}
-
-// A destination at this place holds a number.
-fn check_number(destination: &Destination<'_>, span: Span) -> Result<(), Fault>
-    ensures number { (texts : List Word) → is_ok result ≡ same_type (destination_type (destination_of texts destination.now)) IntType }
-    ensures cause { (texts : List Word) → IfErr result (λ f. InUpdated f (destination_of texts destination.now) span) }
-{
-    let resolved = match destination {
-        Destination::Local(local) => &local.resolved,
-        Destination::Place(found) => &found.resolved,
-    };
-    if resolved.same_as(&ResolvedType::Int) {
-        return Ok(());
-    }
-    Err(no_number(resolved, span))
-}
 
 impl<'a> Body<'a> {
     // No local and no function in scope, and no output call in use, has this name.

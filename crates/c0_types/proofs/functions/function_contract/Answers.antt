@@ -1,4 +1,4 @@
-use Rattle.c0_types.specs.ContractViews.{conditions_of}
+use Rattle.c0_types_contracts.specs.ContractViews.{conditions_of}
 use Rattle.c0_types.proofs.Earlier.{kept_answers, kept_cause}
 use Rattle.c0_types.proofs.functions.function_contract.Goals as goal
 

@@ -1,12 +1,12 @@
 use Rattle.std.proofs.Common.{◌≡◌, ◌+◌, ◌*◌, drop}
 use Rattle.c0_source.specs.declared.fault.Fault.{Fault}
 use Rattle.c0_syntax.specs.Views.{statement_of, statement_of_kind, statements_of}
-use Rattle.c0_types_statements.specs.Bodies.{scope_of}
+use Rattle.c0_types_bodies.specs.Bodies.{scope_of}
 use Rattle.c0_rules.specs.FaultStatements.{InBody}
 use Rattle.c0_rules.specs.Statements.{typed_statements}
 use Rattle.c0_types_tables.specs.Views.{environment_of}
-use Rattle.c0_types_statements.proofs.Branches.{after_all}
-use Rattle.c0_types_statements.proofs.Sizes.{size_statement, size_statements}
+use Rattle.c0_types_bodies.proofs.Branches.{after_all}
+use Rattle.c0_types_bodies.proofs.Sizes.{size_statement, size_statements}
 use Rattle.c0_types_statements.proofs.bodies.Body.+statement.Given as goal
 
 abbrev pub decreases-statement : goal.decreases-statement

@@ -6,7 +6,7 @@ use Rattle.c0_typed.specs.Views.{exps_of}
 use Rattle.c0_rules.specs.FaultStatements.{InSpecs}
 use Rattle.c0_rules.specs.Statements.{Assertion, conditions_of_all}
 use Rattle.c0_rules.specs.Answers.{Answers}
-use Rattle.c0_types_statements.proofs.BodyRows.{along}
+use Rattle.c0_types_bodies.proofs.BodyRows.{along}
 use Rattle.c0_types_statements.proofs.bodies.Body.assertions.Goals as goal
 
 pub returns-clause-answers : goal.returns-clause-answers

@@ -4,7 +4,7 @@ use Rattle.c0_rules.specs.Expressions.{typed_expression}
 use Rattle.c0_rules.specs.Statements.{evaluated}
 use Rattle.c0_rules.specs.Types.{and_so}
 use Rattle.c0_rules.specs.Answers.{Answers}
-use Rattle.c0_types_statements.proofs.BodyRows.{along}
+use Rattle.c0_types_bodies.proofs.BodyRows.{along}
 use Rattle.c0_types_statements.proofs.bodies.Body.evaluated.Goals as goal
 
 pub returns-clause-answers : goal.returns-clause-answers

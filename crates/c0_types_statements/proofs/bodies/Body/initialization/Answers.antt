@@ -6,8 +6,8 @@ use Rattle.c0_rules.specs.Statements.{expression_as, next, next_number, with_loc
 use Rattle.c0_rules.specs.Types.{and_so, provided, small_type}
 use Rattle.c0_types_tables.specs.Views.{environment_of}
 use Rattle.c0_types_expressions.proofs.Refusals.{none_so}
-use Rattle.c0_types_statements.specs.Bodies.{scope_of}
-use Rattle.c0_types_statements.proofs.Causes.{among_four}
+use Rattle.c0_types_bodies.specs.Bodies.{scope_of}
+use Rattle.c0_types_bodies.proofs.Causes.{among_four}
 use Rattle.c0_types_statements.proofs.bodies.Body.initialization.Goals as goal
 
 pub returns-in-Err-clause-cause : goal.returns-in-Err-clause-cause

@@ -7,7 +7,7 @@ use Rattle.c0_rules.specs.FaultStatements.{InAnnotations}
 use Rattle.c0_rules.specs.Mentions.{specs_in}
 use Rattle.c0_rules.specs.Statements.{Invariant, conditions_of_all}
 use Rattle.c0_rules.specs.Answers.{Answers}
-use Rattle.c0_types_statements.proofs.BodyRows.{along}
+use Rattle.c0_types_bodies.proofs.BodyRows.{along}
 use Rattle.c0_types_statements.proofs.bodies.Body.invariants.Goals as goal
 
 pub returns-clause-answers : goal.returns-clause-answers

@@ -1,8 +1,8 @@
 use Rattle.c0_syntax.specs.Views.{expression_of_kind}
 use Rattle.c0_rules.specs.Expressions.{typed_place}
-use Rattle.c0_types_expressions.specs.Terms.{place_of}
+use Rattle.c0_types_terms.specs.Terms.{place_of}
 use Rattle.c0_rules.specs.Answers.{Answers}
-use Rattle.c0_types_statements.proofs.BodyRows.{along}
+use Rattle.c0_types_bodies.proofs.BodyRows.{along}
 use Rattle.c0_types_statements.proofs.bodies.Body.place.Goals as goal
 
 pub returns-clause-answers : goal.returns-clause-answers

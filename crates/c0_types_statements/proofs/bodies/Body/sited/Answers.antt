@@ -7,7 +7,7 @@ use Rattle.c0_rules.specs.Expressions.{wanted, typed_expression}
 use Rattle.c0_rules.specs.FaultExpressions.{AsValue, InExpression, Mistyped}
 use Rattle.c0_rules.specs.Answers.{Answers}
 use Rattle.c0_types_tables.specs.Views.{resolved_of}
-use Rattle.c0_types_statements.proofs.BodyRows.{along}
+use Rattle.c0_types_bodies.proofs.BodyRows.{along}
 use Rattle.c0_types_statements.proofs.bodies.Body.sited.Goals as goal
 
 pub returns-clause-answers : goal.returns-clause-answers

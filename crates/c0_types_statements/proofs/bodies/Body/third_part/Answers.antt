@@ -3,9 +3,9 @@ use Rattle.std.specs.Prelude.{option_map}
 use Rattle.std.proofs.lemmas.Result.{IfErr-weaker, err_from_is_err_and}
 use Rattle.c0_syntax.specs.Views.{simple_of}
 use Rattle.c0_types_tables.specs.Views.{environment_of}
-use Rattle.c0_types_statements.specs.Bodies.{scope_of}
-use Rattle.c0_types_statements.proofs.Kept.{second_more}
-use Rattle.c0_types_statements.proofs.Loops.{declares_none, third_answers, third_stays}
+use Rattle.c0_types_bodies.specs.Bodies.{scope_of}
+use Rattle.c0_types_bodies.proofs.Kept.{second_more}
+use Rattle.c0_types_bodies.proofs.Loops.{declares_none, third_answers, third_stays}
 use Rattle.c0_types_statements.proofs.bodies.Body.third_part.Goals as goal
 
 pub returns-in_err-check_third-clause-answers : goal.returns-in_err-check_third-clause-answers

@@ -2,9 +2,9 @@ use Rattle.std.proofs.Common.{map, ap, sym, Some, None}
 use Rattle.std.proofs.lemmas.Result.{IfErr-weaker, err_from_is_err_and}
 use Rattle.c0_syntax.specs.Views.{annotation_of, expression_of}
 use Rattle.c0_types_tables.specs.Views.{environment_of}
-use Rattle.c0_types_statements.specs.Bodies.{scope_of}
-use Rattle.c0_types_statements.proofs.Kept.{first_alone, second_more}
-use Rattle.c0_types_statements.proofs.Loops.{condition_none, head_answers, head_cause}
+use Rattle.c0_types_bodies.specs.Bodies.{scope_of}
+use Rattle.c0_types_bodies.proofs.Kept.{first_alone, second_more}
+use Rattle.c0_types_bodies.proofs.Loops.{condition_none, head_answers, head_cause}
 use Rattle.c0_types_statements.proofs.bodies.Body.while_head.Goals as goal
 
 pub returns-in_err-condition-clause-answers : goal.returns-in_err-condition-clause-answers

@@ -1,10 +1,10 @@
 use Rattle.std.proofs.Common.{◌≡◌, true, sym, subst, rules}
 use Rattle.c0_typed.specs.Views.{exp_of}
-use Rattle.c0_types_statements.specs.Bodies.{role_by}
+use Rattle.c0_types_bodies.specs.Bodies.{role_by}
 use Rattle.c0_rules.specs.Statements.{same_role}
-use Rattle.c0_types_expressions.specs.Terms.{context_of, env_of}
+use Rattle.c0_types_terms.specs.Terms.{context_of, env_of}
 use Rattle.c0_rules.specs.Answers.{Answers}
-use Rattle.c0_types_statements.proofs.ConditionLists.{rule_is}
+use Rattle.c0_types_bodies.proofs.ConditionLists.{rule_is}
 use Rattle.c0_types_statements.proofs.bodies.conditions.condition.Goals as goal
 
 pub returns-clause-answers : goal.returns-clause-answers

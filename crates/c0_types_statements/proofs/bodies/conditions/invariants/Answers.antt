@@ -1,8 +1,8 @@
 use Rattle.std.proofs.lemmas.Result.{err_from_is_err_and}
 use Rattle.c0_typed.specs.Views.{exps_of}
 use Rattle.c0_rules.specs.Statements.{Invariant}
-use Rattle.c0_types_expressions.specs.Terms.{context_of, env_of}
-use Rattle.c0_types_statements.proofs.ConditionLists.{note_cause, note_has, note_more, note_none, notes_done}
+use Rattle.c0_types_terms.specs.Terms.{context_of, env_of}
+use Rattle.c0_types_bodies.proofs.ConditionLists.{note_cause, note_has, note_more, note_none, notes_done}
 use Rattle.c0_types_statements.proofs.bodies.conditions.invariants.Goals as goal
 
 pub push_conditions-requires : goal.push_conditions-requires

@@ -1,10 +1,10 @@
 use Rattle.std.proofs.Common.{◌≡◌, drop, map}
 use Rattle.c0_syntax.specs.Views.{annotation_of}
 use Rattle.c0_typed.specs.Views.{exps_of}
-use Rattle.c0_types_statements.specs.Bodies.{with_front}
+use Rattle.c0_types_bodies.specs.Bodies.{with_front}
 use Rattle.c0_rules.specs.Mentions.{specs_in}
 use Rattle.c0_rules.specs.Statements.{Invariant, conditions_of_all}
-use Rattle.c0_types_expressions.specs.Terms.{context_of, env_of}
+use Rattle.c0_types_terms.specs.Terms.{context_of, env_of}
 use Rattle.c0_types_statements.proofs.bodies.conditions.invariants.Given as goal
 
 -- the conditions so far, with those of the annotations that are left

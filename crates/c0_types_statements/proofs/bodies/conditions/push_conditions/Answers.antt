@@ -1,8 +1,8 @@
 use Rattle.std.proofs.lemmas.Result.{err_from_is_err_and}
 use Rattle.c0_typed.specs.Views.{exps_of}
-use Rattle.c0_types_statements.specs.Bodies.{role_by}
-use Rattle.c0_types_expressions.specs.Terms.{context_of, env_of}
-use Rattle.c0_types_statements.proofs.ConditionLists.{condition_more, condition_none, conditions_done, spec_cause, spec_has}
+use Rattle.c0_types_bodies.specs.Bodies.{role_by}
+use Rattle.c0_types_terms.specs.Terms.{context_of, env_of}
+use Rattle.c0_types_bodies.proofs.ConditionLists.{condition_more, condition_none, conditions_done, spec_cause, spec_has}
 use Rattle.c0_types_statements.proofs.bodies.conditions.push_conditions.Goals as goal
 
 pub condition-requires : goal.condition-requires

@@ -1,9 +1,9 @@
 use Rattle.std.proofs.Common.{◌≡◌, drop, map}
 use Rattle.c0_syntax.specs.Views.{spec_of}
 use Rattle.c0_typed.specs.Views.{exps_of}
-use Rattle.c0_types_statements.specs.Bodies.{role_by, with_front}
+use Rattle.c0_types_bodies.specs.Bodies.{role_by, with_front}
 use Rattle.c0_rules.specs.Statements.{conditions_of_all}
-use Rattle.c0_types_expressions.specs.Terms.{context_of, env_of}
+use Rattle.c0_types_terms.specs.Terms.{context_of, env_of}
 use Rattle.c0_types_statements.proofs.bodies.conditions.push_conditions.Given as goal
 
 -- the conditions so far, with those of the specs that are left

@@ -1,9 +1,0 @@
-use Rattle.std.proofs.Common.{map}
-use Rattle.c0_types.specs.DeclareViews.{typed_field_of}
-use Rattle.c0_types_tables.specs.Views.{environment_of}
-use Rattle.c0_types.proofs.FieldLists.{Holds}
-use Rattle.c0_types.proofs.definitions.fields.Given as goal
-
--- the fields so far, and what is left to look at
-abbrev pub invariant-loop-item : goal.invariant-loop-item
-invariant-loop-item l = Holds (environment_of l.environment) (map typed_field_of l.fields.items) l.item-index l.items

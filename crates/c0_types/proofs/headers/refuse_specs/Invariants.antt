@@ -1,6 +1,0 @@
-use Rattle.c0_types.proofs.HeaderLists.{SpecsLeft}
-use Rattle.c0_types.proofs.headers.refuse_specs.Given as goal
-
--- what is left to look at
-abbrev pub invariant-loop-annotation : goal.invariant-loop-annotation
-invariant-loop-annotation l = SpecsLeft l.annotation-index l.annotations

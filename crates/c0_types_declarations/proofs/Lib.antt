@@ -1,0 +1,5 @@
+pub mod Earlier
+pub mod FieldLists
+pub mod HeaderLists
+pub mod ParameterNames
+pub mod Signatures

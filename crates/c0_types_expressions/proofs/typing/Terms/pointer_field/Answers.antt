@@ -1,8 +1,0 @@
-use Rattle.std.proofs.lemmas.Result.{err_from_is_err_and}
-use Rattle.c0_types_expressions.proofs.FormCauses.{among}
-use Rattle.c0_types_expressions.proofs.typing.Terms.pointer_field.Goals as goal
-
-pub returns-in_err-place-clause-cause : goal.returns-in_err-place-clause-cause
-returns-in_err-place-clause-cause c =
-    let p = err_from_is_err_and c.from_residual.result c.from_residual.ensures.1 in
-    rw (p.1, p.2) (among c.in_err-place.ensures.cause)

@@ -1,0 +1,5 @@
+pub mod Locals
+pub mod StructFields
+pub mod Texts
+pub mod TypedCalls
+pub mod Wrapped

@@ -1,9 +1,0 @@
-use Rattle.std.proofs.Common.{ap, ◌∙◌, map}
-use Rattle.c0_types_expressions.specs.Terms.{local_of}
-use Rattle.c0_types_statements.specs.Bodies.{scope_of}
-use Rattle.c0_types_statements.proofs.Scopes.{map_take}
-use Rattle.c0_types_statements.proofs.scope.Scope.leave.Goals as goal
-
-pub returns : goal.returns
-returns c =
-    ap (λ l. record (scope_of c.args.self.now) { locals = l }) (ap (map local_of) c.truncate.ensures.items ∙ map_take local_of c.args.count c.args.self.now.locals.items)
