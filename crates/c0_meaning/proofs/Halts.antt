@@ -4,10 +4,10 @@ use Rattle.c0_typed.specs.Values as v
 use Rattle.c0_typed.specs.Meaning as m
 use Rattle.c0_meaning.specs.declared.context.Context.{Context}
 use Rattle.c0_meaning.specs.declared.pending.PlainRun.{PlainRun}
-use Rattle.c0_meaning.specs.declared.plain_state.Halt.{Halt}
-use Rattle.c0_meaning.specs.declared.plain_state.Halt.TheVariants.{Stopped, Cut, Memory}
+use Rattle.c0_values.specs.declared.plain_state.Halt.{Halt}
+use Rattle.c0_values.specs.declared.plain_state.Halt.TheVariants.{Stopped, Cut, Memory}
 use Rattle.c0_meaning.specs.declared.task.Task.{Task}
-use Rattle.c0_meaning.specs.PlainStates.{Agrees, Texts, value_of}
+use Rattle.c0_values.specs.PlainStates.{Agrees, Texts, value_of}
 use Rattle.c0_meaning.specs.Pendings.{Extends, Pending, Steps, means, pending_of, state_in}
 use Rattle.c0_meaning.proofs.Pendings.{extends_steps}
 

@@ -15,15 +15,15 @@ use Rattle.c0_typed.specs.declared.tree.Function.{Function}
 use Rattle.c0_typed.specs.declared.tree.Place.{Place, Deref, Index, Field}
 use Rattle.c0_typed.specs.declared.tree.Statement.{Statement}
 use Rattle.c0_typed.specs.declared.tree.ValueType.{ValueType}
-use Rattle.c0_meaning.specs.declared.value.Value.{Value}
+use Rattle.c0_values.specs.declared.value.Value.{Value}
 use Rattle.c0_meaning.specs.declared.context.Context.{Context}
 use Rattle.c0_meaning.specs.declared.pending.PlainRun.{PlainRun}
-use Rattle.c0_meaning.specs.declared.plain_state.Halt.{Halt}
-use Rattle.c0_meaning.specs.declared.plain_state.Halt.TheVariants.{Stopped, Cut, Memory}
+use Rattle.c0_values.specs.declared.plain_state.Halt.{Halt}
+use Rattle.c0_values.specs.declared.plain_state.Halt.TheVariants.{Stopped, Cut, Memory}
 use Rattle.c0_meaning.specs.declared.task.Callee.{Callee}
 use Rattle.c0_meaning.specs.declared.task.Task.{Task}
 use Rattle.c0_meaning.specs.declared.task.Task.TheVariants as task
-use Rattle.c0_meaning.specs.PlainStates.{Agrees, Texts, value_of}
+use Rattle.c0_values.specs.PlainStates.{Agrees, Texts, value_of}
 use Rattle.c0_meaning.specs.Run.{Calls, structs_in, texts_in, values_of}
 use Rattle.c0_meaning.specs.Pendings.{Combines, Completes, Extends, Reaches, Pending, Rest, Steps, behind, called, calling, calls_at, checked, completes, evaluates, executes, giving, leaving, means, pending_of, state_in}
 

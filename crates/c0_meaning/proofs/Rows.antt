@@ -9,7 +9,7 @@ use Rattle.c0_typed.specs.declared.tree.Expression.TheViews.{Call, Print}
 use Rattle.c0_typed.specs.declared.tree.Statement.{Statement, Row_of-Statement, end_of-Statement, more_of-Statement, items-the_row-Statement, the_lemmas as statement_lemmas}
 use Rattle.c0_typed.specs.declared.tree.Statement.TheViews.{Block}
 use Rattle.c0_typed.specs.Views.{exp_of, row_of, exps_of, stmt_of, block_row, block_of, output_of}
-use Rattle.c0_meaning.specs.PlainStates.{Texts}
+use Rattle.c0_values.specs.PlainStates.{Texts}
 
 module _ (texts : Texts) where
   exps_row : {n : _} (k : Row_of-Expression n) → row_of texts k ≡ exps_of texts (items-the_row-Expression n k)

@@ -4,8 +4,8 @@ use Rattle.cells.specs.Outcomes as o
 use Rattle.c0_typed.specs.Values as v
 use Rattle.c0_typed.specs.Trees as t
 use Rattle.c0_typed.specs.Meaning as m
-use Rattle.c0_meaning.specs.declared.plain_state.Halt.{Halt}
-use Rattle.c0_meaning.specs.PlainStates.{Agrees, opening}
+use Rattle.c0_values.specs.declared.plain_state.Halt.{Halt}
+use Rattle.c0_values.specs.PlainStates.{Agrees, opening}
 use Rattle.c0_meaning.specs.Run.{Calls, calls_over}
 
 -- an answer, along an equation

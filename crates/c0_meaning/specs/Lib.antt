@@ -1,3 +1,2 @@
 pub mod Pendings
-pub mod PlainStates
 pub mod Run

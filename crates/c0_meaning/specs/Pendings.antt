@@ -9,19 +9,19 @@ use Rattle.c0_typed.specs.Meaning as m
 use Rattle.c0_typed.specs.Views.{block_of, exp_of, exps_of, output_of, place_of, program_of, stmt_of, type_of}
 use Rattle.c0_typed.specs.declared.tree.Expression.{Expression}
 use Rattle.c0_typed.specs.declared.tree.ValueType.{ValueType}
-use Rattle.c0_meaning.specs.declared.value.Value.{Value}
-use Rattle.c0_meaning.specs.declared.heap.Spot.{Spot}
+use Rattle.c0_values.specs.declared.value.Value.{Value}
+use Rattle.c0_values.specs.declared.heap.Spot.{Spot}
 use Rattle.c0_meaning.specs.declared.context.Context.{Context}
-use Rattle.c0_meaning.specs.declared.plain_state.Halt.{Halt}
-use Rattle.c0_meaning.specs.declared.plain_state.Halt.TheVariants as halt
-use Rattle.c0_meaning.specs.declared.plain_state.PlainState.{PlainState}
+use Rattle.c0_values.specs.declared.plain_state.Halt.{Halt}
+use Rattle.c0_values.specs.declared.plain_state.Halt.TheVariants as halt
+use Rattle.c0_values.specs.declared.plain_state.PlainState.{PlainState}
 use Rattle.c0_meaning.specs.declared.task.Progress.TheVariants as progress
 use Rattle.c0_meaning.specs.declared.pending.PlainRun.{PlainRun}
 use Rattle.c0_meaning.specs.declared.task.Callee.{Callee}
 use Rattle.c0_meaning.specs.declared.task.Callee.TheVariants as callee
 use Rattle.c0_meaning.specs.declared.task.Task.{Task}
 use Rattle.c0_meaning.specs.declared.task.Task.TheVariants as task
-use Rattle.c0_meaning.specs.PlainStates.{Agrees, Texts, field_of, prints, spot_of, state_of, value_of}
+use Rattle.c0_values.specs.PlainStates.{Agrees, Texts, field_of, prints, spot_of, state_of, value_of}
 use Rattle.c0_meaning.specs.Run.{Calls, calls_over, structs_in, texts_in, values_of}
 
 -- What is to be done, the next task first; the values and the places that tasks gave and none has taken, the newest first; how many calls

@@ -10,11 +10,11 @@ use Rattle.c0_typed.specs.Values as v
 use Rattle.c0_typed.specs.Trees as t
 use Rattle.c0_typed.specs.Meaning as m
 use Rattle.c0_typed.specs.Views.{program_of, texts_of}
-use Rattle.c0_meaning.specs.declared.value.Value.{Value}
+use Rattle.c0_values.specs.declared.value.Value.{Value}
 use Rattle.c0_meaning.specs.declared.context.Context.{Context}
-use Rattle.c0_meaning.specs.declared.plain_state.Halt.{Halt}
+use Rattle.c0_values.specs.declared.plain_state.Halt.{Halt}
 use Rattle.c0_meaning.specs.declared.run.Meant.{Meant}
-use Rattle.c0_meaning.specs.PlainStates.{Agrees, Texts, value_of}
+use Rattle.c0_values.specs.PlainStates.{Agrees, Texts, value_of}
 
 -- what a call of a function comes to
 abbrev pub Calls : Type 0

@@ -3,7 +3,7 @@ ghost use Rattle.std.specs.Prelude.{◌≡◌, map, IfSome};
 ghost use Rattle.c0_typed.specs.Meaning.{locals_at_entry};
 ghost use Rattle.c0_typed.specs.Views.{function_of};
 ghost use Rattle.c0_meaning.specs.Pendings.{Performs, PerformsCall, PerformsCalls};
-ghost use Rattle.c0_meaning.specs.PlainStates.{Texts, value_of};
+ghost use Rattle.c0_values.specs.PlainStates.{Texts, value_of};
 ghost use Rattle.c0_meaning.specs.Run.{texts_in, values_of};
 ghost use Rattle.c0_meaning.specs.declared.context.Context.{Context as ContextOf};
 ghost use Rattle.c0_meaning.specs.declared.task.Callee.TheVariants as callee;
@@ -11,10 +11,9 @@ ghost use Rattle.c0_meaning.specs.declared.task.Task.TheVariants as task;
 
 use crate::context::Context;
 use crate::pending::PlainRun;
-use crate::plain_state::Halt;
 use crate::task::{Callee, Task};
-use crate::value::{Value, blank_value};
 use c0_typed::{Expression, Function, Output};
+use c0_values::{Halt, Value, blank_value};
 use std::mem;
 
 /// What the locals of a call hold at first: its result, its arguments, and the others. None where a growth is refused.

@@ -8,11 +8,10 @@ ghost use Rattle.c0_meaning.specs.Run.{texts_in};
 ghost use Rattle.c0_meaning.specs.declared.context.Context.{Context as ContextOf};
 
 use crate::context::Context;
-use crate::operators::binary_value;
 use crate::pending::PlainRun;
-use crate::plain_state::{Halt, asserted, error_called};
 use crate::task::{Progress, Task};
 use c0_typed::Statement;
+use c0_values::{Halt, asserted, binary_value, error_called};
 use cells::Int32Op;
 
 impl<'p> PlainRun<'p> {

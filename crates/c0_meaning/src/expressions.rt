@@ -5,10 +5,9 @@ ghost use Rattle.c0_meaning.specs.declared.task.Task.TheVariants as task;
 
 use crate::context::Context;
 use crate::pending::PlainRun;
-use crate::plain_state::Halt;
 use crate::task::{Callee, Task};
-use crate::value::{Value, constant_value};
 use c0_typed::{Expression, ValueType};
+use c0_values::{Halt, Value, constant_value};
 
 impl<'p> PlainRun<'p> {
     /// The value of an expression.

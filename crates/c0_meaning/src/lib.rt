@@ -5,18 +5,14 @@ mod calls;
 mod context;
 mod effects;
 mod expressions;
-mod heap;
 mod operations;
-mod operators;
 mod pending;
 mod perform;
 mod places;
-mod plain_state;
 mod room;
 mod run;
 mod statements;
 mod task;
-mod value;
 
 pub use pending::Numbers;
 pub use run::{Meant, NoRoom, Placed, mean, mean_placed};

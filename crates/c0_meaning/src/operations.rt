@@ -6,12 +6,10 @@ ghost use Rattle.c0_meaning.specs.Run.{texts_in};
 ghost use Rattle.c0_meaning.specs.declared.context.Context.{Context as ContextOf};
 
 use crate::context::Context;
-use crate::operators::{binary_value, compare, unary_value};
 use crate::pending::{Numbers, PlainRun};
-use crate::plain_state::Halt;
 use crate::task::Task;
-use crate::value::Value;
 use c0_typed::{Expression, Relation, UnaryOperator, ValueType};
+use c0_values::{Halt, Value, binary_value, compare, unary_value};
 use cells::Int32Op;
 
 impl<'p> PlainRun<'p> {

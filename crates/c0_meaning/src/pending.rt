@@ -1,14 +1,12 @@
 //! A plain run under way, on stacks in memory: calls of the program nest as deep as memory allows.
 ghost use Rattle.std.specs.Prelude.{◌≡◌, [], ◌∷◌};
 ghost use Rattle.c0_meaning.specs.Pendings.{Extends, Gives, GivesLocal, GivesPlace, Takes, TakesPlace, TakesTask, pending_of};
-ghost use Rattle.c0_meaning.specs.PlainStates.{Texts, opening, state_of};
+ghost use Rattle.c0_values.specs.PlainStates.{Texts, opening, state_of};
 
-use crate::heap::Spot;
-use crate::plain_state::{Halt, PlainState};
 use crate::room::{Room, Waiting};
 use crate::task::Task;
-use crate::value::Value;
 use c0_typed::Site;
+use c0_values::{Halt, PlainState, Spot, Value};
 use std::alloc::Global;
 
 /// The numbers that stopped a program.

@@ -1,13 +1,12 @@
 //! One task of a plain run, and all of them.
 ghost use Rattle.c0_meaning.specs.Pendings.{Performs, RunsMain, means, pending_of, state_in};
-ghost use Rattle.c0_meaning.specs.PlainStates.{Agrees, value_of};
+ghost use Rattle.c0_values.specs.PlainStates.{Agrees, value_of};
 ghost use Rattle.c0_meaning.specs.Run.{texts_in};
 
 use crate::context::Context;
 use crate::pending::PlainRun;
-use crate::plain_state::Halt;
 use crate::task::Task;
-use crate::value::Value;
+use c0_values::{Halt, Value};
 
 impl<'p> PlainRun<'p> {
     /// Does a task.

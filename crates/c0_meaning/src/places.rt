@@ -7,9 +7,9 @@ ghost use Rattle.c0_meaning.specs.declared.task.Task.TheVariants as task;
 
 use crate::context::Context;
 use crate::pending::{Numbers, PlainRun};
-use crate::plain_state::{Halt, at_field, pointed};
 use crate::task::Task;
 use c0_typed::Place;
+use c0_values::{Halt, at_field, pointed};
 
 impl<'p> PlainRun<'p> {
     /// Where a place is, with its checks.

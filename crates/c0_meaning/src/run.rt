@@ -6,10 +6,9 @@ ghost use Rattle.c0_meaning.specs.Run.{Tells, meant_of};
 
 use crate::context::Context;
 use crate::pending::{Numbers, PlainRun};
-use crate::plain_state::Halt;
 use crate::room::Room;
-use crate::value::Value;
 use c0_typed::{Site, Typed};
+use c0_values::{Halt, Value};
 use cells::{Stop, Want};
 use memory_limit::{MemoryLimit, MemoryUse};
 use std::alloc::Global;

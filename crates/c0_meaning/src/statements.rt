@@ -8,9 +8,9 @@ ghost use Rattle.c0_meaning.specs.declared.task.Task.TheVariants as task;
 
 use crate::context::Context;
 use crate::pending::PlainRun;
-use crate::plain_state::Halt;
 use crate::task::{Progress, Task};
 use c0_typed::{Expression, Statement};
+use c0_values::Halt;
 
 impl<'p> PlainRun<'p> {
     /// What a statement does.

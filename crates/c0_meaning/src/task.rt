@@ -1,6 +1,6 @@
 //! What a plain run may still have to do.
-use crate::value::Value;
 use c0_typed::{Expression, Output, Place, Site, Statement};
+use c0_values::Value;
 
 /// What is called.
 #[derive(Clone, Copy)]

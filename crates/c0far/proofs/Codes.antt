@@ -8,7 +8,7 @@ use Rattle.scope_verifier.specs.declared.acceptance.Verified.{Verified}
 use Rattle.image_bytes.specs.Encodable.{IsEncodable}
 use Rattle.c0_image_laws.specs.Laws.{ImagesAreEncodable}
 use Rattle.c0far.specs.FileCode.{AreCodes, HoldsCode, HoldsImage, HoldsText, names_image}
-use Rattle.c0far.specs.FileTexts.{Known}
+use Rattle.command_files.specs.FileTexts.{Known}
 use Rattle.c0far.specs.NoCode.{HasNoCode, LacksCode, LacksMemory}
 use Rattle.c0far.specs.Replays.{Replays}
 use Rattle.streams.specs.Streams.{Held, IsQuiet, Says, Writes, writes}

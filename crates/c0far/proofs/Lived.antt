@@ -19,11 +19,11 @@ use Rattle.streams.proofs.Written.{appends_more, none_failed_more, one_failed_mo
 use Rattle.streams.specs.Streams.{NoneFailed, OneFailed, Says, Writes, writes}
 use Rattle.c0far.proofs.Ran.{denied, executed_less, fault_less, finished_less}
 use Rattle.c0far.specs.FileCode.{AreCodes}
-use Rattle.c0far.specs.FileTexts.{Known}
+use Rattle.command_files.specs.FileTexts.{Known}
 use Rattle.c0far.specs.Lives.{IsBroken, IsShownLive, LiveShowsTheSame, RanLive}
 use Rattle.c0far.specs.Runs.{IsHonestIn, IsReliableIn}
-use Rattle.c0far.specs.Shown.{ends_status, shown_ends, shown_rest}
-use Rattle.c0far.specs.Statuses.{run_status}
+use Rattle.command_messages.specs.Shown.{ends_status, shown_ends, shown_rest}
+use Rattle.command_messages.specs.Statuses.{run_status}
 
 -- the code of one file is one
 pub one_code : (compiling : Compiling) (held : List ℕ → Known) (file : List ℕ) (programs : List Verified) → AreCodes compiling held (file ∷ []) programs → length programs ≡ 1

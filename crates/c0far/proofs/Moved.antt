@@ -2,7 +2,7 @@
 use Rattle.std.proofs.Common.{◌≡◌, ◌≢◌, ◌∙◌, ℕ, List, subst}
 use Rattle.command_line.specs.Shell.{Compiling}
 use Rattle.c0far.specs.Driven.{Builds, KeepsFiles, WritesOnly}
-use Rattle.c0far.specs.FileTexts.{Known}
+use Rattle.command_files.specs.FileTexts.{Known}
 use Rattle.streams.specs.Streams.{Writes}
 
 pub built_at : (held now : List ℕ → Known) (f g : List ℕ) (c d : Compiling) (t u : List ℕ) (out err : Writes) (result : ℕ) → f ≡ g → c ≡ d → t ≡ u

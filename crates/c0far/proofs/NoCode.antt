@@ -2,9 +2,10 @@
 use Rattle.std.proofs.Common.{◌≡◌, ℕ, Bool, true, false, inl, inr, subst}
 use Rattle.std.specs.Prelude.{◌⊎◌, List}
 use Rattle.c0far.specs.Driven.{Checks, ChecksImage, ChecksText}
-use Rattle.c0far.specs.NoCode.{HasFailed, HasNoCode, IsUnfit, LacksMemory}
+use Rattle.c0far.specs.NoCode.{HasNoCode, IsUnfit, LacksMemory}
+use Rattle.command_messages.specs.Refusals.{HasFailed}
 use Rattle.c0far.specs.FileCode.{names_image}
-use Rattle.c0far.specs.FileTexts.{Known}
+use Rattle.command_files.specs.FileTexts.{Known}
 use Rattle.streams.specs.Streams.{Writes}
 
 -- a text that is refused has no code

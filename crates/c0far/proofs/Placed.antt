@@ -15,11 +15,11 @@ use Rattle.streams.proofs.Written.{appends_more, none_failed_more}
 use Rattle.streams.specs.Streams.{IsWritten, NoneFailed, Says, Writes, writes}
 use Rattle.streams.specs.declared.stream.Failed.{Failed}
 use Rattle.c0far.specs.FileCode.{names_image}
-use Rattle.c0far.specs.FileTexts.{HasText, Known}
+use Rattle.command_files.specs.FileTexts.{HasText, Known}
 use Rattle.c0far.specs.Places.{ArePlaces, IsPlace, TellsBeside}
-use Rattle.c0far.specs.Shown.{StandsAt, TellsCall, TellsPlace, call_line, shown_stop}
-use Rattle.c0far.specs.Statuses.{ended_status, run_status}
-use Rattle.c0far.specs.Wants.{TellsMore}
+use Rattle.command_messages.specs.Shown.{StandsAt, TellsCall, TellsPlace, call_line, shown_stop}
+use Rattle.command_messages.specs.Statuses.{ended_status, run_status}
+use Rattle.command_messages.specs.Wants.{TellsMore}
 
 -- a plain run that stopped so, of which the line was told
 pub place_told : (file text : List ℕ) (o : Option Stop) (stop : Stop) (at line column : ℕ) (numbers : Option Numbers) (err : Writes) (status result : ℕ) → o ≡ Some stop → ended_status (ended_of o) ≡ 1

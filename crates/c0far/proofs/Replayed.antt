@@ -5,7 +5,7 @@ use Rattle.code_form.specs.Form.{Image}
 use Rattle.command_line.specs.Shell.{Replayed}
 use Rattle.schedule_replay.specs.Replayed.{IsReplayed, Leads, NoneIsRefused, StopsAt}
 use Rattle.world_semantics.specs.Worlds.{Event, Follows, Sizes, World, start}
-use Rattle.c0far.specs.FileTexts.{Known}
+use Rattle.command_files.specs.FileTexts.{Known}
 use Rattle.c0far.specs.Replays.{Replays, ReplaysOver}
 use Rattle.c0far.specs.Runs.{IsHonestIn}
 use Rattle.streams.specs.Streams.{Writes}

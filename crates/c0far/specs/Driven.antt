@@ -9,18 +9,19 @@ use Rattle.image_bytes.specs.Bytes.{image_bytes}
 use Rattle.image_listing.specs.Listing.{listing}
 use Rattle.memory_limit.specs.declared.limit.MemoryUse.{MemoryUse}
 use Rattle.c0far.specs.FileCode.{HoldsCode, names_image, unchecked}
-use Rattle.c0far.specs.FileTexts.{HasText, Known}
+use Rattle.command_files.specs.FileTexts.{HasText, Known}
 use Rattle.c0far.specs.Lives.{RunsLive}
-use Rattle.c0far.specs.NoCode.{HasFailed, HasNoCode, IsUnread, LacksMemory}
+use Rattle.c0far.specs.NoCode.{HasNoCode, IsUnread, LacksMemory}
+use Rattle.command_messages.specs.Refusals.{HasFailed}
 use Rattle.c0far.specs.Replays.{Replays}
 use Rattle.c0far.specs.Runs.{Runs}
 use Rattle.c0far.specs.Places.{since, until}
-use Rattle.c0far.specs.Shown.{TellsCall, TellsWhere, newline, shown_meaning}
-use Rattle.c0far.specs.Wants.{passed_line}
+use Rattle.command_messages.specs.Shown.{TellsCall, TellsWhere, newline, shown_meaning}
+use Rattle.command_messages.specs.Wants.{passed_line}
 use Rattle.command_line.specs.Help.{asks_version, behind, help_text, version_text}
 use Rattle.command_line.specs.Shell.{Bounded, Check, Command, Compiling, Live, Mean, Names, Replay, Run}
 use Rattle.command_line.specs.Shell as shell
-use Rattle.c0far.specs.Statuses.{ended_status}
+use Rattle.command_messages.specs.Statuses.{ended_status}
 use Rattle.streams.specs.Streams.{Held, IsQuiet, Says, Writes}
 
 -- the program of the file's text keeps the static rules of this level

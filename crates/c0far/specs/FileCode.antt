@@ -8,7 +8,7 @@ use Rattle.image_bytes.specs.Encodable.{IsImage}
 use Rattle.c0_image.specs.Compiled.{IsCompiled}
 use Rattle.command_line.specs.Shell.{Compiling}
 use Rattle.scope_verifier.specs.declared.acceptance.Verified.{Verified}
-use Rattle.c0far.specs.FileTexts.{HasText, Known}
+use Rattle.command_files.specs.FileTexts.{HasText, Known}
 
 -- the name is that of an image
 abbrev pub names_image : Text → Bool

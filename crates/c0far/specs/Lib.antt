@@ -1,14 +1,7 @@
 pub mod Driven
 pub mod FileCode
-pub mod FileTexts
 pub mod Lives
-pub mod MeantLines
-pub mod MemTexts
 pub mod NoCode
 pub mod Places
 pub mod Replays
 pub mod Runs
-pub mod Shown
-pub mod Stats
-pub mod Statuses
-pub mod Wants

@@ -13,13 +13,13 @@ use Rattle.region.specs.declared.fault.AdmitFault.TheVariants as admit
 use Rattle.scope_verifier.specs.declared.acceptance.Verified.{Verified}
 use Rattle.streams.specs.Streams.{IsQuiet, NoneFailed, OneFailed, Writes}
 use Rattle.c0far.specs.FileCode.{AreCodes}
-use Rattle.c0far.specs.FileTexts.{Known}
+use Rattle.command_files.specs.FileTexts.{Known}
 use Rattle.c0far.specs.NoCode.{LacksCode, LacksMemory}
 use Rattle.c0far.specs.Runs.{HasRun, IsHonestIn, IsNotRun, RanOver}
-use Rattle.c0far.specs.Shown.{shown_rest}
-use Rattle.c0far.specs.Statuses.{run_status}
+use Rattle.command_messages.specs.Shown.{shown_rest}
+use Rattle.command_messages.specs.Statuses.{run_status}
 use Rattle.c0far.specs.Places.{TellsBeside}
-use Rattle.c0far.specs.Wants.{share_of}
+use Rattle.command_messages.specs.Wants.{share_of}
 
 -- A program ran to this end over this memory, and something was written while it ran: over an honest store just its output
 pub record RanLive (honest : Type 0) (memory : Memory) (programs : List Verified) (out : Writes) (finished : Finished) : Type 0 where

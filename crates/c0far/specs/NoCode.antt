@@ -1,10 +1,5 @@
 -- What is told of files that have no code.
 use Rattle.std.specs.Prelude.{◌≡◌, ◌⊎◌, ℕ, Bool, true, false, List, ◌∷◌, ◌++◌, Err, Some, codes}
-use Rattle.c0_source.specs.declared.fault.Fault.{Fault}
-use Rattle.c0_source.specs.declared.fault.FaultKind.TheVariants as f
-use Rattle.c0_typed.specs.Trees as y
-use Rattle.c0_front.specs.Texts.{IsTypedAs}
-use Rattle.c0_front.specs.Texts as Unchecked
 use Rattle.code_form.specs.Form.{Image}
 use Rattle.clap.specs.Words.{Text}
 use Rattle.image_bytes.specs.Encodable.{IsImage}
@@ -17,8 +12,9 @@ use Rattle.scope_verifier_laws.specs.FaultNumbers.{fault_line as verify_line}
 use Rattle.scope_verifier_laws.specs.declared.fault.VerifyFault.{VerifyFault}
 use Rattle.command_line.specs.Shell.{Compiling}
 use Rattle.c0far.specs.FileCode.{AreCodes, names_image}
-use Rattle.c0far.specs.FileTexts.{HasText, IsMissing, Known}
-use Rattle.c0far.specs.Shown.{StandsAt, newline, shown_fault}
+use Rattle.command_files.specs.FileTexts.{HasText, IsMissing, Known}
+use Rattle.command_messages.specs.Refusals.{HasFailed}
+use Rattle.command_messages.specs.Shown.{newline}
 use Rattle.streams.specs.Streams.{IsQuiet, Says, Writes}
 
 -- the file was not read
@@ -30,21 +26,6 @@ pub record IsUnread (file : Text) (held : Known) (out err : Writes) (result : �
 -- a growth was refused before anything ran to its end
 pub record LacksMemory (out err : Writes) (result : ℕ) : Type 0 where
   pub shown : Says err (codes "out of memory" ++ newline) 3 result
-  pub quiet : IsQuiet out
-
--- the file's text is the text of no well-typed program at this level: the fault of the first stage that finds one is shown, and where it
--- stands; want of memory is no such fault
-pub record HasFailed (loops : Bool) (file : Text) (held : Known) (out err : Writes) (result : ℕ) : Type 0 where
-  pub text : List ℕ
-  pub read : HasText held text
-  pub none : (typed : y.Program) → IsTypedAs loops text typed → ⊥
-  pub fault : Fault
-  pub cause : Unchecked.IsRefusedText loops text fault
-  pub other : fault.kind ≡ f.OutOfMemory → ⊥
-  pub line : ℕ
-  pub column : ℕ
-  pub place : StandsAt text fault.span.start line column
-  pub shown : Says err (shown_fault file line column fault) 2 result
   pub quiet : IsQuiet out
 
 -- the file's bytes are no image: the first thing that is wrong with them is shown

@@ -12,10 +12,10 @@ use Rattle.executor.specs.declared.counts.MoverCounts.{MoverCounts}
 use Rattle.program_run.specs.declared.run.Finished.{Finished}
 use Rattle.streams.specs.Streams.{Held, NoneFailed, OneFailed, Writes}
 use Rattle.c0far.specs.FileCode.{names_image}
-use Rattle.c0far.specs.FileTexts.{HasText, Known}
-use Rattle.c0far.specs.Shown.{StandsAt, call_line, shown_stop}
-use Rattle.c0far.specs.Statuses.{run_status}
-use Rattle.c0far.specs.Wants.{TellsMore}
+use Rattle.command_files.specs.FileTexts.{HasText, Known}
+use Rattle.command_messages.specs.Shown.{StandsAt, call_line, shown_stop}
+use Rattle.command_messages.specs.Statuses.{run_status}
+use Rattle.command_messages.specs.Wants.{TellsMore}
 
 -- what became of a stream until it held this
 abbrev pub until : Held → Writes → Writes

@@ -14,10 +14,11 @@ use Rattle.world.specs.Opened.{sizes_of}
 use Rattle.world_semantics.specs.Pieces.{piece_of}
 use Rattle.world_semantics.specs.Worlds.{Sizes}
 use Rattle.c0far.specs.FileCode.{AreCodes}
-use Rattle.c0far.specs.FileTexts.{HasText, Known}
+use Rattle.command_files.specs.FileTexts.{HasText, Known}
 use Rattle.c0far.specs.NoCode.{IsUnread, LacksCode, LacksMemory}
-use Rattle.c0far.specs.Runs.{IsHonestIn, IsReliableIn, SaysFault}
-use Rattle.c0far.specs.Shown.{ends_status, newline, shown_ends}
+use Rattle.c0far.specs.Runs.{IsHonestIn, IsReliableIn}
+use Rattle.command_messages.specs.Refusals.{SaysFault}
+use Rattle.command_messages.specs.Shown.{ends_status, newline, shown_ends}
 use Rattle.streams.specs.Streams.{IsQuiet, Says, Writes}
 
 -- in what follows the store is honest where h holds and never fails where r holds, this is asked for these files, and files hold this

@@ -1,21 +1,20 @@
 -- What `run` does.
-use Rattle.std.specs.Prelude.{◌≡◌, ◌⊎◌, ℕ, ◌/◌, List, ◌++◌, Option, Some, None, codes, length, map}
+use Rattle.std.specs.Prelude.{◌≡◌, ◌⊎◌, ℕ, ◌/◌, List, Option, Some, None, length, map}
 use Rattle.clap.specs.Words.{Text}
 use Rattle.command_line.specs.Shell.{Memory, Started}
 use Rattle.executor.specs.Ends.{AreFinished, end_of}
 use Rattle.executor.specs.declared.counts.MoverCounts.{MoverCounts}
 use Rattle.program_run.specs.declared.run.Finished.{Finished}
 use Rattle.region.specs.Admission.{IsAdmitted, IsDenied, IsWithinWork}
-use Rattle.region.specs.Faults.{fault_line as admit_line}
 use Rattle.region.specs.declared.fault.AdmitFault.{AdmitFault}
-use Rattle.region.specs.declared.fault.AdmitFault.TheVariants as admit
 use Rattle.scope_verifier.specs.declared.acceptance.Verified.{Verified}
 use Rattle.c0far.specs.FileCode.{AreCodes}
-use Rattle.c0far.specs.FileTexts.{Known}
+use Rattle.command_files.specs.FileTexts.{Known}
 use Rattle.c0far.specs.NoCode.{LacksCode, LacksMemory}
-use Rattle.c0far.specs.Shown.{ends_status, newline, shown_ends}
+use Rattle.command_messages.specs.Refusals.{SaysFault}
+use Rattle.command_messages.specs.Shown.{ends_status, shown_ends}
 use Rattle.c0far.specs.Places.{TellsBeside}
-use Rattle.c0far.specs.Wants.{share_of}
+use Rattle.command_messages.specs.Wants.{share_of}
 use Rattle.streams.specs.Streams.{IsQuiet, Says, Writes}
 
 -- the store, in memory or in this folder, is honest: one in memory always is, one in files where folders are
@@ -30,13 +29,6 @@ IsReliableIn memory = (memory.store ≡ None) × (memory.fail_from ≡ 0)
 -- the programs ran so over this memory, of whose objects each had an equal share; of a store that is not honest nothing is told
 abbrev pub RanOver : Type 0 → Memory → List Verified → List Finished → Type 0
 RanOver honest memory programs finished = AreFinished (IsHonestIn honest memory.store) (IsReliableIn memory) (memory.objects / length programs) programs finished
-
--- a fault of admission is shown
-abbrev pub SaysFault : AdmitFault → Writes → ℕ → Type 0
-SaysFault (admit.TooSmall need have) err result = Says err (admit_line (admit.TooSmall need have) ++ newline) 2 result
-SaysFault (admit.PieceDiffers program) err result = Says err (admit_line (admit.PieceDiffers program) ++ newline) 2 result
-SaysFault admit.TooMany err result = Says err (admit_line admit.TooMany ++ newline) 2 result
-SaysFault admit.OutOfMemory err result = Says err (codes "out of memory" ++ newline) 3 result
 
 -- in what follows folders are honest where h holds, this is asked for these files, and files hold this
 module _ (h : Type 0) (asked : Started) (files : List Text) (held : Text → Known) where

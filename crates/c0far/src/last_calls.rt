@@ -1,6 +1,6 @@
 //! Which function was called last where calls passed the limit of memory.
 ghost use Rattle.std.specs.Prelude.{◌≡◌, ℕ, string_bytes};
-ghost use Rattle.c0far.specs.Shown.{StandsAt, call_line};
+ghost use Rattle.command_messages.specs.Shown.{StandsAt, call_line};
 ghost use Rattle.streams.specs.Streams.{IsWritten, writes};
 
 use c0_front::read_text;

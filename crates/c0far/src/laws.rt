@@ -2,7 +2,7 @@
 ghost use Rattle.c0far.specs.Lives.{LiveShowsTheSame};
 ghost use Rattle.c0far.specs.Replays.{ReplaysNeverFail};
 
-use crate::files::Files;
+use command_files::Files;
 use schedule_replay::never_fails;
 
 /// Where no folder is named and no call of the store is to fail, `replay` shows of no program that the store failed.

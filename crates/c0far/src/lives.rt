@@ -9,13 +9,12 @@ ghost use Rattle.streams.specs.Streams.{writes};
 ghost use Rattle.world_semantics.specs.Pieces.{piece_of as first_piece};
 
 use crate::code::codes_of;
-use crate::files::Files;
 use crate::places::say_beside;
 use crate::runs::fits_asked;
-use crate::say::{REFUSED, say_admission, say_rest};
-use crate::stats::{milliseconds, passed_since};
-use crate::wants::share_of;
+use crate::timing::{milliseconds, passed_since};
+use command_files::Files;
 use command_line::words::RunOptions;
+use command_messages::{REFUSED, say_admission, say_rest, share_of};
 use file_store::FileStores;
 use live_run::{Finished, LiveError, run_live_counted};
 use memory_limit::MemoryLimit;

@@ -8,25 +8,25 @@ ghost use Rattle.c0_meaning.specs.Run.{ended_of, meant_of};
 ghost use Rattle.command_line.specs.Shell.{bound_of};
 ghost use Rattle.c0far.specs.Driven.{IsOverLimit, Means};
 ghost use Rattle.c0far.specs.NoCode.{LacksMemory};
-ghost use Rattle.c0far.specs.Shown.{StandsAt, TellsCall, TellsPlace, TellsWhere, newline, shown_meaning, shown_numbers, shown_stop};
-ghost use Rattle.c0far.specs.FileTexts.{HasText, Known};
-ghost use Rattle.c0far.specs.Statuses.{ended_status};
-ghost use Rattle.c0far.specs.Wants.{passed_line};
+ghost use Rattle.command_messages.specs.Shown.{StandsAt, TellsCall, TellsPlace, TellsWhere, newline, shown_meaning, shown_numbers, shown_stop};
+ghost use Rattle.command_files.specs.FileTexts.{HasText, Known};
+ghost use Rattle.command_messages.specs.Statuses.{ended_status};
+ghost use Rattle.command_messages.specs.Wants.{passed_line};
 ghost use Rattle.streams.specs.Streams.{IsQuiet, IsWritten, Says, Writes, writes};
 
-use crate::files::{FileError, Files};
 use crate::last_calls::{called, write_call};
-use crate::say::{
-    REFUSED, STOPPED, WANTED, after, say_memory, say_refused, say_unread, write_output,
-};
-use crate::wants::write_passed;
 use c0_meaning::{Meant, Numbers, Placed};
 use c0_plain::{Untold, mean_text_placed};
 use c0_source::fault::FaultKind;
 use c0_source::position::{Position, line_column};
 use c0_typed::Site;
 use cells::Stop;
+use command_files::{FileError, Files};
 use command_line::words::Bound;
+use command_messages::{
+    REFUSED, STOPPED, WANTED, after, say_memory, say_refused, say_unread, write_output,
+    write_passed,
+};
 use memory_limit::{MemoryLimit, MemoryUse};
 use std::alloc::Global;
 use std::thread::Threads;

@@ -3,16 +3,16 @@ ghost use Rattle.std.specs.Prelude.{◌≡◌, ◌+◌, ◌++◌, ℕ, List, cod
 ghost use Rattle.command_line.specs.Shell.{compiling_of, replayed_of};
 ghost use Rattle.region.specs.Admission.{IsAdmitted, IsWithinWork, image_at};
 ghost use Rattle.world_semantics.specs.Pieces.{piece_of as first_piece};
-ghost use Rattle.c0far.specs.FileTexts.{HasText, Known};
+ghost use Rattle.command_files.specs.FileTexts.{HasText, Known};
 ghost use Rattle.c0far.specs.FileCode.{AreCodes};
 ghost use Rattle.c0far.specs.Replays.{Admits, Replays, ReplaysLines, ReplaysOver};
-ghost use Rattle.c0far.specs.Shown.{newline};
+ghost use Rattle.command_messages.specs.Shown.{newline};
 ghost use Rattle.streams.specs.Streams.{Says, writes};
 
 use crate::code::codes_of;
-use crate::files::{FileError, Files};
-use crate::say::{REFUSED, after, say_admission, say_ends, say_memory, say_unread};
+use command_files::{FileError, Files};
 use command_line::words::ReplayOptions;
+use command_messages::{REFUSED, after, say_admission, say_ends, say_memory, say_unread};
 use file_store::FileStores;
 use region::{fits, piece_of};
 use remote_store::{Config, FarHeap, FaultPlan, FaultStores, Stores};

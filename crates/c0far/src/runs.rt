@@ -8,12 +8,11 @@ ghost use Rattle.c0far.specs.Runs.{RanOver, Runs};
 ghost use Rattle.streams.specs.Streams.{writes};
 
 use crate::code::codes_of;
-use crate::files::Files;
 use crate::places::say_beside;
-use crate::say::{say_admission, say_finished};
-use crate::stats::{milliseconds, passed_since};
-use crate::wants::share_of;
+use crate::timing::{milliseconds, passed_since};
+use command_files::Files;
 use command_line::words::RunOptions;
+use command_messages::{say_admission, say_finished, share_of};
 use executor::{Counted, OpenGate, run_all_counted};
 use file_store::FileStores;
 use memory_limit::MemoryLimit;

@@ -19,7 +19,7 @@ use Rattle.world.specs.Opened.{sizes_of}
 use Rattle.world_semantics.specs.Causes.{HasCause}
 use Rattle.world_semantics.specs.Pieces.{piece_of}
 use Rattle.world_semantics.specs.Worlds.{start}
-use Rattle.c0far.specs.FileTexts.{Known}
+use Rattle.command_files.specs.FileTexts.{Known}
 use Rattle.c0far.specs.Replays.{HasReplayed}
 use Rattle.c0far.specs.Runs.{HasRun, IsReliableIn}
 use Rattle.c0far_headline.specs.Admitted.{PromisedEnd}

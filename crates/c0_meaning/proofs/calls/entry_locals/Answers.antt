@@ -2,8 +2,8 @@ use Rattle.std.proofs.Common.{◌≡◌, ◌≤◌, ◌++◌, ◌∷◌, [], ap,
 use Rattle.std.proofs.lemmas.List.{take_all}
 use Rattle.c0_typed.specs.Meaning.{blank}
 use Rattle.c0_typed.specs.Views.{type_of}
-use Rattle.c0_meaning.specs.PlainStates.{value_of}
-use Rattle.c0_meaning.proofs.Heaps.{next_local}
+use Rattle.c0_values.specs.PlainStates.{value_of}
+use Rattle.c0_values.proofs.Heaps.{next_local}
 use Rattle.c0_meaning.proofs.calls.entry_locals.Goals as goal
 
 pub loop-ty-preserved : goal.loop-ty-preserved

@@ -1,7 +1,7 @@
 use Rattle.std.proofs.Common.{◌≡◌, ◌∷◌, ◌++◌, map, take}
 use Rattle.c0_typed.specs.Meaning.{blank}
 use Rattle.c0_typed.specs.Views.{type_of}
-use Rattle.c0_meaning.specs.PlainStates.{Texts, value_of}
+use Rattle.c0_values.specs.PlainStates.{Texts, value_of}
 use Rattle.c0_meaning.proofs.calls.entry_locals.Given as goal
 
 abbrev pub invariant-loop-ty : goal.invariant-loop-ty

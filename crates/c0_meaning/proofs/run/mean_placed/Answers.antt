@@ -3,9 +3,9 @@ use Rattle.cells.specs.declared.ending.Want.{Want}
 use Rattle.c0_typed.specs.Meaning as m
 use Rattle.c0_typed.specs.Meaning.{struct_defaults}
 use Rattle.c0_typed.specs.Views.{program_of, texts_of}
-use Rattle.c0_meaning.specs.PlainStates.{state_of}
+use Rattle.c0_values.specs.PlainStates.{state_of}
 use Rattle.c0_meaning.specs.Run.{calls_over, meant_of}
-use Rattle.c0_meaning.specs.declared.plain_state.PlainState.{PlainState}
+use Rattle.c0_values.specs.declared.plain_state.PlainState.{PlainState}
 use Rattle.c0_meaning.proofs.Steps.{mean_is, told_along}
 use Rattle.c0_meaning.proofs.run.mean_placed.Goals as goal
 

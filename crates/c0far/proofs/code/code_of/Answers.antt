@@ -1,6 +1,6 @@
 use Rattle.std.proofs.Common.{List, ℕ, subst, sym}
 use Rattle.std.proofs.lemmas.Result.{IfErr-weaker}
-use Rattle.c0far.specs.FileTexts.{HasText}
+use Rattle.command_files.specs.FileTexts.{HasText}
 use Rattle.c0far.proofs.code.code_of.Goals as goal
 
 pub returns-in-Ok-clause-refused : goal.returns-in-Ok-clause-refused

@@ -5,8 +5,8 @@ use Rattle.code_form.specs.declared.form.Image.{Image}
 use Rattle.image_bytes.specs.Bytes.{image_bytes}
 use Rattle.image_bytes.specs.Encodable.{IsEncodable}
 use Rattle.command_line.specs.Shell.{compiling_of}
-use Rattle.c0far.specs.FileTexts.{HasText, Known}
-use Rattle.c0far.specs.Shown.{newline}
+use Rattle.command_files.specs.FileTexts.{HasText, Known}
+use Rattle.command_messages.specs.Shown.{newline}
 use Rattle.streams.specs.Streams.{Says, Writes}
 use Rattle.c0far.proofs.Codes.{after_quiet, code_is_encodable}
 use Rattle.c0far.proofs.images.build.Goals as goal

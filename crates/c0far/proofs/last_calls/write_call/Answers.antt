@@ -1,6 +1,6 @@
 use Rattle.std.proofs.Common.{◌≡◌, List, rules, subst, ℕ}
 use Rattle.std.specs.Prelude.{string_bytes}
-use Rattle.c0far.specs.Shown.{call_line}
+use Rattle.command_messages.specs.Shown.{call_line}
 use Rattle.streams.specs.Streams.{IsWritten, writes}
 use Rattle.c0far.proofs.last_calls.write_call.Goals as goal
 

@@ -6,10 +6,10 @@ use Rattle.program_run.specs.declared.run.Finished.{Finished}
 use Rattle.region.specs.declared.fault.AdmitFault.{AdmitFault}
 use Rattle.c0far.proofs.Codes.{after_quiet}
 use Rattle.c0far.proofs.Lived.{one_code, shown_live}
-use Rattle.c0far.specs.Runs.{SaysFault}
-use Rattle.c0far.specs.FileTexts.{Known}
+use Rattle.command_messages.specs.Refusals.{SaysFault}
+use Rattle.command_files.specs.FileTexts.{Known}
 use Rattle.c0far.specs.Places.{TellsBeside}
-use Rattle.c0far.specs.Wants.{share_of}
+use Rattle.command_messages.specs.Wants.{share_of}
 use Rattle.streams.specs.Streams.{Writes, writes}
 use Rattle.c0far.proofs.lives.run_live.Goals as goal
 

@@ -1,7 +1,7 @@
 use Rattle.std.proofs.Common.{◌≡◌, Bool, true, map, rules, subst, sym}
 use Rattle.c0far.proofs.Placed.{told_beside}
 use Rattle.c0far.specs.Places.{TellsBeside}
-use Rattle.c0far.specs.Wants.{TellsMore}
+use Rattle.command_messages.specs.Wants.{TellsMore}
 use Rattle.streams.specs.Streams.{writes}
 use Rattle.c0far.proofs.places.say_beside.Goals as goal
 

@@ -1,5 +1,5 @@
 use Rattle.std.proofs.Common.{List, subst, ℕ}
-use Rattle.c0far.specs.Shown.{StandsAt}
+use Rattle.command_messages.specs.Shown.{StandsAt}
 use Rattle.c0far.proofs.places.write_found.Goals as goal
 
 pub returns : goal.returns

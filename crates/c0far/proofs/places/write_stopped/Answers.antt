@@ -1,7 +1,7 @@
 use Rattle.std.proofs.Common.{◌≡◌, rules}
 use Rattle.cells.specs.declared.ending.Run.TheVariants.{Stopped}
 use Rattle.c0far.proofs.Placed.{written_at}
-use Rattle.c0far.specs.Statuses.{run_status}
+use Rattle.command_messages.specs.Statuses.{run_status}
 use Rattle.streams.specs.Streams.{writes}
 use Rattle.c0far.proofs.places.write_stopped.Goals as goal
 

@@ -3,7 +3,7 @@ use Rattle.cells.specs.declared.ending.Run.TheVariants.{Wanted}
 use Rattle.cells.specs.declared.ending.Want.TheVariants.{OutOfMemory}
 use Rattle.std.specs.Prelude.{string_bytes}
 use Rattle.c0far.proofs.Placed.{called_at}
-use Rattle.c0far.specs.Shown.{StandsAt}
+use Rattle.command_messages.specs.Shown.{StandsAt}
 use Rattle.streams.specs.Streams.{writes}
 use Rattle.c0far.proofs.places.write_wanted.Goals as goal
 

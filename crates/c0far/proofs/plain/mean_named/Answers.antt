@@ -1,8 +1,8 @@
 use Rattle.std.proofs.Common.{inl, subst}
 use Rattle.cells.specs.Outcomes.{Meant}
 use Rattle.c0far.proofs.Memory.{told_apart}
-use Rattle.c0far.specs.Shown.{TellsWhere, shown_meaning}
-use Rattle.c0far.specs.Statuses.{ended_status}
+use Rattle.command_messages.specs.Shown.{TellsWhere, shown_meaning}
+use Rattle.command_messages.specs.Statuses.{ended_status}
 use Rattle.streams.specs.Streams.{Says, writes}
 use Rattle.c0far.proofs.plain.mean_named.Goals as goal
 

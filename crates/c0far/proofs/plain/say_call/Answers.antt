@@ -1,7 +1,7 @@
 use Rattle.std.proofs.Common.{◌≡◌, rules, true}
 use Rattle.std.specs.Prelude.{string_bytes}
 use Rattle.c0far.proofs.Placed.{call_told, said}
-use Rattle.c0far.specs.Shown.{call_line}
+use Rattle.command_messages.specs.Shown.{call_line}
 use Rattle.streams.specs.Streams.{writes}
 use Rattle.c0far.proofs.plain.say_call.Goals as goal
 

@@ -1,8 +1,8 @@
 use Rattle.std.proofs.Common.{◌++◌}
 use Rattle.std.specs.Prelude.{codes}
 use Rattle.c0far.proofs.Placed.{said}
-use Rattle.c0far.specs.Shown.{newline}
-use Rattle.c0far.specs.Wants.{passed_line}
+use Rattle.command_messages.specs.Shown.{newline}
+use Rattle.command_messages.specs.Wants.{passed_line}
 use Rattle.streams.specs.Streams.{writes}
 use Rattle.c0far.proofs.plain.say_over.Goals as goal
 

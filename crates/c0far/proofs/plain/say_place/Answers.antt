@@ -1,7 +1,7 @@
 use Rattle.std.proofs.Common.{◌≡◌, Some, rules}
 use Rattle.c0_meaning.specs.Run.{ended_of}
 use Rattle.c0far.proofs.Placed.{place_told}
-use Rattle.c0far.specs.Statuses.{ended_status}
+use Rattle.command_messages.specs.Statuses.{ended_status}
 use Rattle.streams.specs.Streams.{writes}
 use Rattle.c0far.proofs.plain.say_place.Goals as goal
 

@@ -1,7 +1,7 @@
 use Rattle.std.proofs.Common.{rules}
 use Rattle.cells.specs.Stops.{stop_of}
 use Rattle.c0far.proofs.Placed.{said}
-use Rattle.c0far.specs.Shown.{shown_stop}
+use Rattle.command_messages.specs.Shown.{shown_stop}
 use Rattle.streams.specs.Streams.{writes}
 use Rattle.c0far.proofs.plain.say_stop.Goals as goal
 

@@ -3,11 +3,11 @@ use Rattle.executor.specs.Ends.{end_of}
 use Rattle.executor.specs.declared.counts.MoverCounts.{MoverCounts}
 use Rattle.program_run.specs.declared.run.Finished.{Finished}
 use Rattle.c0far.proofs.Codes.{after_quiet}
-use Rattle.c0far.specs.Runs.{SaysFault}
-use Rattle.c0far.specs.Shown.{ends_status, shown_ends}
-use Rattle.c0far.specs.FileTexts.{Known}
+use Rattle.command_messages.specs.Refusals.{SaysFault}
+use Rattle.command_messages.specs.Shown.{ends_status, shown_ends}
+use Rattle.command_files.specs.FileTexts.{Known}
 use Rattle.c0far.specs.Places.{TellsBeside}
-use Rattle.c0far.specs.Wants.{share_of}
+use Rattle.command_messages.specs.Wants.{share_of}
 use Rattle.streams.specs.Streams.{Says, Writes, writes}
 use Rattle.c0far.proofs.runs.run.Goals as goal
 

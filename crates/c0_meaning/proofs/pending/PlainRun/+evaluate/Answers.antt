@@ -4,7 +4,7 @@ use Rattle.c0_typed.specs.Values as v
 use Rattle.c0_typed.specs.Meaning as m
 use Rattle.c0_typed.specs.Views.{exp_of, exps_of, output_of}
 use Rattle.c0_meaning.specs.declared.task.Callee.TheVariants as callee
-use Rattle.c0_meaning.specs.PlainStates.{value_of}
+use Rattle.c0_values.specs.PlainStates.{value_of}
 use Rattle.c0_meaning.specs.Run.{texts_in}
 use Rattle.c0_meaning.specs.Pendings.{behind, calling, evaluates, giving, pending_of, places_in, state_in, values_in}
 use Rattle.c0_meaning.proofs.Pendings.{calling_all, steps_as}

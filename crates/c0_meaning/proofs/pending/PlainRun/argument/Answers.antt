@@ -1,7 +1,7 @@
 use Rattle.std.proofs.Common.{◌≡◌, ◌++◌, sym, ap, ◌∙◌, map, List, [], ◌∷◌}
 use Rattle.c0_typed.specs.Values as v
 use Rattle.c0_typed.specs.Meaning as m
-use Rattle.c0_meaning.specs.PlainStates.{value_of}
+use Rattle.c0_values.specs.PlainStates.{value_of}
 use Rattle.c0_meaning.specs.Run.{texts_in}
 use Rattle.c0_meaning.specs.Pendings.{Pending, behind, calling, does, pending_of, places_in, state_in, values_in}
 use Rattle.c0_meaning.specs.declared.task.Task.TheVariants as task

@@ -6,9 +6,9 @@ use Rattle.c0_typed.specs.Values as v
 use Rattle.c0_typed.specs.Meaning as m
 use Rattle.c0_typed.specs.Meaning.{locals_at_entry, no_function}
 use Rattle.c0_typed.specs.Views.{function_of, program_of}
-use Rattle.c0_meaning.specs.declared.value.Value as run
+use Rattle.c0_values.specs.declared.value.Value as run
 use Rattle.c0_meaning.specs.declared.task.Task.TheVariants as task
-use Rattle.c0_meaning.specs.PlainStates.{state_of, value_of}
+use Rattle.c0_values.specs.PlainStates.{state_of, value_of}
 use Rattle.c0_meaning.specs.Run.{structs_in, texts_in, values_of}
 use Rattle.c0_meaning.specs.Pendings.{Pending, behind, giving, means, pending_of, places_in, state_in, values_in}
 use Rattle.c0_meaning.proofs.Pendings.{entering, extends_steps}

@@ -6,7 +6,7 @@ use Rattle.c0_typed.specs.Meaning as m
 use Rattle.c0_typed.specs.Views.{block_of, exp_of, stmt_of}
 use Rattle.c0_meaning.specs.Run.{texts_in}
 use Rattle.c0_meaning.specs.Pendings.{behind, completes, evaluates, executes, leaving, loops, pending_of, places_in, state_in, values_in}
-use Rattle.c0_meaning.specs.PlainStates.{value_of}
+use Rattle.c0_values.specs.PlainStates.{value_of}
 use Rattle.c0_meaning.proofs.Pendings.{extends_steps, update_given}
 use Rattle.c0_meaning.proofs.Halts.{extends_behind}
 use Rattle.c0_meaning.proofs.Rows.{stmt_block}

@@ -1,5 +1,5 @@
 use Rattle.std.proofs.Common.{rules, ap, ◌∙◌}
-use Rattle.c0_meaning.specs.PlainStates.{value_of}
+use Rattle.c0_values.specs.PlainStates.{value_of}
 use Rattle.c0_meaning.specs.Pendings.{means}
 use Rattle.c0_meaning.specs.Run.{texts_in}
 use Rattle.c0_meaning.proofs.Halts.{agrees_halt}

@@ -1,5 +1,0 @@
-use Rattle.std.proofs.Common.{length}
-use Rattle.c0_meaning.proofs.heap.+stored.Given as goal
-
-abbrev pub decreases-stored : goal.decreases-stored
-decreases-stored l = length l.path.now

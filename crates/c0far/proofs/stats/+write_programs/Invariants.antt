@@ -1,5 +1,0 @@
-use Rattle.std.proofs.Common.{length}
-use Rattle.c0far.proofs.stats.+write_programs.Given as goal
-
-abbrev pub decreases-write_programs : goal.decreases-write_programs
-decreases-write_programs g l = length l.programs.now

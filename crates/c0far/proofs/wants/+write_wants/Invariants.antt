@@ -1,5 +1,0 @@
-use Rattle.std.proofs.Common.{length}
-use Rattle.c0far.proofs.wants.+write_wants.Given as goal
-
-abbrev pub decreases-write_wants : goal.decreases-write_wants
-decreases-write_wants g l = length l.programs.now
