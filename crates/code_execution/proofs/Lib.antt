@@ -1,18 +1,13 @@
+mod Ahead
 mod Apart
 mod Completed
 mod Entering
 mod Few
-mod Fits
+mod Followed
 mod Framing
 mod Grounds
-mod Growth
-mod HeldRuns
-mod Passing
-mod Plain
+mod Kept
 mod Planned
-mod Marks
 mod Reading
-mod Scalars
-mod Stale
-pub mod There
+mod Runs
 mod Within

@@ -1,12 +1,11 @@
 //! Instructions that use a scope or tell a cell, and those that aim or leave one, once it is known what they lead to.
-ghost use Rattle.code_execution.specs.Decisions.{completed};
-ghost use Rattle.code_execution.specs.Planning.{planned};
+ghost use Rattle.call_execution.specs.Decisions.{completed};
+ghost use Rattle.call_execution.specs.Planning.{planned};
 ghost use Rattle.code_form.specs.Form.{instruction_of};
 ghost use Rattle.std.specs.Prelude.{◌≡◌, ◌∷◌, drop};
 
-use crate::aims::Scope;
 use crate::calls::Calls;
-use crate::plan::Plan;
+use call_execution::{Plan, Scope};
 use code_form::Instruction;
 
 impl<'a> Calls<'a> {

@@ -1,9 +1,9 @@
 //! The execution of an image up to its heap.
 ghost use Rattle.cells.specs.Stops.{Stop as Stopped, stop_of as stop_read};
-ghost use Rattle.code_execution.specs.Decisions.{decided, growth_touch, is_simple, makes, refuses, uses_scope};
-ghost use Rattle.code_execution.specs.Holding.{RanWithin};
-ghost use Rattle.code_execution.specs.Plain.{EndsPlain};
-ghost use Rattle.code_execution.specs.Planning.{Plans, touch_planned};
+ghost use Rattle.call_execution.specs.Decisions.{decided, growth_touch, is_simple, makes, refuses, uses_scope};
+ghost use Rattle.call_execution.specs.Holding.{RanWithin};
+ghost use Rattle.call_execution.specs.Plain.{EndsPlain};
+ghost use Rattle.call_execution.specs.Planning.{Plans, touch_planned};
 ghost use Rattle.code_execution.specs.Statuses.{allocated, core_of, followed};
 ghost use Rattle.code_form.specs.Code.{Frame, Running, Stuck, begins, code, effect, most_scopes, output_of, stop_of, is_blocked as is_blocked_in};
 ghost use Rattle.code_form.specs.declared.allocation.Allocation.{Allocation};
@@ -13,14 +13,9 @@ ghost use Rattle.code_form.specs.Touches.{IsWithin, cells_asked, resumed, touch_
 ghost use Rattle.code_form.specs.declared.touch.Touch.TheVariants.{Ends, Plain};
 ghost use Rattle.std.specs.Prelude.{◌≡◌, ◌≢◌, ◌∷◌, ◌<◌, ◌≤◌, ℕ, suc, [], false, IfOk, List, MatchOption, MatchResult, None, length, Some, option_map, slice_get, true};
 
-use crate::aims::Scope;
-use crate::call::Decision;
 use crate::calls::Calls;
-use crate::fitting::image_fits;
 use crate::halt::Halt;
-use crate::hinted::Hinted;
-use crate::holder::Holder;
-use crate::plan::Plan;
+use call_execution::{Decision, Hinted, Holder, Plan, Scope, image_fits};
 use cells::Stop;
 use code_form::{Block, Function, Image, Touch};
 use code_operations::{Allocations, Command, are_small, number};
@@ -50,7 +45,7 @@ pub struct Execution<'a> {
 }
 
 impl<'a> Model for Execution<'a> {
-    ghost use Rattle.code_execution.specs.Fitting.{IsKnownFit};
+    ghost use Rattle.call_execution.specs.Fitting.{IsKnownFit};
     ghost use Rattle.code_execution.specs.Statuses.{IsExecution, Progress, core_of};
     ghost use Rattle.code_form.specs.Form.{image_of};
 
@@ -60,44 +55,6 @@ impl<'a> Model for Execution<'a> {
 
     ghost invariant = { λ e. IsExecution (image_of e.image.now) (core_of e.status e.allocations e.output.items)
         × IsKnownFit e.fits (image_of e.image.now) (core_of e.status e.allocations e.output.items) };
-}
-
-impl<'a> Decision<'a> {
-    /// What it touches, where so many calls wait.
-    #[inline(always)]
-    fn touch(self, allocations: &Allocations, waiting: usize) -> Touch
-        ensures { (f : Frame) (st : List Frame) (o : List ℕ) → length st ≡ waiting → result ≡ touch_of (decided f st allocations.now o self.entry) }
-    {
-        match self {
-            Decision::Does(command) => command.touch(),
-            Decision::Aims { scope, aim } => Touch::Aims(scope as usize, aim.cell(allocations)),
-            Decision::Loads { scope, cell, .. } => Touch::Loads(scope as usize, cell),
-            Decision::Stores { scope, cell, value } => Touch::Stores(scope as usize, cell, value),
-            Decision::Leaves { scope } => Touch::Leaves(scope as usize),
-            Decision::Calls { .. } | Decision::Jumps(_) => Touch::Plain,
-            Decision::Returns { .. } => if waiting == 0 {
-                Touch::Ends
-            } else {
-                Touch::Plain
-            },
-            Decision::Errs(_) => Touch::Ends,
-            Decision::Fails => Touch::Wrong,
-        }
-    }
-
-    /// How it stops the program, where so many calls wait, if it does. `Err` where memory is refused for the text of an error.
-    fn stop(self, alloc: Global, waiting: usize) -> Result<Option<Stop>, AllocError>
-        ensures { (f : Frame) (st : List Frame) (al : List Allocation) (o : List ℕ) → length st ≡ waiting → MatchResult result
-            (λ s. option_map stop_read s ≡ stop_of (resumed (decided f st al o self.entry) (Running f st al o) 0))
-            (λ _. refuses self.entry ≡ true) }
-    {
-        match self {
-            Decision::Does(Command::Stops(fault)) => Ok(Some(fault.stop())),
-            Decision::Returns { value } if waiting == 0 => Ok(Some(Stop::Ended(number(value)))),
-            Decision::Errs(text) => Ok(Some(Stop::ErrorCalled(String::from_str(alloc, text)?))),
-            _ => Ok(None),
-        }
-    }
 }
 
 impl<'a> Status<'a> {

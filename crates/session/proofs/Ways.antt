@@ -4,8 +4,8 @@ use Rattle.cells.proofs.Pieces.{piece_some}
 use Rattle.std.specs.Prelude.{◌==◌, Option, Some, None}
 use Rattle.std.proofs.lemmas.Bool.Decides.{eqb_tells}
 use Rattle.std.proofs.lemmas.List.{append-nil, get_or-set_same, get_or-set_other}
-use Rattle.code_execution.specs.declared.plan.Plan.{Plan}
-use Rattle.code_execution.specs.Planning.{Plans}
+use Rattle.call_execution.specs.declared.plan.Plan.{Plan}
+use Rattle.call_execution.specs.Planning.{Plans}
 use Rattle.code_form.specs.Form.{Image}
 use Rattle.code_form.specs.Effects.{upd}
 use Rattle.code_form.specs.Code.{Core, allocations_of, effect, held, most_scopes, sizes}

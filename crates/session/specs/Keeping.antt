@@ -6,7 +6,7 @@ use Rattle.cells.specs.declared.ending.Run.{Run}
 use Rattle.cells.specs.declared.ending.Run.TheVariants.{Running, Stopped, Wanted}
 use Rattle.cells.specs.Pieces.{is_piece}
 use Rattle.cells.specs.Stops.{stop_of as stop_read}
-pub use Rattle.code_execution.specs.Decisions.{is_simple, uses_scope}
+pub use Rattle.call_execution.specs.Decisions.{is_simple, uses_scope}
 use Rattle.code_form.specs.Effects.{upd}
 use Rattle.code_form.specs.Code.{effect, stop_of, is_blocked, most_scopes}
 use Rattle.code_form.specs.Placed.{pieces}

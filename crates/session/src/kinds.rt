@@ -1,6 +1,6 @@
 //! Each kind of instruction, by what it touches.
 ghost use Rattle.code_form.specs.declared.touch.Touch.TheVariants.{Aims, Allocs, Ends, Hints, Leaves, Loads, Plain, Stores};
-ghost use Rattle.code_execution.specs.Planning.{Plans, touch_planned};
+ghost use Rattle.call_execution.specs.Planning.{Plans, touch_planned};
 ghost use Rattle.code_form.specs.Growth.{may_grow, rest_of};
 ghost use Rattle.code_form.specs.Placed.{pieces as pieces_of};
 ghost use Rattle.session.specs.Keeping.{Allocated, IsNext, IsSafe, Made, Moves};

@@ -1,5 +1,5 @@
 //! A program with what its scopes hold, at one seat of a table: single steps, and those that keep the holds right.
-ghost use Rattle.code_execution.specs.Planning.{Plans, touch_planned};
+ghost use Rattle.call_execution.specs.Planning.{Plans, touch_planned};
 ghost use Rattle.code_form.specs.Code.{effect, is_blocked as is_blocked_in, most_scopes, output_of, stop_of};
 ghost use Rattle.code_form.specs.Form.{image_of};
 ghost use Rattle.code_form.specs.Growth.{has_text, may_grow, rest_of};

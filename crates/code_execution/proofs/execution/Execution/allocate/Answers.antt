@@ -5,12 +5,12 @@ use Rattle.code_form.specs.declared.allocation.Allocation.{Allocation}
 use Rattle.code_operations.specs.Commands.{did_of}
 use Rattle.code_operations.specs.declared.operations.Command.{Command}
 use Rattle.code_operations.specs.declared.operations.Command.TheVariants as command
-use Rattle.code_execution.specs.declared.call.Decision.TheVariants as decision
+use Rattle.call_execution.specs.declared.call.Decision.TheVariants as decision
 use Rattle.code_execution.specs.declared.execution.Status.{Status}
 use Rattle.code_execution.specs.declared.execution.Status.TheVariants as status
 use Rattle.code_execution.specs.Stacks.{Stack}
 use Rattle.code_execution.specs.Statuses.{allocated, core_of, followed}
-use Rattle.code_execution.proofs.Fits.{Stands, followed_keeps, stands_next}
+use Rattle.code_execution.proofs.Kept.{Stands, followed_keeps, stands_next}
 use Rattle.code_execution.proofs.execution.Execution.allocate.Goals as goal
 
 -- where an allocation is made, the state behind it is what the decision leads to

@@ -1,9 +1,9 @@
 use Rattle.std.proofs.Common.{ap, subst, sym}
 use Rattle.code_form.specs.Code.{Core}
 use Rattle.code_form.specs.Form.{image_of}
-use Rattle.code_execution.specs.Planning.{Plans}
+use Rattle.call_execution.specs.Planning.{Plans}
 use Rattle.code_execution.specs.Statuses.{Progress, core_of}
-use Rattle.code_execution.proofs.Fits.{Stands, stands_next}
+use Rattle.code_execution.proofs.Kept.{Stands, stands_next}
 use Rattle.code_execution.proofs.Planned.{follows}
 use Rattle.code_execution.proofs.execution.Execution.carry_out.Goals as goal
 

@@ -2,10 +2,10 @@ use Rattle.std.proofs.Common.{◌≡◌, ap, subst, sym, true}
 use Rattle.code_form.specs.Code.{Core, effect}
 use Rattle.code_form.specs.Form.{image_of}
 use Rattle.code_form.specs.Touches.{touch_of}
-use Rattle.code_execution.specs.Decisions.{is_simple}
+use Rattle.call_execution.specs.Decisions.{is_simple}
 use Rattle.code_execution.specs.Statuses.{Progress, core_of}
 use Rattle.code_execution.proofs.Completed.{completes}
-use Rattle.code_execution.proofs.Fits.{Stands, stands_next}
+use Rattle.code_execution.proofs.Kept.{Stands, stands_next}
 use Rattle.code_execution.proofs.execution.Execution.complete.Goals as goal
 
 pub invariant_of-self-2 : goal.invariant_of-self-2

@@ -2,7 +2,7 @@ use Rattle.std.proofs.Common.{ap, ◌∙◌}
 use Rattle.code_form.specs.Form.{image_of}
 use Rattle.code_form.specs.Growth.{rest_of}
 use Rattle.code_execution.specs.declared.execution.Status.{Status}
-use Rattle.code_execution.specs.Plain.{is_by_scope}
+use Rattle.call_execution.specs.Plain.{is_by_scope}
 use Rattle.code_execution.specs.Statuses.{core_of}
 use Rattle.code_execution.proofs.Apart.{none_touched}
 use Rattle.code_execution.proofs.Grounds.{known_top}

@@ -1,5 +1,5 @@
 use Rattle.code_form.specs.Form.{image_of}
-use Rattle.code_execution.proofs.Fits.{Stands, followed_keeps, stands_next}
+use Rattle.code_execution.proofs.Kept.{Stands, followed_keeps, stands_next}
 use Rattle.code_execution.proofs.Grounds.{known_top}
 use Rattle.code_execution.proofs.execution.Execution.proceed.Goals as goal
 

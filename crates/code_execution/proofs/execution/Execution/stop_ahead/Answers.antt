@@ -1,7 +1,7 @@
 use Rattle.std.proofs.Common.{◌≡◌, length, sym}
 use Rattle.code_form.specs.Form.{image_of}
 use Rattle.code_execution.proofs.Grounds.{known_top}
-use Rattle.code_execution.proofs.Growth.{told_ahead}
+use Rattle.code_execution.proofs.Ahead.{told_ahead}
 use Rattle.code_execution.proofs.execution.Execution.stop_ahead.Goals as goal
 
 pub decide-requires-clause-known : goal.decide-requires-clause-known

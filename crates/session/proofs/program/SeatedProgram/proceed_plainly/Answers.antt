@@ -2,7 +2,7 @@ use Rattle.std.proofs.Common.{rules, ◌≡◌, ◌∙◌, ◌^◌, ℕ, List, O
 use Rattle.session.specs.declared.hold.Hold.{Hold}
 use Rattle.session.specs.Keeping.{IsHeld}
 use Rattle.session.specs.Pieces.{UsesView}
-use Rattle.code_execution.specs.Holding.{RanWithin}
+use Rattle.call_execution.specs.Holding.{RanWithin}
 use Rattle.session.specs.State.{State, hold_at}
 use Rattle.session.proofs.Seated.{may_call, ran_by}
 use Rattle.session.proofs.program.SeatedProgram.proceed_plainly.Goals as goal

@@ -1,0 +1,9 @@
+pub mod Fits
+pub mod Growth
+pub mod HeldRuns
+mod Marks
+mod Passing
+pub mod Plain
+mod Scalars
+mod Stale
+pub mod There

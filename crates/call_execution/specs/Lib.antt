@@ -1,0 +1,9 @@
+pub mod Aimed
+pub mod Decisions
+pub mod Fitting
+pub mod Hinting
+pub mod Holding
+pub mod Inside
+pub mod Marked
+pub mod Plain
+pub mod Planning

@@ -1,0 +1,83 @@
+//! Whether all that the instructions of an image name is there, and of the right kind, but for what scopes are aimed at and where jumps lead.
+ghost use Rattle.call_execution.specs.Fitting.{are_fit, is_fit, is_function_fit, is_image_fit};
+ghost use Rattle.code_form.specs.Code.{on_kind, has};
+ghost use Rattle.code_form.specs.Form.{function_of, image_of, instruction_of};
+ghost use Rattle.std.specs.Prelude.{◌≡◌, map};
+
+use code_form::{Function, Image, Instruction, Kind, has_kind, is_place};
+use code_operations::{callee_fits, operation_fits};
+
+/// Whether the register is there and has the kind of the function's result.
+pub(crate) fn returns_kind(function: &Function, from: u32) -> bool
+    ensures { let g = function_of function.now in result ≡ on_kind (λ k. has g.kinds from k) g.result }
+{
+    match function.result {
+        Some(kind) => has_kind(&function.kinds, from, kind),
+        None => false,
+    }
+}
+
+/// Whether what an instruction names fits.
+fn instruction_fits(image: &Image, function: &Function, instruction: &Instruction) -> bool
+    ensures { result ≡ is_fit (image_of image.now) (function_of function.now) (instruction_of instruction.now) }
+{
+    match instruction {
+        Instruction::Simple(operation) => operation_fits(image, &function.kinds, operation),
+        Instruction::Aim {
+            register,
+            offset,
+            ..
+        } => is_place(&function.kinds, *register, *offset),
+        Instruction::Call {
+            to,
+            function: number,
+            arguments,
+        } => callee_fits(image, function, *to, *number, arguments),
+        Instruction::Branch { condition, .. } => {
+            has_kind(&function.kinds, *condition, Kind::Bool)
+        }
+        Instruction::Return { from } => returns_kind(function, *from),
+        Instruction::ReturnVoid => function.result.is_none(),
+        Instruction::Load { .. }
+        | Instruction::Store { .. }
+        | Instruction::Leave { .. }
+        | Instruction::Jump { .. }
+        | Instruction::Error { .. } => true,
+    }
+}
+
+/// Whether what these instructions of a function name fits.
+fn code_fits(image: &Image, function: &Function, code: &[Instruction]) -> bool
+    ensures { result ≡ are_fit (image_of image.now) (function_of function.now) (map instruction_of code.now) }
+{
+    for instruction in code {
+        if !instruction_fits(image, function, instruction) {
+            return false;
+        }
+    }
+    true
+}
+
+/// Whether what the instructions of a function name fits.
+fn function_fits(image: &Image, function: &Function) -> bool
+    ensures { result ≡ is_function_fit (image_of image.now) (function_of function.now) }
+{
+    for block in &function.blocks {
+        if !code_fits(image, function, &block.code) {
+            return false;
+        }
+    }
+    true
+}
+
+/// Whether what the instructions of an image name fits.
+pub fn image_fits(image: &Image) -> bool
+    ensures { result ≡ is_image_fit (image_of image.now) }
+{
+    for function in &image.functions {
+        if !function_fits(image, function) {
+            return false;
+        }
+    }
+    true
+}

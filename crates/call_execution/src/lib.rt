@@ -1,0 +1,22 @@
+//! The call that runs: its scopes, what its next instruction is to do, and instructions that stay in it.
+#![tactic(auto)]
+
+mod aims;
+mod call;
+mod fitting;
+mod held;
+mod hinted;
+mod holder;
+mod inside;
+mod plan;
+mod scopes;
+mod told;
+
+pub use aims::{Aim, Scope, aim_by, put};
+pub use call::{Call, Decision, decide_call, decide_return};
+pub use fitting::image_fits;
+pub use hinted::{Hinted, Stretch};
+pub use holder::Holder;
+pub use inside::{behind, pass_all};
+pub use plan::Plan;
+pub use scopes::Scopes;

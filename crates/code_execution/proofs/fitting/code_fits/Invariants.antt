@@ -1,8 +1,0 @@
-use Rattle.std.proofs.Common.{◌≡◌, drop}
-use Rattle.std.specs.Prelude.{map}
-use Rattle.code_form.specs.Form.{function_of, image_of, instruction_of}
-use Rattle.code_execution.specs.Fitting.{are_fit}
-use Rattle.code_execution.proofs.fitting.code_fits.Given as goal
-
-abbrev pub invariant-loop-instruction : goal.invariant-loop-instruction
-invariant-loop-instruction l = are_fit (image_of l.image) (function_of l.function) (map instruction_of l.code) ≡ are_fit (image_of l.image) (function_of l.function) (map instruction_of (drop l.instruction-index l.code))
