@@ -7,6 +7,7 @@ ghost use Rattle.c0_source.specs.declared.fault.FaultKind.TheVariants.{OutOfMemo
 ghost use Rattle.c0_typed.specs.Views.{exp_of, type_of};
 ghost use Rattle.c0_rules.specs.Expressions as x;
 ghost use Rattle.c0_rules.specs.FaultExpressions.{Told};
+ghost use Rattle.c0_rules.specs.Types.{Name};
 ghost use Rattle.c0_types_terms.specs.Terms.{env_of, typing_of};
 ghost use Rattle.c0_rules.specs.Answers.{Answers};
 ghost use Rattle.c0_types_tables.specs.Views.{resolved_of};
