@@ -17,7 +17,7 @@ use Rattle.streams.specs.Streams.{Writes}
 use Rattle.world.specs.Opened.{sizes_of}
 use Rattle.world_semantics.specs.Pieces.{piece_of}
 use Rattle.world_semantics.specs.Worlds.{Event, Sizes, World}
-use Rattle.c0far.specs.FileTexts.{Known}
+use Rattle.command_files.specs.FileTexts.{Known}
 use Rattle.c0far.specs.Runs.{HasRun, IsHonestIn, IsReliableIn}
 use Rattle.c0far_headline.specs.Admitted.{ReplayedHeadline}
 use Rattle.c0far_headline.specs.Shown.{ReplayShows, RunShows, RunShowsEvents}
