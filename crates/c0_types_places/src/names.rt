@@ -141,7 +141,7 @@ pub fn text(terms: &Terms<'_>, text: &str) -> Typing
 }
 
 /// What a name calls: an output call, or else a function that is declared before.
-pub fn callee<'a>(terms: &Terms<'a>, name: &str) -> Option<Callee<'a>>
+pub fn callee_named<'a>(terms: &Terms<'a>, name: &str) -> Option<Callee<'a>>
     ensures { option_map callee_of result ≡ x.callee (env_of terms.now) name.now }
 {
     if terms.environment.conio {
@@ -159,7 +159,7 @@ pub fn declared<'a>(terms: &Terms<'a>, name: &Name) -> Result<Callee<'a>, Fault>
     ensures answers { Answers callee_of result (x.callee (env_of terms.now) (name_of name.now)) }
     ensures cause { IfErr result (λ f. (x.callee (env_of terms.now) (name_of name.now) ≡ None) × Told UnknownName name.now.span f) }
 {
-    match callee(terms, &name.text) {
+    match callee_named(terms, &name.text) {
         Some(callee) => Ok(callee),
         None => Err(fault_at(FaultKind::UnknownName, name.span)),
     }
