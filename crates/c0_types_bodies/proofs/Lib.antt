@@ -1,10 +1,10 @@
 pub mod BodyRows
-pub mod Branches
 pub mod Causes
-pub mod Changes
 pub mod ConditionLists
+pub mod InnerStatements
 pub mod Kept
-pub mod Loops
+pub mod LoopParts
 pub mod Made
 pub mod Scopes
 pub mod Sizes
+pub mod Unchanged

@@ -17,9 +17,9 @@ use Rattle.c0_rules.specs.Types.{BoolType}
 use Rattle.c0_types_tables.specs.Views.{environment_of}
 use Rattle.c0_types_bodies.specs.Bodies.{Gives, InFor, InLoop, PartHasTexts, SpecsHaveTexts, StatementHasTexts, StatementsHaveTexts, head_of, in_scope, turn_in_scope, loop_behind, scope_of}
 use Rattle.c0_types_bodies.proofs.BodyRows.{block_is, block_told, typed_block_is}
-use Rattle.c0_types_bodies.proofs.Branches.{after_all, after_none, block_gives, body_cause, body_has, body_step, else_none, if_else_gives, if_else_none, if_gives, if_none, nested_gives, turn_gives, scope_cause, statement_more, statement_none, statements_done, third_of, while_none}
+use Rattle.c0_types_bodies.proofs.InnerStatements.{after_all, after_none, block_gives, body_cause, body_has, body_step, else_none, if_else_gives, if_else_none, if_gives, if_none, nested_gives, turn_gives, scope_cause, statement_more, statement_none, statements_done, third_of, while_none}
 use Rattle.c0_types_bodies.proofs.Kept.{at_start, block_none, body_told, first_alone, first_two, head_told, in_texts, loop_told, scope_none, turn_none, second_of, third_alone}
-use Rattle.c0_types_bodies.proofs.Loops.{first_none, for_gives, for_none, head_none, loop_gives, loop_none, while_behind, while_headless}
+use Rattle.c0_types_bodies.proofs.LoopParts.{first_none, for_gives, for_none, head_none, loop_gives, loop_none, while_behind, while_headless}
 use Rattle.c0_types_bodies.proofs.Made.{made_gives, made_told}
 use Rattle.c0_types_bodies.proofs.Sizes.{size_in, size_statement}
 use Rattle.c0_types_statements.proofs.bodies.Body.+statement.Goals as goal

@@ -5,7 +5,7 @@ use Rattle.c0_types_bodies.specs.Bodies.{scope_of}
 use Rattle.c0_rules.specs.FaultStatements.{InBody}
 use Rattle.c0_rules.specs.Statements.{typed_statements}
 use Rattle.c0_types_tables.specs.Views.{environment_of}
-use Rattle.c0_types_bodies.proofs.Branches.{after_all}
+use Rattle.c0_types_bodies.proofs.InnerStatements.{after_all}
 use Rattle.c0_types_bodies.proofs.Sizes.{size_statement, size_statements}
 use Rattle.c0_types_statements.proofs.bodies.Body.+statement.Given as goal
 

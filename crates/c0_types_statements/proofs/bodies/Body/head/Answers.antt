@@ -11,7 +11,7 @@ use Rattle.c0_rules.specs.Statements.{Invariant, conditions_of_all, within}
 use Rattle.c0_types_tables.specs.Views.{environment_of}
 use Rattle.c0_types_bodies.specs.Bodies.{SpecsHaveTexts, scope_of}
 use Rattle.c0_types_bodies.proofs.Kept.{at_start, condition_told, in_texts, notes_told, step_told}
-use Rattle.c0_types_bodies.proofs.Loops.{condition_none, head_answers, head_cause, step_none}
+use Rattle.c0_types_bodies.proofs.LoopParts.{condition_none, head_answers, head_cause, step_none}
 use Rattle.c0_types_statements.proofs.bodies.Body.head.Goals as goal
 
 pub invariants-invariants-requires : goal.invariants-invariants-requires

@@ -5,7 +5,7 @@ use Rattle.c0_syntax.specs.Views.{simple_of}
 use Rattle.c0_types_tables.specs.Views.{environment_of}
 use Rattle.c0_types_bodies.specs.Bodies.{scope_of}
 use Rattle.c0_types_bodies.proofs.Kept.{second_more}
-use Rattle.c0_types_bodies.proofs.Loops.{declares_none, third_answers, third_stays}
+use Rattle.c0_types_bodies.proofs.LoopParts.{declares_none, third_answers, third_stays}
 use Rattle.c0_types_statements.proofs.bodies.Body.third_part.Goals as goal
 
 pub returns-in_err-check_third-clause-answers : goal.returns-in_err-check_third-clause-answers

@@ -6,7 +6,7 @@ use Rattle.c0_rules.specs.Statements.{Checked, Destination, change_of, expressio
 use Rattle.c0_rules.specs.Types.{IntType, and_so}
 use Rattle.c0_types_tables.specs.Views.{environment_of}
 use Rattle.c0_types_expressions.proofs.Refusals.{none_so}
-use Rattle.c0_types_bodies.proofs.Changes.{not_updated}
+use Rattle.c0_types_bodies.proofs.Unchanged.{not_updated}
 use Rattle.c0_types_bodies.specs.Bodies.{destination_of, scope_of}
 use Rattle.c0_types_statements.proofs.bodies.Body.update.Goals as goal
 

@@ -4,7 +4,7 @@ use Rattle.c0_syntax.specs.Views.{annotation_of, expression_of}
 use Rattle.c0_types_tables.specs.Views.{environment_of}
 use Rattle.c0_types_bodies.specs.Bodies.{scope_of}
 use Rattle.c0_types_bodies.proofs.Kept.{first_alone, second_more}
-use Rattle.c0_types_bodies.proofs.Loops.{condition_none, head_answers, head_cause}
+use Rattle.c0_types_bodies.proofs.LoopParts.{condition_none, head_answers, head_cause}
 use Rattle.c0_types_statements.proofs.bodies.Body.while_head.Goals as goal
 
 pub returns-in_err-condition-clause-answers : goal.returns-in_err-condition-clause-answers

@@ -18,7 +18,7 @@ use Rattle.c0_rules.specs.Mentions.{as_variable, specs_in}
 use Rattle.c0_rules.specs.Statements.{Invariant, Scope, Checked, in_body, leave, within, Destination, ToLocal, ToPlace, change_of, step_of, declares, one, expression_as, conditions_of_all, destination, destination_by, assigned, updated, evaluated, next, typed_part, typed_statement}
 use Rattle.c0_rules.specs.Types.{and_so, provided, same_type, is_small, Name, IntType, BoolType, Environment}
 use Rattle.c0_rules.proofs.Rules.{some_has}
-use Rattle.c0_types_bodies.proofs.Branches.{so_assoc, so_none, so_same, while_is}
+use Rattle.c0_types_bodies.proofs.InnerStatements.{so_assoc, so_none, so_same, while_is}
 use Rattle.c0_types_bodies.proofs.Scopes.{Keeps, keeps_on, left, loop_keeps, part_keeps, stays}
 
 -- the parts of a loop beside its body
