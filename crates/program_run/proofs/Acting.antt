@@ -36,8 +36,8 @@ acted_on reliable u t r was more same =
 
 loses_less : (r q : Type 0) (x : Touch) (s t : State) → (q → r) → LosesAt r x s t → LosesAt q x s t
 loses_less r q (touch.Aims k (Some a)) s t less lost =
-    let m = lost.1 in
-    (lost.0, record { gives = m.gives; came = m.came; refused = (m.refused.0, m.refused.1, λ sure. m.refused.2 (less sure)); same = m.same })
+    let m = lost.2 in
+    (lost.0, lost.1, record { gives = m.gives; came = m.came; refused = (m.refused.0, m.refused.1, λ sure. m.refused.2 (less sure)); same = m.same })
 loses_less r q (touch.Aims k None) s t less lost = absurd lost
 loses_less r q touch.Plain s t less lost = absurd lost
 loses_less r q (touch.Hints w) s t less lost = absurd lost

@@ -1,5 +1,5 @@
 -- The events of a program that was run to its end.
-use Rattle.std.proofs.Common.{◌≡◌, ◌≢◌, ℕ, zero, suc, ◌+◌, Bool, true, false, cond, List, ◌∷◌, [], replicate, refl, sym, ap, ◌∙◌, subst, inl, inr}
+use Rattle.std.proofs.Common.{◌≡◌, ◌≢◌, ℕ, zero, suc, ◌+◌, Bool, true, false, cond, List, ◌∷◌, [], length, replicate, refl, sym, ap, ◌∙◌, subst, inl, inr, arith}
 use Rattle.std.specs.Prelude.{◌⊎◌, None, Option, Some, slice_index_or}
 use Rattle.cells.specs.declared.ending.Run as ending
 use Rattle.cells.specs.declared.ending.Run.TheVariants as Run
@@ -51,7 +51,6 @@ holds_keeps k (Some a) s u h =
     elim h [
       | inl b ↦ same_keeps s u b.1
       | inr b ↦
-        let v : session.State = shut_at s k (session.hold_at s.holds k) in
         let c = shut_keeps s k (session.hold_at s.holds k) in
         record { want = ap (λ (x : session.State). x.want) b.2.same ∙ c.want; refusals = ap (λ (x : session.State). x.refusals) b.2.same ∙ c.refusals }
     ]
@@ -89,11 +88,10 @@ all_keep (u ∷ us) s t d = then_keeps s u t (performs_keeps d.0.touch s u d.0.p
 -- a call was refused for an aim, which is the next instruction still
 still_next : (reliable : Type 0) (x : Touch) (u z t : session.State) → IsNext x u → LosesAt reliable x u z → t ≡ wants (shut_all z) StoreFailed → (k : ℕ) × (a : Cell) × (session.next_touch t ≡ touch.Aims k (Some a)) × (is_blocked t.core ≡ false)
 still_next reliable (touch.Aims k (Some a)) u z t next lost e =
-    let v : session.State = shut_at u k (session.hold_at u.holds k) in
     let c = shut_stays u k (session.hold_at u.holds k) in
     let b = first_stays (length z.holds) z in
-    let core : t.core ≡ u.core = ap (λ (y : session.State). y.core) e ∙ b.core ∙ ap (λ (y : session.State). y.core) lost.1.same ∙ c.core in
-    let image : t.image ≡ u.image = ap (λ (y : session.State). y.image) e ∙ b.image ∙ ap (λ (y : session.State). y.image) lost.1.same ∙ c.image in
+    let core : t.core ≡ u.core = ap (λ (y : session.State). y.core) e ∙ b.core ∙ ap (λ (y : session.State). y.core) lost.2.same ∙ c.core in
+    let image : t.image ≡ u.image = ap (λ (y : session.State). y.image) e ∙ b.image ∙ ap (λ (y : session.State). y.image) lost.2.same ∙ c.image in
     (k, a, ap (λ (i : Image). touch_of (effect i t.core)) image ∙ ap (λ (d : Core). touch_of (effect u.image d)) core ∙ next.is, ap is_blocked core ∙ next.free)
 still_next reliable (touch.Aims k None) u z t next lost e = absurd lost
 still_next reliable touch.Plain u z t next lost e = absurd lost
@@ -108,10 +106,10 @@ still_next reliable touch.Nothing u z t next lost e = absurd lost
 
 not_halted : (t : session.State) (k : ℕ) (a : Cell) → session.next_touch t ≡ touch.Aims k (Some a) → is_blocked t.core ≡ false → session.IsHalted t → ⊥
 not_halted t k a next free h = elim h [
-  | inl wrong ↦ cc
+  | inl wrong ↦ cc (next, wrong)
   | inr more ↦ elim more [
-      | inl nothing ↦ cc
-      | inr blocked ↦ cc
+      | inl nothing ↦ cc (next, nothing)
+      | inr blocked ↦ cc (free, blocked)
     ]
 ]
 
@@ -122,7 +120,7 @@ never_halted reliable s u t kept none d refused halted = elim d.came [
     let a = first_stays (length u.holds) u in
     let same : t.refusals ≡ no_refusals = ap (λ (y : session.State). y.refusals) b.1 ∙ a.refusals ∙ kept.refusals ∙ none in
     let count : 0 ≡ 1 = sym (ap (λ (r : Refusals). r.count) same) ∙ refused.0 in
-    cc
+    omega (arith, count)
 ]
 
 -- ---- the end
@@ -133,15 +131,15 @@ ComesToEnd C s t r = (q : session.State) × DoesByEvents s q × IsAtEnd C (progr
 
 is_text : (x : Touch) → (x ≡ touch.Ends) ⊎ (x ≢ touch.Ends)
 is_text touch.Ends = inl refl
-is_text touch.Plain = inr (λ e. cc)
-is_text (touch.Hints w) = inr (λ e. cc)
-is_text (touch.Aims k w) = inr (λ e. cc)
-is_text (touch.Loads k a) = inr (λ e. cc)
-is_text (touch.Stores k a v) = inr (λ e. cc)
-is_text (touch.Leaves k) = inr (λ e. cc)
-is_text (touch.Allocs m) = inr (λ e. cc)
-is_text touch.Wrong = inr (λ e. cc)
-is_text touch.Nothing = inr (λ e. cc)
+is_text touch.Plain = inr (λ e. cc e)
+is_text (touch.Hints w) = inr (λ e. cc e)
+is_text (touch.Aims k w) = inr (λ e. cc e)
+is_text (touch.Loads k a) = inr (λ e. cc e)
+is_text (touch.Stores k a v) = inr (λ e. cc e)
+is_text (touch.Leaves k) = inr (λ e. cc e)
+is_text (touch.Allocs m) = inr (λ e. cc e)
+is_text touch.Wrong = inr (λ e. cc e)
+is_text touch.Nothing = inr (λ e. cc e)
 
 wanting : (reliable : Type 0) (w : Want) (u t : session.State) → WantsNext reliable w u t → t.want ≡ Some w
 wanting reliable NoObjects u t d = ap (λ (y : session.State). y.want) d.came.2
@@ -161,7 +159,7 @@ module _ (reliable : Type 0) (objects : ℕ) (C : Image) (s t : session.State) (
       let next : touch_of (effect C u.core) ≡ touch.Ends = ap (λ (x : Core). touch_of (effect C x)) core ∙ ap (λ (i : Image). touch_of (effect i t.core)) (sym image) ∙ text in
       (u, all d.1.0 s u d.1.1, inr (ap mode_of (kept.want ∙ open_want), next), core, sym (ap (λ (y : session.State). y.completed) e))
   refused_memory d (inr other) =
-      (t, runs reliable s t (Run.Wanted OutOfMemory) d (λ e. absurd (let no : ⊥ = cc in no)) (λ e. other), inl (ap mode_of (wanting reliable OutOfMemory d.0 t d.2)), refl, refl)
+      (t, runs reliable s t (Run.Wanted OutOfMemory) d (λ e. absurd (let no : ⊥ = cc e in no)) (λ e. other), inl (ap mode_of (wanting reliable OutOfMemory d.0 t d.2)), refl, refl)
 
   comes_to : (r : ending.Run) → Acts reliable s t r → EndsAs reliable objects C t.core r → HasRefused r t.refusals → ComesToEnd C s t r
   comes_to Run.Running d ends refused = absurd ends
@@ -169,11 +167,11 @@ module _ (reliable : Type 0) (objects : ℕ) (C : Image) (s t : session.State) (
       let kept = all_keep d.0 s t d.1 in
       (t, all d.0 s t d.1, (ap mode_of (kept.want ∙ open_want), ends), refl, refl)
   comes_to (Run.Wanted NoObjects) d ends refused =
-      (t, runs reliable s t (Run.Wanted NoObjects) d (λ e. absurd (let no : ⊥ = cc in no)) (λ e. absurd (let no : ⊥ = cc in no)), ap mode_of (wanting reliable NoObjects d.0 t d.2), refl, refl)
+      (t, runs reliable s t (Run.Wanted NoObjects) d (λ e. absurd (let no : ⊥ = cc e in no)) (λ e. absurd (let no : ⊥ = cc e in no)), ap mode_of (wanting reliable NoObjects d.0 t d.2), refl, refl)
   comes_to (Run.Wanted OutOfMemory) d ends refused = refused_memory d (is_text (session.next_touch t))
   comes_to (Run.Wanted StoreFailed) d ends refused =
       let kept = all_keep d.1.0 s d.0 d.1.1 in
-      (t, runs reliable s t (Run.Wanted StoreFailed) d (λ e. never_halted reliable s d.0 t kept none d.2 refused) (λ e. absurd (let no : ⊥ = cc in no)), ap mode_of (wanting reliable StoreFailed d.0 t d.2), refl, refl)
+      (t, runs reliable s t (Run.Wanted StoreFailed) d (λ e. never_halted reliable s d.0 t kept none d.2 refused) (λ e. absurd (let no : ⊥ = cc e in no)), ap mode_of (wanting reliable StoreFailed d.0 t d.2), refl, refl)
 
 note_blank : (n o : ℕ) → slice_index_or (replicate n blank) o blank ≡ blank
 note_blank zero o = refl
