@@ -1,6 +1,6 @@
 use Rattle.program_run.proofs.Acting.{acted_on}
 use Rattle.program_run.proofs.Ending.{refused_own}
-use Rattle.program_run.proofs.Growing.{grown}
+use Rattle.program_run.proofs.Growing.{grown, same_program}
 use Rattle.program_run.proofs.run.run_on.Goals as goal
 
 pub returns-clause-own : goal.returns-clause-own
@@ -12,4 +12,6 @@ returns-clause-grows g c = λ honest at.
     grown c.run_laws.ensures.add c.run_laws.ensures.output g.S.RawStore.reliable c.args.quantum c.args.session.now c.run.new.self c.run.result at (c.run.ensures.at honest) c.run.ensures.told
 
 pub returns-clause-acted : goal.returns-clause-acted
-returns-clause-acted g c = λ was. acted_on g.S.RawStore.reliable c.args.session.now c.run.new.self c.run.result was (c.run.ensures.acts c.requires.going) (search rules)
+returns-clause-acted g c = λ was.
+    let same = same_program g.S.RawStore.reliable c.args.quantum c.args.session.now c.run.new.self c.run.result c.run.ensures.told in
+    acted_on g.S.RawStore.reliable c.args.session.now c.run.new.self c.run.result was (c.run.ensures.acts c.requires.going) same
