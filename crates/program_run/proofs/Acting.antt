@@ -19,7 +19,7 @@ use Rattle.program_run.specs.declared.run.Finished.{Finished}
 -- instructions were completed, and then others
 performs_on : (us : List State) (s u t : State) → PerformsBy us s u → PerformsSome u t → PerformsSome s t
 performs_on [] s u t first more = subst (λ (x : State). PerformsSome x t) first more
-performs_on (x ∷ us) s u t first more = let rest = performs_on us x u t first.1 more in (x ∷ rest.0, first.0, rest.1)
+performs_on (x ∷ us) s u t first more = let rest = performs_on us x u t first.1 more in (x ∷ rest.0, (first.0, rest.1))
 
 acts_on : (reliable : Type 0) (s u t : State) (r : Run) → PerformsSome s u → Acts reliable u t r → Acts reliable s t r
 acts_on reliable s u t Running first more = performs_on first.0 s u t first.1 more

@@ -181,7 +181,7 @@ note_blank (suc n) (suc o) = note_blank n o
 -- what an unused seat knows
 knows_unused : (v : View) → IsUnused v → IsKnown v unused
 knows_unused v is = record {
-  nothing = (refl, refl, refl, refl);
+  nothing = (refl, refl, (refl, refl));
   past = sym (ap (λ (h : Hand). h.past) is.0);
   notes = λ o mine. sym (ap (λ (ns : List Note). slice_index_or ns o blank) is.1 ∙ note_blank v.sizes.objects o);
 }
