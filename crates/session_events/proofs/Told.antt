@@ -51,8 +51,8 @@ holds_keeps k (Some a) s u h =
     elim h [
       | inl b ↦ same_keeps s u b.1
       | inr b ↦
-        let c = shut_keeps s k (session.hold_at s.holds k) in
-        record { want = ap (λ (x : session.State). x.want) b.2.same ∙ c.want; refusals = ap (λ (x : session.State). x.refusals) b.2.same ∙ c.refusals }
+          let c = shut_keeps s k (session.hold_at s.holds k) in
+          record { want = ap (λ (x : session.State). x.want) b.2.same ∙ c.want; refusals = ap (λ (x : session.State). x.refusals) b.2.same ∙ c.refusals }
     ]
 
 writing_keeps : (s : session.State) (k : ℕ) (h : own.Hold) (b : Bool) → Keeps s (cond b s (cleared s k h))
@@ -108,19 +108,19 @@ not_halted : (t : session.State) (k : ℕ) (a : Cell) → session.next_touch t �
 not_halted t k a next free h = elim h [
   | inl wrong ↦ cc (next, wrong)
   | inr more ↦ elim more [
-      | inl nothing ↦ cc (next, nothing)
-      | inr blocked ↦ cc (free, blocked)
-    ]
+    | inl nothing ↦ cc (next, nothing)
+    | inr blocked ↦ cc (free, blocked)
+  ]
 ]
 
 never_halted : (reliable : Type 0) (s u t : session.State) → Keeps s u → s.refusals ≡ no_refusals → WantsNext reliable StoreFailed u t → HasRefused (Run.Wanted StoreFailed) t.refusals → session.IsHalted t → ⊥
 never_halted reliable s u t kept none d refused halted = elim d.came [
   | inl b ↦ let n = still_next reliable b.0 u b.1 t b.2 b.3 b.4 in not_halted t n.0 n.1 n.2 n.3 halted
   | inr b ↦
-    let a = first_stays (length u.holds) u in
-    let same : t.refusals ≡ no_refusals = ap (λ (y : session.State). y.refusals) b.1 ∙ a.refusals ∙ kept.refusals ∙ none in
-    let count : 0 ≡ 1 = sym (ap (λ (r : Refusals). r.count) same) ∙ refused.0 in
-    omega (arith, count)
+      let a = first_stays (length u.holds) u in
+      let same : t.refusals ≡ no_refusals = ap (λ (y : session.State). y.refusals) b.1 ∙ a.refusals ∙ kept.refusals ∙ none in
+      let count : 0 ≡ 1 = sym (ap (λ (r : Refusals). r.count) same) ∙ refused.0 in
+      omega (arith, count)
 ]
 
 -- ---- the end
