@@ -2,11 +2,13 @@
 """How many machine instructions `c0far run` takes over the nine programs of run_speed.py: instructions.py PROGRAM..
 
 One worker and no mover, with all objects in frames, and where 64 frames are too few, with 64 too. Counted by valgrind's callgrind, start-up included, so that
-nothing else on the machine matters. With several programs, what each takes beside the first, in per cent. Takes some minutes for each.
+nothing else on the machine matters. With several programs, what each takes beside the first, in per cent. Takes some minutes for each. Where `lua5.4` is
+installed: what it takes for the same program, and how many times that the first program takes, each less what it takes for nothing.
 """
 import concurrent.futures
 import os
 import re
+import shutil
 import subprocess
 import sys
 import tempfile
@@ -14,33 +16,49 @@ import tempfile
 import run_speed
 
 
-def counted(program, words, text, room):
-    """The instructions of a run, and its last line."""
+def counted(command, text, room):
+    """The instructions of a command over the file of this text, which stands last, and its last line."""
     with tempfile.TemporaryDirectory(dir=room) as folder:
         with open(f"{folder}/text.c0", "w") as file:
             file.write(text)
-        command = ["valgrind", "--tool=callgrind", f"--callgrind-out-file={folder}/out", program, "run", "--workers", "1", "--evacuators", "0", "--fetchers", "0", *words, "text.c0"]
+        command = ["valgrind", "--tool=callgrind", f"--callgrind-out-file={folder}/out", *command, "text.c0"]
         ran = subprocess.run(command, cwd=folder, capture_output=True, text=True, check=False)
     found = re.search(r"Collected : (\d+)", ran.stderr)
     return int(found[1]) if found else 0, (ran.stdout.splitlines() or ["nothing"])[-1]
+
+
+def run_by(program, words):
+    """The command that runs a text, by one worker and no mover."""
+    return [program, "run", "--workers", "1", "--evacuators", "0", "--fetchers", "0", *words]
 
 
 def main():
     if len(sys.argv) < 2:
         sys.exit(__doc__)
     programs = [os.path.abspath(it) for it in sys.argv[1:]]
-    rows = [("nothing", [], run_speed.NOTHING[0])]
-    for name, pieces, text, _ in run_speed.PROGRAMS:
-        rows.append((name, run_speed.local(pieces), text))
+    peer = shutil.which("lua5.4")
+    rows = [("nothing", [], *run_speed.NOTHING)]
+    for name, pieces, text, in_lua in run_speed.PROGRAMS:
+        rows.append((name, run_speed.local(pieces), text, in_lua))
         if pieces >= 64:
-            rows.append((f"{name}, in 64 frames", [], text))
+            rows.append((f"{name}, in 64 frames", [], text, in_lua))
     with tempfile.TemporaryDirectory() as room, concurrent.futures.ThreadPoolExecutor(2) as pool:
-        runs = [(name, [pool.submit(counted, it, words, text, room) for it in programs]) for name, words, text in rows]
-        for name, row in runs:
+        runs = []
+        for name, words, text, in_lua in rows:
+            beside = [pool.submit(counted, [peer], in_lua, room)] if peer else []
+            runs.append((name, [pool.submit(counted, run_by(it, words), text, room) for it in programs], beside))
+        nothing = None
+        for name, row, beside in runs:
             told = [it.result() for it in row]
             first = told[0][0]
             parts = [f"{count:,}" + (f" ({100 * (count - first) / first:+.2f} %)" if place and first else "") for place, (count, _) in enumerate(told)]
             lines = {line for _, line in told}
+            for count, line in [it.result() for it in beside]:
+                if nothing is None:
+                    nothing = first, count
+                lines.add(line)
+                own = count - nothing[1]
+                parts.append(f"lua5.4 {count:,}" + (f", {(first - nothing[0]) / own:.1f} times" if own else ""))
             print(f"{name}: " + ", ".join(parts) + ("" if len(lines) == 1 else f", but they print {sorted(lines)}"), flush=True)
 
 
