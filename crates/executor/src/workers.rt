@@ -45,7 +45,7 @@ impl<'q, 'a, S: RawStore> Model for Worker<'q, 'a, S> {
     ghost invariant = { λ w. Works S.honest S.reliable w.queue.now (manually_drop_value w.pass) w.kept w.done.items (vec_len w.done) (vec_capacity w.done) };
 }
 
-/// Puts a task that is in hand, unless it is to be kept. It comes back where it is kept, and else where the queue is full alone.
+/// Puts a task that is in hand, unless it is to be kept. It comes back where it is to be kept, or where the queue is full.
 #[inline(always)]
 fn put_unless<'a, S: RawStore, R: Wait>(
     queue: &TaskQueue<'a, S>,

@@ -1,5 +1,5 @@
 -- What a session did in turns, one behind the other.
-use Rattle.std.proofs.Common.{◌≡◌, ◌∙◌, ◌⊎◌, inl, inr, ℕ, List, [], ◌∷◌, Option, Some, None, ap, refl, replicate, subst, sym}
+use Rattle.std.proofs.Common.{◌≡◌, ◌∙◌, ◌⊎◌, inl, inr, ℕ, List, [], ◌∷◌, Option, Some, None, subst, sym}
 use Rattle.cells.specs.declared.ending.Run.{Run}
 use Rattle.cells.specs.declared.ending.Run.TheVariants.{Running, Stopped, Wanted}
 use Rattle.cells.specs.declared.ending.Want.{Want}
@@ -7,10 +7,7 @@ use Rattle.cells.specs.declared.ending.Want.TheVariants.{NoObjects, OutOfMemory,
 use Rattle.code_form.specs.Form.{Image}
 use Rattle.code_form.specs.declared.touch.Touch.{Touch}
 use Rattle.code_form.specs.declared.touch.Touch.TheVariants as touch
-use Rattle.pointer_word.specs.Hands.{blank, empty_handed}
-use Rattle.object_lock.specs.Seats.{View}
 use Rattle.remote_store.specs.Refusing.{no_refusals}
-use Rattle.remote_store.specs.declared.port.Refusals.{Refusals}
 use Rattle.session.specs.Performing.{Acts, ComesToWant, LosesAt, PerformsBy, PerformsSome}
 use Rattle.session.specs.State.{SameProgram, State, begin}
 use Rattle.program_run.specs.Acting.{HasActed, IsActedOver}
@@ -28,13 +25,6 @@ acts_on reliable s u t (Wanted w) first more = (more.0, performs_on first.0 s u 
 
 same_on : (s u t : State) → SameProgram s u → SameProgram u t → SameProgram s t
 same_on s u t first more = (more.0 ∙ first.0, more.1 ∙ first.1, more.2 ∙ first.2, more.3 ∙ first.3)
-
--- a session at its beginning has done nothing
-pub begun_acted : (reliable : Type 0) (C : Image) (v : View) (r : Refusals) (s : State) → s ≡ begin C v r → r ≡ no_refusals → v.hand ≡ empty_handed → v.notes ≡ replicate v.sizes.objects blank → HasActed reliable s.image s Running
-begun_acted reliable C v r s is none hand notes =
-    let there : s ≡ begin C v no_refusals = is ∙ ap (λ (x : Refusals). begin C v x) none in
-    let here : HasActed reliable C (begin C v no_refusals) Running = (v, (hand, notes), (refl, refl, refl, refl), ([], refl)) in
-    subst (λ (x : State). HasActed reliable x.image x Running) (sym there) here
 
 -- what a session did that went on, and then one turn more
 pub acted_on : (reliable : Type 0) (u t : State) (r : Run) → HasActed reliable u.image u Running → Acts reliable u t r → SameProgram u t → HasActed reliable t.image t r
