@@ -1,24 +1,24 @@
 -- Runs over the memory that is asked for.
-use Rattle.std.proofs.Common.{◌≡◌, ◌⊎◌, inl, inr, ℕ, ◌/◌, List, [], ◌∷◌, Option, Some, None, Result, Ok, Err, length, subst}
-use Rattle.std.specs.List.{AllZip}
+use Rattle.std.proofs.Common.{◌≡◌, ◌⊎◌, inl, inr, ℕ, ◌/◌, List, Some, Result, Ok, Err, length, subst}
 use Rattle.std.specs.Prelude.{IfOk}
 use Rattle.cells.specs.declared.ending.Ended.{Ended}
 use Rattle.cells.specs.declared.ending.Run.{Run}
 use Rattle.cells.specs.declared.ending.Run.TheVariants.{Running, Stopped, Wanted}
 use Rattle.cells.specs.declared.ending.Want.TheVariants.{OutOfMemory, NoObjects, StoreFailed}
 use Rattle.code_form.specs.Code.{Core}
-use Rattle.code_form.specs.Form.{Image, image_of}
+use Rattle.code_form.specs.Form.{Image}
 use Rattle.command_line.specs.Shell.{Memory}
 use Rattle.executor.specs.Ends.{AreFinished}
 use Rattle.executor.specs.declared.counts.Counted.{Counted}
 use Rattle.program_run.proofs.Acting.{acted_less}
+use Rattle.program_run.specs.Acting.{Owned, owned_by}
 use Rattle.program_run.specs.Executed.{EndsAs, IsExecutedOver, IsFinishedOver}
 use Rattle.program_run.specs.declared.run.Finished.{Finished}
-use Rattle.region.specs.Admission.{IsAdmitted, IsDenied, IsRefused, IsWithinWork}
+use Rattle.region.specs.Admission.{IsAdmitted, IsDenied, IsRefused, IsWithinWork, image_at}
 use Rattle.region.specs.declared.fault.AdmitFault.{AdmitFault}
 use Rattle.region.specs.declared.fault.AdmitFault.TheVariants as admit
 use Rattle.scope_verifier.specs.declared.acceptance.Verified.{Verified}
-use Rattle.c0far.specs.Runs.{IsHonestIn, IsReliableIn, RanOver}
+use Rattle.c0far.specs.Runs.{IsHonestIn, RanOver}
 
 ends_less : (r s : Type 0) (objects : ℕ) (C : Image) (c : Core) (x : Run) → (s → r) → EndsAs r objects C c x → EndsAs s objects C c x
 ends_less r s objects C c Running less h = h
@@ -32,15 +32,15 @@ pub executed_less : (r s : Type 0) (objects : ℕ) (C : Image) (e : Ended) → (
 executed_less r s objects C e less h = record { going = h.going; few = h.few; output = h.output; ends = ends_less r s objects C _ e.run less h.ends }
 
 -- ... and what its session did, and how many calls were refused, is the same
-pub finished_less : (r s : Type 0) (objects : ℕ) (C : Image) (f : Finished) → (s → r) → IsFinishedOver r objects C f → IsFinishedOver s objects C f
-finished_less r s objects C f less h = record { executed = executed_less r s objects C f.end less h.executed; own = h.own; acted = acted_less r s objects C f less h.acted }
+pub finished_less : (r s : Type 0) (w : Owned) (C : Image) (f : Finished) → (s → r) → IsFinishedOver r w C f → IsFinishedOver s w C f
+finished_less r s w C f less h = record { executed = executed_less r s w.objects C f.end less h.executed; own = h.own; acted = acted_less r s w C f less h.acted }
 
 -- a store that is honest and reliable in fewer cases
 ends_fewer : (h r g s : Type 0) (objects : ℕ) (programs : List Verified) (ends : List Finished) → (g → h) → (g → s → r) → AreFinished h r objects programs ends → AreFinished g s objects programs ends
-ends_fewer h r g s objects [] [] fewer less all = tt
-ends_fewer h r g s objects [] (f ∷ fs) fewer less all = absurd all
-ends_fewer h r g s objects (v ∷ vs) [] fewer less all = absurd all
-ends_fewer h r g s objects (v ∷ vs) (f ∷ fs) fewer less all = (λ honest. finished_less r s objects (image_of v.image) f (less honest) (all.0 (fewer honest)), ends_fewer h r g s objects vs fs fewer less all.1)
+ends_fewer h r g s objects programs ends fewer less all = record {
+  count = all.count;
+  each = λ k f at honest. finished_less r s (owned_by k objects) (image_at programs k) f (less honest) (all.each k f at (fewer honest));
+}
 
 -- a run over a store in memory
 pub ran_in_memory : {E : Type 0} (honest : Type 0) (m : Memory) (programs : List Verified) (r : Result Counted E)

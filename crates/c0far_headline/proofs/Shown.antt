@@ -1,5 +1,6 @@
 -- what is promised of what commands show
-use Rattle.std.proofs.Common.{◌≡◌, ℕ, ◌/◌, List, [], ◌∷◌, Option, Some, None, length, refl, subst, sym}
+use Rattle.std.proofs.Common.{◌≡◌, ◌+◌, ◌*◌, ℕ, suc, ◌/◌, List, [], ◌∷◌, Option, Some, None, ap, arith, length, refl, subst, sym}
+use Rattle.std.proofs.lemmas.Option.{slice_get_within}
 use Rattle.std.specs.Prelude.{slice_get}
 use Rattle.cells.specs.declared.ending.Ended.{Ended}
 use Rattle.clap.specs.Words.{Text}
@@ -7,22 +8,24 @@ use Rattle.c0_image.specs.Correct.{Behaves}
 use Rattle.c0_typed.specs.Trees.{Program as Typed}
 use Rattle.code_form.specs.Form.{Image, image_of}
 use Rattle.command_line.specs.Shell.{Started}
-use Rattle.program_run.specs.Executed.{IsFinishedOver}
+use Rattle.program_run.specs.Acting.{owned_by}
+use Rattle.program_run.specs.Executed.{IsExecutedOver, IsFinishedOver}
 use Rattle.program_run.specs.declared.run.Finished.{Finished}
-use Rattle.region.specs.Admission.{image_at}
+use Rattle.region.specs.Admission.{image_at, image_by}
 use Rattle.schedule_replay.specs.Replayed.{IsReplayed, NoneIsRefused}
-use Rattle.scope_verifier.specs.declared.acceptance.Verified.{Verified}
 use Rattle.session_events.proofs.Told.{told}
+use Rattle.session_events.specs.Laws.{EndsByEvents}
 use Rattle.streams.specs.Streams.{Writes}
 use Rattle.world.specs.Opened.{sizes_of}
 use Rattle.world_semantics.specs.Pieces.{piece_of}
+use Rattle.world_semantics.specs.Programs.{Setting}
 use Rattle.world_semantics.specs.Worlds.{Event, Sizes, World}
 use Rattle.command_files.specs.FileTexts.{Known}
 use Rattle.c0far.specs.Runs.{HasRun, IsHonestIn, IsReliableIn}
 use Rattle.c0far_headline.specs.Admitted.{ReplayedHeadline}
 use Rattle.c0far_headline.specs.Shown.{ReplayShows, RunShows, RunShowsEvents}
 use Rattle.c0far_headline.proofs.Headlines.{Laws}
-use Rattle.c0far_headline.proofs.Ran.{promised_end, zipped_at}
+use Rattle.c0far_headline.proofs.Ran.{promised_end}
 
 -- where folders are honest each store is
 honest_in : (store : Option Text) → IsHonestIn (Unit {0}) store
@@ -31,20 +34,32 @@ honest_in (Some folder) = tt
 
 -- each end that is shown is one of a program that was run
 module _ (asked : Started) (files : List Text) (held : Text → Known) (out err : Writes) (result : ℕ) (did : HasRun (Unit {0}) asked files held out err result) where
-  finished_at : (k : ℕ) (v : Verified) (f : Finished) → slice_get did.programs k ≡ Some v → slice_get did.finished k ≡ Some f
-      → IsFinishedOver (IsReliableIn asked.memory) (asked.memory.objects / length did.programs) (image_of v.image) f
-  finished_at k v f is too = zipped_at _ did.programs did.finished k v f did.executed is too (honest_in asked.memory.store)
+  finished_at : (k : ℕ) (f : Finished) → slice_get did.finished k ≡ Some f
+      → IsFinishedOver (IsReliableIn asked.memory) (owned_by k (asked.memory.objects / length did.programs)) (image_at did.programs k) f
+  finished_at k f too = did.executed.each k f too (honest_in asked.memory.store)
+
+  -- its pieces are those of all programs
+  piece_at : (k : ℕ) (f : Finished) → slice_get did.finished k ≡ Some f → (image_at did.programs k).piece ≡ piece_of (image_at did.programs)
+  piece_at k f too =
+      let within = slice_get_within did.finished k f too in
+      let count = did.executed.count in
+      did.admitted.0.2 k (omega arith)
 
 pub run_shows_events : RunShowsEvents
-run_shows_events asked files held out err result did k v f is too =
-    told (IsReliableIn asked.memory) (asked.memory.objects / length did.programs) (image_of v.image) f (finished_at asked files held out err result did k v f is too)
+run_shows_events asked files held out err result did k f too =
+    let n : ℕ = asked.memory.objects / length did.programs in
+    let C : Image = image_at did.programs k in
+    let At : ℕ → Setting = λ size. record { size = size; base = k * n; limit = k * n + n; mover = suc k; image = C } in
+    subst (λ size. EndsByEvents (At size) f) (piece_at asked files held out err result did k f too)
+    (told (IsReliableIn asked.memory) (owned_by k n) C f (finished_at asked files held out err result did k f too))
 
 pub run_shows : Laws → RunShows
 run_shows laws asked files held out err result did k v f is too loops text checks cells meant compiled means =
     let same : compiled.program ≡ meant = sym (compiled.only meant means) in
     let behaves : Behaves meant checks (image_of v.image) = subst (λ (p : Typed). Behaves p checks (image_of v.image)) same compiled.behaves in
-    let finished = finished_at asked files held out err result did k v f is too in
-    promised_end laws meant checks (image_of v.image) (IsReliableIn asked.memory) (asked.memory.objects / length did.programs) f.end behaves finished.executed
+    let n : ℕ = asked.memory.objects / length did.programs in
+    let executed = subst (λ (C : Image). IsExecutedOver (IsReliableIn asked.memory) n C f.end) (ap image_by is) (finished_at asked files held out err result did k f too).executed in
+    promised_end laws meant checks (image_of v.image) (IsReliableIn asked.memory) n f.end behaves executed
 
 -- of a store that never fails less may be asked
 refuses_less : (r : Type 0) (z : Sizes) (images : ℕ → Image) (w : World) (events : List Event) → NoneIsRefused r z images w events → NoneIsRefused ⊥ z images w events

@@ -18,7 +18,7 @@ use Rattle.streams.specs.Streams.{Writes}
 use Rattle.world.specs.Opened.{sizes_of}
 use Rattle.world_semantics.specs.Causes.{HasCause}
 use Rattle.world_semantics.specs.Pieces.{piece_of}
-use Rattle.world_semantics.specs.Worlds.{start}
+use Rattle.world_semantics.specs.Worlds.{setting, start}
 use Rattle.command_files.specs.FileTexts.{Known}
 use Rattle.c0far.specs.Replays.{HasReplayed}
 use Rattle.c0far.specs.Runs.{HasRun, IsReliableIn}
@@ -32,12 +32,12 @@ RunShows = (asked : Started) (files : List Text) (held : Text → Known) (out er
     → (loops : Bool) (text : List ℕ) (checks : Bool) (cells : ℕ) (meant : Typed) → IsCompiled loops text checks cells (image_of v.image) → IsTypedAs loops text meant
     → PromisedEnd meant checks f.end (WantsFor (IsReliableIn asked.memory) (asked.memory.objects / length did.programs) (image_of v.image) (code_run (code (image_of v.image)) f.end.completed).0)
 
--- Each end that `run` shows, over the store in memory or over folders that are honest, of a program with an equal share of the objects, is that to which the program of its image comes in a
--- world by some events, from its beginning on
+-- Each end that `run` shows, over the store in memory or over folders that are honest, is that to which this program comes by some events, from its beginning on, in the world of all these
+-- programs, of as many frames, objects, evacuators and fetchers
 abbrev pub RunShowsEvents : Type 0
 RunShowsEvents = (asked : Started) (files : List Text) (held : Text → Known) (out err : Writes) (result : ℕ) → (did : HasRun (Unit {0}) asked files held out err result)
-    → (k : ℕ) (v : Verified) (f : Finished) → slice_get did.programs k ≡ Some v → slice_get did.finished k ≡ Some f
-    → EndsByEvents (asked.memory.objects / length did.programs) (image_of v.image) f
+    → (k : ℕ) (f : Finished) → slice_get did.finished k ≡ Some f
+    → EndsByEvents (setting (sizes_of (length did.programs) asked.memory.frames asked.memory.objects asked.evacuators asked.fetchers (piece_of (image_at did.programs))) (image_at did.programs) k) f
 
 -- Of the ends that `replay` shows, over the store in memory or over folders that are honest: each, of a program whose image a text was compiled to, is as promised of that text, and a
 -- want has its cause among the events of the schedule

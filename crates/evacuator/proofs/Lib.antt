@@ -1,2 +1,2 @@
 mod Adding
-mod Visits
+pub mod Visits

@@ -1,12 +1,12 @@
 -- Visits of a round, one behind the other.
-use Rattle.std.proofs.Common.{◌≡◌, ℕ, List, [], ◌∷◌, ◌++◌, append_assoc, sym, ap, ◌∙◌, arith}
+use Rattle.std.proofs.Common.{◌≡◌, ℕ, List, [], ◌∷◌, ◌++◌, append_assoc, refl, sym, ap, ◌∙◌, arith}
 use Rattle.object_moves.specs.Moving.{hand_after}
 use Rattle.object_moves.specs.Visits.{LetsLeave, MovesOut, Visit}
 use Rattle.object_moves.specs.declared.moved.Moved.{Moved}
 use Rattle.object_moves.proofs.Visiting.{moved_past, nothing_more, then_more}
 use Rattle.pointer_word.specs.Hands.{Hand, Move, leaving, marking, releasing}
 use Rattle.evacuator.specs.declared.counts.Round.{Round}
-use Rattle.evacuator.specs.Rounds.{Visits, both, moves_of, round_at, round_in}
+use Rattle.evacuator.specs.Rounds.{HasMadeRounds, Visits, both, moves_of, round_at, round_in}
 
 abbrev counts : ℕ → ℕ → ℕ → Round
 counts a b c = record { left = a; aborted = b; failed = c }
@@ -47,3 +47,11 @@ visits_clean x after f e = record { visits = LetsLeave f ∷ []; did = e ∙ app
 -- the object o was marked in the frame f, and this became of it
 pub visits_marked : (x y : Hand) (o f : ℕ) (r : Moved) (ps : List (ℕ × ℕ)) → y ≡ hand_after r (marking x o f) ps → Visits x.past y.past (round_at (MovesOut o f r))
 visits_marked x y o f r ps e = record { visits = MovesOut o f r ∷ []; did = ap (λ z. z.past) e ∙ moved_past x o f r ps; counted = one_counted (MovesOut o f r) }
+
+-- ---- all rounds of a seat
+
+pub no_rounds : (past : List Move) → past ≡ [] → HasMadeRounds past
+no_rounds past e = (round_in [], record { visits = []; did = e; counted = refl })
+
+pub rounds_and_one : (past after : List Move) (r : Round) → HasMadeRounds past → Visits past after r → HasMadeRounds after
+rounds_and_one past after r made v = (both made.0 r, visits_both [] past after made.0 r made.1 v)

@@ -49,3 +49,7 @@ pub record Visits (before after : List Move) (r : Round) : Type 0 where
   pub visits : List Visit
   pub did : after ≡ before ++ moves_in visits
   pub counted : round_in visits ≡ r
+
+-- all that a seat has done is what rounds did, one behind the other
+abbrev pub HasMadeRounds : List Move → Type 0
+HasMadeRounds past = (r : Round) × Visits [] past r

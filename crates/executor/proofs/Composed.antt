@@ -1,30 +1,23 @@
 -- Tasks, seats and ends of programs, put together.
-use Rattle.std.proofs.Common.{◌≡◌, ◌<◌, ◌+◌, ◌⊎◌, refl, ℕ, zero, suc, List, [], ◌∷◌, ◌++◌, Option, Some, None, is_some, false, length, map, sym, ap, ◌∙◌, subst, slice_get, slice_index_or, take, set, inl, inr, ⊎_elim, arith, length-append, append_assoc, append-nil}
-use Rattle.std.proofs.Math.Seq.{take-length}
+use Rattle.std.proofs.Common.{◌≡◌, ◌<◌, ◌+◌, ◌⊎◌, refl, ℕ, zero, suc, List, [], ◌∷◌, ◌++◌, Option, Some, None, is_some, false, length, map, sym, ap, ◌∙◌, subst, slice_get, slice_index_or, set, inl, inr, ⊎_elim, arith, append_assoc, append-nil}
 use Rattle.std.specs.Bool.{◌==◌}
 use Rattle.std.proofs.lemmas.List.{length-map, length-set}
 use Rattle.std.proofs.lemmas.List.FromFn.{length-range_with_len}
-use Rattle.std.specs.List.{All, AllZip, remove}
-use Rattle.cells.specs.declared.ending.Ended.{Ended}
-use Rattle.code_form.specs.Form.{image_of}
-use Rattle.program_run.specs.Executed.{IsExecutedOver, IsFinishedOver}
+use Rattle.std.specs.List.{All, remove}
+use Rattle.program_run.specs.Executed.{IsExecutedOver}
 use Rattle.program_run.specs.declared.run.Finished.{Finished}
 use Rattle.program_run.specs.Runs.{RunView}
 use Rattle.scope_verifier.specs.declared.acceptance.Verified.{Verified}
 use Rattle.object_lock.specs.Fresh.{AreNumbered, IsFreshMover}
 use Rattle.object_lock.specs.SeatViews.{SeatView, TableView}
 use Rattle.pointer_word.specs.Asked.{HasNothing}
+use Rattle.pointer_word.specs.Hands.{Hand}
 use Rattle.region.specs.Admission.{image_at}
 use Rattle.task_queue.specs.Queues.{QueueView}
 use Rattle.task_queue.specs.Tasked.{IsTask}
 use Rattle.task_queue.specs.declared.rule.Roster.{Roster}
 use Rattle.executor.specs.Ends.{AreEnds, AreFiled, AreFinished, AreSame, IsDone, IsEndOf, IsSeatOf, end_of}
 use Rattle.executor.specs.declared.workers.Done.{Done}
-
-zip_more : {A B : Type 0} (R : A → B → Type 0) (xs : List A) (ys : List B) (x : A) (y : B) → length ys < length xs → x ≡ slice_index_or xs (length ys) x → AllZip R (take (length ys) xs) ys → R x y → AllZip R (take (suc (length ys)) xs) (ys ++ y ∷ [])
-zip_more R [] ys x y l at h r = absurd (omega arith)
-zip_more R (a ∷ xs) [] x y l at h r = (subst (λ b. R b y) at r, tt)
-zip_more R (a ∷ xs) (b ∷ ys) x y l at h r = (h.0, zip_more R xs ys x y (omega arith) at h.1 r)
 
 -- what is done and what is left, with one more done
 pub more : {A : Type 0} (done left rest all : List A) (x : A) → done ++ left ≡ all → left ≡ x ∷ rest → (done ++ x ∷ []) ++ rest ≡ all
@@ -66,42 +59,35 @@ numbered_at zero a (d ∷ ds) rest x e = absurd (let no : ⊥ = cc e in no)
 numbered_at (suc n) a [] rest x e = (heads _ _ _ _ e ∙ sym (omega arith), omega arith)
 numbered_at (suc n) a (d ∷ ds) rest x e = let later = numbered_at n (a + 1) ds rest x (tails _ _ _ _ e) in let number = later.0 in let low = later.1 in (omega arith, omega arith)
 
--- a fresh seat has nothing in hand
+-- a fresh seat has nothing in hand, and has done nothing
 pub seat_is_free : {W C : Type 0} (t : TableView) (s : SeatView W C) → IsFreshMover t s → IsSeatOf t s
-seat_is_free t s fresh = let hand = fresh.0.1 in (fresh.0.0, subst HasNothing (sym hand) (refl, refl, (refl, refl)))
+seat_is_free t s fresh = let hand = fresh.0.1 in (fresh.0.0, subst HasNothing (sym hand) (refl, refl, (refl, refl)), ap (λ (x : Hand). x.past) hand)
 
 -- how many there are
 pub numbered_count : {W C : Type 0} (a n : ℕ) (seats : List (SeatView W C)) → AreNumbered a n seats → length seats ≡ n
 numbered_count a n seats e = sym (length-map seats (λ s. s.view.number)) ∙ ap length e ∙ length-range_with_len a n
 
--- the program of a number, and its image
-pub image_there : (programs : List Verified) (k : ℕ) → k < length programs → (v : Verified) × (v ≡ slice_index_or programs k v) × (image_at programs k ≡ image_of v.image)
-image_there [] k low = absurd (omega arith)
-image_there (v ∷ vs) zero low = (v, refl, refl)
-image_there (v ∷ vs) (suc k) low = image_there vs k (omega arith)
+-- what holds of the elements at each place, and of one more
+pub each_more : {A : Type 0} (P : ℕ → A → Type 0) (xs : List A) (x : A) → ((k : ℕ) (e : A) → slice_get xs k ≡ Some e → P k e) → P (length xs) x → (k : ℕ) (e : A) → slice_get (xs ++ x ∷ []) k ≡ Some e → P k e
+each_more P [] x all last zero e at = let same : x ≡ e = cc at in subst (P 0) same last
+each_more P [] x all last (suc k) e at = absurd (let no : ⊥ = cc at in no)
+each_more P (d ∷ ds) x all last zero e at = all zero e at
+each_more P (d ∷ ds) x all last (suc k) e at = each_more (λ j. P (suc j)) ds x (λ j f there. all (suc j) f there) last k e at
 
--- ends so far, and one more
-pub ends_more : (honest reliable : Type 0) (objects : ℕ) (programs : List Verified) (ends new : List Finished) (e : Finished) → length ends < length programs → new ≡ ends ++ e ∷ []
-    → AreFinished honest reliable objects (take (length ends) programs) ends → (honest → IsFinishedOver reliable objects (image_at programs (length ends)) e)
-    → AreFinished honest reliable objects (take (length new) programs) new
-ends_more honest reliable objects programs ends new e low is h f =
-    let there = image_there programs (length ends) low in
-    let n : suc (length ends) ≡ length new = omega (arith, ap length is, length-append ends (e ∷ [])) in
-    let this : honest → IsFinishedOver reliable objects (image_of there.0.image) e = λ good. subst (λ C. IsFinishedOver reliable objects C e) there.2 (f good) in
-    subst (λ (k : ℕ × List Finished). AreFinished honest reliable objects (take k.0 programs) k.1) (λ i. (n i, sym is i)) (zip_more (λ v e. honest → IsFinishedOver reliable objects (image_of v.image) e) programs ends there.0 e low there.1 h this)
-
--- the ends of all programs
-pub ends_all : (honest reliable : Type 0) (objects k : ℕ) (programs : List Verified) (ends : List Finished) → k ≡ length programs → AreFinished honest reliable objects (take k programs) ends → AreFinished honest reliable objects programs ends
-ends_all honest reliable objects k programs ends e b =
-    let whole : take k programs ≡ programs = ap (λ n. take n programs) e ∙ take-length programs in
-    subst (λ vs. AreFinished honest reliable objects vs ends) whole b
+-- there is none yet
+pub none_there : {A : Type 0} (P : Type 0) (k : ℕ) (e : A) → slice_get [] k ≡ Some e → P
+none_there P k e at = absurd (let no : ⊥ = cc at in no)
 
 -- ends that are told with numbers are ends
+ends_from : (honest reliable : Type 0) (objects : ℕ) (programs : List Verified) (all : List Finished) → length all ≡ length programs
+    → ((k : ℕ) (e : Finished) → slice_get all k ≡ Some e → honest → IsExecutedOver reliable objects (image_at programs k) e.end) → AreEnds honest reliable objects programs (map end_of all)
+ends_from honest reliable objects [] [] count each = tt
+ends_from honest reliable objects [] (f ∷ fs) count each = absurd (let no : ⊥ = omega arith in no)
+ends_from honest reliable objects (v ∷ vs) [] count each = absurd (let no : ⊥ = omega arith in no)
+ends_from honest reliable objects (v ∷ vs) (f ∷ fs) count each = (λ good. each 0 f refl good, ends_from honest reliable objects vs fs (omega arith) (λ k e at. each (suc k) e at))
+
 pub ends_alone : (honest reliable : Type 0) (objects : ℕ) (programs : List Verified) (all : List Finished) → AreFinished honest reliable objects programs all → AreEnds honest reliable objects programs (map end_of all)
-ends_alone honest reliable objects [] [] h = h
-ends_alone honest reliable objects [] (f ∷ fs) h = h
-ends_alone honest reliable objects (v ∷ vs) [] h = h
-ends_alone honest reliable objects (v ∷ vs) (f ∷ fs) h = (λ good. (h.0 good).executed, ends_alone honest reliable objects vs fs h.1)
+ends_alone honest reliable objects programs all h = ends_from honest reliable objects programs all h.count (λ k e at good. (h.each k e at good).executed)
 
 -- what is read of places of which one was filled
 set_at : (places : List (Option Finished)) (n k : ℕ) (end e : Finished) → slice_get (set places n (Some end)) k ≡ Some (Some e) → ((k ≡ n) × (end ≡ e)) ⊎ (slice_get places k ≡ Some (Some e))
@@ -164,10 +150,3 @@ mapped_more f done x ends new is pushed = pushed ∙ ap (λ l. l ++ f x ∷ []) 
 -- ... and of all, where nothing is left
 pub mapped_all : {A B : Type 0} (f : A → B) (done left all : List A) (ends : List B) → done ++ left ≡ all → length left ≡ 0 → ends ≡ map f done → ends ≡ map f all
 mapped_all f done left all ends e is made = made ∙ ap (map f) (none done left all e is)
-
--- as many ends as programs
-pub as_many : (honest reliable : Type 0) (objects : ℕ) (programs : List Verified) (all : List Finished) → AreFinished honest reliable objects programs all → length all ≡ length programs
-as_many honest reliable objects [] [] h = refl
-as_many honest reliable objects [] (f ∷ fs) h = absurd h
-as_many honest reliable objects (v ∷ vs) [] h = absurd h
-as_many honest reliable objects (v ∷ vs) (f ∷ fs) h = ap suc (as_many honest reliable objects vs fs h.1)

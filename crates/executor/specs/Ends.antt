@@ -1,10 +1,11 @@
 -- How all programs of a region end.
-use Rattle.std.specs.Prelude.{◌≡◌, ℕ, ◌<◌, ◌≤◌, ◌+◌, IfSome, List, Option, Some, None, length, slice_index_or, slice_get}
+use Rattle.std.specs.Prelude.{◌≡◌, ℕ, ◌<◌, ◌≤◌, ◌+◌, IfSome, List, [], Option, Some, None, length, slice_index_or, slice_get}
 use Rattle.std.specs.List.{All, AllZip}
 use Rattle.cells.specs.declared.ending.Ended.{Ended}
 use Rattle.code_form.specs.Form.{image_of}
 use Rattle.object_lock.specs.SeatViews.{IsSeat, SeatView, TableView}
 use Rattle.pointer_word.specs.Asked.{HasNothing}
+use Rattle.program_run.specs.Acting.{owned_by}
 use Rattle.program_run.specs.Executed.{IsExecutedOver, IsFinishedOver}
 use Rattle.program_run.specs.declared.run.Finished.{Finished}
 use Rattle.program_run.specs.Runs.{RunView}
@@ -15,9 +16,9 @@ use Rattle.task_queue.specs.Tasked.{IsTask}
 use Rattle.task_queue.specs.declared.rule.Roster.{Roster}
 use Rattle.executor.specs.declared.workers.Done.{Done}
 
--- a seat of the table, with empty hands
+-- a seat of the table, with empty hands, that has done nothing as a mover yet
 abbrev pub IsSeatOf : {W C : Type 0} → TableView → SeatView W C → Type 0
-IsSeatOf t s = IsSeat t s × HasNothing s.view.hand
+IsSeatOf t s = IsSeat t s × HasNothing s.view.hand × (s.view.hand.past ≡ [])
 
 -- how many tasks these are
 abbrev pub in_hand : Option RunView → ℕ
@@ -26,7 +27,7 @@ in_hand (Some t) = 1
 
 -- an end is that of program k of the roster, where the store is honest
 abbrev pub IsEndOf : Type 0 → Type 0 → Roster → ℕ → Finished → Type 0
-IsEndOf honest reliable r k e = honest → IsFinishedOver reliable r.objects (image_at r.programs k) e
+IsEndOf honest reliable r k e = honest → IsFinishedOver reliable (owned_by k r.objects) (image_at r.programs k) e
 
 -- an end is that of the program of its number
 abbrev pub IsDone : Type 0 → Type 0 → Roster → Done → Type 0
@@ -60,9 +61,10 @@ pub record AreSame (old new : List QueueView) : Type 0 where
 abbrev pub AreEnds : Type 0 → Type 0 → ℕ → List Verified → List Ended → Type 0
 AreEnds honest reliable objects = AllZip (λ v e. honest → IsExecutedOver reliable objects (image_of v.image) e)
 
--- The same of ends that are told with the number of calls that were refused through each program's own port
-abbrev pub AreFinished : Type 0 → Type 0 → ℕ → List Verified → List Finished → Type 0
-AreFinished honest reliable objects = AllZip (λ v e. honest → IsFinishedOver reliable objects (image_of v.image) e)
+-- The same of ends that are told with the number of calls that were refused through each program's own port, and with what each program's session did at the program's seat
+pub record AreFinished (honest reliable : Type 0) (objects : ℕ) (programs : List Verified) (ends : List Finished) : Type 0 where
+  pub count : length ends ≡ length programs
+  pub each : (k : ℕ) (e : Finished) → slice_get ends k ≡ Some e → honest → IsFinishedOver reliable (owned_by k objects) (image_at programs k) e
 
 -- the end that is told with a number
 abbrev pub end_of : Finished → Ended

@@ -34,7 +34,7 @@ const YIELDS: u32 = 64;
 /// How long a mover or a worker sleeps, in microseconds.
 const SLEEP_MICROS: u64 = 1_000;
 
-/// An evacuator at its seat, which goes round the frames like the hand of a clock. Its hands are empty.
+/// An evacuator at its seat, which goes round the frames like the hand of a clock. Its hands are empty, and all that it did are rounds.
 #[derive(Drop)]
 pub(crate) struct SeatedEvacuator<'a, S: RawStore> {
     region: &'a Region<S>,
@@ -46,6 +46,7 @@ pub(crate) struct SeatedEvacuator<'a, S: RawStore> {
 }
 
 impl<'a, S: RawStore> Model for SeatedEvacuator<'a, S> {
+    ghost use Rattle.evacuator.specs.Rounds.{HasMadeRounds};
     ghost use Rattle.object_lock.specs.SeatViews.{IsSeat};
     ghost use Rattle.pointer_word.specs.Asked.{HasNothing};
     ghost use Rattle.std.specs.Prelude.{ℕ};
@@ -54,10 +55,10 @@ impl<'a, S: RawStore> Model for SeatedEvacuator<'a, S> {
 
     ghost view = { λ e. e.number };
 
-    ghost invariant = { λ e. IsSeat e.region.now.table e.seat × HasNothing e.seat.view.hand };
+    ghost invariant = { λ e. IsSeat e.region.now.table e.seat × HasNothing e.seat.view.hand × HasMadeRounds e.seat.view.hand.past };
 }
 
-/// A fetcher at its seat, with its pass of the hints. Its hands are empty.
+/// A fetcher at its seat, with its pass of the hints. Its hands are empty, and all that it did it did with hints.
 #[derive(Drop)]
 pub(crate) struct SeatedFetcher<'a, S: RawStore> {
     region: &'a Region<S>,
@@ -69,6 +70,7 @@ pub(crate) struct SeatedFetcher<'a, S: RawStore> {
 }
 
 impl<'a, S: RawStore> Model for SeatedFetcher<'a, S> {
+    ghost use Rattle.fetcher.specs.Serving.{HasServed};
     ghost use Rattle.object_lock.specs.SeatViews.{IsSeat};
     ghost use Rattle.pointer_word.specs.Asked.{HasNothing};
     ghost use Rattle.std.specs.Prelude.{◌≡◌, ℕ};
@@ -77,7 +79,7 @@ impl<'a, S: RawStore> Model for SeatedFetcher<'a, S> {
 
     ghost view = { λ f. f.number };
 
-    ghost invariant = { λ f. IsSeat f.region.now.table f.seat × HasNothing f.seat.view.hand × (f.pass ≡ f.hints.now) × (f.hints.now.objects ≡ f.region.now.objects) };
+    ghost invariant = { λ f. IsSeat f.region.now.table f.seat × HasNothing f.seat.view.hand × (f.pass ≡ f.hints.now) × (f.hints.now.objects ≡ f.region.now.objects) × HasServed f.seat.view.hand.past };
 }
 
 /// An evacuator or a fetcher.

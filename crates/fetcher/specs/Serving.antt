@@ -1,12 +1,12 @@
 -- What a fetcher does with a hint, and what it leaves of its seat.
-use Rattle.std.specs.Prelude.{◌≡◌, ◌⊎◌, ℕ, ◌<◌, List, None}
+use Rattle.std.specs.Prelude.{◌≡◌, ◌⊎◌, ℕ, ◌<◌, List, [], ◌∷◌, ◌++◌, None}
 use Rattle.fetcher.specs.declared.served.Served.{Served}
 use Rattle.fetcher.specs.declared.served.Served.TheVariants as S
 use Rattle.object_lock.specs.SeatViews.{SeatView}
 use Rattle.object_lock.specs.Seats.{with_hand}
 use Rattle.object_moves.specs.Moving.{hand_arrived}
 use Rattle.object_moves.specs.Taken.{Refused}
-use Rattle.pointer_word.specs.Hands.{Hand, bringing, claiming, retreating, unclaiming}
+use Rattle.pointer_word.specs.Hands.{Arrived, Began, Claimed, Hand, Move, Retreated, Unclaimed, bringing, claiming, retreating, unclaiming}
 
 -- the hand of a mover that began the object o, was promised these words of its berth, and gave it up
 abbrev pub hand_given_up : Hand → ℕ → List ℕ → Hand
@@ -46,3 +46,24 @@ module _ {W C : Type 0} where
   ServesOne reliable objects s t S.Dropped = (o : ℕ) × (o < objects) × Serves reliable o s t S.Dropped
   ServesOne reliable objects s t S.Brought = (o : ℕ) × (o < objects) × Serves reliable o s t S.Brought
   ServesOne reliable objects s t S.Failed = (o : ℕ) × (o < objects) × Serves reliable o s t S.Failed
+
+-- what a fetcher did with an object that it began: it gave the object up, or the object and the frame that it had claimed; or it brought the object into that frame
+pub data Service : Type 0 where
+  GivesUp : (object : ℕ) → Service
+  ReadsNothing : (object frame : ℕ) → Service
+  BringsTo : (object frame : ℕ) → Service
+
+-- what it did then by calls that had their effect, in order, but the fills
+abbrev pub moves_for : Service → List Move
+moves_for (GivesUp o) = Began o ∷ Retreated ∷ []
+moves_for (ReadsNothing o f) = Began o ∷ Claimed f ∷ Unclaimed ∷ Retreated ∷ []
+moves_for (BringsTo o f) = Began o ∷ Claimed f ∷ Arrived ∷ []
+
+-- the same of services, one behind the other
+abbrev pub moves_serving : List Service → List Move
+moves_serving [] = []
+moves_serving (x ∷ xs) = moves_for x ++ moves_serving xs
+
+-- all that a seat has done is what it did with hints, one behind the other
+abbrev pub HasServed : List Move → Type 0
+HasServed past = (xs : List Service) × (past ≡ moves_serving xs)

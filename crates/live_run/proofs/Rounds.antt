@@ -10,7 +10,7 @@ use Rattle.live_run.specs.Lives.{IsOverUnless, IsSame, Shows}
 
 -- the same program, and still
 pub same_still : (p q r : RunView) → IsSame p q → IsSame q r → IsSame p r
-same_still p q r first then = (then.0 ∙ first.0, then.1 ∙ first.1, then.2 ∙ first.2)
+same_still p q r first then = (then.0 ∙ first.0, then.1 ∙ first.1, then.2 ∙ first.2, then.3 ∙ first.3)
 
 -- a beginning, and what stands behind it
 whole_of : (p q : List ℕ) → IsPrefix p q → p ++ drop (length p) q ≡ q

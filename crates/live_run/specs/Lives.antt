@@ -12,9 +12,9 @@ use Rattle.streams.specs.Streams.{IsQuiet, NoneFailed, OneFailed, Writes}
 use Rattle.live_run.specs.declared.live.LiveError.{LiveError}
 use Rattle.live_run.specs.declared.live.LiveError.TheVariants as live
 
--- it is the same program of the same region, with as many objects
+-- it is the same program of the same region, with the same objects
 abbrev pub IsSame : RunView → RunView → Type 0
-IsSame p q = (q.programs ≡ p.programs) × (q.number ≡ p.number) × (q.objects ≡ p.objects)
+IsSame p q = (q.programs ≡ p.programs) × (q.number ≡ p.number) × (q.first ≡ p.first) × (q.objects ≡ p.objects)
 
 -- a program's run is over, where it does not go on
 abbrev pub IsOverUnless : Bool → RunView → Type 0

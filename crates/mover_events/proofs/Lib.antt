@@ -1,4 +1,5 @@
 mod Beginning
+mod Lives
 mod Marking
 pub mod Serving
 pub mod Visiting

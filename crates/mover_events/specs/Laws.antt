@@ -1,12 +1,12 @@
 -- What movers did on threads is what their actors do in events.
 use Rattle.std.specs.Prelude.{◌≡◌, ℕ, List, Option, None}
 use Rattle.pointer_word.specs.Asked.{HasNothing}
-use Rattle.pointer_word.specs.Hands.{Hand, Move}
+use Rattle.pointer_word.specs.Hands.{Hand, Move, empty_handed}
 use Rattle.world_semantics.specs.declared.event.Choice.{Choice}
 use Rattle.world_semantics.specs.Turns.{Answer, Turn, evacuator_turn, fetcher_turn}
 use Rattle.evacuator.specs.declared.counts.Round.{Round}
-use Rattle.evacuator.specs.Rounds.{Visits}
-use Rattle.fetcher.specs.Serving.{hand_given_up, hand_released, hand_served}
+use Rattle.evacuator.specs.Rounds.{HasMadeRounds, Visits}
+use Rattle.fetcher.specs.Serving.{HasServed, hand_given_up, hand_released, hand_served}
 use Rattle.mover_events.specs.Going.{Event, Goes}
 
 -- an idle actor with nothing in hand comes to this past by some events, and is idle with nothing in hand then
@@ -23,3 +23,9 @@ ServesAreEvents = (n m o f : ℕ) (x : Hand) (words : List ℕ) (filled : List (
     DoesByEvents n m (fetcher_turn n m) x (hand_given_up x o words).past
     × DoesByEvents n m (fetcher_turn n m) x (hand_released x o f words).past
     × DoesByEvents n m (fetcher_turn n m) x (hand_served x o f words filled).past
+
+-- so does an evacuator all that it did by its rounds, and a fetcher all that it did with hints, from its beginning on, where it had nothing in hand and had done nothing
+abbrev pub LivesAreEvents : Type 0
+LivesAreEvents = (n m : ℕ) (past : List Move) →
+    (HasMadeRounds past → DoesByEvents n m (evacuator_turn n m) empty_handed past)
+    × (HasServed past → DoesByEvents n m (fetcher_turn n m) empty_handed past)

@@ -1,5 +1,5 @@
 -- What a session did in turns, one behind the other.
-use Rattle.std.proofs.Common.{◌≡◌, ◌∙◌, ◌⊎◌, inl, inr, ℕ, List, [], ◌∷◌, Option, Some, None, subst, sym}
+use Rattle.std.proofs.Common.{◌∙◌, inl, inr, List, [], ◌∷◌, Some, None, subst, sym}
 use Rattle.cells.specs.declared.ending.Run.{Run}
 use Rattle.cells.specs.declared.ending.Run.TheVariants.{Running, Stopped, Wanted}
 use Rattle.cells.specs.declared.ending.Want.{Want}
@@ -10,7 +10,7 @@ use Rattle.code_form.specs.declared.touch.Touch.TheVariants as touch
 use Rattle.remote_store.specs.Refusing.{no_refusals}
 use Rattle.session.specs.Performing.{Acts, ComesToWant, LosesAt, PerformsBy, PerformsSome}
 use Rattle.session.specs.State.{SameProgram, State, begin}
-use Rattle.program_run.specs.Acting.{HasActed, IsActedOver}
+use Rattle.program_run.specs.Acting.{HasActed, IsActedOver, Owned}
 use Rattle.program_run.specs.declared.run.Finished.{Finished}
 
 -- instructions were completed, and then others
@@ -63,14 +63,16 @@ acts_less r q s t (Stopped x) less d = d
 acts_less r q s t (Wanted w) less d = (d.0, d.1, record { safe = d.2.safe; going = d.2.going; came = comes_less r q w d.0 t less d.2.came })
 
 -- what a session did over a store it did over one of which less is asked
-pub acted_less : (r q : Type 0) (objects : ℕ) (C : Image) (f : Finished) → (q → r) → IsActedOver r objects C f → IsActedOver q objects C f
-acted_less r q objects C f less a =
+pub acted_less : (r q : Type 0) (w : Owned) (C : Image) (f : Finished) → (q → r) → IsActedOver r w C f → IsActedOver q w C f
+acted_less r q w C f less a =
     let s = begin C a.acted.0 no_refusals in
     record {
       last = a.last;
       acted = (a.acted.0, a.acted.1, a.acted.2, acts_less r q s a.last f.end.run less a.acted.3);
       core = a.core;
       cells = a.cells;
+      mover = a.mover;
+      first = a.first;
       share = a.share;
       printed = a.printed;
       completed = a.completed;

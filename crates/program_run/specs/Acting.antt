@@ -1,5 +1,5 @@
 -- What the session of a program did from its beginning on.
-use Rattle.std.specs.Prelude.{◌≡◌, ◌+◌, ℕ, replicate}
+use Rattle.std.specs.Prelude.{◌≡◌, ◌+◌, ◌-◌, ◌*◌, ℕ, suc, replicate}
 use Rattle.cells.specs.declared.ending.Run.{Run}
 use Rattle.code_form.specs.Form.{Image}
 use Rattle.code_form.specs.Effects.{code_run}
@@ -11,6 +11,20 @@ use Rattle.session.specs.Performing.{Acts}
 use Rattle.session.specs.State.{SameProgram, State, begin}
 use Rattle.program_run.specs.declared.run.Finished.{Finished}
 
+-- which program of a region one is, where its own objects begin, and how many they are
+pub record Owned : Type 0 where
+  pub program : ℕ
+  pub first : ℕ
+  pub objects : ℕ
+
+-- program k of a region, each of whose programs has so many objects
+abbrev pub owned_by : ℕ → ℕ → Owned
+owned_by k objects = record { program = k; first = k * objects; objects = objects }
+
+-- that of this seat
+abbrev pub owned_at : View → Owned
+owned_at v = record { program = v.number - 1; first = v.low; objects = v.high - v.low }
+
 -- the seat has stored nothing, and has no holds and nothing in hand
 abbrev pub IsUnused : View → Type 0
 IsUnused v = (v.hand ≡ empty_handed) × (v.notes ≡ replicate v.sizes.objects blank)
@@ -20,14 +34,16 @@ IsUnused v = (v.hand ≡ empty_handed) × (v.notes ≡ replicate v.sizes.objects
 abbrev pub HasActed : Type 0 → Image → State → Run → Type 0
 HasActed reliable C t r = (v : View) × IsUnused v × SameProgram (begin C v no_refusals) t × Acts reliable (begin C v no_refusals) t r
 
--- What is told of a program's end is what its session came to in all its turns, at a seat with so many objects
-pub record IsActedOver (reliable : Type 0) (objects : ℕ) (C : Image) (f : Finished) : Type 0 where
+-- What is told of a program's end is what its session came to in all its turns, at the seat of this program and with these objects
+pub record IsActedOver (reliable : Type 0) (w : Owned) (C : Image) (f : Finished) : Type 0 where
   -- where the session was then
   pub last : State
   pub acted : HasActed reliable C last f.end.run
   pub core : last.core ≡ (code_run (code C) f.end.completed).0
   pub cells : last.view.sizes.cells ≡ C.piece
-  pub share : last.view.high ≡ last.view.low + objects
+  pub mover : last.view.number ≡ suc w.program
+  pub first : last.view.low ≡ w.first
+  pub share : last.view.high ≡ last.view.low + w.objects
   pub printed : f.end.output.items ≡ output_of last.core
   pub completed : f.end.completed ≡ last.completed
   pub refusals : f.refusals ≡ last.refusals

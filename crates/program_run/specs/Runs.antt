@@ -7,24 +7,29 @@ use Rattle.session.specs.State.{CompletesUpTo, IsAt, IsGoing, State}
 use Rattle.remote_store.specs.Refusing.{no_refusals}
 use Rattle.remote_store.specs.declared.port.Refusals.{Refusals}
 use Rattle.scope_verifier.specs.declared.acceptance.Verified.{Verified}
-use Rattle.program_run.specs.Acting.{HasActed}
+use Rattle.program_run.specs.Acting.{HasActed, Owned}
 use Rattle.program_run.specs.Executed.{HasRefused, IsOver}
 use Rattle.program_run.specs.declared.run.Turn.{Turn}
 use Rattle.program_run.specs.declared.run.Turn.TheVariants as turn
 
--- a program that is run: the programs of its region, its number, how many objects it has, how many instructions it completed, what was refused through its own port, what it printed, and whether its run is over
+-- a program that is run: the programs of its region, its number, where its objects begin and how many they are, how many instructions it completed, what was refused through its own port, what it printed, and whether its run is over
 pub record RunView : Type 0 where
   pub programs : List Verified
   pub number : ℕ
+  pub first : ℕ
   pub objects : ℕ
   pub completed : ℕ
   pub refusals : Refusals
   pub printed : List ℕ
   pub over : Bool
 
--- the program of this number with so many objects, at its beginning
-abbrev pub begun : List Verified → ℕ → ℕ → RunView
-begun programs k n = record { programs = programs; number = k; objects = n; completed = 0; refusals = no_refusals; printed = []; over = false }
+-- this one of these programs, at its beginning
+abbrev pub begun : List Verified → Owned → RunView
+begun programs w = record { programs = programs; number = w.program; first = w.first; objects = w.objects; completed = 0; refusals = no_refusals; printed = []; over = false }
+
+-- which program it is, with which objects
+abbrev pub owned_of : RunView → Owned
+owned_of p = record { program = p.number; first = p.first; objects = p.objects }
 
 -- What became of a program's turn of n instructions: nothing was done; or they were completed, and it goes on, with no call refused; or its run is over, after
 -- at most so many more. What it printed then is told by itself

@@ -5,9 +5,9 @@ ghost use Rattle.cells.specs.declared.ending.Want.TheVariants.{OutOfMemory, Stor
 ghost use Rattle.cells.specs.Outcomes.{IsPrefix};
 ghost use Rattle.code_form.specs.Code.{output_of};
 ghost use Rattle.object_lock.specs.Fresh.{IsFresh};
-ghost use Rattle.program_run.specs.Acting.{HasActed};
+ghost use Rattle.program_run.specs.Acting.{HasActed, owned_at};
 ghost use Rattle.program_run.specs.Executed.{HasRefused, HasRunOn, IsFinishedOver};
-ghost use Rattle.program_run.specs.Runs.{HasTurned, begun};
+ghost use Rattle.program_run.specs.Runs.{HasTurned, begun, owned_of};
 ghost use Rattle.region.specs.Admission.{image_at};
 ghost use Rattle.remote_store.specs.Refusing.{no_refusals};
 ghost use Rattle.session.specs.State.{IsAt, IsGoing, SameProgram};
@@ -81,8 +81,8 @@ pub struct Finished {
     pub counts: Counts,
 }
 
-/// A program of a region that is run to its end at its seat. A contract sees the region's programs, the number of this one, how many objects it has, how many
-/// instructions it completed, what was refused through its own port, what it printed, and whether its run is over.
+/// A program of a region that is run to its end at its seat. A contract sees the region's programs, the number of this one, where its objects begin and how many they are, how
+/// many instructions it completed, what was refused through its own port, what it printed, and whether its run is over.
 #[derive(Drop)]
 pub struct ProgramRun<'a, S: RawStore> {
     region: &'a Region<S>,
@@ -97,16 +97,17 @@ impl<'a, S: RawStore> Model for ProgramRun<'a, S> {
     ghost use Rattle.code_form.specs.Code.{output_of};
     ghost use Rattle.program_run.specs.Runs.{IsOnRun, RunView, is_over};
     ghost use Rattle.region.specs.Admission.{image_at};
-    ghost use Rattle.std.specs.Prelude.{◌≡◌, ◌-◌, ◌<◌, length};
+    ghost use Rattle.std.specs.Prelude.{◌≡◌, ◌-◌, ◌<◌, length, suc};
 
     ghost Value = { RunView };
 
-    ghost view = { λ p. record { programs = p.region.now.programs; number = p.number; objects = p.session.view.high - p.session.view.low; completed = p.session.completed; refusals = p.session.refusals; printed = output_of p.session.core; over = is_over p.run } };
+    ghost view = { λ p. record { programs = p.region.now.programs; number = p.number; first = p.session.view.low; objects = p.session.view.high - p.session.view.low; completed = p.session.completed; refusals = p.session.refusals; printed = output_of p.session.core; over = is_over p.run } };
 
     ghost invariant = { λ p.
         IsOnRun S.honest S.reliable p.session p.run
         × (p.number < length p.region.now.programs)
-        × (p.session.image ≡ image_at p.region.now.programs p.number) };
+        × (p.session.image ≡ image_at p.region.now.programs p.number)
+        × (p.session.view.number ≡ suc p.number) };
 }
 
 impl<'a, S: RawStore> ProgramRun<'a, S> {
@@ -124,7 +125,7 @@ impl<'a, S: RawStore> ProgramRun<'a, S> {
         requires program { (0 < seat.view.number) × (seat.view.number ≤ length region.now.programs) }
         requires pass { pass ≡ hints.now }
         requires cells { region.now.table.sizes.cells ≡ (image_at region.now.programs (seat.view.number - 1)).piece }
-        ensures begun { IfOk result (λ p. p ≡ begun region.now.programs (seat.view.number - 1) (seat.view.high - seat.view.low)) }
+        ensures begun { IfOk result (λ p. p ≡ begun region.now.programs (owned_at seat.view)) }
         ensures wants { IfErr result (λ want. want ≡ OutOfMemory) }
     {
         // For the proof alone: there are at most 256 programs.
@@ -192,11 +193,11 @@ impl<'a, S: RawStore> ProgramRun<'a, S> {
     }
 
     /// What it printed, how it ended, and how many instructions it completed: over an honest store those of the code's run, and what its session came to by what it did,
-    /// instruction by instruction, in all its turns. Beside it, what was refused through its own port to the store: over an honest store one call where it wants the store, and
+    /// instruction by instruction, in all its turns, at its seat. Beside it, what was refused through its own port to the store: over an honest store one call where it wants the store, and
     /// else none.
     pub fn into_finished(self) -> Finished
         requires over { self.over ≡ true }
-        ensures end { S.honest → IsFinishedOver S.reliable self.entry.objects (image_at self.entry.programs self.entry.number) result }
+        ensures end { S.honest → IsFinishedOver S.reliable (owned_of self.entry) (image_at self.entry.programs self.entry.number) result }
         ensures refusals { result.refusals ≡ self.entry.refusals }
         ensures printed { result.end.output.items ≡ self.entry.printed }
         ensures completed { result.end.completed ≡ self.entry.completed }

@@ -5,26 +5,26 @@ use Rattle.cells.specs.declared.ending.Run as ending
 use Rattle.cells.specs.declared.ending.Run.TheVariants as Run
 use Rattle.cells.specs.declared.ending.Want.{Want}
 use Rattle.cells.specs.declared.ending.Want.TheVariants.{NoObjects, OutOfMemory, StoreFailed}
-use Rattle.code_form.specs.Code.{Core, effect, is_blocked, output_of, stop_of}
+use Rattle.code_form.specs.Code.{Core, effect, is_blocked, output_of}
 use Rattle.code_form.specs.Form.{Image}
 use Rattle.code_form.specs.Touches.{touch_of}
 use Rattle.code_form.specs.declared.touch.Cell.{Cell}
 use Rattle.code_form.specs.declared.touch.Touch.{Touch}
 use Rattle.code_form.specs.declared.touch.Touch.TheVariants as touch
-use Rattle.pointer_word.specs.Hands.{Hand, Note, blank, empty_handed}
+use Rattle.pointer_word.specs.Hands.{Hand, Note, blank}
 use Rattle.object_lock.specs.Seats.{View}
 use Rattle.remote_store.specs.Refusing.{no_refusals}
 use Rattle.remote_store.specs.declared.port.Refusals.{Refusals}
 use Rattle.session.specs.declared.hold.Hold as own
-use Rattle.session.specs.Keeping.{IsNext, cleared, finished, shut_at, wants}
-use Rattle.session.specs.Performing.{Acts, HoldsWanted, LosesAt, Performs, PerformsBy, WantsNext, shut_all, writing_by}
+use Rattle.session.specs.Keeping.{IsNext, cleared, shut_at, wants}
+use Rattle.session.specs.Performing.{Acts, HoldsWanted, LosesAt, Performs, PerformsBy, WantsNext, shut_all}
 use Rattle.session.specs.State as session
-use Rattle.program_run.specs.Acting.{IsUnused}
+use Rattle.program_run.specs.Acting.{IsUnused, Owned}
 use Rattle.program_run.specs.Executed.{EndsAs, HasRefused, IsFinishedOver}
 use Rattle.program_run.specs.declared.run.Finished.{Finished}
-use Rattle.world_semantics.specs.Programs.{Mode, Program, Ready, Wanted}
-use Rattle.session_events.specs.Knowing.{Known}
-use Rattle.session_events.specs.Laws.{DoesByEvents, EndsByEvents, IsAtEnd, IsKnown, mode_of, program_of, setting_of, unused}
+use Rattle.world_semantics.specs.Programs.{Setting, Wanted, begun}
+use Rattle.session_events.specs.Knowing.{Goes}
+use Rattle.session_events.specs.Laws.{DoesByEvents, EndsByEvents, IsAtEnd, IsKnown, mode_of, program_of, setting_of, setting_with, unused}
 use Rattle.session_events.proofs.Ending.{first_stays, shut_stays}
 use Rattle.session_events.proofs.Instructions.{all}
 use Rattle.session_events.proofs.Wanting.{runs}
@@ -186,30 +186,31 @@ knows_unused v is = record {
   notes = λ o mine. sym (ap (λ (ns : List Note). slice_index_or ns o blank) is.1 ∙ note_blank v.sizes.objects o);
 }
 
-pub told : (reliable : Type 0) (objects : ℕ) (C : Image) (f : Finished) → IsFinishedOver reliable objects C f → EndsByEvents objects C f
-told reliable objects C f is =
+pub told : (reliable : Type 0) (w : Owned) (C : Image) (f : Finished) → IsFinishedOver reliable w C f → EndsByEvents (setting_with w C) f
+told reliable w C f is =
     let a = is.acted in
     let t : session.State = a.last in
     let v : View = a.acted.0 in
     let s : session.State = session.begin C v no_refusals in
     let same = a.acted.2 in
     let refused : HasRefused f.end.run t.refusals = subst (HasRefused f.end.run) a.refusals is.own in
-    let ends : EndsAs reliable objects C t.core f.end.run = subst (λ (c : Core). EndsAs reliable objects C c f.end.run) (sym a.core) is.executed.ends in
-    let end = comes_to reliable objects C s t refl refl same.0 f.end.run a.acted.3 ends refused in
+    let ends : EndsAs reliable w.objects C t.core f.end.run = subst (λ (c : Core). EndsAs reliable w.objects C c f.end.run) (sym a.core) is.executed.ends in
+    let end = comes_to reliable w.objects C s t refl refl same.0 f.end.run a.acted.3 ends refused in
     let q : session.State = end.0 in
     let by = end.1 unused (knows_unused v a.acted.1) in
     let low : t.view.low ≡ v.low = same.1 in
     let high : t.view.high ≡ v.high = same.2 in
-    let share = a.share in
+    let made : ℕ → ℕ → ℕ → ℕ → Setting = λ size base limit mover. record { size = size; base = base; limit = limit; mover = mover; image = C } in
+    let cells : v.sizes.cells ≡ C.piece = sym (ap (λ (x : View). x.sizes.cells) same.3) ∙ a.cells in
+    let behind : v.high ≡ w.first + w.objects = sym high ∙ a.share ∙ ap (λ n. n + w.objects) a.first in
+    let mover : v.number ≡ suc w.program = sym (ap (λ (x : View). x.number) same.3) ∙ a.mover in
+    let here : setting_of s ≡ setting_with w C =
+    ap (λ n. made n v.low v.high v.number) cells ∙ ap (λ n. made C.piece n v.high v.number) (sym low ∙ a.first) ∙ ap (λ n. made C.piece w.first n v.number) behind ∙ ap (made C.piece w.first (w.first + w.objects)) mover in
     record {
-      setting = setting_of s;
-      image = refl;
-      size = sym (ap (λ (w : View). w.sizes.cells) same.3) ∙ a.cells;
-      share = omega arith;
       events = by.0;
       program = program_of q;
       known = by.1;
-      goes = by.2;
+      goes = subst (λ (g : Setting). Goes g (begun C) unused by.0 (program_of q) by.1) here by.2;
       ended = end.2;
       completed = end.4 ∙ sym a.completed;
       printed = ap output_of end.3 ∙ sym a.printed;

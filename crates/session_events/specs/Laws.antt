@@ -1,5 +1,5 @@
 -- What sessions did on threads is what their programs do in events.
-use Rattle.std.specs.Prelude.{◌≡◌, ◌≢◌, ◌⊎◌, ◌+◌, ℕ, List, map, Option, Some, None}
+use Rattle.std.specs.Prelude.{◌≡◌, ◌≢◌, ◌⊎◌, ◌+◌, ℕ, suc, List, map, Option, Some, None}
 use Rattle.cells.specs.declared.ending.Run as ending
 use Rattle.cells.specs.declared.ending.Run.TheVariants as Run
 use Rattle.cells.specs.declared.ending.Want.{Want}
@@ -15,6 +15,7 @@ use Rattle.object_lock.specs.Seats.{Owns, View, note}
 use Rattle.session.specs.declared.hold.Hold as own
 use Rattle.session.specs.Performing.{Acts, PerformsSome}
 use Rattle.session.specs.State as session
+use Rattle.program_run.specs.Acting.{Owned}
 use Rattle.program_run.specs.Executed.{IsFinishedOver}
 use Rattle.program_run.specs.declared.run.Finished.{Finished}
 use Rattle.world_semantics.specs.declared.hold.Hold.{Hold}
@@ -72,22 +73,21 @@ IsAtEnd C q (Run.Wanted NoObjects) = q.mode ≡ Wanted NoObjects
 IsAtEnd C q (Run.Wanted OutOfMemory) = (q.mode ≡ Wanted OutOfMemory) ⊎ ((q.mode ≡ Ready) × (touch_of (effect C q.core) ≡ Ends))
 IsAtEnd C q (Run.Wanted StoreFailed) = q.mode ≡ Wanted StoreFailed
 
--- The end that is told of a program of this image, with so many objects, is that to which its program comes in a world, from its beginning on, by some events
-pub record EndsByEvents (objects : ℕ) (C : Image) (f : Finished) : Type 0 where
-  -- what the program runs on there
-  pub setting : Setting
-  pub image : setting.image ≡ C
-  pub size : setting.size ≡ C.piece
-  pub share : setting.limit ≡ setting.base + objects
+-- what a program of this image runs on in a world, which is this one of its programs, with these objects
+abbrev pub setting_with : Owned → Image → Setting
+setting_with w C = record { size = C.piece; base = w.first; limit = w.first + w.objects; mover = suc w.program; image = C }
+
+-- The end that is told of a program is that to which the program that runs on this comes in a world, from its beginning on, by some events
+pub record EndsByEvents (g : Setting) (f : Finished) : Type 0 where
   pub events : List Event
   -- where the program is at last, and what its seat knows then
   pub program : Program
   pub known : Known
-  pub goes : Goes setting (begun C) unused events program known
-  pub ended : IsAtEnd C program f.end.run
+  pub goes : Goes g (begun g.image) unused events program known
+  pub ended : IsAtEnd g.image program f.end.run
   pub completed : program.completed ≡ f.end.completed
   pub printed : output_of program.core ≡ f.end.output.items
 
 -- so is each end that is told of a program that was run on threads, over an honest store
 abbrev pub EndsAreEvents : Type 0 → Type 0
-EndsAreEvents reliable = (objects : ℕ) (C : Image) (f : Finished) → IsFinishedOver reliable objects C f → EndsByEvents objects C f
+EndsAreEvents reliable = (w : Owned) (C : Image) (f : Finished) → IsFinishedOver reliable w C f → EndsByEvents (setting_with w C) f

@@ -1,5 +1,5 @@
 -- The rule of the queue of tasks.
-use Rattle.std.specs.Prelude.{◌≡◌, ◌⊎◌, ◌<◌, ◌+◌, ℕ, List, [], ◌∷◌, Option, Some, None, All, length, false}
+use Rattle.std.specs.Prelude.{◌≡◌, ◌⊎◌, ◌<◌, ◌+◌, ◌*◌, ℕ, List, [], ◌∷◌, Option, Some, None, All, length, false}
 use mathlib.Core.Option.{some}
 use lib.ListN.{get_elem?}
 use Rattle.program_run.specs.Runs.{RunView}
@@ -32,11 +32,12 @@ roster_or_none (Some r) = r
 abbrev pub roster_in : KnowsRoster → Roster
 roster_in v = roster_or_none v.roster
 
--- A task is a program of the roster, which it names by its number, and has not ended. That it stands where the run of its image's code is, is so of each
--- program that is run
+-- A task is a program of the roster, which it names by its number, with the objects that are that program's, and has not ended. That it stands where the run of its
+-- image's code is, is so of each program that is run
 pub record IsTask (r : Roster) (p : RunView) : Type 0 where
   pub of : roster_of p ≡ r
   pub named : p.number < length r.programs
+  pub placed : p.first ≡ p.number * r.objects
   pub going : p.over ≡ false
 
 -- all passes know this roster

@@ -1,13 +1,13 @@
 use Rattle.std.proofs.Common.{◌≡◌, ◌/◌, List, arith, length, subst, sym}
 use Rattle.cells.specs.declared.ending.Ended.{Ended}
 use Rattle.executor.specs.Ends.{AreEnds}
-use Rattle.executor.proofs.Composed.{as_many, ends_alone}
+use Rattle.executor.proofs.Composed.{ends_alone}
 use Rattle.executor.proofs.all.run_all.Goals as goal
 
 pub without_numbers-requires-clause-room : goal.without_numbers-requires-clause-room
 without_numbers-requires-clause-room g c =
     let programs = c.args.programs.items in
-    let many = as_many g.S.RawStore.honest g.S.RawStore.reliable (c.args.config.objects / length programs) programs c.in_ok-counted.counted.programs.items c.in_ok-counted.ensures.ends in
+    let many : length c.in_ok-counted.counted.programs.items ≡ length programs = c.in_ok-counted.ensures.ends.count in
     let room = c.in-Ok.ensures.capacity in
     let count = c.len.ensures in
     omega arith

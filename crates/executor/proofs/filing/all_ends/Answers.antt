@@ -1,7 +1,8 @@
-use Rattle.std.proofs.Common.{rules, arith, ◌≡◌, ◌∙◌, ◌<◌, ◌++◌, ◌∷◌, [], Some, ap, length, length-append, slice_get, sym}
-use Rattle.std.proofs.lemmas.Option.{slice_get_within}
+use Rattle.std.proofs.Common.{rules, arith, ◌≡◌, ◌∙◌, ◌++◌, ◌∷◌, [], ℕ, Some, ap, length, length-append, slice_get, sym}
 use Rattle.std.specs.Vec.Iter.{into_iter_items}
-use Rattle.executor.proofs.Composed.{ends_more, more, place_there}
+use Rattle.program_run.specs.declared.run.Finished.{Finished}
+use Rattle.executor.specs.Ends.{IsEndOf}
+use Rattle.executor.proofs.Composed.{each_more, more, none, none_there, place_there}
 use Rattle.executor.proofs.filing.all_ends.Goals as goal
 
 pub loop-place-preserved : goal.loop-place-preserved
@@ -13,15 +14,11 @@ loop-place-preserved g c =
     let left = into_iter_items c.loop-place.place-iterator in
     let rest = into_iter_items c.next.new.self in
     let ends = c.loop-place.ends.items in
-    let new = c.push_reserved.new.self.items in
-    let programs = c.args.queue.now.roster.programs in
+    let Ends : ℕ → Finished → Type 0 = IsEndOf h r c.args.queue.now.roster in
     let before = c.loop-place.invariant in
     let took : left ≡ c.in-Some.place ∷ rest = search rules in
     let there = place_there done rest all c.in-Some.place (ap (λ l. done ++ l) (sym took) ∙ before.2) in
     let at : slice_get all (length ends) ≡ Some (Some c.in-Some-place.end) = ap (slice_get all) (sym before.3) ∙ there ∙ ap Some c.in-Some-place.is in
-    let within = slice_get_within all (length ends) (Some c.in-Some-place.end) at in
-    let count = c.requires.filed.count in
-    let low : length ends < length programs = omega arith in
     let pushed = c.push_reserved.ensures.items in
     let same = before.3 in
     let room = before.4 in
@@ -35,5 +32,19 @@ loop-place-preserved g c =
       more done left rest all c.in-Some.place before.2 took,
       omega arith,
       omega arith,
-      ends_more h r c.args.queue.now.roster.objects programs ends new c.in-Some-place.end low pushed before.5 (c.requires.filed.each (length ends) c.in-Some-place.end at),
+      λ k e there. each_more Ends ends c.in-Some-place.end before.5 (c.requires.filed.each (length ends) c.in-Some-place.end at) k e (ap (λ l. slice_get l k) (sym pushed) ∙ there),
     )
+
+-- all places were read
+pub returns : goal.returns
+returns g c =
+    let read = none c.loop-place.yielded (into_iter_items c.loop-place.place-iterator) c.args.places.items c.loop-place.invariant.2 (search rules) in
+    record { count = sym c.loop-place.invariant.3 ∙ ap length read ∙ c.requires.filed.count; each = c.loop-place.invariant.5 }
+
+pub loop-place-init : goal.loop-place-init
+loop-place-init g c =
+    let gives = c.into_iter-place-iterator.ensures.into_iter_gives.0 in
+    let long = ap length gives in
+    let empty = c.requires.empty in
+    let room = c.requires.room in
+    (tt, tt, gives, search rules, search rules, λ k e at. none_there (IsEndOf g.S.RawStore.honest g.S.RawStore.reliable c.args.queue.now.roster k e) k e (ap (λ l. slice_get l k) (sym empty.1) ∙ at))

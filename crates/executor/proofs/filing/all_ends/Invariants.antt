@@ -1,6 +1,7 @@
-use Rattle.std.proofs.Common.{◌≡◌, ◌+◌, ◌++◌, ◌≤◌, length, take, vec_capacity, vec_len}
+use Rattle.std.proofs.Common.{◌≡◌, ◌+◌, ◌++◌, ◌≤◌, ℕ, Some, length, slice_get, vec_capacity, vec_len}
 use Rattle.std.specs.Vec.Iter.{into_iter_items}
-use Rattle.executor.specs.Ends.{AreFinished}
+use Rattle.program_run.specs.declared.run.Finished.{Finished}
+use Rattle.executor.specs.Ends.{IsEndOf}
 use Rattle.executor.proofs.filing.all_ends.Given as goal
 
 -- the ends so far
@@ -10,4 +11,4 @@ invariant-loop-place g l =
     × (l.yielded ++ into_iter_items l.place-iterator ≡ l.fn.places.items)
     × (length l.yielded ≡ length l.ends.items)
     × (vec_len l.ends + length (into_iter_items l.place-iterator) ≤ vec_capacity l.ends)
-    × AreFinished g.S.RawStore.honest g.S.RawStore.reliable l.queue.roster.objects (take (length l.ends.items) l.queue.roster.programs) l.ends.items
+    × ((k : ℕ) (e : Finished) → slice_get l.ends.items k ≡ Some e → IsEndOf g.S.RawStore.honest g.S.RawStore.reliable l.queue.roster k e)

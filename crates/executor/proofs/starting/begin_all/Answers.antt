@@ -1,4 +1,4 @@
-use Rattle.std.proofs.Common.{rules, arith, ◌≡◌, ◌∙◌, ◌+◌, ◌++◌, ◌-◌, ◌<◌, ◌∷◌, [], ap, length, length-append, subst, sym}
+use Rattle.std.proofs.Common.{rules, arith, ◌≡◌, ◌∙◌, ◌+◌, ◌*◌, ◌++◌, ◌-◌, ◌<◌, ◌∷◌, [], ap, length, length-append, subst, sym}
 use Rattle.std.proofs.lemmas.List.Elements.{All-push}
 use Rattle.std.specs.List.{All}
 use Rattle.std.specs.Vec.Iter.{into_iter_items}
@@ -88,6 +88,7 @@ loop-seat-preserved g c =
     let task : IsTask (roster c.args.region.now.programs share) run = record {
       of = ap roster_of is ∙ ap (roster c.args.region.now.programs) many;
       named = subst (λ k. k < n) (sym (ap (λ (p : RunView). p.number) is)) place;
+      placed = ap (λ (p : RunView). p.first) is ∙ fresh.1 ∙ ap (λ (p : RunView). p.number * share) (sym is);
       going = ap (λ (p : RunView). p.over) is;
     } in
     let longer = length-append c.loop-seat.yielded (seat ∷ []) in

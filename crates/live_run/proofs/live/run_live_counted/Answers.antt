@@ -13,8 +13,8 @@ returns-clause-ends g c =
     let owners = c.in-Ok.ensures.owners in
     let w = writes g.O.Stream.contents g.O.Stream.failures c.args.out.now c.run_region.new.out in
     let alone = seat_alone region.table (length programs) (c.args.config.objects / length programs) c.in-Ok.admitted.1.items c.pop.new.self.items seat c.requires.one c.in-Some.ensures.items owners.0 owners.1 in
-    ends_alone (λ n C f. EndsLive g.S.RawStore.honest g.S.RawStore.reliable n C w f.end) c.args.config.objects programs region.programs seat.view.number seat.view.low seat.view.high c.run_region.result c.requires.one
-    c.in-Ok.ensures.region.0 alone.0 alone.1.2 c.run_region.ensures.ends
+    ends_alone (λ own C f. EndsLive g.S.RawStore.honest g.S.RawStore.reliable own.objects C w f.end) c.args.config.objects programs region.programs seat.view c.run_region.result c.requires.one c.in-Ok.ensures.region.0 alone.0 alone.1.1
+    alone.1.2 c.run_region.ensures.ends
 
 pub returns-clause-finished : goal.returns-clause-finished
 returns-clause-finished g c =
@@ -23,5 +23,5 @@ returns-clause-finished g c =
     let region = c.in-Ok.admitted.0 in
     let owners = c.in-Ok.ensures.owners in
     let alone = seat_alone region.table (length programs) (c.args.config.objects / length programs) c.in-Ok.admitted.1.items c.pop.new.self.items seat c.requires.one c.in-Some.ensures.items owners.0 owners.1 in
-    ends_alone (λ n C f. g.S.RawStore.honest → IsFinishedOver g.S.RawStore.reliable n C f) c.args.config.objects programs region.programs seat.view.number seat.view.low seat.view.high c.run_region.result c.requires.one
-    c.in-Ok.ensures.region.0 alone.0 alone.1.2 c.run_region.ensures.finished
+    ends_alone (λ own C f. g.S.RawStore.honest → IsFinishedOver g.S.RawStore.reliable own C f) c.args.config.objects programs region.programs seat.view c.run_region.result c.requires.one c.in-Ok.ensures.region.0 alone.0 alone.1.1
+    alone.1.2 c.run_region.ensures.finished

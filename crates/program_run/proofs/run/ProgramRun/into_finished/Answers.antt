@@ -1,4 +1,4 @@
-use Rattle.std.proofs.Common.{◌≡◌, ◌∙◌, ◌+◌, ◌-◌, ap, arith, subst, sym}
+use Rattle.std.proofs.Common.{◌≡◌, ◌∙◌, ◌+◌, ◌-◌, ap, arith, subst, suc, sym}
 use Rattle.remote_store.specs.Refusing.{no_refusals}
 use Rattle.program_run.specs.Acting.{HasActed}
 use Rattle.program_run.specs.Executed.{HasRefused}
@@ -28,6 +28,8 @@ returns-clause-end g c = λ honest.
         acted = subst (λ D. HasActed reliable D t c.self.inside.run) image here.acted;
         core = reached (image_at c.args.self.programs c.args.self.number) t c.completed-completed.result image (here.at honest) c.completed-completed.ensures;
         cells = here.cells ∙ ap (λ (D : Image). D.piece) image;
+        mover = ap (λ (s : State). s.view.number) same ∙ c.self.invariant.3 ∙ ap (λ (p : RunView). suc p.number) c.self.view_is;
+        first = ap (λ (s : State). s.view.low) same ∙ ap (λ (p : RunView). p.first) c.self.view_is;
         share = share;
         printed = c.into_output.ensures;
         completed = c.completed-completed.ensures;

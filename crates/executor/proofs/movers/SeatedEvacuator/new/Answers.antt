@@ -1,0 +1,5 @@
+use Rattle.evacuator.proofs.Visits.{no_rounds}
+use Rattle.executor.proofs.movers.SeatedEvacuator.new.Goals as goal
+
+pub invariant_of-result : goal.invariant_of-result
+invariant_of-result g c = (c.requires.seat.0, c.requires.seat.1, no_rounds c.args.seat.view.hand.past c.requires.seat.2)
