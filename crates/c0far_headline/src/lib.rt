@@ -68,8 +68,8 @@ pub fn headline_of_commands()
     wants();
 }
 
-/// Each end that the command `run` shows is that to which its program comes in a world by some events: what is promised over every list of events
-/// speaks of what was run on threads, program by program.
+/// Each end that the command `run` shows is that to which its program comes by some events, from its beginning on, with the number and the objects that it has in the world of
+/// all programs that are run. Each program has a list for itself: that these are parts of one is not told.
 pub fn events_of_commands()
     ensures { RunShowsEvents }
 {}

@@ -10,7 +10,7 @@ use Rattle.fetcher.specs.Serving.{BringsTo, GivesUp, HasServed, ReadsNothing, Se
 use Rattle.mover_events.specs.Going.{Event, Goes}
 use Rattle.mover_events.specs.Laws.{DoesByEvents}
 use Rattle.mover_events.proofs.Serving.{given_up, released, served}
-use Rattle.mover_events.proofs.Visiting.{all_visits}
+use Rattle.mover_events.proofs.Visiting.{by_rounds}
 
 -- some events, and then others
 goes_on : {A : Type 0} (n m : ℕ) (turn : A → Choice → Answer → Turn A) (d c e : A) (x y z : Hand) (vs ws : List Event) → Goes n m turn d x vs c y → Goes n m turn c y ws e z → Goes n m turn d x (vs ++ ws) e z
@@ -26,9 +26,7 @@ does_on n m turn x between after first then =
     (first.0 ++ then.0, then.1, goes_on n m turn None None None x first.1 then.1 first.0 then.0 first.2 then.2, then.3, then.4)
 
 pub all_rounds : (n m : ℕ) (past : List Move) → HasMadeRounds past → DoesByEvents n m (evacuator_turn n m) empty_handed past
-all_rounds n m past made =
-    let all = all_visits n m empty_handed made.1.visits (refl, refl, (refl, refl)) in
-    (all.0, all.1, all.2, all.3, all.4 ∙ sym made.1.did)
+all_rounds n m past made = by_rounds n m empty_handed past made.0 (refl, refl, (refl, refl)) made.1
 
 service : (n m : ℕ) (x : Hand) (w : Service) → HasNothing x → DoesByEvents n m (fetcher_turn n m) x (x.past ++ moves_for w)
 service n m x (GivesUp o) h = subst (λ ms. DoesByEvents n m (fetcher_turn n m) x ms) (past_given_up x o []) (given_up n m o x [] h)

@@ -1,5 +1,5 @@
 -- The events of visits, one behind the other.
-use Rattle.std.proofs.Common.{◌≡◌, ℕ, zero, suc, ◌+◌, ◌<◌, ◌≤◌, Bool, true, false, cond, List, [], ◌∷◌, ◌++◌, append_assoc, length, length-append, Option, Some, None, slice_index_or, refl, ap, ◌∙◌, subst, arith}
+use Rattle.std.proofs.Common.{◌≡◌, ℕ, zero, suc, ◌+◌, ◌<◌, ◌≤◌, Bool, true, false, cond, List, [], ◌∷◌, ◌++◌, append_assoc, length, length-append, Option, Some, None, slice_index_or, refl, sym, ap, ◌∙◌, subst, arith}
 use Rattle.std.specs.Prelude.{◌==◌}
 use Rattle.pointer_word.specs.Asked.{HasNothing}
 use Rattle.pointer_word.specs.Legal.{copied_below}
@@ -11,6 +11,8 @@ use Rattle.world_semantics.specs.declared.event.Choice.TheVariants as choice
 use Rattle.world_semantics.specs.Turns.{evacuator_turn}
 use Rattle.world_semantics.specs.Programs.{Copying, Eviction, Freed, NotStored, Refused, Stored}
 use Rattle.object_moves.specs.Visits.{LetsLeave, MovesOut, Visit, moves_at, moves_in}
+use Rattle.evacuator.specs.declared.counts.Round.{Round}
+use Rattle.evacuator.specs.Rounds.{Visits}
 use Rattle.mover_events.specs.Laws.{DoesByEvents}
 use Rattle.mover_events.proofs.Marking.{Reaches, aborts, aborts_unstored, and_then, commits, commits_in_vain, copies, leaves, marks, puts, puts_in_vain, releases, there, upd_same}
 
@@ -162,9 +164,14 @@ nothing_more : (ms : List Move) → ms ≡ ms ++ []
 nothing_more [] = refl
 nothing_more (m ∷ ms) = ap (λ l. m ∷ l) (nothing_more ms)
 
-pub all_visits : (n m : ℕ) (x : Hand) (ws : List Visit) → HasNothing x → DoesByEvents n m (evacuator_turn n m) x (x.past ++ moves_in ws)
+all_visits : (n m : ℕ) (x : Hand) (ws : List Visit) → HasNothing x → DoesByEvents n m (evacuator_turn n m) x (x.past ++ moves_in ws)
 all_visits n m x [] h = ([], x, (refl, refl), h, nothing_more x.past)
 all_visits n m x (w ∷ ws) h =
     let rest = all_visits n m (hand_behind n x w) ws (still_nothing n x w h) in
     let first = visit_then n m x rest.1 w h (rest.0, rest.2) in
     (first.0, rest.1, first.1, rest.3, rest.4 ∙ ap (λ ms. ms ++ moves_in ws) (past_behind n x w) ∙ append_assoc x.past (moves_at w) (moves_in ws))
+
+pub by_rounds : (n m : ℕ) (x : Hand) (after : List Move) (r : Round) → HasNothing x → Visits x.past after r → DoesByEvents n m (evacuator_turn n m) x after
+by_rounds n m x after r h v =
+    let all = all_visits n m x v.visits h in
+    (all.0, all.1, all.2, all.3, all.4 ∙ sym v.did)
