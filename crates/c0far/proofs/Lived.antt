@@ -11,7 +11,7 @@ use Rattle.executor.specs.Ends.{AreFinished}
 use Rattle.live_run.specs.Lives.{EndsLive, IsNotShown}
 use Rattle.live_run.specs.declared.live.LiveError.{LiveError}
 use Rattle.live_run.specs.declared.live.LiveError.TheVariants as live
-use Rattle.program_run.specs.Acting.{Owned, owned_by}
+use Rattle.program_run.specs.Acting.{Share, share_by}
 use Rattle.program_run.specs.Executed.{IsFinishedOver}
 use Rattle.program_run.specs.declared.run.Finished.{Finished}
 use Rattle.region.specs.Admission.{IsAdmitted, IsWithinWork, image_at}
@@ -53,25 +53,25 @@ lived_less h r s objects C w (Ok f) less ran = record { executed = λ honest. ex
 lived_less h r s objects C w (Err e) less ran = tt
 
 -- what its session did, likewise
-pub lived_fewer : (h r s : Type 0) (own : Owned) (C : Image) (x : Result Finished LiveError) → (s → r) → IfOk x (λ f. h → IsFinishedOver r own C f) → IfOk x (λ f. h → IsFinishedOver s own C f)
+pub lived_fewer : (h r s : Type 0) (own : Share) (C : Image) (x : Result Finished LiveError) → (s → r) → IfOk x (λ f. h → IsFinishedOver r own C f) → IfOk x (λ f. h → IsFinishedOver s own C f)
 lived_fewer h r s own C (Ok f) less ran = λ honest. finished_less r s own C f less (ran honest)
 lived_fewer h r s own C (Err e) less ran = tt
 
 -- the end of the one program, over a store that is honest and reliable in fewer cases
-ends_of_one : (h r g s : Type 0) (objects : ℕ) (programs : List Verified) (f : Finished) → length programs ≡ 1 → (g → h) → (g → s → r) → (h → IsFinishedOver r (owned_by 0 objects) (image_at programs 0) f)
+ends_of_one : (h r g s : Type 0) (objects : ℕ) (programs : List Verified) (f : Finished) → length programs ≡ 1 → (g → h) → (g → s → r) → (h → IsFinishedOver r (share_by 0 objects) (image_at programs 0) f)
     → AreFinished g s (objects / length programs) programs (f ∷ [])
 ends_of_one h r g s objects programs f one fewer less ran = record { count = sym one; each = told }
   where
-    told : (k : ℕ) (e : Finished) → slice_get (f ∷ []) k ≡ Some e → g → IsFinishedOver s (owned_by k (objects / length programs)) (image_at programs k) e
+    told : (k : ℕ) (e : Finished) → slice_get (f ∷ []) k ≡ Some e → g → IsFinishedOver s (share_by k (objects / length programs)) (image_at programs k) e
     told zero e at honest =
         let all : objects / length programs ≡ objects = ap (λ n. objects / n) one ∙ div-one objects in
         let same : f ≡ e = cc at in
-        subst (λ x. IsFinishedOver s (owned_by 0 (objects / length programs)) (image_at programs 0) x) same
-        (subst (λ n. IsFinishedOver s (owned_by 0 n) (image_at programs 0) f) (sym all) (finished_less r s (owned_by 0 objects) (image_at programs 0) f (less honest) (ran (fewer honest))))
+        subst (λ x. IsFinishedOver s (share_by 0 (objects / length programs)) (image_at programs 0) x) same
+        (subst (λ n. IsFinishedOver s (share_by 0 n) (image_at programs 0) f) (sym all) (finished_less r s (share_by 0 objects) (image_at programs 0) f (less honest) (ran (fewer honest))))
     told (suc k) e at honest = absurd (let no : ⊥ = cc at in no)
 
 ran_live : (h r honest : Type 0) (m : Memory) (programs : List Verified) (w : Writes) (f : Finished) → length programs ≡ 1 → (IsHonestIn honest m.store → h) → (IsHonestIn honest m.store → IsReliableIn m → r)
-    → EndsLive h r m.objects (image_at programs 0) w f.end → (h → IsFinishedOver r (owned_by 0 m.objects) (image_at programs 0) f) → RanLive honest m programs w f
+    → EndsLive h r m.objects (image_at programs 0) w f.end → (h → IsFinishedOver r (share_by 0 m.objects) (image_at programs 0) f) → RanLive honest m programs w f
 ran_live h r honest m programs w f one fewer less ran finished = record {
   executed = ends_of_one h r (IsHonestIn honest m.store) (IsReliableIn m) m.objects programs f one fewer less finished;
   printed = ran.shown.shown;
@@ -82,13 +82,13 @@ ran_live h r honest m programs w f one fewer less ran finished = record {
 
 -- a run over a store in memory
 pub lived_in_memory : (honest : Type 0) (m : Memory) (programs : List Verified) (w : Writes) (r : Result Finished LiveError) → length programs ≡ 1
-    → IfOk r (λ f. EndsLive (Unit {0}) (Unit {0} × (m.fail_from ≡ 0)) m.objects (image_at programs 0) w f.end) → IfOk r (λ f. Unit {0} → IsFinishedOver (Unit {0} × (m.fail_from ≡ 0)) (owned_by 0 m.objects) (image_at programs 0) f) → IfOk r (λ f. RanLive honest m programs w f)
+    → IfOk r (λ f. EndsLive (Unit {0}) (Unit {0} × (m.fail_from ≡ 0)) m.objects (image_at programs 0) w f.end) → IfOk r (λ f. Unit {0} → IsFinishedOver (Unit {0} × (m.fail_from ≡ 0)) (share_by 0 m.objects) (image_at programs 0) f) → IfOk r (λ f. RanLive honest m programs w f)
 lived_in_memory honest m programs w (Ok f) one ran own = ran_live _ _ honest m programs w f one (λ h. tt) (λ h reliable. (tt, reliable.1)) ran own
 lived_in_memory honest m programs w (Err e) one ran own = tt
 
 -- a run over a store in a folder
 pub lived_in_folder : (honest : Type 0) (m : Memory) (folder : List ℕ) (programs : List Verified) (w : Writes) (r : Result Finished LiveError) → length programs ≡ 1 → m.store ≡ Some folder
-    → IfOk r (λ f. EndsLive honest (⊥ × (m.fail_from ≡ 0)) m.objects (image_at programs 0) w f.end) → IfOk r (λ f. honest → IsFinishedOver (⊥ × (m.fail_from ≡ 0)) (owned_by 0 m.objects) (image_at programs 0) f) → IfOk r (λ f. RanLive honest m programs w f)
+    → IfOk r (λ f. EndsLive honest (⊥ × (m.fail_from ≡ 0)) m.objects (image_at programs 0) w f.end) → IfOk r (λ f. honest → IsFinishedOver (⊥ × (m.fail_from ≡ 0)) (share_by 0 m.objects) (image_at programs 0) f) → IfOk r (λ f. RanLive honest m programs w f)
 lived_in_folder honest m folder programs w (Ok f) one is ran own =
     ran_live _ _ honest m programs w f one (λ h. subst (IsHonestIn honest) is h) (λ h reliable. absurd (let no : ⊥ = cc (reliable.0, is) in no)) ran own
 lived_in_folder honest m folder programs w (Err e) one is ran own = tt

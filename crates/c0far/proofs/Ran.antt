@@ -11,7 +11,7 @@ use Rattle.command_line.specs.Shell.{Memory}
 use Rattle.executor.specs.Ends.{AreFinished}
 use Rattle.executor.specs.declared.counts.Counted.{Counted}
 use Rattle.program_run.proofs.Acting.{acted_less}
-use Rattle.program_run.specs.Acting.{Owned, owned_by}
+use Rattle.program_run.specs.Acting.{Share, share_by}
 use Rattle.program_run.specs.Executed.{EndsAs, IsExecutedOver, IsFinishedOver}
 use Rattle.program_run.specs.declared.run.Finished.{Finished}
 use Rattle.region.specs.Admission.{IsAdmitted, IsDenied, IsRefused, IsWithinWork, image_at}
@@ -32,14 +32,14 @@ pub executed_less : (r s : Type 0) (objects : ℕ) (C : Image) (e : Ended) → (
 executed_less r s objects C e less h = record { going = h.going; few = h.few; output = h.output; ends = ends_less r s objects C _ e.run less h.ends }
 
 -- ... and what its session did, and how many calls were refused, is the same
-pub finished_less : (r s : Type 0) (w : Owned) (C : Image) (f : Finished) → (s → r) → IsFinishedOver r w C f → IsFinishedOver s w C f
+pub finished_less : (r s : Type 0) (w : Share) (C : Image) (f : Finished) → (s → r) → IsFinishedOver r w C f → IsFinishedOver s w C f
 finished_less r s w C f less h = record { executed = executed_less r s w.objects C f.end less h.executed; own = h.own; acted = acted_less r s w C f less h.acted }
 
 -- a store that is honest and reliable in fewer cases
 ends_fewer : (h r g s : Type 0) (objects : ℕ) (programs : List Verified) (ends : List Finished) → (g → h) → (g → s → r) → AreFinished h r objects programs ends → AreFinished g s objects programs ends
 ends_fewer h r g s objects programs ends fewer less all = record {
   count = all.count;
-  each = λ k f at honest. finished_less r s (owned_by k objects) (image_at programs k) f (less honest) (all.each k f at (fewer honest));
+  each = λ k f at honest. finished_less r s (share_by k objects) (image_at programs k) f (less honest) (all.each k f at (fewer honest));
 }
 
 -- a run over a store in memory

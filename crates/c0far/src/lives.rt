@@ -3,7 +3,7 @@ ghost use Rattle.std.specs.Prelude.{◌≡◌, ◌+◌, ℕ, IfErr, IfOk, List, 
 ghost use Rattle.c0far.specs.Lives.{IsBroken, RanLive, RunsLive};
 ghost use Rattle.command_line.specs.Shell.{memory_of, started_of};
 ghost use Rattle.live_run.specs.Lives.{EndsLive, IsNotShown};
-ghost use Rattle.program_run.specs.Acting.{owned_by};
+ghost use Rattle.program_run.specs.Acting.{share_by};
 ghost use Rattle.program_run.specs.Executed.{IsFinishedOver};
 ghost use Rattle.region.specs.Admission.{IsAdmitted, IsWithinWork, image_at};
 ghost use Rattle.streams.specs.Streams.{writes};
@@ -41,7 +41,7 @@ fn live_with<W: Wait, M: Stores + Drop, O: Stream>(
     requires one { length programs.items ≡ 1 }
     requires makes { M.makes stores (first_piece (image_at programs.items) + 3) }
     ensures ended { IfOk result (λ f. EndsLive M.S.honest M.S.reliable asked.entry.memory.objects (image_at programs.items 0) (writes O.contents O.failures out.old out.new) f.end) }
-    ensures finished { IfOk result (λ f. M.S.honest → IsFinishedOver M.S.reliable (owned_by 0 asked.entry.memory.objects) (image_at programs.items 0) f) }
+    ensures finished { IfOk result (λ f. M.S.honest → IsFinishedOver M.S.reliable (share_by 0 asked.entry.memory.objects) (image_at programs.items 0) f) }
     ensures broken { IfErr result (λ error. IsBroken asked.entry programs.items (writes O.contents O.failures out.old out.new) error) }
 {
     let config = Config {
@@ -69,7 +69,7 @@ fn live_over<W: Wait, M: Stores + Drop, O: Stream>(
     requires one { length programs.items ≡ 1 }
     requires makes { M.makes stores (first_piece (image_at programs.items) + 3) }
     ensures ended { IfOk result (λ f. EndsLive M.S.honest (M.S.reliable × (asked.entry.memory.fail_from ≡ 0)) asked.entry.memory.objects (image_at programs.items 0) (writes O.contents O.failures out.old out.new) f.end) }
-    ensures finished { IfOk result (λ f. M.S.honest → IsFinishedOver (M.S.reliable × (asked.entry.memory.fail_from ≡ 0)) (owned_by 0 asked.entry.memory.objects) (image_at programs.items 0) f) }
+    ensures finished { IfOk result (λ f. M.S.honest → IsFinishedOver (M.S.reliable × (asked.entry.memory.fail_from ≡ 0)) (share_by 0 asked.entry.memory.objects) (image_at programs.items 0) f) }
     ensures broken { IfErr result (λ error. IsBroken asked.entry programs.items (writes O.contents O.failures out.old out.new) error) }
 {
     if asked.memory.fail_from == 0 {

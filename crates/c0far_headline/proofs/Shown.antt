@@ -8,7 +8,7 @@ use Rattle.c0_image.specs.Correct.{Behaves}
 use Rattle.c0_typed.specs.Trees.{Program as Typed}
 use Rattle.code_form.specs.Form.{Image, image_of}
 use Rattle.command_line.specs.Shell.{Started}
-use Rattle.program_run.specs.Acting.{owned_by}
+use Rattle.program_run.specs.Acting.{share_by}
 use Rattle.program_run.specs.Executed.{IsExecutedOver, IsFinishedOver}
 use Rattle.program_run.specs.declared.run.Finished.{Finished}
 use Rattle.region.specs.Admission.{image_at, image_by}
@@ -35,7 +35,7 @@ honest_in (Some folder) = tt
 -- each end that is shown is one of a program that was run
 module _ (asked : Started) (files : List Text) (held : Text → Known) (out err : Writes) (result : ℕ) (did : HasRun (Unit {0}) asked files held out err result) where
   finished_at : (k : ℕ) (f : Finished) → slice_get did.finished k ≡ Some f
-      → IsFinishedOver (IsReliableIn asked.memory) (owned_by k (asked.memory.objects / length did.programs)) (image_at did.programs k) f
+      → IsFinishedOver (IsReliableIn asked.memory) (share_by k (asked.memory.objects / length did.programs)) (image_at did.programs k) f
   finished_at k f too = did.executed.each k f too (honest_in asked.memory.store)
 
   -- its pieces are those of all programs
@@ -51,7 +51,7 @@ run_shows_events asked files held out err result did k f too =
     let C : Image = image_at did.programs k in
     let At : ℕ → Setting = λ size. record { size = size; base = k * n; limit = k * n + n; mover = suc k; image = C } in
     subst (λ size. EndsByEvents (At size) f) (piece_at asked files held out err result did k f too)
-    (told (IsReliableIn asked.memory) (owned_by k n) C f (finished_at asked files held out err result did k f too))
+    (told (IsReliableIn asked.memory) (share_by k n) C f (finished_at asked files held out err result did k f too))
 
 pub run_shows : Laws → RunShows
 run_shows laws asked files held out err result did k v f is too loops text checks cells meant compiled means =

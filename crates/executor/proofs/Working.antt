@@ -1,10 +1,10 @@
 -- What a worker keeps, call by call.
 use Rattle.std.proofs.Common.{◌≡◌, ◌<◌, ◌+◌, ◌*◌, ℕ, List, [], ◌∷◌, ◌++◌, Option, Some, None, MatchOption, ◌∙◌, ap, length, sym, subst, arith, true}
 use Rattle.std.proofs.lemmas.List.Elements.{All-push}
-use Rattle.program_run.specs.Acting.{owned_by}
+use Rattle.program_run.specs.Acting.{share_by}
 use Rattle.program_run.specs.Executed.{IsFinishedOver}
 use Rattle.program_run.specs.declared.run.Finished.{Finished}
-use Rattle.program_run.specs.Runs.{RunView, owned_of}
+use Rattle.program_run.specs.Runs.{RunView, share_in}
 use Rattle.region.specs.Admission.{image_at}
 use Rattle.task_queue.specs.Queues.{PassView, QueueView}
 use Rattle.task_queue.specs.Tasked.{IsTask, roster_of}
@@ -18,17 +18,17 @@ still_task r p q n t is = subst (IsTask r) (sym is) (record { of = t.of; named =
 
 -- the end of a task whose run is over is that of its program
 pub ended_task : (honest reliable : Type 0) (r : Roster) (p q : RunView) (k : ℕ) (e : Finished) → IsTask r p → q ≡ record p { completed = q.completed; refusals = q.refusals; printed = q.printed; over = true } → k ≡ q.number
-    → (honest → IsFinishedOver reliable (owned_of q) (image_at q.programs q.number) e) → IsDone honest reliable r (record { number = k; end = e })
+    → (honest → IsFinishedOver reliable (share_in q) (image_at q.programs q.number) e) → IsDone honest reliable r (record { number = k; end = e })
 ended_task honest reliable r p q k e t is same told =
     let of : roster_of q ≡ r = ap roster_of is ∙ t.of in
     let of_p : q.number ≡ p.number = ap (λ (x : RunView). x.number) is in
     let share : q.objects ≡ r.objects = ap (λ (s : Roster). s.objects) of in
     let first : q.first ≡ q.number * q.objects =
     ap (λ (x : RunView). x.first) is ∙ t.placed ∙ ap (λ n. n * r.objects) (sym of_p) ∙ ap (λ n. q.number * n) (sym share) in
-    let theirs : honest → IsFinishedOver reliable (owned_by q.number q.objects) (image_at q.programs q.number) e =
+    let theirs : honest → IsFinishedOver reliable (share_by q.number q.objects) (image_at q.programs q.number) e =
     λ good. subst (λ a. IsFinishedOver reliable (record { program = q.number; first = a; objects = q.objects }) (image_at q.programs q.number) e) first (told good) in (
       subst (λ n. n < length r.programs) (sym (same ∙ of_p)) t.named,
-      λ good. subst (λ (x : Roster × ℕ). IsFinishedOver reliable (owned_by x.1 x.0.objects) (image_at x.0.programs x.1) e) (λ i. (of i, sym same i)) (theirs good),
+      λ good. subst (λ (x : Roster × ℕ). IsFinishedOver reliable (share_by x.1 x.0.objects) (image_at x.0.programs x.1) e) (λ i. (of i, sym same i)) (theirs good),
     )
 
 module _ (honest reliable : Type 0) (q : QueueView) where

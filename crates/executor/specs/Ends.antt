@@ -5,7 +5,7 @@ use Rattle.cells.specs.declared.ending.Ended.{Ended}
 use Rattle.code_form.specs.Form.{image_of}
 use Rattle.object_lock.specs.SeatViews.{IsSeat, SeatView, TableView}
 use Rattle.pointer_word.specs.Asked.{HasNothing}
-use Rattle.program_run.specs.Acting.{owned_by}
+use Rattle.program_run.specs.Acting.{share_by}
 use Rattle.program_run.specs.Executed.{IsExecutedOver, IsFinishedOver}
 use Rattle.program_run.specs.declared.run.Finished.{Finished}
 use Rattle.program_run.specs.Runs.{RunView}
@@ -27,7 +27,7 @@ in_hand (Some t) = 1
 
 -- an end is that of program k of the roster, where the store is honest
 abbrev pub IsEndOf : Type 0 → Type 0 → Roster → ℕ → Finished → Type 0
-IsEndOf honest reliable r k e = honest → IsFinishedOver reliable (owned_by k r.objects) (image_at r.programs k) e
+IsEndOf honest reliable r k e = honest → IsFinishedOver reliable (share_by k r.objects) (image_at r.programs k) e
 
 -- an end is that of the program of its number
 abbrev pub IsDone : Type 0 → Type 0 → Roster → Done → Type 0
@@ -64,7 +64,7 @@ AreEnds honest reliable objects = AllZip (λ v e. honest → IsExecutedOver reli
 -- The same of ends that are told with the number of calls that were refused through each program's own port, and with what each program's session did at the program's seat
 pub record AreFinished (honest reliable : Type 0) (objects : ℕ) (programs : List Verified) (ends : List Finished) : Type 0 where
   pub count : length ends ≡ length programs
-  pub each : (k : ℕ) (e : Finished) → slice_get ends k ≡ Some e → honest → IsFinishedOver reliable (owned_by k objects) (image_at programs k) e
+  pub each : (k : ℕ) (e : Finished) → slice_get ends k ≡ Some e → honest → IsFinishedOver reliable (share_by k objects) (image_at programs k) e
 
 -- the end that is told with a number
 abbrev pub end_of : Finished → Ended

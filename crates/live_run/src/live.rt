@@ -1,7 +1,7 @@
 //! The run of one program, alone in its region.
 ghost use Rattle.live_run.specs.Lives.{EndsLive, IsLeft, IsNotShown};
 ghost use Rattle.object_lock.specs.Fresh.{IsFresh};
-ghost use Rattle.program_run.specs.Acting.{owned_at, owned_by};
+ghost use Rattle.program_run.specs.Acting.{share_at, share_by};
 ghost use Rattle.program_run.specs.Executed.{IsFinishedOver};
 ghost use Rattle.region.specs.Admission.{IsAdmitted, IsWithinWork, image_at};
 ghost use Rattle.std.specs.Prelude.{◌≡◌, ◌+◌, ◌-◌, ◌<◌, ◌≤◌, IfErr, IfOk, length};
@@ -45,7 +45,7 @@ fn run_region<S: RawStore, O: Stream, R: Wait>(
     requires program { (0 < seat.view.number) × (seat.view.number ≤ length region.now.programs) }
     requires cells { region.now.table.sizes.cells ≡ (image_at region.now.programs (seat.view.number - 1)).piece }
     ensures ends { IfOk result (λ f. EndsLive S.honest S.reliable (seat.view.high - seat.view.low) (image_at region.now.programs (seat.view.number - 1)) (writes O.contents O.failures out.old out.new) f.end) }
-    ensures finished { IfOk result (λ f. S.honest → IsFinishedOver S.reliable (owned_at seat.view) (image_at region.now.programs (seat.view.number - 1)) f) }
+    ensures finished { IfOk result (λ f. S.honest → IsFinishedOver S.reliable (share_at seat.view) (image_at region.now.programs (seat.view.number - 1)) f) }
     ensures left { IfErr result (λ error. IsLeft (writes O.contents O.failures out.old out.new) error) }
 {
     let Ok((hints, mut passes)) = Hints::new(alloc, region) else {
@@ -78,7 +78,7 @@ pub fn run_live_counted<S: RawStore, M: Stores<S = S> + Drop, O: Stream, R: Wait
     requires one { length programs.items ≡ 1 }
     requires makes { M.makes config.stores (piece_of (image_at programs.items) + 3) }
     ensures ends { IfOk result (λ f. EndsLive S.honest S.reliable config.objects (image_at programs.items 0) (writes O.contents O.failures out.old out.new) f.end) }
-    ensures finished { IfOk result (λ f. S.honest → IsFinishedOver S.reliable (owned_by 0 config.objects) (image_at programs.items 0) f) }
+    ensures finished { IfOk result (λ f. S.honest → IsFinishedOver S.reliable (share_by 0 config.objects) (image_at programs.items 0) f) }
     ensures admitted { IfOk result (λ _. IsAdmitted programs.items config.frames config.objects config.evacuators config.fetchers × IsWithinWork config.workers config.quantum) }
     ensures left { IfErr result (λ error. IsNotShown programs.items config.frames config.objects config.evacuators config.fetchers config.workers config.quantum (writes O.contents O.failures out.old out.new) error) }
 {

@@ -10,7 +10,7 @@ use Rattle.code_form.specs.declared.touch.Touch.TheVariants as touch
 use Rattle.remote_store.specs.Refusing.{no_refusals}
 use Rattle.session.specs.Performing.{Acts, ComesToWant, LosesAt, PerformsBy, PerformsSome}
 use Rattle.session.specs.State.{SameProgram, State, begin}
-use Rattle.program_run.specs.Acting.{HasActed, IsActedOver, Owned}
+use Rattle.program_run.specs.Acting.{HasActed, IsActedOver, Share}
 use Rattle.program_run.specs.declared.run.Finished.{Finished}
 
 -- instructions were completed, and then others
@@ -63,7 +63,7 @@ acts_less r q s t (Stopped x) less d = d
 acts_less r q s t (Wanted w) less d = (d.0, d.1, record { safe = d.2.safe; going = d.2.going; came = comes_less r q w d.0 t less d.2.came })
 
 -- what a session did over a store it did over one of which less is asked
-pub acted_less : (r q : Type 0) (w : Owned) (C : Image) (f : Finished) → (q → r) → IsActedOver r w C f → IsActedOver q w C f
+pub acted_less : (r q : Type 0) (w : Share) (C : Image) (f : Finished) → (q → r) → IsActedOver r w C f → IsActedOver q w C f
 acted_less r q w C f less a =
     let s = begin C a.acted.0 no_refusals in
     record {

@@ -12,18 +12,18 @@ use Rattle.session.specs.State.{SameProgram, State, begin}
 use Rattle.program_run.specs.declared.run.Finished.{Finished}
 
 -- which program of a region one is, where its own objects begin, and how many they are
-pub record Owned : Type 0 where
+pub record Share : Type 0 where
   pub program : ℕ
   pub first : ℕ
   pub objects : ℕ
 
 -- program k of a region, each of whose programs has so many objects
-abbrev pub owned_by : ℕ → ℕ → Owned
-owned_by k objects = record { program = k; first = k * objects; objects = objects }
+abbrev pub share_by : ℕ → ℕ → Share
+share_by k objects = record { program = k; first = k * objects; objects = objects }
 
 -- that of this seat
-abbrev pub owned_at : View → Owned
-owned_at v = record { program = v.number - 1; first = v.low; objects = v.high - v.low }
+abbrev pub share_at : View → Share
+share_at v = record { program = v.number - 1; first = v.low; objects = v.high - v.low }
 
 -- the seat has stored nothing, and has no holds and nothing in hand
 abbrev pub IsUnused : View → Type 0
@@ -35,7 +35,7 @@ abbrev pub HasActed : Type 0 → Image → State → Run → Type 0
 HasActed reliable C t r = (v : View) × IsUnused v × SameProgram (begin C v no_refusals) t × Acts reliable (begin C v no_refusals) t r
 
 -- What is told of a program's end is what its session came to in all its turns, at the seat of this program and with these objects
-pub record IsActedOver (reliable : Type 0) (w : Owned) (C : Image) (f : Finished) : Type 0 where
+pub record IsActedOver (reliable : Type 0) (w : Share) (C : Image) (f : Finished) : Type 0 where
   -- where the session was then
   pub last : State
   pub acted : HasActed reliable C last f.end.run

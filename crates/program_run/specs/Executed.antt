@@ -16,7 +16,7 @@ use Rattle.code_form.specs.declared.touch.Touch.TheVariants.{Allocs}
 use Rattle.remote_store.specs.Refusing.{no_refusals}
 use Rattle.remote_store.specs.declared.port.Refusals.{Refusals}
 use Rattle.session.specs.State.{Caused, CompletesUpTo, IsGoing, State}
-use Rattle.program_run.specs.Acting.{IsActedOver, Owned}
+use Rattle.program_run.specs.Acting.{IsActedOver, Share}
 use Rattle.program_run.specs.declared.run.Finished.{Finished}
 
 -- the next instruction allocates this many cells
@@ -79,7 +79,7 @@ HasRefused (Wanted StoreFailed) r = (r.count ≡ 1) × IsSome r.last
 
 -- The same of an end that is told with what was refused through the program's own port: one call was, exactly where the program wants the store. It is what its session came to
 -- by what it did, instruction by instruction, in all its turns, at the seat of this program and with these objects
-pub record IsFinishedOver (reliable : Type 0) (w : Owned) (C : Image) (f : Finished) : Type 0 where
+pub record IsFinishedOver (reliable : Type 0) (w : Share) (C : Image) (f : Finished) : Type 0 where
   pub executed : IsExecutedOver reliable w.objects C f.end
   pub own : HasRefused f.end.run f.refusals
   pub acted : IsActedOver reliable w C f

@@ -7,7 +7,7 @@ use Rattle.session.specs.State.{CompletesUpTo, IsAt, IsGoing, State}
 use Rattle.remote_store.specs.Refusing.{no_refusals}
 use Rattle.remote_store.specs.declared.port.Refusals.{Refusals}
 use Rattle.scope_verifier.specs.declared.acceptance.Verified.{Verified}
-use Rattle.program_run.specs.Acting.{HasActed, Owned}
+use Rattle.program_run.specs.Acting.{HasActed, Share}
 use Rattle.program_run.specs.Executed.{HasRefused, IsOver}
 use Rattle.program_run.specs.declared.run.Turn.{Turn}
 use Rattle.program_run.specs.declared.run.Turn.TheVariants as turn
@@ -24,12 +24,12 @@ pub record RunView : Type 0 where
   pub over : Bool
 
 -- this one of these programs, at its beginning
-abbrev pub begun : List Verified → Owned → RunView
+abbrev pub begun : List Verified → Share → RunView
 begun programs w = record { programs = programs; number = w.program; first = w.first; objects = w.objects; completed = 0; refusals = no_refusals; printed = []; over = false }
 
 -- which program it is, with which objects
-abbrev pub owned_of : RunView → Owned
-owned_of p = record { program = p.number; first = p.first; objects = p.objects }
+abbrev pub share_in : RunView → Share
+share_in p = record { program = p.number; first = p.first; objects = p.objects }
 
 -- What became of a program's turn of n instructions: nothing was done; or they were completed, and it goes on, with no call refused; or its run is over, after
 -- at most so many more. What it printed then is told by itself

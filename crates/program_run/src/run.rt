@@ -5,9 +5,9 @@ ghost use Rattle.cells.specs.declared.ending.Want.TheVariants.{OutOfMemory, Stor
 ghost use Rattle.cells.specs.Outcomes.{IsPrefix};
 ghost use Rattle.code_form.specs.Code.{output_of};
 ghost use Rattle.object_lock.specs.Fresh.{IsFresh};
-ghost use Rattle.program_run.specs.Acting.{HasActed, owned_at};
+ghost use Rattle.program_run.specs.Acting.{HasActed, share_at};
 ghost use Rattle.program_run.specs.Executed.{HasRefused, HasRunOn, IsFinishedOver};
-ghost use Rattle.program_run.specs.Runs.{HasTurned, begun, owned_of};
+ghost use Rattle.program_run.specs.Runs.{HasTurned, begun, share_in};
 ghost use Rattle.region.specs.Admission.{image_at};
 ghost use Rattle.remote_store.specs.Refusing.{no_refusals};
 ghost use Rattle.session.specs.State.{IsAt, IsGoing, SameProgram};
@@ -81,8 +81,8 @@ pub struct Finished {
     pub counts: Counts,
 }
 
-/// A program of a region that is run to its end at its seat. A contract sees the region's programs, the number of this one, where its objects begin and how many they are, how
-/// many instructions it completed, what was refused through its own port, what it printed, and whether its run is over.
+/// A program of a region that is run to its end at its seat. A contract sees the region's programs, the number of this one, where its objects begin and how many
+/// they are, how many instructions it completed, what was refused through its own port, what it printed, and whether its run is over.
 #[derive(Drop)]
 pub struct ProgramRun<'a, S: RawStore> {
     region: &'a Region<S>,
@@ -125,7 +125,7 @@ impl<'a, S: RawStore> ProgramRun<'a, S> {
         requires program { (0 < seat.view.number) × (seat.view.number ≤ length region.now.programs) }
         requires pass { pass ≡ hints.now }
         requires cells { region.now.table.sizes.cells ≡ (image_at region.now.programs (seat.view.number - 1)).piece }
-        ensures begun { IfOk result (λ p. p ≡ begun region.now.programs (owned_at seat.view)) }
+        ensures begun { IfOk result (λ p. p ≡ begun region.now.programs (share_at seat.view)) }
         ensures wants { IfErr result (λ want. want ≡ OutOfMemory) }
     {
         // For the proof alone: there are at most 256 programs.
@@ -167,8 +167,8 @@ impl<'a, S: RawStore> ProgramRun<'a, S> {
     }
 
     /// Asks the gate once whether the program may go, and where it may, runs it for `quantum` instructions, unless it stops or wants something: then the gate is
-    /// told so, once. It may wait. A program whose run is over stays as it is, and the gate is not asked; nor is it where 2^64 instructions would be completed. What it had
-    /// printed before begins what it has printed then.
+    /// told so, once. It may wait. A program whose run is over stays as it is, and the gate is not asked; nor is it where 2^64 instructions would be completed. What
+    /// it had printed before begins what it has printed then.
     pub fn turn<G: Gate, W: Wait>(&mut self, rt: &W, gate: &G, quantum: u64) -> Turn
         ensures turned { HasTurned quantum self.old self.new result }
         ensures grows { S.honest → IsPrefix self.old.printed self.new.printed }
@@ -193,11 +193,11 @@ impl<'a, S: RawStore> ProgramRun<'a, S> {
     }
 
     /// What it printed, how it ended, and how many instructions it completed: over an honest store those of the code's run, and what its session came to by what it did,
-    /// instruction by instruction, in all its turns, at its seat. Beside it, what was refused through its own port to the store: over an honest store one call where it wants the store, and
-    /// else none.
+    /// instruction by instruction, in all its turns, at its seat. Beside it, what was refused through its own port to the store: over an honest store one call where it
+    /// wants the store, and else none.
     pub fn into_finished(self) -> Finished
         requires over { self.over ≡ true }
-        ensures end { S.honest → IsFinishedOver S.reliable (owned_of self.entry) (image_at self.entry.programs self.entry.number) result }
+        ensures end { S.honest → IsFinishedOver S.reliable (share_in self.entry) (image_at self.entry.programs self.entry.number) result }
         ensures refusals { result.refusals ≡ self.entry.refusals }
         ensures printed { result.end.output.items ≡ self.entry.printed }
         ensures completed { result.end.completed ≡ self.entry.completed }

@@ -2,7 +2,7 @@ pub mod CountsOf
 pub mod Holding
 mod Laws
 mod Missing
-mod Opening
+pub mod Opening
 mod Performing
 pub mod Places
 mod Together

@@ -26,7 +26,7 @@ use Rattle.session.specs.Keeping.{IsBlank, IsHolding, IsNext, IsRun, IsSafe, IsS
 use Rattle.session.proofs.Laws.{Ended, Laws, ended}
 use Rattle.session.proofs.Running.{HeapLaws, live_session, next_run}
 
-at_all : {A : Type 0} (a : A) (n k : ℕ) → slice_index_or (replicate n a) k a ≡ a
+pub at_all : {A : Type 0} (a : A) (n k : ℕ) → slice_index_or (replicate n a) k a ≡ a
 at_all a zero k = refl
 at_all a (suc n) zero = refl
 at_all a (suc n) (suc k) = at_all a n k

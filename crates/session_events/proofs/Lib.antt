@@ -1,3 +1,4 @@
+mod Causes
 mod Losing
 mod Ready
 mod Fetching

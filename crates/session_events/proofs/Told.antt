@@ -1,5 +1,5 @@
 -- The events of a program that was run to its end.
-use Rattle.std.proofs.Common.{◌≡◌, ◌≢◌, ℕ, zero, suc, ◌+◌, Bool, true, false, cond, List, ◌∷◌, [], length, replicate, refl, sym, ap, ◌∙◌, subst, inl, inr, arith}
+use Rattle.std.proofs.Common.{◌≡◌, ◌≢◌, ℕ, suc, ◌+◌, Bool, true, false, cond, List, ◌∷◌, [], length, refl, sym, ap, ◌∙◌, subst, inl, inr, arith}
 use Rattle.std.specs.Prelude.{◌⊎◌, None, Option, Some, slice_index_or}
 use Rattle.cells.specs.declared.ending.Run as ending
 use Rattle.cells.specs.declared.ending.Run.TheVariants as Run
@@ -19,12 +19,14 @@ use Rattle.session.specs.declared.hold.Hold as own
 use Rattle.session.specs.Keeping.{IsNext, cleared, shut_at, wants}
 use Rattle.session.specs.Performing.{Acts, HoldsWanted, LosesAt, Performs, PerformsBy, WantsNext, shut_all}
 use Rattle.session.specs.State as session
-use Rattle.program_run.specs.Acting.{IsUnused, Owned}
+use Rattle.session.proofs.Opening.{at_all}
+use Rattle.program_run.specs.Acting.{IsUnused, Share}
 use Rattle.program_run.specs.Executed.{EndsAs, HasRefused, IsFinishedOver}
 use Rattle.program_run.specs.declared.run.Finished.{Finished}
 use Rattle.world_semantics.specs.Programs.{Setting, Wanted, begun}
 use Rattle.session_events.specs.Knowing.{Goes}
 use Rattle.session_events.specs.Laws.{DoesByEvents, EndsByEvents, IsAtEnd, IsKnown, mode_of, program_of, setting_of, setting_with, unused}
+use Rattle.session_events.proofs.Causes.{caused_since}
 use Rattle.session_events.proofs.Ending.{first_stays, shut_stays}
 use Rattle.session_events.proofs.Instructions.{all}
 use Rattle.session_events.proofs.Wanting.{runs}
@@ -173,20 +175,15 @@ module _ (reliable : Type 0) (objects : ℕ) (C : Image) (s t : session.State) (
       let kept = all_keep d.1.0 s d.0 d.1.1 in
       (t, runs reliable s t (Run.Wanted StoreFailed) d (λ e. never_halted reliable s d.0 t kept none d.2 refused) (λ e. absurd (let no : ⊥ = cc e in no)), ap mode_of (wanting reliable StoreFailed d.0 t d.2), refl, refl)
 
-note_blank : (n o : ℕ) → slice_index_or (replicate n blank) o blank ≡ blank
-note_blank zero o = refl
-note_blank (suc n) zero = refl
-note_blank (suc n) (suc o) = note_blank n o
-
 -- what an unused seat knows
 knows_unused : (v : View) → IsUnused v → IsKnown v unused
 knows_unused v is = record {
   nothing = (refl, refl, (refl, refl));
   past = sym (ap (λ (h : Hand). h.past) is.0);
-  notes = λ o mine. sym (ap (λ (ns : List Note). slice_index_or ns o blank) is.1 ∙ note_blank v.sizes.objects o);
+  notes = λ o mine. sym (ap (λ (ns : List Note). slice_index_or ns o blank) is.1 ∙ at_all blank v.sizes.objects o);
 }
 
-pub told : (reliable : Type 0) (w : Owned) (C : Image) (f : Finished) → IsFinishedOver reliable w C f → EndsByEvents (setting_with w C) f
+pub told : (reliable : Type 0) (w : Share) (C : Image) (f : Finished) → IsFinishedOver reliable w C f → EndsByEvents (setting_with w C) f
 told reliable w C f is =
     let a = is.acted in
     let t : session.State = a.last in
@@ -206,12 +203,14 @@ told reliable w C f is =
     let mover : v.number ≡ suc w.program = sym (ap (λ (x : View). x.number) same.3) ∙ a.mover in
     let here : setting_of s ≡ setting_with w C =
     ap (λ n. made n v.low v.high v.number) cells ∙ ap (λ n. made C.piece n v.high v.number) (sym low ∙ a.first) ∙ ap (λ n. made C.piece w.first n v.number) behind ∙ ap (made C.piece w.first (w.first + w.objects)) mover in
+    let goes : Goes (setting_with w C) (begun C) unused by.0 (program_of q) by.1 = subst (λ (g : Setting). Goes g (begun C) unused by.0 (program_of q) by.1) here by.2 in
     record {
       events = by.0;
       program = program_of q;
       known = by.1;
-      goes = subst (λ (g : Setting). Goes g (begun C) unused by.0 (program_of q) by.1) here by.2;
+      goes = goes;
       ended = end.2;
+      caused = λ want m. caused_since (setting_with w C) want (program_of q) by.1 by.0 goes m;
       completed = end.4 ∙ sym a.completed;
       printed = ap output_of end.3 ∙ sym a.printed;
     }

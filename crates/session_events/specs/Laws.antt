@@ -1,5 +1,5 @@
 -- What sessions did on threads is what their programs do in events.
-use Rattle.std.specs.Prelude.{◌≡◌, ◌≢◌, ◌⊎◌, ◌+◌, ℕ, suc, List, map, Option, Some, None}
+use Rattle.std.specs.Prelude.{◌≡◌, ◌≢◌, ◌⊎◌, ◌+◌, ◌++◌, ◌∷◌, ℕ, suc, List, map, Option, Some, None}
 use Rattle.cells.specs.declared.ending.Run as ending
 use Rattle.cells.specs.declared.ending.Run.TheVariants as Run
 use Rattle.cells.specs.declared.ending.Want.{Want}
@@ -11,15 +11,18 @@ use Rattle.code_form.specs.Touches.{touch_of}
 use Rattle.code_form.specs.declared.touch.Touch.TheVariants.{Ends}
 use Rattle.pointer_word.specs.Asked.{HasNothing}
 use Rattle.pointer_word.specs.Hands.{blank, empty_handed}
+use Rattle.pointer_word.specs.Machine.{State}
 use Rattle.object_lock.specs.Seats.{Owns, View, note}
 use Rattle.session.specs.declared.hold.Hold as own
 use Rattle.session.specs.Performing.{Acts, PerformsSome}
 use Rattle.session.specs.State as session
-use Rattle.program_run.specs.Acting.{Owned}
+use Rattle.program_run.specs.Acting.{Share}
 use Rattle.program_run.specs.Executed.{IsFinishedOver}
 use Rattle.program_run.specs.declared.run.Finished.{Finished}
 use Rattle.world_semantics.specs.declared.hold.Hold.{Hold}
+use Rattle.world_semantics.specs.Causes.{CauseOf, LeadsTo}
 use Rattle.world_semantics.specs.Programs.{Mode, Program, Ready, Setting, Wanted, begun}
+use Rattle.world_semantics.specs.Turns.{program_turn, taken}
 use Rattle.mover_events.specs.Going.{Event}
 use Rattle.session_events.specs.Knowing.{Goes, Known}
 
@@ -73,8 +76,23 @@ IsAtEnd C q (Run.Wanted NoObjects) = q.mode ≡ Wanted NoObjects
 IsAtEnd C q (Run.Wanted OutOfMemory) = (q.mode ≡ Wanted OutOfMemory) ⊎ ((q.mode ≡ Ready) × (touch_of (effect C q.core) ≡ Ends))
 IsAtEnd C q (Run.Wanted StoreFailed) = q.mode ≡ Wanted StoreFailed
 
+-- among these events, by which a program goes on from p where its seat knows k, one is the cause of this want, and leads to it
+pub record IsCausedAmong (g : Setting) (want : Want) (p : Program) (k : Known) (events : List Event) : Type 0 where
+  pub before : List Event
+  pub event : Event
+  pub after : List Event
+  -- where the program is before it and behind it, and what its seat knows before it
+  pub at : Program
+  pub known : Known
+  pub next : Program
+  pub among : events ≡ before ++ event ∷ after
+  pub goes : Goes g p k before at known
+  pub cause : CauseOf g want at event.answer
+  pub happens : (t : State) × (taken g.size event.state (program_turn g event.state at event.choice event.answer) ≡ Some (t, next))
+  pub leads : LeadsTo want next.mode
+
 -- what a program of this image runs on in a world, which is this one of its programs, with these objects
-abbrev pub setting_with : Owned → Image → Setting
+abbrev pub setting_with : Share → Image → Setting
 setting_with w C = record { size = C.piece; base = w.first; limit = w.first + w.objects; mover = suc w.program; image = C }
 
 -- The end that is told of a program is that to which the program that runs on this comes in a world, from its beginning on, by some events
@@ -85,9 +103,11 @@ pub record EndsByEvents (g : Setting) (f : Finished) : Type 0 where
   pub known : Known
   pub goes : Goes g (begun g.image) unused events program known
   pub ended : IsAtEnd g.image program f.end.run
+  -- where it wants something, the cause is among these events
+  pub caused : (want : Want) → program.mode ≡ Wanted want → IsCausedAmong g want (begun g.image) unused events
   pub completed : program.completed ≡ f.end.completed
   pub printed : output_of program.core ≡ f.end.output.items
 
 -- so is each end that is told of a program that was run on threads, over an honest store
 abbrev pub EndsAreEvents : Type 0 → Type 0
-EndsAreEvents reliable = (w : Owned) (C : Image) (f : Finished) → IsFinishedOver reliable w C f → EndsByEvents (setting_with w C) f
+EndsAreEvents reliable = (w : Share) (C : Image) (f : Finished) → IsFinishedOver reliable w C f → EndsByEvents (setting_with w C) f

@@ -174,10 +174,53 @@ module _ (g : Setting) (s : State) (p : Program) (a : Answer) where
   mode_so (Wanted w) e c = tt
 
 -- the mode tells that the want has had its cause
-abbrev Tells : Want → Mode → Type 0
+abbrev pub Tells : Want → Mode → Type 0
 Tells OutOfMemory m = m ≡ Wanted OutOfMemory
 Tells NoObjects m = m ≡ Wanted NoObjects
 Tells StoreFailed m = HasFailed m
+
+-- an event of a program's own has its cause
+pub turn_caused : (g : Setting) (s : State) (p : Program) (c : Choice) (a : Answer) (r : State × Program) → taken g.size s (program_turn g s p c a) ≡ Some r → IsCaused g p a r.1.mode
+turn_caused g s p c a r e = leads_taken g.size s (λ (t : State) (y : Program). IsCaused g p a y.mode) (program_turn g s p c a) r e (mode_so g s p a p.mode refl c)
+
+from_caused : (g : Setting) (p : Program) (a : Answer) (y : Mode) → IsCaused g p a y → HasFailed y → HasFailed p.mode ⊎ IsRefused g.size p.mode a
+from_caused g p a (Evicting o (NotStored v f)) is has = is
+from_caused g p a (Evicting o (Copying v f words)) is has = absurd has
+from_caused g p a (Evicting o (Stored v f)) is has = absurd has
+from_caused g p a (Evicting o (Refused v f)) is has = absurd has
+from_caused g p a (Evicting o (Freed f)) is has = absurd has
+from_caused g p a (Releasing o f) is has = is
+from_caused g p a (Retreating o) is has = is
+from_caused g p a Closing is has = is
+from_caused g p a (Wanted StoreFailed) is has = is
+from_caused g p a (Wanted OutOfMemory) is has = absurd has
+from_caused g p a (Wanted NoObjects) is has = absurd has
+from_caused g p a Ready is has = absurd has
+from_caused g p a (Missing o) is has = absurd has
+from_caused g p a (Bringing o) is has = absurd has
+from_caused g p a (Reading o f) is has = absurd has
+from_caused g p a (Filling o f words k) is has = absurd has
+
+-- what led to a mode that tells it is the cause, or it was told before
+pub one_caused : (want : Want) (g : Setting) (p : Program) (a : Answer) (y : Mode) → IsCaused g p a y → Tells want y → Tells want p.mode ⊎ CauseOf g want p a
+one_caused OutOfMemory g p a y is so = inr (subst (IsCaused g p a) so is)
+one_caused NoObjects g p a y is so = inr (subst (IsCaused g p a) so is)
+one_caused StoreFailed g p a y is so = from_caused g p a y is so
+
+pub leads_to : (want : Want) (m : Mode) → Tells want m → LeadsTo want m
+leads_to OutOfMemory m so = so
+leads_to NoObjects m so = so
+leads_to StoreFailed m so = tt
+
+pub nothing_yet : (want : Want) → Tells want Ready → ⊥
+nothing_yet OutOfMemory so = cc
+nothing_yet NoObjects so = cc
+nothing_yet StoreFailed so = so
+
+pub tells : (want : Want) (y : Mode) → y ≡ Wanted want → Tells want y
+tells OutOfMemory y e = e
+tells NoObjects y e = e
+tells StoreFailed y e = subst HasFailed (sym e) tt
 
 -- ---- events
 
@@ -192,7 +235,7 @@ module _ (z : Sizes) (images : ℕ → Image) where
       let same : v ≡ u = (let s : Some v ≡ Some u = q in cc) in
       subst (λ (y : World). IsCaused g p a (y.programs k).mode) same
       (subst (λ (y : Program). IsCaused g p a y.mode) (sym (upd-same w.programs k r.1 k refl))
-      (leads_taken z.cells w.lock (λ (t : State) (y : Program). IsCaused g p a y.mode) (program_turn g w.lock p c a) r e (mode_so g w.lock p a p.mode refl c)))
+      (turn_caused g w.lock p c a r e))
 
   pub caused : (w u : World) (e : Event) (k : ℕ) → event z images w e ≡ Some u → e.actor ≡ actor.Program k → IsCaused (setting z images k) (w.programs k) e.answer (u.programs k).mode
   caused w u e k b own =
@@ -226,29 +269,6 @@ module _ (z : Sizes) (images : ℕ → Image) where
   other_program w u (actor.Evacuator j) c a k e = inr (by_evacuator w u j k _ e)
   other_program w u (actor.Fetcher j) c a k e = inr (by_fetcher w u j k _ e)
 
-  from_caused : (g : Setting) (p : Program) (a : Answer) (y : Mode) → IsCaused g p a y → HasFailed y → HasFailed p.mode ⊎ IsRefused g.size p.mode a
-  from_caused g p a (Evicting o (NotStored v f)) is has = is
-  from_caused g p a (Evicting o (Copying v f words)) is has = absurd has
-  from_caused g p a (Evicting o (Stored v f)) is has = absurd has
-  from_caused g p a (Evicting o (Refused v f)) is has = absurd has
-  from_caused g p a (Evicting o (Freed f)) is has = absurd has
-  from_caused g p a (Releasing o f) is has = is
-  from_caused g p a (Retreating o) is has = is
-  from_caused g p a Closing is has = is
-  from_caused g p a (Wanted StoreFailed) is has = is
-  from_caused g p a (Wanted OutOfMemory) is has = absurd has
-  from_caused g p a (Wanted NoObjects) is has = absurd has
-  from_caused g p a Ready is has = absurd has
-  from_caused g p a (Missing o) is has = absurd has
-  from_caused g p a (Bringing o) is has = absurd has
-  from_caused g p a (Reading o f) is has = absurd has
-  from_caused g p a (Filling o f words k) is has = absurd has
-
-  one_caused : (want : Want) (g : Setting) (p : Program) (a : Answer) (y : Mode) → IsCaused g p a y → Tells want y → Tells want p.mode ⊎ CauseOf g want p a
-  one_caused OutOfMemory g p a y is so = inr (subst (IsCaused g p a) so is)
-  one_caused NoObjects g p a y is so = inr (subst (IsCaused g p a) so is)
-  one_caused StoreFailed g p a y is so = from_caused g p a y is so
-
   one : (want : Want) (w u : World) (e : Event) (k : ℕ) → event z images w e ≡ Some u → Tells want (u.programs k).mode
       → Tells want (w.programs k).mode ⊎ ((e.actor ≡ actor.Program k) × CauseOf (setting z images k) want (w.programs k) e.answer)
   one want w u e k b so =
@@ -257,11 +277,6 @@ module _ (z : Sizes) (images : ℕ → Image) where
         | inl own ↦ elim (one_caused want (setting z images k) (w.programs k) e.answer (u.programs k).mode (caused w u e k b own) so) [ inl f ↦ inl f | inr r ↦ inr (own, r) ]
         | inr same ↦ inl (subst (λ (y : Program). Tells want y.mode) same so)
       ]
-
-  leads_to : (want : Want) (m : Mode) → Tells want m → LeadsTo want m
-  leads_to OutOfMemory m so = so
-  leads_to NoObjects m so = so
-  leads_to StoreFailed m so = tt
 
   some_caused : (h : Type 0) (k : ℕ) (want : Want) (w v : World) (es : List Event) → Follows h z images w es v → Tells want (v.programs k).mode → Tells want (w.programs k).mode ⊎ HasCause h z images k want w es
   some_caused h k want w v [] f so = inl (subst (λ (y : World). Tells want (y.programs k).mode) f so)
@@ -273,18 +288,8 @@ module _ (z : Sizes) (images : ℕ → Image) where
     | inr r ↦ inr (record { before = e ∷ r.before; event = r.event; after = r.after; at = r.at; next = r.next; among = ap (λ ys. e ∷ ys) r.among; follows = (f.0, f.1, f.2, r.follows); own = r.own; cause = r.cause; happens = r.happens; leads = r.leads })
   ]
 
-  nothing_yet : (want : Want) → Tells want Ready → ⊥
-  nothing_yet OutOfMemory so = cc
-  nothing_yet NoObjects so = cc
-  nothing_yet StoreFailed so = so
-
   has_cause : (h : Type 0) (k : ℕ) (want : Want) (v : World) (es : List Event) → Follows h z images (start images) es v → Tells want (v.programs k).mode → HasCause h z images k want (start images) es
   has_cause h k want v es f so = elim (some_caused h k want (start images) v es f so) [ inl none ↦ absurd (nothing_yet want none) | inr r ↦ r ]
-
-  tells : (want : Want) (y : Mode) → y ≡ Wanted want → Tells want y
-  tells OutOfMemory y e = e
-  tells NoObjects y e = e
-  tells StoreFailed y e = subst HasFailed (sym e) tt
 
   -- a program that wants something has a cause
   pub wanted : (h : Type 0) (k : ℕ) (want : Want) (v : World) (es : List Event) → Follows h z images (start images) es v → (v.programs k).mode ≡ Wanted want → HasCause h z images k want (start images) es

@@ -1,6 +1,6 @@
 use Rattle.region.specs.Admission.{image_at}
 use Rattle.streams.specs.Streams.{writes}
-use Rattle.program_run.specs.Acting.{owned_by}
+use Rattle.program_run.specs.Acting.{share_by}
 use Rattle.c0far.proofs.Lived.{lived_fewer, lived_less}
 use Rattle.c0far.proofs.lives.live_over.Goals as goal
 
@@ -14,7 +14,7 @@ returns-in-Ok-clause-ended g c =
     (λ sure. absurd (c.if-asked-eq0.false sure.1)) c.live_with-in-Ok.ensures.ended
 
 pub returns-then-asked-eq0-clause-finished : goal.returns-then-asked-eq0-clause-finished
-returns-then-asked-eq0-clause-finished g c = lived_fewer _ _ _ (owned_by 0 c.args.asked.memory.objects) (image_at c.args.programs.items 0) c.live_with.result (λ sure. sure.0) c.live_with.ensures.finished
+returns-then-asked-eq0-clause-finished g c = lived_fewer _ _ _ (share_by 0 c.args.asked.memory.objects) (image_at c.args.programs.items 0) c.live_with.result (λ sure. sure.0) c.live_with.ensures.finished
 
 pub returns-in-Ok-clause-finished : goal.returns-in-Ok-clause-finished
-returns-in-Ok-clause-finished g c = lived_fewer _ _ _ (owned_by 0 c.args.asked.memory.objects) (image_at c.args.programs.items 0) c.live_with-in-Ok.result (λ sure. absurd (c.if-asked-eq0.false sure.1)) c.live_with-in-Ok.ensures.finished
+returns-in-Ok-clause-finished g c = lived_fewer _ _ _ (share_by 0 c.args.asked.memory.objects) (image_at c.args.programs.items 0) c.live_with-in-Ok.result (λ sure. absurd (c.if-asked-eq0.false sure.1)) c.live_with-in-Ok.ensures.finished
