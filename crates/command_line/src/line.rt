@@ -3,7 +3,7 @@ ghost use Rattle.std.specs.Prelude.{◌≡◌, ◌≢◌, [], codes, false, IfEr
 ghost use Rattle.clap.specs.Words.{all_of, app_of, first_of, found_of, kind_of, rows_of, rule_of, subcommand_rows_of};
 ghost use Rattle.c0_syntax.specs.Levels.{has_loops};
 ghost use Rattle.cells.specs.Pieces.{cells_in};
-ghost use Rattle.command_line.specs.Shell.{Check, Command as Asked, IsLocal, Names, bound_in, bound_of, build_command, build_shape, check_shape, command_in, command_of, compiling_in, compiling_of, files_rule, has_checks, has_flag, is_signed, level_in, limit_in, list_command, list_shape, live_command, live_of as live_run, live_rule, mean_command, mean_shape, memory_in, memory_of, named_command, number_in, number_or, of_checked_texts as checked_texts_app, of_code as code_app, of_texts as texts_app, option_rule, piece_in, replay_command, replay_shape, replayed_in, replayed_of, run_command, run_shape, shell, short_number_in, short_option, started_in, started_of, stats_rule, texts_in, texts_of, turns_in, where_rule, whole_command, with_memory, with_work, work_in, work_of};
+ghost use Rattle.command_line.specs.Shell.{Check, Command as Asked, IsLocal, Names, bound_in, bound_of, build_command, build_shape, check_shape, command_in, command_of, compiling_in, compiling_of, file_rule, files_rule, has_checks, has_flag, is_signed, level_in, limit_in, list_command, list_shape, live_command, live_of as live_run, live_rule, mean_command, mean_shape, memory_in, memory_of, named_command, number_in, number_or, of_checked_texts as checked_texts_app, of_code as code_app, of_texts as texts_app, option_rule, piece_in, replay_command, replay_shape, replayed_in, replayed_of, run_command, run_shape, shell, short_number_in, short_option, started_in, started_of, stats_rule, texts_in, texts_of, turns_in, where_rule, whole_command, with_memory, with_work, work_in, work_of};
 
 use crate::words::{Bound, Compiling, Line, Memory, ReplayOptions, RunOptions, Texts, Usage, Work};
 use c0_syntax::level::Level;
@@ -33,10 +33,11 @@ fn of_checked_texts<'a>(alloc: Global, name: &'a str) -> Result<Command<'a>, All
     ensures shape { IfOk result (λ c. app_of c ≡ checked_texts_app name.now) }
     ensures local { IfOk result IsLocal }
 {
+    let command = of_texts(alloc, name)?;
     let checks = Arg::new(alloc, "checks")
         .short('d')
         .action(ArgAction::SetTrue);
-    of_texts(alloc, name)?.arg(checks)
+    command.arg(checks)
 }
 
 /// A command of this name, which makes code of texts.
@@ -47,15 +48,22 @@ fn of_code<'a>(alloc: Global, name: &'a str) -> Result<Command<'a>, AllocError>
     of_checked_texts(alloc, name)?.arg(option(alloc, "piece"))
 }
 
+/// The file, just one.
+fn one_file<'a>(alloc: Global) -> Arg<'a>
+    ensures rule { rule_of result ≡ file_rule }
+    ensures own { result.global ≡ false }
+{
+    Arg::new(alloc, "file")
+        .required(true)
+        .action(ArgAction::Set)
+}
+
 /// The check, with its options and its file.
 fn check<'a>(alloc: Global) -> Result<Command<'a>, AllocError>
     ensures shape { IfOk result (λ c. app_of c ≡ record { top = check_shape; subs = [] }) }
     ensures local { IfOk result IsLocal }
 {
-    let file = Arg::new(alloc, "file")
-        .required(true)
-        .action(ArgAction::Set);
-    of_texts(alloc, "check")?.arg(file)
+    of_texts(alloc, "check")?.arg(one_file(alloc))
 }
 
 /// The listing, with its options and its file.
@@ -63,12 +71,9 @@ fn list<'a>(alloc: Global) -> Result<Command<'a>, AllocError>
     ensures shape { IfOk result (λ c. app_of c ≡ record { top = list_shape; subs = [] }) }
     ensures local { IfOk result IsLocal }
 {
-    let file = Arg::new(alloc, "file")
-        .required(true)
-        .action(ArgAction::Set);
     of_texts(alloc, "list")?
         .arg(option(alloc, "piece"))?
-        .arg(file)
+        .arg(one_file(alloc))
 }
 
 /// The writing of an image, with its options and its file.
@@ -76,14 +81,12 @@ fn build<'a>(alloc: Global) -> Result<Command<'a>, AllocError>
     ensures shape { IfOk result (λ c. app_of c ≡ record { top = build_shape; subs = [] }) }
     ensures local { IfOk result IsLocal }
 {
+    let command = of_code(alloc, "build")?;
     let out = Arg::new(alloc, "out")
         .short('o')
         .required(true)
         .action(ArgAction::Set);
-    let file = Arg::new(alloc, "file")
-        .required(true)
-        .action(ArgAction::Set);
-    of_code(alloc, "build")?.arg(out)?.arg(file)
+    command.arg(out)?.arg(one_file(alloc))
 }
 
 /// The plain run, with its options and its file.
@@ -91,18 +94,16 @@ fn mean<'a>(alloc: Global) -> Result<Command<'a>, AllocError>
     ensures shape { IfOk result (λ c. app_of c ≡ record { top = mean_shape; subs = [] }) }
     ensures local { IfOk result IsLocal }
 {
+    let command = of_checked_texts(alloc, "mean")?;
     let turns = Arg::new(alloc, "turns")
         .long("turns")
         .required(true)
         .action(ArgAction::Set);
-    let file = Arg::new(alloc, "file")
-        .required(true)
-        .action(ArgAction::Set);
-    of_checked_texts(alloc, "mean")?
+    command
         .arg(turns)?
         .arg(explains(alloc))?
         .arg(option(alloc, "memory"))?
-        .arg(file)
+        .arg(one_file(alloc))
 }
 
 /// A command with the options of its memory.
@@ -206,20 +207,14 @@ fn replay<'a>(alloc: Global) -> Result<Command<'a>, AllocError>
 fn command<'a>(alloc: Global) -> Result<Command<'a>, AllocError>
     ensures { IfOk result (λ c. app_of c ≡ shell) }
 {
-    let build = build(alloc)?;
-    let check = check(alloc)?;
-    let list = list(alloc)?;
-    let mean = mean(alloc)?;
-    let replay = replay(alloc)?;
-    let run = run(alloc)?;
     Command::new(alloc, "c0far")
         .subcommand_required(true)
-        .subcommand(build)?
-        .subcommand(check)?
-        .subcommand(list)?
-        .subcommand(mean)?
-        .subcommand(replay)?
-        .subcommand(run)
+        .subcommand(build(alloc)?)?
+        .subcommand(check(alloc)?)?
+        .subcommand(list(alloc)?)?
+        .subcommand(mean(alloc)?)?
+        .subcommand(replay(alloc)?)?
+        .subcommand(run(alloc)?)
 }
 
 fn refusal(error: Error) -> Usage

@@ -7,8 +7,8 @@ use Rattle.command_line.proofs.line.of_checked_texts.Goals as goal
 
 pub returns-clause-shape : goal.returns-clause-shape
 returns-clause-shape c =
-    let checks : rule_of c.action-checks.result ≡ checks_rule = search rules in
-    IfOk-weaker c.arg.result _ _ (λ r h. h.shape (search rules) ∙ ap₂ with_rule c.in_ok-of_texts.ensures.shape checks) c.arg.ensures
+    let checks : rule_of c.action.result ≡ checks_rule = search rules in
+    IfOk-weaker c.arg.result _ _ (λ r h. h.shape (search rules) ∙ ap₂ with_rule c.in_ok-command.ensures.shape checks) c.arg.ensures
 
 pub returns-clause-local : goal.returns-clause-local
-returns-clause-local c = IfOk-weaker c.arg.result _ _ (λ r h. still_local _ _ _ h.globals c.in_ok-of_texts.ensures.local (search rules)) c.arg.ensures
+returns-clause-local c = IfOk-weaker c.arg.result _ _ (λ r h. still_local _ _ _ h.globals c.in_ok-command.ensures.local (search rules)) c.arg.ensures
