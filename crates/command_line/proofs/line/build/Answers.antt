@@ -7,7 +7,7 @@ use Rattle.command_line.proofs.line.build.Goals as goal
 
 pub returns-clause-shape : goal.returns-clause-shape
 returns-clause-shape c =
-    let out : rule_of c.action.result ≡ out_rule = search rules in
+    let out : rule_of c.action-out.result ≡ out_rule = search rules in
     let second = c.in_ok-arg.ensures.shape (search rules) ∙ ap₂ with_rule c.in_ok-command.ensures.shape out in
     IfOk-weaker c.arg-2.result _ _ (λ r h. h.shape c.one_file.ensures.own ∙ ap₂ with_rule second c.one_file.ensures.rule) c.arg-2.ensures
 

@@ -7,7 +7,7 @@ use Rattle.command_line.proofs.line.mean.Goals as goal
 
 pub returns-clause-shape : goal.returns-clause-shape
 returns-clause-shape c =
-    let turns : rule_of c.action.result ≡ turns_rule = search rules in
+    let turns : rule_of c.action-turns.result ≡ turns_rule = search rules in
     let second = c.in_ok-arg.ensures.shape (search rules) ∙ ap₂ with_rule c.in_ok-command.ensures.shape turns in
     let third = c.in_ok-arg-2.ensures.shape c.explains.ensures.own ∙ ap₂ with_rule second c.explains.ensures.rule in
     let fourth = c.in_ok-arg-3.ensures.shape c.option.ensures.own ∙ ap₂ with_rule third c.option.ensures.rule in

@@ -7,7 +7,7 @@ use Rattle.command_line.proofs.line.of_checked_texts.Goals as goal
 
 pub returns-clause-shape : goal.returns-clause-shape
 returns-clause-shape c =
-    let checks : rule_of c.action.result ≡ checks_rule = search rules in
+    let checks : rule_of c.action-checks.result ≡ checks_rule = search rules in
     IfOk-weaker c.arg.result _ _ (λ r h. h.shape (search rules) ∙ ap₂ with_rule c.in_ok-command.ensures.shape checks) c.arg.ensures
 
 pub returns-clause-local : goal.returns-clause-local

@@ -1,4 +1,4 @@
-use Rattle.std.proofs.Common.{◌∙◌, Some, None, ap, sym}
+use Rattle.std.proofs.Common.{◌∙◌, ap, sym}
 use Rattle.std.specs.Prelude.{codes, option_and_then}
 use Rattle.clap.specs.Words.{found_of}
 use Rattle.command_line.specs.Shell.{number_in}
