@@ -1,8 +1,11 @@
 -- what is promised of what commands show
-use Rattle.std.proofs.Common.{◌≡◌, ◌+◌, ◌*◌, ℕ, suc, ◌/◌, List, [], ◌∷◌, Option, Some, None, ap, arith, length, refl, subst, sym}
+use Rattle.std.proofs.Common.{◌≡◌, ◌+◌, ◌*◌, ℕ, suc, ◌/◌, List, [], ◌∷◌, Option, Some, None, ap, arith, inl, inr, length, refl, subst, sym}
 use Rattle.std.proofs.lemmas.Option.{slice_get_within}
 use Rattle.std.specs.Prelude.{slice_get}
 use Rattle.cells.specs.declared.ending.Ended.{Ended}
+use Rattle.cells.specs.declared.ending.Run.TheVariants as Run
+use Rattle.cells.specs.declared.ending.Want.{Want}
+use Rattle.cells.specs.declared.ending.Want.TheVariants.{NoObjects, OutOfMemory, StoreFailed}
 use Rattle.clap.specs.Words.{Text}
 use Rattle.c0_image.specs.Correct.{Behaves}
 use Rattle.c0_typed.specs.Trees.{Program as Typed}
@@ -14,7 +17,7 @@ use Rattle.program_run.specs.declared.run.Finished.{Finished}
 use Rattle.region.specs.Admission.{image_at, image_by}
 use Rattle.schedule_replay.specs.Replayed.{IsReplayed, NoneIsRefused}
 use Rattle.session_events.proofs.Told.{told}
-use Rattle.session_events.specs.Laws.{EndsByEvents}
+use Rattle.session_events.specs.Laws.{EndsByEvents, IsAtEnd}
 use Rattle.streams.specs.Streams.{Writes}
 use Rattle.world.specs.Opened.{sizes_of}
 use Rattle.world_semantics.specs.Pieces.{piece_of}
@@ -23,7 +26,7 @@ use Rattle.world_semantics.specs.Worlds.{Event, Sizes, World}
 use Rattle.command_files.specs.FileTexts.{Known}
 use Rattle.c0far.specs.Runs.{HasRun, IsHonestIn, IsReliableIn}
 use Rattle.c0far_headline.specs.Admitted.{ReplayedHeadline}
-use Rattle.c0far_headline.specs.Shown.{ReplayShows, RunShows, RunShowsEvents}
+use Rattle.c0far_headline.specs.Shown.{HeadlineOfRuns, ReplayShows, RunShows, RunShowsEvents, WantsBy, setting_in}
 use Rattle.c0far_headline.proofs.Headlines.{Laws}
 use Rattle.c0far_headline.proofs.Ran.{promised_end}
 
@@ -60,6 +63,19 @@ run_shows laws asked files held out err result did k v f is too loops text check
     let n : ℕ = asked.memory.objects / length did.programs in
     let executed = subst (λ (C : Image). IsExecutedOver (IsReliableIn asked.memory) n C f.end) (ap image_by is) (finished_at asked files held out err result did k f too).executed in
     promised_end laws meant checks (image_of v.image) (IsReliableIn asked.memory) n f.end behaves executed
+
+-- the want at such an end has its cause
+wants_by : (g : Setting) (f : Finished) (by : EndsByEvents g f) (want : Want) → IsAtEnd g.image by.program (Run.Wanted want) → WantsBy g f by want
+wants_by g f by NoObjects at = inl (by.caused NoObjects at)
+wants_by g f by StoreFailed at = inl (by.caused StoreFailed at)
+wants_by g f by OutOfMemory at = elim at [ inl wanted ↦ inl (by.caused OutOfMemory wanted) | inr text ↦ inr (refl, text.1) ]
+
+pub headline_of : Laws → HeadlineOfRuns
+headline_of laws asked files held out err result did k v f is too loops text checks cells meant compiled means =
+    let g : Setting = setting_in asked did.programs k in
+    let by : EndsByEvents g f = run_shows_events asked files held out err result did k f too in
+    let shown = run_shows laws asked files held out err result did k v f is too loops text checks cells meant compiled means in
+    (by, record { beginning = shown.beginning; stopped = shown.stopped; wanting = λ want e. wants_by g f by want (subst (IsAtEnd g.image by.program) e by.ended) })
 
 -- of a store that never fails less may be asked
 refuses_less : (r : Type 0) (z : Sizes) (images : ℕ → Image) (w : World) (events : List Event) → NoneIsRefused r z images w events → NoneIsRefused ⊥ z images w events

@@ -1,23 +1,28 @@
 -- What is promised of what the commands `run` and `replay` show.
-use Rattle.std.specs.Prelude.{◌≡◌, ℕ, ◌/◌, Bool, List, length, Some, slice_get}
+use Rattle.std.specs.Prelude.{◌≡◌, ◌⊎◌, ℕ, ◌/◌, Bool, List, length, Some, slice_get}
 use Rattle.cells.specs.declared.ending.Ended.{Ended}
+use Rattle.cells.specs.declared.ending.Want.{Want}
+use Rattle.cells.specs.declared.ending.Want.TheVariants.{OutOfMemory}
 use Rattle.clap.specs.Words.{Text}
 use Rattle.c0_front.specs.Texts.{IsTypedAs}
 use Rattle.c0_image.specs.Compiled.{IsCompiled}
 use Rattle.c0_typed.specs.Trees.{Program as Typed}
-use Rattle.code_form.specs.Code.{code}
+use Rattle.code_form.specs.Code.{code, effect}
 use Rattle.code_form.specs.Effects.{code_run}
 use Rattle.code_form.specs.Form.{image_of}
+use Rattle.code_form.specs.Touches.{touch_of}
+use Rattle.code_form.specs.declared.touch.Touch.TheVariants.{Ends}
 use Rattle.command_line.specs.Shell.{Replayed, Started}
 use Rattle.program_run.specs.Executed.{WantsFor}
 use Rattle.program_run.specs.declared.run.Finished.{Finished}
 use Rattle.region.specs.Admission.{image_at}
 use Rattle.scope_verifier.specs.declared.acceptance.Verified.{Verified}
-use Rattle.session_events.specs.Laws.{EndsByEvents}
+use Rattle.session_events.specs.Laws.{EndsByEvents, IsCausedAmong, unused}
 use Rattle.streams.specs.Streams.{Writes}
 use Rattle.world.specs.Opened.{sizes_of}
 use Rattle.world_semantics.specs.Causes.{HasCause}
 use Rattle.world_semantics.specs.Pieces.{piece_of}
+use Rattle.world_semantics.specs.Programs.{Setting, begun}
 use Rattle.world_semantics.specs.Worlds.{setting, start}
 use Rattle.command_files.specs.FileTexts.{Known}
 use Rattle.c0far.specs.Replays.{HasReplayed}
@@ -32,12 +37,27 @@ RunShows = (asked : Started) (files : List Text) (held : Text → Known) (out er
     → (loops : Bool) (text : List ℕ) (checks : Bool) (cells : ℕ) (meant : Typed) → IsCompiled loops text checks cells (image_of v.image) → IsTypedAs loops text meant
     → PromisedEnd meant checks f.end (WantsFor (IsReliableIn asked.memory) (asked.memory.objects / length did.programs) (image_of v.image) (code_run (code (image_of v.image)) f.end.completed).0)
 
+-- what program k of these runs on in the world of all of them, of as many frames, objects, evacuators and fetchers as were asked for
+abbrev pub setting_in : Started → List Verified → ℕ → Setting
+setting_in asked programs k = setting (sizes_of (length programs) asked.memory.frames asked.memory.objects asked.evacuators asked.fetchers (piece_of (image_at programs))) (image_at programs) k
+
 -- Each end that `run` shows, over the store in memory or over folders that are honest, is that to which this program comes by some events, from its beginning on, in the world of all these
--- programs, of as many frames, objects, evacuators and fetchers
+-- programs
 abbrev pub RunShowsEvents : Type 0
 RunShowsEvents = (asked : Started) (files : List Text) (held : Text → Known) (out err : Writes) (result : ℕ) → (did : HasRun (Unit {0}) asked files held out err result)
-    → (k : ℕ) (f : Finished) → slice_get did.finished k ≡ Some f
-    → EndsByEvents (setting (sizes_of (length did.programs) asked.memory.frames asked.memory.objects asked.evacuators asked.fetchers (piece_of (image_at did.programs))) (image_at did.programs) k) f
+    → (k : ℕ) (f : Finished) → slice_get did.finished k ≡ Some f → EndsByEvents (setting_in asked did.programs k) f
+
+-- Why the program of these events wants something behind them: one of them is the cause, and leads to it; or memory was refused for the text of an error, at which the program stands
+abbrev pub WantsBy : (g : Setting) → (f : Finished) → EndsByEvents g f → Want → Type 0
+WantsBy g f by want = IsCausedAmong g want (begun g.image) unused by.events ⊎ ((want ≡ OutOfMemory) × (touch_of (effect g.image by.program.core) ≡ Ends))
+
+-- The headline of runs on threads. Of the ends that `run` shows, over the store in memory or over folders that are honest: each, of a program whose image a text was compiled to, is one to
+-- which its program comes by some events in the world of all these programs, and is as promised of that text, where a want has its cause among these events
+abbrev pub HeadlineOfRuns : Type 0
+HeadlineOfRuns = (asked : Started) (files : List Text) (held : Text → Known) (out err : Writes) (result : ℕ) → (did : HasRun (Unit {0}) asked files held out err result)
+    → (k : ℕ) (v : Verified) (f : Finished) → slice_get did.programs k ≡ Some v → slice_get did.finished k ≡ Some f
+    → (loops : Bool) (text : List ℕ) (checks : Bool) (cells : ℕ) (meant : Typed) → IsCompiled loops text checks cells (image_of v.image) → IsTypedAs loops text meant
+    → (by : EndsByEvents (setting_in asked did.programs k) f) × PromisedEnd meant checks f.end (WantsBy (setting_in asked did.programs k) f by)
 
 -- Of the ends that `replay` shows, over the store in memory or over folders that are honest: each, of a program whose image a text was compiled to, is as promised of that text, and a
 -- want has its cause among the events of the schedule

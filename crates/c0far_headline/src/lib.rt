@@ -4,7 +4,7 @@
 ghost use Rattle.c0far_headline.specs.Admitted.{AdmittedHeadline, ReplayedHeadline};
 ghost use Rattle.c0far_headline.specs.Headline.{Headline};
 ghost use Rattle.c0far_headline.specs.Ran.{EndsSettle, RunHeadline};
-ghost use Rattle.c0far_headline.specs.Shown.{ReplayShows, RunShows, RunShowsEvents};
+ghost use Rattle.c0far_headline.specs.Shown.{HeadlineOfRuns, ReplayShows, RunShows, RunShowsEvents};
 
 use c0_image::one_image;
 use c0_typed::more_turns;
@@ -73,3 +73,15 @@ pub fn headline_of_commands()
 pub fn events_of_commands()
     ensures { RunShowsEvents }
 {}
+
+/// The headline of runs on threads: of every text that the command `run` was given, what it shows of its program is a beginning of what the text means, and a stop is the meaning's with its
+/// whole output. The program came there by a list of events of its own, in the world of all programs that are run, and where it wants something the cause is among these.
+pub fn headline_of_runs()
+    ensures { HeadlineOfRuns }
+{
+    one_image();
+    more_turns();
+    run_laws();
+    programs_follow();
+    wants();
+}
