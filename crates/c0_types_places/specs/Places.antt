@@ -1,5 +1,5 @@
 -- What is called as code holds it, and places of the heap by their parts.
-use Rattle.std.specs.Prelude.{◌≡◌, ◌⊎◌, ℕ, true, false, Option, Some, None}
+use Rattle.std.specs.Prelude.{◌≡◌, ◌≢◌, ◌⊎◌, ℕ, true, false, Option, Some, None}
 use Rattle.c0_source.specs.declared.fault.Fault.{Fault}
 use Rattle.c0_source.specs.declared.fault.FaultKind.TheVariants as k
 use Rattle.c0_source.specs.declared.fault.Span.{Span}
@@ -24,6 +24,10 @@ array_of env r length = t.and_so (x.as_wanted env t.IntType length) (λ n. Some 
 -- a field of a struct at a place, by its number and its type
 abbrev pub field_place : t.Environment → t.Name → y.Place → ℕ × t.ResolvedType → x.Place
 field_place env name q f = record { resolved = f.1; place = y.Field (t.number_in env.struct_names name) q f.0 }
+
+-- an operand that has elements, of a type that is complete
+abbrev pub HasElements : t.Environment → x.Typing → Type 0
+HasElements env a = (r : t.ResolvedType) × (element_of a ≡ Some r) × (t.cells_of env.structs r ≢ None)
 
 -- an operand that has no element, whatever the index is
 abbrev pub ArrayCause : t.Environment → Fault → x.Typing → Span → Span → Type 0

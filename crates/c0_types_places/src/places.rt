@@ -2,14 +2,14 @@
 //! A tree or a type that is held where a step may fail is boxed before, or dropped there by a call: a drop that `?` makes is
 //! proved variant by variant.
 
-ghost use Rattle.std.specs.Prelude.{◌≡◌, ◌⊎◌, None, Some, false, true, IfErr, IfOk, IfSome};
+ghost use Rattle.std.specs.Prelude.{◌≡◌, ◌⊎◌, None, Some, false, true, IfErr, IfOk, MatchOption};
 ghost use Rattle.c0_source.specs.declared.fault.FaultKind.TheVariants.{NotSmall, NullDereference, OutOfMemory, StructNotComplete, TypeMismatch, UnknownField};
 ghost use Rattle.c0_syntax.specs.Views.{name_of};
 ghost use Rattle.c0_typed.specs.Trees as y;
 ghost use Rattle.c0_typed.specs.Views.{exp_of, place_of as at_of};
 ghost use Rattle.c0_rules.specs.Expressions as x;
 ghost use Rattle.c0_rules.specs.FaultExpressions.{FieldCause, Told, element_of, is_null};
-ghost use Rattle.c0_types_places.specs.Places.{ArrayCause, PointedCause, field_place};
+ghost use Rattle.c0_types_places.specs.Places.{ArrayCause, HasElements, PointedCause, field_place};
 ghost use Rattle.c0_types_terms.specs.Terms.{context_of, env_of, place_of, typing_of};
 ghost use Rattle.c0_rules.specs.Types as t;
 ghost use Rattle.c0_rules.specs.Answers.{Answers};
@@ -122,14 +122,14 @@ fn element_at(
 }
 
 /// The array of an element at this place; it is refused where it has none, whatever the index is, so that a fault in that isn't
-/// told before.
+/// told before. What is taken has elements.
 pub fn array_operand(
     terms: &Terms<'_>,
     array: Typing,
     here: Span,
     span: Span,
 ) -> Result<Typing, Fault>
-    ensures taken { IfOk result (λ x. x ≡ array) }
+    ensures taken { IfOk result (λ x. (x ≡ array) × HasElements (env_of terms.now) (typing_of terms.now.texts.now array)) }
     ensures refused { IfErr result (λ f. ArrayCause (env_of terms.now) f (typing_of terms.now.texts.now array) here span) }
 {
     let found = array_fault(terms, &array, here, span);
@@ -144,7 +144,7 @@ pub fn array_operand(
 
 // Why a value has no element.
 fn array_fault(terms: &Terms<'_>, array: &Typing, here: Span, span: Span) -> Option<Fault>
-    ensures { IfSome result (λ f. ArrayCause (env_of terms.now) f (typing_of terms.now.texts.now array.now) here span) }
+    ensures { MatchOption result (HasElements (env_of terms.now) (typing_of terms.now.texts.now array.now)) (λ f. ArrayCause (env_of terms.now) f (typing_of terms.now.texts.now array.now) here span) }
 {
     match array {
         Typing::Has(ResolvedType::Array(element), _) => {
