@@ -8,7 +8,7 @@ use Rattle.evacuator.specs.Rounds.{Evacuates, both, moves_of}
 
 -- the seat s with what a round changes taken from t
 changed : {W C : Type 0} → SeatView W C → SeatView W C → SeatView W C
-changed s t = record s { view = with_hand s.view (record s.view.hand { source = t.view.hand.source; copied = t.view.hand.copied; marks = t.view.hand.marks; commits = t.view.hand.commits; aborts = t.view.hand.aborts; leaves = t.view.hand.leaves; past = t.view.hand.past }); taken = t.taken; store = t.store; refusals = t.refusals }
+changed s t = record s { view = with_hand s.view (record s.view.hand { source = t.view.hand.source; copied = t.view.hand.copied; marks = t.view.hand.marks; commits = t.view.hand.commits; aborts = t.view.hand.aborts; leaves = t.view.hand.leaves; past = t.view.hand.past }); taken = t.taken; store = t.store; refusals = t.refusals; log = t.log }
 
 -- refusals that are counted modulo 2^64
 rises : (x y z a b : ℕ) → y ≡ (x + a) % 18446744073709551616 → z ≡ (y + b) % 18446744073709551616 → z ≡ (x + (a + b)) % 18446744073709551616

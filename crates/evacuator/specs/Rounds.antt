@@ -33,7 +33,7 @@ round_in [] = record { left = 0; aborted = 0; failed = 0 }
 round_in (x ∷ xs) = both (round_at x) (round_in xs)
 
 -- A round of these counts: by the seat's view each object that left is a commit or left clean, each other one an abort, and all but those that left clean are marks; a
--- call was refused through the port, modulo 2^64, for each that failed. Nothing else of the seat changed but its past, which frame was marked last, what was copied of it, the berth that
+-- call was refused through the port, modulo 2^64, for each that failed. Nothing else of the seat changed but its past and its log, which frame was marked last, what was copied of it, the berth that
 -- was taken, and its way to the store
 pub record Evacuates {W C : Type 0} (s t : SeatView W C) (r : Round) : Type 0 where
   pub all : t.view.hand.marks + t.view.hand.leaves ≡ s.view.hand.marks + s.view.hand.leaves + moves_of r
@@ -42,7 +42,7 @@ pub record Evacuates {W C : Type 0} (s t : SeatView W C) (r : Round) : Type 0 wh
   pub commits : s.view.hand.commits ≤ t.view.hand.commits
   pub aborts : t.view.hand.aborts ≡ s.view.hand.aborts + (r.aborted + r.failed)
   pub refusals : t.refusals.count ≡ (s.refusals.count + r.failed) % 18446744073709551616
-  pub same : t ≡ record s { view = with_hand s.view (record s.view.hand { source = t.view.hand.source; copied = t.view.hand.copied; marks = t.view.hand.marks; commits = t.view.hand.commits; aborts = t.view.hand.aborts; leaves = t.view.hand.leaves; past = t.view.hand.past }); taken = t.taken; store = t.store; refusals = t.refusals }
+  pub same : t ≡ record s { view = with_hand s.view (record s.view.hand { source = t.view.hand.source; copied = t.view.hand.copied; marks = t.view.hand.marks; commits = t.view.hand.commits; aborts = t.view.hand.aborts; leaves = t.view.hand.leaves; past = t.view.hand.past }); taken = t.taken; store = t.store; refusals = t.refusals; log = t.log }
 
 -- a round of these counts is that of some visits, and what they did, one behind the other, is what came to what the seat had done before
 pub record Visits (before after : List Move) (r : Round) : Type 0 where

@@ -29,18 +29,18 @@ unheld honest call v w o h own =
 
 module _ {W C : Type 0} (s a b t : SeatView W C) (o : ℕ) (berth : Option (Berth C)) (ws : List ℕ) where
   abbrev Begins : Type 0
-  Begins = a ≡ record s { view = with_hand s.view (bringing s.view.hand o ws); brought = berth }
+  Begins = a ≡ record s { view = with_hand s.view (bringing s.view.hand o ws); brought = berth; log = a.log }
 
-  pub finds_none : Begins → b ≡ a → t ≡ record b { view = with_hand b.view (retreating b.view.hand); brought = None } → FindsNone o s t
+  pub finds_none : Begins → b ≡ a → t ≡ record b { view = with_hand b.view (retreating b.view.hand); brought = None; log = t.log } → FindsNone o s t
   finds_none begins none back =
-      let after : SeatView W C → SeatView W C = λ x. record x { view = with_hand x.view (retreating x.view.hand); brought = None } in
+      let after : SeatView W C → SeatView W C = λ x. record x { view = with_hand x.view (retreating x.view.hand); brought = None; log = t.log } in
       (ws, back ∙ ap after (none ∙ begins))
 
-  pub brings_in : (f : ℕ) → Begins → b ≡ record a { view = with_hand a.view (claiming a.view.hand f) } → IsUnheld s.view o → Arrived o f b t → t.refusals ≡ b.refusals → BringsIn o s t
+  pub brings_in : (f : ℕ) → Begins → b ≡ record a { view = with_hand a.view (claiming a.view.hand f); log = b.log } → IsUnheld s.view o → Arrived o f b t → t.refusals ≡ b.refusals → BringsIn o s t
   brings_in f begins claims unheld arrived same =
-      let claimed : SeatView W C → SeatView W C = λ x. record x { view = with_hand x.view (claiming x.view.hand f) } in
-      let after : SeatView W C → SeatView W C = λ x. record x { view = with_hand x.view (hand_arrived x.view.hand t.view.hand.filled); brought = None; store = t.store; refusals = t.refusals } in
-      let both : b ≡ claimed (record s { view = with_hand s.view (bringing s.view.hand o ws); brought = berth }) = claims ∙ ap claimed begins in
+      let claimed : SeatView W C → SeatView W C = λ x. record x { view = with_hand x.view (claiming x.view.hand f); log = b.log } in
+      let after : SeatView W C → SeatView W C = λ x. record x { view = with_hand x.view (hand_arrived x.view.hand t.view.hand.filled); brought = None; store = t.store; refusals = t.refusals; log = t.log } in
+      let both : b ≡ claimed (record s { view = with_hand s.view (bringing s.view.hand o ws); brought = berth; log = a.log }) = claims ∙ ap claimed begins in
       let free : IsUnheld b.view o = subst (λ (x : SeatView W C). IsUnheld x.view o) (sym both) unheld in
       (f, ws, t.view.hand.filled, arrived.1 free ∙ ap after both, same ∙ ap (λ (x : SeatView W C). x.refusals) both)
 

@@ -23,15 +23,15 @@ hand_served x o f ws ps = hand_arrived (claiming (bringing x o ws) f) ps
 module _ {W C : Type 0} where
   -- the mover began the object o, claimed no frame, and gave the object up
   abbrev pub FindsNone : ℕ → SeatView W C → SeatView W C → Type 0
-  FindsNone o s t = (ws : List ℕ) × (t ≡ record s { view = with_hand s.view (hand_given_up s.view.hand o ws); brought = None })
+  FindsNone o s t = (ws : List ℕ) × (t ≡ record s { view = with_hand s.view (hand_given_up s.view.hand o ws); brought = None; log = t.log })
 
   -- The mover brought the object o into a frame: it has arrived once more, and no call was refused
   abbrev pub BringsIn : ℕ → SeatView W C → SeatView W C → Type 0
-  BringsIn o s t = (f : ℕ) × (ws : List ℕ) × (ps : List (ℕ × ℕ)) × (t ≡ record s { view = with_hand s.view (hand_served s.view.hand o f ws ps); brought = None; store = t.store; refusals = t.refusals }) × (t.refusals ≡ s.refusals)
+  BringsIn o s t = (f : ℕ) × (ws : List ℕ) × (ps : List (ℕ × ℕ)) × (t ≡ record s { view = with_hand s.view (hand_served s.view.hand o f ws ps); brought = None; store = t.store; refusals = t.refusals; log = t.log }) × (t.refusals ≡ s.refusals)
 
   -- The mover gave up the object o and a frame, since the store refused a get: one call more was refused, and it has not arrived
   abbrev pub FailsToGet : Type 0 → ℕ → SeatView W C → SeatView W C → Type 0
-  FailsToGet reliable o s t = (f : ℕ) × (ws : List ℕ) × (t ≡ record s { view = with_hand s.view (hand_released s.view.hand o f ws); brought = None; store = t.store; refusals = t.refusals }) × Refused reliable s.refusals t.refusals
+  FailsToGet reliable o s t = (f : ℕ) × (ws : List ℕ) × (t ≡ record s { view = with_hand s.view (hand_released s.view.hand o f ws); brought = None; store = t.store; refusals = t.refusals; log = t.log }) × Refused reliable s.refusals t.refusals
 
   -- what became of a hint of the object o
   abbrev pub Serves : Type 0 → ℕ → SeatView W C → SeatView W C → Served → Type 0

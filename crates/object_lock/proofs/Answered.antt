@@ -21,6 +21,13 @@ use Rattle.pointer_word.proofs.Bits.{is_away}
 use Rattle.object_lock.proofs.Mover.{plain}
 use Rattle.object_lock.proofs.Exact.{same_note}
 
+-- an object that was not begun is not answered to be taken
+pub never_taken : (p : Place) → begun p ≡ B.Taken → ⊥
+never_taken Away e = cc
+never_taken (Coming m) e = cc
+never_taken (Here f k) e = cc
+never_taken (Leaving f m k) e = cc
+
 -- a note in which no frame is known stays when none is told
 unknown : (v : View) (o : ℕ) → ((f : ℕ) → (note v o).frame ≡ Some f → None ≡ Some f) → with_note v o (told (note v o) None) ≡ v
 unknown v o none = go (note v o).frame refl

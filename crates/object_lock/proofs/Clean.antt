@@ -15,9 +15,11 @@ use Rattle.pointer_word.proofs.Bringing.{keeps_leave}
 use Rattle.pointer_word.proofs.Bits.{is_clean}
 use Rattle.object_lock.specs.Seats.{Sizes, View, learns, with_hand}
 use Rattle.object_lock.specs.Carrying.{Carries}
-use Rattle.object_lock.specs.Rule.{HandIn, Berthed, Rule}
+use Rattle.object_lock.specs.Rule.{HandIn, Berthed, LoggedRule, Rule}
 use Rattle.object_lock.specs.Plays.{IsStep, Found, told_leave}
-use Rattle.object_lock.proofs.Allowing.{allowed}
+use Rattle.object_lock.specs.Logs.{Seated, bare, kept_of}
+use Rattle.object_lock.specs.Logging.{logs_leave}
+use Rattle.object_lock.proofs.Allowing.{allowed, telling}
 use Rattle.object_lock.proofs.Moved.{fits, fitted}
 use Rattle.object_lock.proofs.Mover.{cond_true, cond_false, both, and_true, eq_of, Goes, mover_moves, mover_stays}
 
@@ -59,12 +61,13 @@ module _ {S : Type 0} (kept : S → ℕ → List ℕ → Type 0) (there : S → 
       let did = mover_stays kept there honest z s r o id me (Leaves m o f) empty' at acts in
       (learns v x, keeps, tt, did.0, (f, is_old, (x, (ok.word, fitted z v.sizes seat.sized (x.word o) r.framed ok.few ok.inside), did.1, ap (learns v) (sym acts)), refl)))
 
-  pub leaves : (slots id : ℕ) (me : Me S View) (o f old : ℕ) → o < z.objects → f < z.frames → me.0.hand.freed ≡ None → old ≡ face (Here f true) 0
-      → Allows (Rule kept there honest z) slots id me o (λ n. either (eqb n old) 0 n) (told_leave honest (step slots o old 0 maybe.none) me)
-  leaves slots id me o f old near inside empty is_old = allowed kept there honest z slots id me o (λ n. either (eqb n old) 0 n) (Leaves me.0.number o f ∷ []) (told_leave honest (step slots o old 0 maybe.none) me) (leaves_on slots id me o f old near inside empty is_old)
+  pub leaves : (slots id : ℕ) (me : Me S Seated) (o f old : ℕ) → o < z.objects → f < z.frames → me.0.view.hand.freed ≡ None → old ≡ face (Here f true) 0
+      → Allows (LoggedRule kept there honest z) slots id me o (λ n. either (eqb n old) 0 n) (logs_leave honest (step slots o old 0 maybe.none) me)
+  leaves slots id me o f old near inside empty is_old = telling (LoggedRule kept there honest z) slots id me o (λ n. either (eqb n old) 0 n) (λ n m. told_leave honest (step slots o old 0 maybe.none) (bare me) n (bare m) × (m.0.log ≡ me.0.log ++ kept_of (record { word = o; found = n; calls = Leaves me.0.view.number o f ∷ [] }))) (logs_leave honest (step slots o old 0 maybe.none) me) (λ n m h. (h.0, (f, is_old, h.1)))
+      (allowed kept there honest z slots id me o (λ n. either (eqb n old) 0 n) (Leaves me.0.view.number o f ∷ []) (told_leave honest (step slots o old 0 maybe.none) (bare me)) (leaves_on slots id (bare me) o f old near inside empty is_old))
 
 -- the words of two frames differ
-clean_frames : (g f : ℕ) → face (Here g true) 0 ≡ face (Here f true) 0 → g ≡ f
+pub clean_frames : (g f : ℕ) → face (Here g true) 0 ≡ face (Here f true) 0 → g ≡ f
 clean_frames g f e = omega arith
 
 pub leaves_exactly : {S : Type 0} (honest : Type 0) (st : Step S) (m : Me S View) (r : ℕ) (m' : Me S View) (f : ℕ) → st.first ≡ face (Here f true) 0 → f < 16777216 → told_leave honest st m r m'

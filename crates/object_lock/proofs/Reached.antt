@@ -10,7 +10,9 @@ use Rattle.pointer_word.proofs.History.{history_is}
 use Rattle.pointer_word.proofs.Pasts.{moves_are, uses_are}
 use Rattle.std.proofs.lemmas.List.{append-nil}
 use Rattle.object_lock.specs.Carrying.{RuleOf}
+use Rattle.object_lock.specs.Logs.{Seated, unlogged}
 use Rattle.object_lock.specs.Rule.{IsLed, Rule}
+use Rattle.atomic_table.proofs.Lists.{at_map}
 use Rattle.object_lock.specs.OneList.{OneList}
 use Rattle.object_lock.specs.Plays.{IsPart, IsReached}
 use Rattle.object_lock.specs.Seats.{Sizes, View}
@@ -44,6 +46,15 @@ reached kept there honest z s r id v at = record {
   part = part_of kept there honest z s r id v at;
 }
 
--- what it says to all of them
+-- what it says to all of them, with their logs
 pub all_parts : {S : Type 0} (kept : S → ℕ → List ℕ → Type 0) (there : S → Type 0) (honest : Type 0) → OneList kept there honest
-all_parts kept there honest z s r = record { machine = r.machine; calls = r.led.0; led = r.led.1; parts = λ id v at. part_of kept there honest z s r id v at; words = λ o near. (r.objects o near).word }
+all_parts {S} kept there honest z s r =
+    let l = r.logged in let q = r.rule in record {
+      machine = q.machine;
+      steps = l.steps;
+      led = subst (λ (cs : List Call). Runs honest z.cells opening cs q.machine) (sym l.made) q.led.1;
+      follows = l.follows;
+      logs = l.logs;
+      parts = λ id v at. subst (IsPart v.view) (sym l.made) (part_of kept there honest z (unlogged s) q id v.view (at_map (λ (u : Seated). u.view) s.views id v at));
+      words = λ o near. (q.objects o near).word;
+    }

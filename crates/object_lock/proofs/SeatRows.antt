@@ -50,8 +50,8 @@ module _ {W C : Type 0} where
   all_on P xs s a k = All-append P xs (s ∷ []) a (one P s k)
 
   -- a seat that was just made, from what the last seat was
-  made : (t : TableView) (s next : SeatView W C) (v : View) → IsFresh t s → next.table ≡ s.table → next.view ≡ v → v.sizes ≡ s.view.sizes → v.high ≤ s.view.high → v.hand ≡ empty_handed → v.notes ≡ s.view.notes → Path (Option (Berth C)) next.brought None → Path (Option (Berth C)) next.taken None → next.refusals ≡ no_refusals → IsFresh t next
-  made t s next v k table is sizes high hand notes brought taken refusals =
+  made : (t : TableView) (s next : SeatView W C) (v : View) → IsFresh t s → next.table ≡ s.table → next.view ≡ v → v.sizes ≡ s.view.sizes → v.high ≤ s.view.high → v.hand ≡ empty_handed → v.notes ≡ s.view.notes → next.log ≡ [] → Path (Option (Berth C)) next.brought None → Path (Option (Berth C)) next.taken None → next.refusals ≡ no_refusals → IsFresh t next
+  made t s next v k table is sizes high hand notes log brought taken refusals =
       let w = k.0.2 in let l = k.0.3 in (
         (
           table ∙ k.0.0,
@@ -65,6 +65,7 @@ module _ {W C : Type 0} where
         brought,
         taken,
         refusals,
+        log,
       )
 
   pub owner_done : (t : TableView) (share programs k : ℕ) (s s' : SeatView W C) → suc k < programs → IsLastOwner t share programs k s → s' ≡ record s { view = first_part s.view } → IsFreshOwner t share s'
@@ -76,6 +77,7 @@ module _ {W C : Type 0} where
       last.0.3,
       last.0.4,
       last.0.5,
+      last.0.6,
     ),
     (let e : s.view.number - 1 ≡ k = (let n = last.1 in omega arith) in last.2 ∙ ap (λ (q : ℕ). q * share) (sym e)),
     ap (λ (q : ℕ). s.view.low + q) last.4,
@@ -85,10 +87,10 @@ module _ {W C : Type 0} where
       bounded h = let r = room_for share programs k l in let lo = last.2 in let hi = last.3 in let sh = last.4 in
           let x : ℕ = k * share in let y : ℕ = programs * share in let r' : x + share ≤ y = r in let lo' : s.view.low ≡ x = lo in let hi' : s.view.high ≡ y = hi in omega arith
 
-  pub owner_next : (t : TableView) (share programs k : ℕ) (s next : SeatView W C) → IsLastOwner t share programs k s → next.table ≡ s.table → next.view ≡ next_owner s.view → Path (Option (Berth C)) next.brought None → Path (Option (Berth C)) next.taken None → next.refusals ≡ no_refusals
+  pub owner_next : (t : TableView) (share programs k : ℕ) (s next : SeatView W C) → IsLastOwner t share programs k s → next.table ≡ s.table → next.view ≡ next_owner s.view → next.log ≡ [] → Path (Option (Berth C)) next.brought None → Path (Option (Berth C)) next.taken None → next.refusals ≡ no_refusals
       → IsLastOwner t share programs (k + 1) next
-  owner_next t share programs k s next last table is brought taken refusals = (
-    made t s next (next_owner s.view) last.0 table is refl (omega arith) refl refl brought taken refusals,
+  owner_next t share programs k s next last table is log brought taken refusals = (
+    made t s next (next_owner s.view) last.0 table is refl (omega arith) refl refl log brought taken refusals,
     ap (λ (q : View). q.number) is ∙ (let n = last.1 in omega arith),
     ap (λ (q : View). q.low) is ∙ (ap₂ (λ (a b : ℕ). a + b) last.2 last.4 ∙ (sym (suc-mul k share) ∙ (let e : suc k ≡ k + 1 = omega arith in ap (λ (q : ℕ). q * share) e))),
     ap (λ (q : View). q.high) is ∙ last.3,
@@ -100,10 +102,10 @@ module _ {W C : Type 0} where
   mover_done t n s s' last is = subst (IsFreshMover t) (sym is) last.0
 
   -- a mover's seat that was made by this seat
-  pub mover_next : (t : TableView) (s next : SeatView W C) → IsFresh t s → s.view.last ≡ true → next.table ≡ s.table → next.view ≡ next_mover s.view → Path (Option (Berth C)) next.brought None → Path (Option (Berth C)) next.taken None → next.refusals ≡ no_refusals
+  pub mover_next : (t : TableView) (s next : SeatView W C) → IsFresh t s → s.view.last ≡ true → next.table ≡ s.table → next.view ≡ next_mover s.view → next.log ≡ [] → Path (Option (Berth C)) next.brought None → Path (Option (Berth C)) next.taken None → next.refusals ≡ no_refusals
       → IsLastMover t (suc s.view.number) next
-  mover_next t s next k end table is brought taken refusals = (
-    (made t s next (next_mover s.view) k table is refl (omega arith) refl refl brought taken refusals, ap (λ (q : View). q.high) is ∙ sym (ap (λ (q : View). q.low) is)),
+  mover_next t s next k end table is log brought taken refusals = (
+    (made t s next (next_mover s.view) k table is refl (omega arith) refl refl log brought taken refusals, ap (λ (q : View). q.high) is ∙ sym (ap (λ (q : View). q.low) is)),
     ap (λ (q : View). q.number) is,
     ap (λ (q : View). q.last) is ∙ end,
   )

@@ -4,14 +4,10 @@ use mathlib.Core.Option.{some}
 use lib.ListN.{get_elem?}
 use Rattle.atomic_table.specs.Table.{State, Me, Act, Valid, stepped, carried_after}
 use Rattle.pointer_word.specs.Machine.{State as Machine}
-use Rattle.pointer_word.specs.Calls.{Call, act}
+use Rattle.pointer_word.specs.Calls.{Call}
 use Rattle.object_lock.specs.Seats.{Sizes, View}
 use Rattle.object_lock.specs.Rule.{Rule}
-
--- what these calls leave, one after the other
-abbrev pub act_all : Machine → List Call → Machine
-act_all x [] = x
-act_all x (c ∷ cs) = act_all (act x c) cs
+use Rattle.object_lock.specs.Logs.{act_all}
 
 module _ {S : Type 0} (kept : S → ℕ → List ℕ → Type 0) (there : S → Type 0) (honest : Type 0) (z : Sizes) where
   -- the rule of a table that shows this machine, to which these calls led

@@ -6,9 +6,9 @@ use Rattle.pointer_word.specs.Hands.{empty_handed, blank}
 use Rattle.object_lock.specs.Seats.{Sizes}
 use Rattle.object_lock.specs.SeatViews.{TableView, SeatView, IsSeat}
 
--- a seat of the table that has no holds, has stored nothing, has nothing in hand, and through whose port nothing was refused
+-- a seat of the table that has no holds, has stored nothing, has nothing in hand, has done nothing, and through whose port nothing was refused
 abbrev pub IsFresh : {W C : Type 0} → TableView → SeatView W C → Type 0
-IsFresh t s = IsSeat t s × (s.view.hand ≡ empty_handed) × (s.view.notes ≡ replicate t.sizes.objects blank) × (s.brought ≡ None) × (s.taken ≡ None) × (s.refusals ≡ no_refusals)
+IsFresh t s = IsSeat t s × (s.view.hand ≡ empty_handed) × (s.view.notes ≡ replicate t.sizes.objects blank) × (s.brought ≡ None) × (s.taken ≡ None) × (s.refusals ≡ no_refusals) × (s.log ≡ [])
 
 -- a program's seat: program k is mover k + 1 and owns the objects from k * share on, share of them
 abbrev pub IsFreshOwner : {W C : Type 0} → TableView → ℕ → SeatView W C → Type 0

@@ -1,24 +1,27 @@
--- What the rule of a table says of the calls of all its seats at once.
+-- What the rule of a table says of the steps of all its seats at once.
 use Rattle.std.specs.Prelude.{◌≡◌, ℕ, ◌<◌, List, slice_index_or}
 use mathlib.Core.Option.{some}
 use lib.ListN.{get_elem?}
 use Rattle.atomic_table.specs.Table.{State}
 use Rattle.pointer_word.specs.Words.{pack}
 use Rattle.pointer_word.specs.Machine.{State as Machine, opening}
-use Rattle.pointer_word.specs.Calls.{Call, Runs}
-use Rattle.object_lock.specs.Seats.{Sizes, View}
-use Rattle.object_lock.specs.Rule.{Rule}
+use Rattle.pointer_word.specs.Calls.{Runs}
+use Rattle.object_lock.specs.Seats.{Sizes}
+use Rattle.object_lock.specs.Logs.{Deed, Seated, Follows, calls_of, log_of}
+use Rattle.object_lock.specs.Rule.{LoggedRule}
 use Rattle.object_lock.specs.Plays.{IsPart}
 
--- One machine, which the words of the table's objects show; one list of calls, which led there from the opening machine; and of each seat of the table what it did is its
--- part of this list, in order
-pub record HasOneList {S : Type 0} (honest : Type 0) (z : Sizes) (s : State S View) : Type 0 where
+-- One machine, which the words of the table's objects show; one list of steps, each of which found what the machine showed then, and whose calls might be made and led there from
+-- the opening machine; and of each seat of the table its log is its part of this list, in order, and what it did with each object, and as a mover, is that of these calls
+pub record HasOneList {S : Type 0} (honest : Type 0) (z : Sizes) (s : State S Seated) : Type 0 where
   pub machine : Machine
-  pub calls : List Call
-  pub led : Runs honest z.cells opening calls machine
-  pub parts : (j : ℕ) (v : View) → get_elem? s.views j ≡ some v → IsPart v calls
+  pub steps : List (ℕ × Deed)
+  pub led : Runs honest z.cells opening (calls_of steps) machine
+  pub follows : Follows z opening steps machine
+  pub logs : (j : ℕ) (v : Seated) → get_elem? s.views j ≡ some v → v.log ≡ log_of j steps
+  pub parts : (j : ℕ) (v : Seated) → get_elem? s.views j ≡ some v → IsPart v.view (calls_of steps)
   pub words : (o : ℕ) → o < z.objects → slice_index_or s.words o 0 ≡ pack (machine.word o)
 
 -- whatever a table is, its rule says so of it
 abbrev pub OneList : {S : Type 0} → (S → ℕ → List ℕ → Type 0) → (S → Type 0) → Type 0 → Type 0
-OneList {S} kept there honest = (z : Sizes) (s : State S View) → Rule kept there honest z s → HasOneList honest z s
+OneList {S} kept there honest = (z : Sizes) (s : State S Seated) → LoggedRule kept there honest z s → HasOneList honest z s

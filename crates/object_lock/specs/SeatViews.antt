@@ -5,6 +5,7 @@ use Rattle.cells.specs.Pieces.{is_piece}
 use Rattle.remote_store.specs.declared.berth.Berth.{Berth}
 use Rattle.remote_store.specs.declared.port.Refusals.{Refusals}
 use Rattle.object_lock.specs.Seats.{Sizes, View}
+use Rattle.object_lock.specs.Logs.{Deed}
 use Rattle.object_lock.specs.Kept.{berth_fits, berth_keeps}
 
 -- a table, and its numbers
@@ -12,12 +13,13 @@ pub record TableView : Type 0 where
   pub id : TableId
   pub sizes : Sizes
 
--- The table of a seat and its number there, what the seat knows, the berth of the object that it is bringing in, the berth of the object that it is
+-- The table of a seat and its number there, what the seat knows, what it did, in order, the berth of the object that it is bringing in, the berth of the object that it is
 -- moving out, its way to the store as it is now, and what was refused through its port
 pub record SeatView (W C : Type 0) : Type 0 where
   pub table : TableId
   pub id : ℕ
   pub view : View
+  pub log : List Deed
   pub brought : Option (Berth C)
   pub taken : Option (Berth C)
   pub store : W

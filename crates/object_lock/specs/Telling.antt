@@ -38,20 +38,20 @@ tried c w = tried_at c w.count w.place
 
 -- A hold of the object o was opened: its note has one hold more, and the frame that was told. A frame that the seat knew is told again
 abbrev pub Opened : {W C : Type 0} → ℕ → SeatView W C → SeatView W C → Held → Type 0
-Opened o old new (H.Here f) = (f < old.view.sizes.frames) × ((g : ℕ) → (note old.view o).frame ≡ Some g → g ≡ f) × (new ≡ record old { view = with_note old.view o (opened (note old.view o) (Some f)) })
-Opened o old new H.Away = ((note old.view o).frame ≡ None) × (new ≡ record old { view = with_note old.view o (opened (note old.view o) None) })
-Opened o old new H.Coming = ((note old.view o).frame ≡ None) × (new ≡ record old { view = with_note old.view o (opened (note old.view o) None) })
+Opened o old new (H.Here f) = (f < old.view.sizes.frames) × ((g : ℕ) → (note old.view o).frame ≡ Some g → g ≡ f) × (new ≡ record old { view = with_note old.view o (opened (note old.view o) (Some f)); log = new.log })
+Opened o old new H.Away = ((note old.view o).frame ≡ None) × (new ≡ record old { view = with_note old.view o (opened (note old.view o) None); log = new.log })
+Opened o old new H.Coming = ((note old.view o).frame ≡ None) × (new ≡ record old { view = with_note old.view o (opened (note old.view o) None); log = new.log })
 
 module _ {W C : Type 0} (fits : C → ℕ → Type 0) (content : C → Option (List ℕ)) where
   -- The object o was begun: its berth is in hand, and what that keeps is promised. Or it is in a frame, which is noted. Or nothing changed
   abbrev pub Begun : ℕ → SeatView W C → SeatView W C → Begin → Type 0
-  Begun o old new B.Taken = (b : Berth C) × (ws : List ℕ) × berth_keeps fits content old.view.sizes.cells b o ws × (new ≡ record old { view = with_hand old.view (bringing old.view.hand o ws); brought = Some b })
+  Begun o old new B.Taken = (b : Berth C) × (ws : List ℕ) × berth_keeps fits content old.view.sizes.cells b o ws × (new ≡ record old { view = with_hand old.view (bringing old.view.hand o ws); brought = Some b; log = new.log })
   Begun o old new (B.Here f) = (f < old.view.sizes.frames) × ((g : ℕ) → (note old.view o).frame ≡ Some g → g ≡ f) × (new ≡ record old { view = with_note old.view o (told (note old.view o) (Some f)) })
   Begun o old new B.Busy = new ≡ old
 
 -- the frame f was claimed, or nothing changed
 abbrev pub Claimed : {W C : Type 0} → ℕ → SeatView W C → SeatView W C → Bool → Type 0
-Claimed f old new true = new ≡ record old { view = with_hand old.view (claiming old.view.hand f) }
+Claimed f old new true = new ≡ record old { view = with_hand old.view (claiming old.view.hand f); log = new.log }
 Claimed f old new false = new ≡ old
 
 -- the object that a frame's word names, if it names one
@@ -61,23 +61,23 @@ named (suc o) = Some o
 
 -- A fetcher began the object o: its berth is in hand, and what that keeps is promised. Else nothing changed
 abbrev pub Fetched : {W C : Type 0} → (C → ℕ → Type 0) → (C → Option (List ℕ)) → ℕ → SeatView W C → SeatView W C → Begin → Type 0
-Fetched {W} {C} fits content o old new B.Taken = (b : Berth C) × (ws : List ℕ) × berth_keeps fits content old.view.sizes.cells b o ws × (new ≡ record old { view = with_hand old.view (bringing old.view.hand o ws); brought = Some b })
+Fetched {W} {C} fits content o old new B.Taken = (b : Berth C) × (ws : List ℕ) × berth_keeps fits content old.view.sizes.cells b o ws × (new ≡ record old { view = with_hand old.view (bringing old.view.hand o ws); brought = Some b; log = new.log })
 Fetched fits content o old new (B.Here f) = (f < old.view.sizes.frames) × (new ≡ old)
 Fetched fits content o old new B.Busy = new ≡ old
 
 -- the object o was marked in the frame f, and its berth is in hand, or nothing changed
 abbrev pub Marked : {W C : Type 0} → ℕ → ℕ → SeatView W C → SeatView W C → Bool → Type 0
-Marked {W} {C} o f old new true = (b : Berth C) × (new ≡ record old { view = with_hand old.view (marking old.view.hand o f); taken = Some b })
+Marked {W} {C} o f old new true = (b : Berth C) × (new ≡ record old { view = with_hand old.view (marking old.view.hand o f); taken = Some b; log = new.log })
 Marked o f old new false = new ≡ old
 
--- the object that was moved out is away, and its frame freed, or nothing changed
+-- the object that was moved out is away, and its frame freed, or nothing changed but that the seat keeps its try
 abbrev pub Committed : {W C : Type 0} → SeatView W C → SeatView W C → Bool → Type 0
-Committed old new true = new ≡ record old { view = with_hand old.view (committing old.view.hand old.view.hand.source); taken = None }
-Committed old new false = new ≡ old
+Committed old new true = new ≡ record old { view = with_hand old.view (committing old.view.hand old.view.hand.source); taken = None; log = new.log }
+Committed old new false = new ≡ record old { log = new.log }
 
 -- the object that was clean in the frame f is away, and the frame freed, or nothing changed
 abbrev pub Left : {W C : Type 0} → ℕ → SeatView W C → SeatView W C → Bool → Type 0
-Left f old new true = new ≡ record old { view = with_hand old.view (leaving old.view.hand f) }
+Left f old new true = new ≡ record old { view = with_hand old.view (leaving old.view.hand f); log = new.log }
 Left f old new false = new ≡ old
 
 -- the berth of the object o that is moved out keeps the n cells that were copied

@@ -4,7 +4,8 @@ ghost use Rattle.pointer_word.specs.Words.{Away, Here};
 ghost use Rattle.pointer_word.specs.Hands.{told, filling, arriving, retreating};
 ghost use Rattle.pointer_word.specs.Calls.{Filled, Begins, Claims, Fills, Arrives, Retreats};
 ghost use Rattle.pointer_word.specs.Asked.{HasNoFrame, HasNothing};
-ghost use Rattle.object_lock.specs.Seats.{Owns, cell_word, note, with_note, with_hand};
+ghost use Rattle.object_lock.specs.Seats.{Owns, cell_word, frame_word, note, with_note, with_hand};
+ghost use Rattle.object_lock.specs.Logs.{Adds, AddsOne};
 ghost use Rattle.object_lock.specs.Plays.{Steps, Holds, IsUnheld, LeavesWord, LeavesAt, LeavesCell};
 ghost use Rattle.object_lock.specs.SeatViews.{IsSeat};
 ghost use Rattle.object_lock.specs.Telling.{tried, Begun, Fetched, Claimed};
@@ -27,6 +28,7 @@ impl<S: RawStore> ObjectTable<S> {
         ensures table { IsSeat self.now mover.new }
         ensures told { 0 < count → Begun S.fits S.content obj mover.old mover.new result }
         ensures fetched { count ≡ 0 → Fetched S.fits S.content obj mover.old mover.new result }
+        ensures logged { result ≡ Begin.Taken → Adds mover.old.log mover.new.log obj (Begins mover.old.view.number obj count (not (count == 0))) (λ n. n ≡ count) }
         ensures step { Steps S.honest (Begins mover.old.view.number obj count (not (count == 0))) mover.old.view mover.new.view (λ x. result ≡ tried count (x.word obj)) }
     {
         let coming = Word::coming(count, mover.number);
@@ -48,6 +50,7 @@ impl<S: RawStore> ObjectTable<S> {
         requires hands { (mover.old.view.hand.bringing ≡ Some obj) × (mover.old.view.hand.leaving ≡ None) × HasNoFrame mover.old.view.hand }
         ensures table { IsSeat self.now mover.new }
         ensures told { Claimed frame mover.old mover.new result }
+        ensures logged { result ≡ true → Adds mover.old.log mover.new.log (frame_word self.now.sizes frame) (Claims mover.old.view.number obj frame) (λ n. n ≡ 0) }
         ensures step { Steps S.honest (Claims mover.old.view.number obj frame) mover.old.view mover.new.view (λ x. result ≡ true ↔ x.frame frame ≡ 0) }
     {
         self.words
@@ -61,7 +64,8 @@ impl<S: RawStore> ObjectTable<S> {
         requires low { (frame < self.now.sizes.frames) × (i < self.now.sizes.cells) }
         requires claimed { mover.old.view.hand.claimed ≡ Some frame }
         ensures table { IsSeat self.now mover.new }
-        ensures filled { mover.new ≡ record mover.old { view = with_hand mover.old.view (filling mover.old.view.hand i v) } }
+        ensures filled { mover.new ≡ record mover.old { view = with_hand mover.old.view (filling mover.old.view.hand i v); log = mover.new.log } }
+        ensures logged { AddsOne mover.old.log mover.new.log (cell_word self.now.sizes frame i) (Fills mover.old.view.number frame i v) }
         ensures step { Steps S.honest (Fills mover.old.view.number frame i v) mover.old.view mover.new.view (LeavesCell (Fills mover.old.view.number frame i v) frame i v) }
     {
         let first = self.first_cell(frame);
@@ -82,7 +86,8 @@ impl<S: RawStore> ObjectTable<S> {
         requires first { first ≡ cell_word self.now.sizes frame 0 }
         requires claimed { mover.old.view.hand.claimed ≡ Some frame }
         ensures table { IsSeat self.now mover.new }
-        ensures filled { mover.new ≡ record mover.old { view = with_hand mover.old.view (filling mover.old.view.hand i v) } }
+        ensures filled { mover.new ≡ record mover.old { view = with_hand mover.old.view (filling mover.old.view.hand i v); log = mover.new.log } }
+        ensures logged { AddsOne mover.old.log mover.new.log (cell_word self.now.sizes frame i) (Fills mover.old.view.number frame i v) }
         ensures step { Steps S.honest (Fills mover.old.view.number frame i v) mover.old.view mover.new.view (LeavesCell (Fills mover.old.view.number frame i v) frame i v) }
     {
         self.words.fill_cell(&mut mover.seat, first, frame, i, v);
@@ -96,8 +101,10 @@ impl<S: RawStore> ObjectTable<S> {
         requires hands { (mover.old.view.hand.bringing ≡ Some obj) × (mover.old.view.hand.claimed ≡ Some frame) × (mover.old.view.hand.leaving ≡ None) }
         requires filled { Filled S.honest self.now.sizes.cells mover.old.view.hand }
         ensures table { IsSeat self.now mover.new }
-        ensures arrived { Holds mover.old.view obj → mover.new ≡ record mover.old { view = with_note (with_hand mover.old.view (arriving mover.old.view.hand)) obj (told (note mover.old.view obj) (Some frame)); brought = None } }
-        ensures brought { IsUnheld mover.old.view obj → mover.new ≡ record mover.old { view = with_hand mover.old.view (arriving mover.old.view.hand); brought = None } }
+        ensures arrived { Holds mover.old.view obj → mover.new ≡ record mover.old { view = with_note (with_hand mover.old.view (arriving mover.old.view.hand)) obj (told (note mover.old.view obj) (Some frame)); brought = None; log = mover.new.log } }
+        ensures brought { IsUnheld mover.old.view obj → mover.new ≡ record mover.old { view = with_hand mover.old.view (arriving mover.old.view.hand); brought = None; log = mover.new.log } }
+        ensures held_log { Holds mover.old.view obj → AddsOne mover.old.log mover.new.log obj (Arrives mover.old.view.number obj frame true) }
+        ensures unheld_log { IsUnheld mover.old.view obj → AddsOne mover.old.log mover.new.log obj (Arrives mover.old.view.number obj frame false) }
         ensures step { Holds mover.old.view obj → Steps S.honest (Arrives mover.old.view.number obj frame true) mover.old.view mover.new.view (LeavesWord (Arrives mover.old.view.number obj frame true) obj (note mover.old.view obj).count (Here frame true)) }
         ensures unheld_step { IsUnheld mover.old.view obj → Steps S.honest (Arrives mover.old.view.number obj frame false) mover.old.view mover.new.view (LeavesAt (Arrives mover.old.view.number obj frame false) obj (Here frame true)) }
     {
@@ -117,7 +124,8 @@ impl<S: RawStore> ObjectTable<S> {
         requires low { obj < self.now.sizes.objects }
         requires hands { (mover.old.view.hand.bringing ≡ Some obj) × (mover.old.view.hand.leaving ≡ None) × (mover.old.view.hand.claimed ≡ None) }
         ensures table { IsSeat self.now mover.new }
-        ensures retreated { mover.new ≡ record mover.old { view = with_hand mover.old.view (retreating mover.old.view.hand); brought = None } }
+        ensures retreated { mover.new ≡ record mover.old { view = with_hand mover.old.view (retreating mover.old.view.hand); brought = None; log = mover.new.log } }
+        ensures logged { AddsOne mover.old.log mover.new.log obj (Retreats mover.old.view.number obj) }
         ensures step { Steps S.honest (Retreats mover.old.view.number obj) mover.old.view mover.new.view (LeavesAt (Retreats mover.old.view.number obj) obj Away) }
     {
         let berth = mover.brought.take();

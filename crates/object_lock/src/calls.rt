@@ -1,9 +1,10 @@
 //! The calls of an owner on its own objects.
 ghost use Rattle.std.specs.Prelude.{◌≡◌, ℕ, ◌<◌, ◌-◌, true, Some};
-ghost use Rattle.pointer_word.specs.Words.{cleared};
+ghost use Rattle.pointer_word.specs.Words.{Field, cleared};
 ghost use Rattle.pointer_word.specs.Hands.{closed, writable, added, latest_of};
 ghost use Rattle.pointer_word.specs.Calls.{Opens, Closes, Clears, Stores};
-ghost use Rattle.object_lock.specs.Seats.{Owns, note, with_note};
+ghost use Rattle.object_lock.specs.Seats.{Owns, cell_word, note, with_note};
+ghost use Rattle.object_lock.specs.Logs.{Adds, AddsOne};
 ghost use Rattle.object_lock.specs.Plays.{Steps, IsLook, LeavesWord, LeavesCell};
 ghost use Rattle.object_lock.specs.SeatViews.{IsSeat};
 ghost use Rattle.object_lock.specs.Telling.{held, Opened};
@@ -22,6 +23,7 @@ impl<S: RawStore> ObjectTable<S> {
         requires hold { Owns owner.old.view obj × ((note owner.old.view obj).count < 4) }
         ensures table { IsSeat self.now owner.new }
         ensures told { Opened obj owner.old owner.new result }
+        ensures logged { Adds owner.old.log owner.new.log obj (Opens obj) (λ n. Field n (λ w. result ≡ held w.place)) }
         ensures step { Steps S.honest (Opens obj) owner.old.view owner.new.view (λ x. result ≡ held (x.word obj).place) }
     {
         held_of(self.words.open_word(&mut owner.seat, obj))
@@ -33,7 +35,8 @@ impl<S: RawStore> ObjectTable<S> {
         requires table { IsSeat self.now owner.old }
         requires hold { Owns owner.old.view obj × (0 < (note owner.old.view obj).count) }
         ensures table { IsSeat self.now owner.new }
-        ensures closed { owner.new ≡ record owner.old { view = with_note owner.old.view obj (closed (note owner.old.view obj)) } }
+        ensures closed { owner.new ≡ record owner.old { view = with_note owner.old.view obj (closed (note owner.old.view obj)); log = owner.new.log } }
+        ensures logged { AddsOne owner.old.log owner.new.log obj (Closes obj) }
         ensures step { Steps S.honest (Closes obj) owner.old.view owner.new.view (λ x. LeavesWord (Closes obj) obj ((note owner.old.view obj).count - 1) (x.word obj).place x) }
     {
         self.words.close_word(&mut owner.seat, obj);
@@ -45,7 +48,8 @@ impl<S: RawStore> ObjectTable<S> {
         requires table { IsSeat self.now owner.old }
         requires hold { Owns owner.old.view obj × (0 < (note owner.old.view obj).count) }
         ensures table { IsSeat self.now owner.new }
-        ensures writable { owner.new ≡ record owner.old { view = with_note owner.old.view obj (writable (note owner.old.view obj)) } }
+        ensures writable { owner.new ≡ record owner.old { view = with_note owner.old.view obj (writable (note owner.old.view obj)); log = owner.new.log } }
+        ensures logged { AddsOne owner.old.log owner.new.log obj (Clears obj) }
         ensures step { Steps S.honest (Clears obj) owner.old.view owner.new.view (λ x. LeavesWord (Clears obj) obj (note owner.old.view obj).count (cleared (x.word obj).place) x) }
     {
         self.words.clear_word(&mut owner.seat, obj);
@@ -71,7 +75,8 @@ impl<S: RawStore> ObjectTable<S> {
         requires low { (frame < self.now.sizes.frames) × (i < self.now.sizes.cells) }
         requires hold { Owns owner.old.view obj × ((note owner.old.view obj).frame ≡ Some frame) × ((note owner.old.view obj).writing ≡ true) }
         ensures table { IsSeat self.now owner.new }
-        ensures added { owner.new ≡ record owner.old { view = with_note owner.old.view obj (added (note owner.old.view obj) i v) } }
+        ensures added { owner.new ≡ record owner.old { view = with_note owner.old.view obj (added (note owner.old.view obj) i v); log = owner.new.log } }
+        ensures logged { AddsOne owner.old.log owner.new.log (cell_word self.now.sizes frame i) (Stores obj frame i v) }
         ensures step { Steps S.honest (Stores obj frame i v) owner.old.view owner.new.view (LeavesCell (Stores obj frame i v) frame i v) }
     {
         self.words.store_cell(&mut owner.seat, obj, frame, i, v);

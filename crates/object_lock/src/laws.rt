@@ -22,8 +22,8 @@ pub fn each_step<S: RawStore>()
     ensures { (n : ℕ) → EachStep (slot_keeps S.fits S.content n) (slot_has S.fits n) S.honest }
 {}
 
-/// There is one machine, which the table's words show, and one list of calls that led to it: what each seat of the table did, on whichever thread, is its part of
-/// this list, in order.
+/// There is one machine, which the table's words show, and one list of steps that led to it, each of which found what the machine showed then: what each seat of the table
+/// keeps of what it did, on whichever thread, is its part of this list, in order.
 pub fn one_list<S: RawStore>()
     ensures { (n : ℕ) → OneList (slot_keeps S.fits S.content n) (slot_has S.fits n) S.honest }
 {}

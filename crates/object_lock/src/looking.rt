@@ -14,11 +14,11 @@ use remote_store::RawStore;
 impl<S: RawStore> LockWords<S> {
     /// The object's word.
     pub(crate) fn peek_word(&self, seat: &mut Token<S::Cell>, obj: usize) -> u64
-        requires table { IsToken self.now.table.shared.table_id (sizes self.now.shape) seat.old.table_id seat.old.me.0 }
+        requires table { IsToken self.now.table.shared.table_id (sizes self.now.shape) seat.old.table_id seat.old.me.0.view }
         requires low { obj < self.now.shape.objects }
         ensures seat { (seat.new.table_id ≡ seat.old.table_id) × (seat.new.id ≡ seat.old.id) }
         ensures same { seat.new.me ≡ seat.old.me }
-        ensures look { IsLook S.honest seat.old.me.0 (λ x. result ≡ pack (x.word obj)) }
+        ensures look { IsLook S.honest seat.old.me.0.view (λ x. result ≡ pack (x.word obj)) }
     {
         self.table.shared.load::<Peeks<S>>(seat, obj)
     }

@@ -48,7 +48,7 @@ impl<S: RawStore> ObjectTable<S> {
     ) -> Result<OwnerSeat<S>, Want>
         requires table { IsSeat self.now last.old × (0 < self.now.sizes.objects) }
         requires last { (last.old.view.last ≡ true) × (last.old.view.number < 65535) × (share ≡ last.old.view.share) × (last.old.view.low + share ≤ last.old.view.high) }
-        ensures made { IfOk result (λ next. (last.new ≡ record last.old { view = first_part last.old.view }) × (next.table ≡ last.old.table) × (next.view ≡ next_owner last.old.view) × (next.brought ≡ None) × (next.taken ≡ None) × (next.refusals ≡ no_refusals)) }
+        ensures made { IfOk result (λ next. (last.new ≡ record last.old { view = first_part last.old.view }) × (next.table ≡ last.old.table) × (next.view ≡ next_owner last.old.view) × (next.log ≡ []) × (next.brought ≡ None) × (next.taken ≡ None) × (next.refusals ≡ no_refusals)) }
         ensures wants { IfErr result (λ want. want ≢ Want.NoObjects) }
     {
         let port = Port::new(stores.one(alloc)?);
@@ -76,7 +76,7 @@ impl<S: RawStore> ObjectTable<S> {
     ) -> Result<MoverSeat<S>, Want>
         requires table { IsSeat self.now last.old × (0 < self.now.sizes.objects) }
         requires last { (last.old.view.last ≡ true) × (last.old.view.number < 65535) × (last.old.view.low ≤ last.old.view.high) }
-        ensures made { IfOk result (λ next. (last.new ≡ record last.old { view = whole_part last.old.view }) × (next.table ≡ last.old.table) × (next.view ≡ next_mover last.old.view) × (next.brought ≡ None) × (next.taken ≡ None) × (next.refusals ≡ no_refusals)) }
+        ensures made { IfOk result (λ next. (last.new ≡ record last.old { view = whole_part last.old.view }) × (next.table ≡ last.old.table) × (next.view ≡ next_mover last.old.view) × (next.log ≡ []) × (next.brought ≡ None) × (next.taken ≡ None) × (next.refusals ≡ no_refusals)) }
         ensures wants { IfErr result (λ want. want ≢ Want.NoObjects) }
     {
         let port = Port::new(stores.one(alloc)?);

@@ -1,11 +1,12 @@
 //! The calls of a mover that moves an object out of a frame.
 ghost use Rattle.std.specs.Prelude.{◌≡◌, ℕ, ◌<◌, ◌↔◌, true, false, Some, None, IfSome};
-ghost use Rattle.pointer_word.specs.Words.{Here, Leaving, counted};
+ghost use Rattle.pointer_word.specs.Words.{Here, Leaving, counted, face};
 ghost use Rattle.pointer_word.specs.Hands.{copying, aborting, unclaiming, releasing};
 ghost use Rattle.pointer_word.specs.Calls.{Marks, Copies, Commits, Aborts, Leaves, Unclaims, Releases};
 ghost use Rattle.pointer_word.specs.Asked.{HasNoFrame};
-ghost use Rattle.object_lock.specs.Seats.{Owns, cell_word, with_hand};
+ghost use Rattle.object_lock.specs.Seats.{Owns, cell_word, frame_word, with_hand};
 ghost use Rattle.object_lock.specs.Seating.{HasFrame, IsMovingOut};
+ghost use Rattle.object_lock.specs.Logs.{Adds, AddsOne, AddsTry};
 ghost use Rattle.object_lock.specs.Plays.{Steps, IsLook, LeavesAt, LeavesFree};
 ghost use Rattle.object_lock.specs.SeatViews.{IsSeat};
 ghost use Rattle.object_lock.specs.Telling.{named, Marked, HasPut, Committed, Left};
@@ -37,6 +38,7 @@ impl<S: RawStore> ObjectTable<S> {
         requires own { (p : ℕ) → mover.old.view.hand.bringing ≡ Some p → Owns mover.old.view p }
         ensures table { IsSeat self.now mover.new }
         ensures told { Marked obj frame mover.old mover.new result }
+        ensures logged { result ≡ true → Adds mover.old.log mover.new.log obj (Marks mover.old.view.number obj frame) (λ n. n ≡ face (Here frame false) 0) }
         ensures step { Steps S.honest (Marks mover.old.view.number obj frame) mover.old.view mover.new.view (λ x. result ≡ true ↔ x.word obj ≡ counted 0 (Here frame false)) }
     {
         let plain = Word::here(0, frame as u64);
@@ -62,6 +64,7 @@ impl<S: RawStore> ObjectTable<S> {
         requires own { (p : ℕ) → mover.old.view.hand.bringing ≡ Some p → Owns mover.old.view p }
         ensures table { IsSeat self.now mover.new }
         ensures told { Left frame mover.old mover.new result }
+        ensures logged { result ≡ true → Adds mover.old.log mover.new.log obj (Leaves mover.old.view.number obj frame) (λ n. n ≡ face (Here frame true) 0) }
         ensures step { Steps S.honest (Leaves mover.old.view.number obj frame) mover.old.view mover.new.view (λ x. result ≡ true ↔ x.word obj ≡ counted 0 (Here frame true)) }
     {
         let clean = Word::clean_here(frame as u64);
@@ -76,7 +79,8 @@ impl<S: RawStore> ObjectTable<S> {
         requires low { (frame < self.now.sizes.frames) × (i < self.now.sizes.cells) }
         requires leaves { IsMovingOut mover.old.view.hand frame }
         ensures table { IsSeat self.now mover.new }
-        ensures copied { mover.new ≡ record mover.old { view = with_hand mover.old.view (copying mover.old.view.hand i result) } }
+        ensures copied { mover.new ≡ record mover.old { view = with_hand mover.old.view (copying mover.old.view.hand i result); log = mover.new.log } }
+        ensures logged { Adds mover.old.log mover.new.log (cell_word self.now.sizes frame i) (Copies mover.old.view.number frame i) (λ n. n ≡ result) }
         ensures step { Steps S.honest (Copies mover.old.view.number frame i) mover.old.view mover.new.view (λ x. result ≡ x.cell frame i) }
     {
         let first = self.first_cell(frame);
@@ -90,7 +94,8 @@ impl<S: RawStore> ObjectTable<S> {
         requires first { first ≡ cell_word self.now.sizes frame 0 }
         requires leaves { IsMovingOut mover.old.view.hand frame }
         ensures table { IsSeat self.now mover.new }
-        ensures copied { mover.new ≡ record mover.old { view = with_hand mover.old.view (copying mover.old.view.hand i result) } }
+        ensures copied { mover.new ≡ record mover.old { view = with_hand mover.old.view (copying mover.old.view.hand i result); log = mover.new.log } }
+        ensures logged { Adds mover.old.log mover.new.log (cell_word self.now.sizes frame i) (Copies mover.old.view.number frame i) (λ n. n ≡ result) }
         ensures step { Steps S.honest (Copies mover.old.view.number frame i) mover.old.view mover.new.view (λ x. result ≡ x.cell frame i) }
     {
         self.words.copy_cell(&mut mover.seat, first, frame, i)
@@ -105,6 +110,7 @@ impl<S: RawStore> ObjectTable<S> {
         requires put { HasPut S.fits S.content self.now.sizes.cells obj mover.old }
         ensures table { IsSeat self.now mover.new }
         ensures told { Committed mover.old mover.new result }
+        ensures logged { (n : ℕ) × AddsTry self.now.sizes.cells mover.old.view mover.old.log mover.new.log obj n × (result ≡ true ↔ n ≡ face (Leaving mover.old.view.hand.source mover.old.view.number true) 0) }
         ensures step { Steps S.honest (Commits mover.old.view.number obj mover.old.view.hand.source) mover.old.view mover.new.view
             (λ x. result ≡ true ↔ x.word obj ≡ counted 0 (Leaving mover.old.view.hand.source mover.old.view.number true)) }
     {
@@ -128,7 +134,8 @@ impl<S: RawStore> ObjectTable<S> {
         requires low { obj < self.now.sizes.objects }
         requires hands { mover.old.view.hand.leaving ≡ Some obj }
         ensures table { IsSeat self.now mover.new }
-        ensures aborted { mover.new ≡ record mover.old { view = with_hand mover.old.view (aborting mover.old.view.hand); taken = None } }
+        ensures aborted { mover.new ≡ record mover.old { view = with_hand mover.old.view (aborting mover.old.view.hand); taken = None; log = mover.new.log } }
+        ensures logged { AddsOne mover.old.log mover.new.log obj (Aborts mover.old.view.number obj mover.old.view.hand.source) }
         ensures step { Steps S.honest (Aborts mover.old.view.number obj mover.old.view.hand.source) mover.old.view mover.new.view (LeavesAt (Aborts mover.old.view.number obj mover.old.view.hand.source) obj (Here mover.old.view.hand.source false)) }
     {
         let berth = mover.taken.take();
@@ -145,8 +152,10 @@ impl<S: RawStore> ObjectTable<S> {
         requires low { frame < self.now.sizes.frames }
         requires hands { HasFrame mover.old.view.hand frame }
         ensures table { IsSeat self.now mover.new }
-        ensures unclaimed { mover.old.view.hand.claimed ≡ Some frame → mover.new ≡ record mover.old { view = with_hand mover.old.view (unclaiming mover.old.view.hand) } }
-        ensures released { mover.old.view.hand.freed ≡ Some frame → mover.new ≡ record mover.old { view = with_hand mover.old.view (releasing mover.old.view.hand) } }
+        ensures unclaimed { mover.old.view.hand.claimed ≡ Some frame → mover.new ≡ record mover.old { view = with_hand mover.old.view (unclaiming mover.old.view.hand); log = mover.new.log } }
+        ensures released { mover.old.view.hand.freed ≡ Some frame → mover.new ≡ record mover.old { view = with_hand mover.old.view (releasing mover.old.view.hand); log = mover.new.log } }
+        ensures unclaim_log { mover.old.view.hand.claimed ≡ Some frame → AddsOne mover.old.log mover.new.log (frame_word self.now.sizes frame) (Unclaims mover.old.view.number frame) }
+        ensures release_log { mover.old.view.hand.freed ≡ Some frame → AddsOne mover.old.log mover.new.log (frame_word self.now.sizes frame) (Releases mover.old.view.number frame) }
         ensures unclaim_step { mover.old.view.hand.claimed ≡ Some frame → Steps S.honest (Unclaims mover.old.view.number frame) mover.old.view mover.new.view (LeavesFree (Unclaims mover.old.view.number frame) frame) }
         ensures step { mover.old.view.hand.freed ≡ Some frame → Steps S.honest (Releases mover.old.view.number frame) mover.old.view mover.new.view (LeavesFree (Releases mover.old.view.number frame) frame) }
     {

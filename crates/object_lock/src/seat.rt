@@ -32,9 +32,9 @@ impl<S: RawStore> Model for MoverSeat<S> {
 
     ghost Value = { SeatView S S.Cell };
 
-    ghost view = { λ s. record { table = s.seat.table_id; id = s.seat.id; view = s.seat.me.0; brought = s.brought; taken = s.taken; store = s.port.store; refusals = s.port.refusals } };
+    ghost view = { λ s. record { table = s.seat.table_id; id = s.seat.id; view = s.seat.me.0.view; log = s.seat.me.0.log; brought = s.brought; taken = s.taken; store = s.port.store; refusals = s.port.refusals } };
 
-    ghost invariant = { λ s. InHand S.fits S.content s.number s.low s.high s.source s.seat.me.0 s.seat.me.1 s.brought s.taken };
+    ghost invariant = { λ s. InHand S.fits S.content s.number s.low s.high s.source s.seat.me.0.view s.seat.me.1 s.brought s.taken };
 }
 
 impl<S: RawStore> MoverSeat<S> {

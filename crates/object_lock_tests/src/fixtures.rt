@@ -25,7 +25,7 @@ pub(crate) fn fill_zeros<S: RawStore>(
     requires claimed { mover.old.view.hand.claimed ≡ Some frame }
     requires zeros { (i : ℕ) → i < table.now.sizes.cells → listed mover.old.view.hand.promised i ≡ 0 }
     ensures table { IsSeat table.now mover.new }
-    ensures same { mover.new ≡ record mover.old { view = with_hand mover.old.view (record mover.old.view.hand { filled = mover.new.view.hand.filled }) } }
+    ensures same { mover.new ≡ record mover.old { view = with_hand mover.old.view (record mover.old.view.hand { filled = mover.new.view.hand.filled }); log = mover.new.log } }
     ensures filled { Filled S.honest table.now.sizes.cells mover.new.view.hand }
 {
     for i in 0..table.cells() {
@@ -45,7 +45,7 @@ pub(crate) fn fill_words<S: RawStore>(
     requires words { length words.now ≡ table.now.sizes.cells }
     requires promised { S.honest → (i : ℕ) → i < table.now.sizes.cells → listed words.now i ≡ listed mover.old.view.hand.promised i }
     ensures table { IsSeat table.now mover.new }
-    ensures same { mover.new ≡ record mover.old { view = with_hand mover.old.view (record mover.old.view.hand { filled = mover.new.view.hand.filled }) } }
+    ensures same { mover.new ≡ record mover.old { view = with_hand mover.old.view (record mover.old.view.hand { filled = mover.new.view.hand.filled }); log = mover.new.log } }
     ensures filled { Filled S.honest table.now.sizes.cells mover.new.view.hand }
 {
     for i in 0..words.len() {
@@ -119,7 +119,7 @@ fn copy_cells<S: RawStore>(
     requires words { length words.old ≡ table.now.sizes.cells }
     ensures table { IsSeat table.now mover.new }
     ensures length { length words.new ≡ table.now.sizes.cells }
-    ensures same { mover.new ≡ record mover.old { view = with_hand mover.old.view (record mover.old.view.hand { copied = mover.new.view.hand.copied }) } }
+    ensures same { mover.new ≡ record mover.old { view = with_hand mover.old.view (record mover.old.view.hand { copied = mover.new.view.hand.copied }); log = mover.new.log } }
     ensures copied { IsCopied mover.new.view.hand words.new table.now.sizes.cells }
 {
     for i in 0..words.len() {
@@ -137,7 +137,7 @@ pub(crate) fn copy_and_put<S: RawStore>(
     requires table { IsSeat table.now mover.old × (frame < table.now.sizes.frames) }
     requires leaves { (mover.old.view.hand.leaving ≡ Some obj) × (mover.old.view.hand.source ≡ frame) }
     ensures table { IsSeat table.now mover.new }
-    ensures same { mover.new ≡ record mover.old { view = with_hand mover.old.view (record mover.old.view.hand { copied = mover.new.view.hand.copied }); taken = mover.new.taken; store = mover.new.store; refusals = mover.new.refusals } }
+    ensures same { mover.new ≡ record mover.old { view = with_hand mover.old.view (record mover.old.view.hand { copied = mover.new.view.hand.copied }); taken = mover.new.taken; store = mover.new.store; refusals = mover.new.refusals; log = mover.new.log } }
     ensures put { result ≡ true → HasPut S.fits S.content table.now.sizes.cells obj mover.new }
 {
     let mut buffer = [0; MOST_CELLS];

@@ -27,7 +27,7 @@ fn find_frame<S: RawStore>(
 ) -> Option<usize>
     requires table { IsSeat table.now owner.old }
     requires hands { Owns owner.old.view obj × (owner.old.view.hand.bringing ≡ Some obj) × (owner.old.view.hand.leaving ≡ None) × HasNoFrame owner.old.view.hand }
-    ensures told { MatchOption result (owner.new ≡ owner.old) (λ frame. (frame < table.now.sizes.frames) × (owner.new ≡ record owner.old { view = with_hand owner.old.view (claiming owner.old.view.hand frame) })) }
+    ensures told { MatchOption result (owner.new ≡ owner.old) (λ frame. (frame < table.now.sizes.frames) × (owner.new ≡ record owner.old { view = with_hand owner.old.view (claiming owner.old.view.hand frame); log = owner.new.log })) }
 {
     for frame in 0..table.frames() {
         if table.try_claim(owner, frame, obj) {
@@ -46,7 +46,7 @@ fn claim<R: Wait, S: RawStore>(
 ) -> usize
     requires table { IsSeat table.now owner.old }
     requires hands { Owns owner.old.view obj × (owner.old.view.hand.bringing ≡ Some obj) × (owner.old.view.hand.leaving ≡ None) × HasNoFrame owner.old.view.hand }
-    ensures claimed { (result < table.now.sizes.frames) × (owner.new ≡ record owner.old { view = with_hand owner.old.view (claiming owner.old.view.hand result) }) }
+    ensures claimed { (result < table.now.sizes.frames) × (owner.new ≡ record owner.old { view = with_hand owner.old.view (claiming owner.old.view.hand result); log = owner.new.log }) }
 {
     for _ in rt.forever() {
         if let Some(frame) = find_frame(table, owner, obj) {

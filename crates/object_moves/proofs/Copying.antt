@@ -20,11 +20,11 @@ copied_more ps ws i n l h = below_more _ _
     (seen_here ps i n ∙ ap Some (sym (get_or-set_same ws i n 0 l)))
 
 -- one cell more was copied
-pub copy_more : {W C : Type 0} (s t u : SeatView W C) (ws : List ℕ) (i n : ℕ) → i < length ws → CopiesOnly s t → IsCopied t.view.hand ws i → u ≡ record t { view = with_hand t.view (copying t.view.hand i n) }
+pub copy_more : {W C : Type 0} (s t u : SeatView W C) (ws : List ℕ) (i n : ℕ) → i < length ws → CopiesOnly s t → IsCopied t.view.hand ws i → u ≡ record t { view = with_hand t.view (copying t.view.hand i n); log = u.log }
     → CopiesOnly s u × IsCopied u.view.hand (set ws i n) (i + 1)
 copy_more {W} {C} s t u ws i n l same below d =
     let a : u.view.hand.copied ≡ t.view.hand.copied ++ (i, n) ∷ [] = ap (λ (x : SeatView W C). x.view.hand.copied) d in
-    let put : SeatView W C → List (ℕ × ℕ) → SeatView W C = λ x ps. record x { view = with_hand x.view (record x.view.hand { copied = ps }) } in
+    let put : SeatView W C → List (ℕ × ℕ) → SeatView W C = λ x ps. record x { view = with_hand x.view (record x.view.hand { copied = ps }); log = u.log } in
     (d ∙ ap (put t) (sym a) ∙ ap (λ (x : SeatView W C). put x u.view.hand.copied) same, (λ j m. ap (λ (ps : List (ℕ × ℕ)). seen ps j) a ∙ copied_more t.view.hand.copied ws i n l below j m))
 
 -- while it copies, the owner is moving the object out

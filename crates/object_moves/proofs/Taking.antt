@@ -30,17 +30,17 @@ taken o v u w f away e wide b =
     }
 
 pub fill_keeps : {W C : Type 0} (s t u : SeatView W C) (i n : ℕ) → FillsOnly s t
-    → u ≡ record t { view = with_hand t.view (record t.view.hand { filled = t.view.hand.filled ++ (i, n) ∷ [] }) } → FillsOnly s u
+    → u ≡ record t { view = with_hand t.view (record t.view.hand { filled = t.view.hand.filled ++ (i, n) ∷ [] }); log = u.log } → FillsOnly s u
 fill_keeps {W} {C} s t u i n e d =
     let a : u.view.hand.filled ≡ t.view.hand.filled ++ (i, n) ∷ [] = ap (λ (x : SeatView W C). x.view.hand.filled) d in
-    let put : SeatView W C → List (ℕ × ℕ) → SeatView W C = λ x ps. record x { view = with_hand x.view (record x.view.hand { filled = ps }) } in
+    let put : SeatView W C → List (ℕ × ℕ) → SeatView W C = λ x ps. record x { view = with_hand x.view (record x.view.hand { filled = ps }); log = u.log } in
     d ∙ ap (put t) (sym a) ∙ ap (λ (x : SeatView W C). put x u.view.hand.filled) e
 
 same_view : {W C : Type 0} (s t : SeatView W C) → s ≡ t → s.view ≡ t.view
 same_view {W} {C} s t e = ap (λ (x : SeatView W C). x.view) e
 
 pub fill_more : {W C : Type 0} (s t u : SeatView W C) (ws : List ℕ) (i : ℕ) → FillsOnly s t → FilledBelow t.view.hand.filled ws i
-    → u ≡ record t { view = with_hand t.view (record t.view.hand { filled = t.view.hand.filled ++ (i, listed ws i) ∷ [] }) }
+    → u ≡ record t { view = with_hand t.view (record t.view.hand { filled = t.view.hand.filled ++ (i, listed ws i) ∷ [] }); log = u.log }
     → FillsOnly s u × FilledBelow u.view.hand.filled ws (i + 1)
 fill_more {W} {C} s t u ws i same below e =
     (fill_keeps s t u i (listed ws i) same e, filled_next t.view.hand.filled u.view.hand.filled ws i below (ap (λ (x : SeatView W C). x.view.hand.filled) e))
@@ -70,7 +70,7 @@ given_up o v u w away e wide b =
     }
 
 -- the object was fetched after a hold was opened, or the hold is closed again
-pub taken_or : {W C : Type 0} (reliable : Type 0) (o : ℕ) (s t u : SeatView W C) (r : Option ℕ) → (note s.view o).frame ≡ None → t ≡ record s { view = with_note s.view o (opened (note s.view o) None) } → o < length s.view.notes
+pub taken_or : {W C : Type 0} (reliable : Type 0) (o : ℕ) (s t u : SeatView W C) (r : Option ℕ) → (note s.view o).frame ≡ None → t ≡ record s { view = with_note s.view o (opened (note s.view o) None); log = t.log } → o < length s.view.notes
     → FetchesOr reliable o t u r → TakesOr reliable o s u r
 taken_or {W} {C} reliable o s t u (Some f) away e wide k = (taken o s.view t.view u.view f away (same_view t _ e) wide k.0, k.1 ∙ ap (λ (x : SeatView W C). x.refusals) e)
 taken_or {W} {C} reliable o s t u None away e wide k = (given_up o s.view t.view u.view away (same_view t _ e) wide k.0, subst (λ n. Refused reliable n u.refusals) (ap (λ (x : SeatView W C). x.refusals) e) k.1)

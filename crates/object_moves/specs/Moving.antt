@@ -22,19 +22,19 @@ Counts reliable before after M.Stayed = after ≡ before
 Counts reliable before after M.Failed = Refused reliable before after
 
 -- An object was moved out of a frame, or given up. Of the seat only the hand changed, the berth that was moved out, which is out of hand, its way to the
--- store, and the count of what was refused
+-- store, the count of what was refused, and its log, which grew
 abbrev pub MovesAway : {W C : Type 0} → Type 0 → SeatView W C → SeatView W C → Moved → Type 0
-MovesAway reliable s t r = (t ≡ record s { view = with_hand s.view (hand_after r s.view.hand t.view.hand.copied); taken = None; store = t.store; refusals = t.refusals }) × Counts reliable s.refusals t.refusals r
+MovesAway reliable s t r = (t ≡ record s { view = with_hand s.view (hand_after r s.view.hand t.view.hand.copied); taken = None; store = t.store; refusals = t.refusals; log = t.log }) × Counts reliable s.refusals t.refusals r
 
 -- an object whose cells were put into its berth left its frame, which is given up, or is given up
 abbrev pub LetsGo : {W C : Type 0} → SeatView W C → SeatView W C → Moved → Type 0
-LetsGo s t M.Left = t ≡ record s { view = with_hand s.view (releasing (committing s.view.hand s.view.hand.source)); taken = None }
-LetsGo s t M.Stayed = t ≡ record s { view = with_hand s.view (aborting s.view.hand); taken = None }
+LetsGo s t M.Left = t ≡ record s { view = with_hand s.view (releasing (committing s.view.hand s.view.hand.source)); taken = None; log = t.log }
+LetsGo s t M.Stayed = t ≡ record s { view = with_hand s.view (aborting s.view.hand); taken = None; log = t.log }
 LetsGo s t M.Failed = ⊥
 
 -- an object that was clean in the frame f left it, which is given up, or nothing changed
 abbrev pub LeavesClean : {W C : Type 0} → ℕ → SeatView W C → SeatView W C → Bool → Type 0
-LeavesClean f s t true = t ≡ record s { view = with_hand s.view (releasing (leaving s.view.hand f)) }
+LeavesClean f s t true = t ≡ record s { view = with_hand s.view (releasing (leaving s.view.hand f)); log = t.log }
 LeavesClean f s t false = t ≡ s
 
 -- an object that was clean in a frame of the table left it, which is given up, or nothing changed
@@ -54,12 +54,12 @@ hand_arrived x ps = arriving (record x { filled = ps })
 -- no note changed
 abbrev pub Arrived : {W C : Type 0} → ℕ → ℕ → SeatView W C → SeatView W C → Type 0
 Arrived o f s t =
-    (Holds s.view o → t ≡ record s { view = with_note (with_hand s.view (hand_arrived s.view.hand t.view.hand.filled)) o (told (note s.view o) (Some f)); brought = None; store = t.store; refusals = t.refusals })
-    × (IsUnheld s.view o → t ≡ record s { view = with_hand s.view (hand_arrived s.view.hand t.view.hand.filled); brought = None; store = t.store; refusals = t.refusals })
+    (Holds s.view o → t ≡ record s { view = with_note (with_hand s.view (hand_arrived s.view.hand t.view.hand.filled)) o (told (note s.view o) (Some f)); brought = None; store = t.store; refusals = t.refusals; log = t.log })
+    × (IsUnheld s.view o → t ≡ record s { view = with_hand s.view (hand_arrived s.view.hand t.view.hand.filled); brought = None; store = t.store; refusals = t.refusals; log = t.log })
 
 -- the object and the frame were given up as the store refused a get
 abbrev pub GivenUp : {W C : Type 0} → Type 0 → SeatView W C → SeatView W C → Type 0
-GivenUp reliable s t = (t ≡ record s { view = with_hand s.view (retreating (unclaiming s.view.hand)); brought = None; store = t.store; refusals = t.refusals }) × Refused reliable s.refusals t.refusals
+GivenUp reliable s t = (t ≡ record s { view = with_hand s.view (retreating (unclaiming s.view.hand)); brought = None; store = t.store; refusals = t.refusals; log = t.log }) × Refused reliable s.refusals t.refusals
 
 -- the object o was brought into the frame f, or it and the frame were given up
 abbrev pub ArrivedOr : {W C : Type 0} → Type 0 → ℕ → ℕ → SeatView W C → SeatView W C → Bool → Type 0

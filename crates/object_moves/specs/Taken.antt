@@ -25,9 +25,9 @@ MovesOut o f x = (x.leaving ≡ Some o) × (x.source ≡ f) × (x.claimed ≡ No
 abbrev pub Refused : Type 0 → Refusals → Refusals → Type 0
 Refused reliable before after = (after.count ≡ (before.count + 1) % 18446744073709551616) × IsSome after.last × (reliable → ⊥)
 
--- of a seat only the mover's hand changed, the berth that is moved out, its way to the store, and the count of what was refused
+-- of a seat only the mover's hand changed, the berth that is moved out, its way to the store, the count of what was refused, and its log
 abbrev pub HandOnly : {W C : Type 0} → SeatView W C → SeatView W C → Type 0
-HandOnly s t = t ≡ record s { view = with_hand s.view t.view.hand; taken = t.taken; store = t.store; refusals = t.refusals }
+HandOnly s t = t ≡ record s { view = with_hand s.view t.view.hand; taken = t.taken; store = t.store; refusals = t.refusals; log = t.log }
 
 -- the same object is brought in, under the same promise
 abbrev pub BringsSame : Hand → Hand → Type 0
@@ -37,14 +37,14 @@ BringsSame x y = (y.bringing ≡ x.bringing) × (y.promised ≡ x.promised)
 abbrev pub StillBrings : Hand → Hand → Type 0
 StillBrings x y = BringsSame x y × (y.leaving ≡ None) × (y.claimed ≡ None) × (y.freed ≡ None)
 
--- only the cells copied since the mark differ
+-- only the cells copied since the mark differ, and the log
 abbrev pub CopiesOnly : {W C : Type 0} → SeatView W C → SeatView W C → Type 0
-CopiesOnly s t = t ≡ record s { view = with_hand s.view (record s.view.hand { copied = t.view.hand.copied }) }
+CopiesOnly s t = t ≡ record s { view = with_hand s.view (record s.view.hand { copied = t.view.hand.copied }); log = t.log }
 
 -- a frame of the table was claimed, or nothing changed
 abbrev pub ClaimsOne : {W C : Type 0} → SeatView W C → SeatView W C → Option ℕ → Type 0
 ClaimsOne s t None = t ≡ s
-ClaimsOne s t (Some f) = (f < s.view.sizes.frames) × (t ≡ record s { view = with_hand s.view (claiming s.view.hand f) })
+ClaimsOne s t (Some f) = (f < s.view.sizes.frames) × (t ≡ record s { view = with_hand s.view (claiming s.view.hand f); log = t.log })
 
 -- the frame f was claimed for the object that is brought in, after others may have been moved out
 pub record Claims {W C : Type 0} (s t : SeatView W C) (f : ℕ) : Type 0 where
@@ -61,9 +61,9 @@ abbrev pub ClaimsOr : {W C : Type 0} → SeatView W C → SeatView W C → Optio
 ClaimsOr s t None = HandOnly s t × StillBrings s.view.hand t.view.hand × (t.refusals ≡ s.refusals)
 ClaimsOr s t (Some f) = Claims s t f
 
--- only the words filled since a claim differ
+-- only the words filled since a claim differ, and the log
 abbrev pub FillsOnly : {W C : Type 0} → SeatView W C → SeatView W C → Type 0
-FillsOnly s t = t ≡ record s { view = with_hand s.view (record s.view.hand { filled = t.view.hand.filled }) }
+FillsOnly s t = t ≡ record s { view = with_hand s.view (record s.view.hand { filled = t.view.hand.filled }); log = t.log }
 
 -- the first n cells were filled with these words
 abbrev pub FilledBelow : List (ℕ × ℕ) → List ℕ → ℕ → Type 0

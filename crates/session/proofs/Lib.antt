@@ -1,8 +1,9 @@
+pub mod Alike
 pub mod CountsOf
 pub mod Holding
 mod Laws
 mod Missing
-pub mod Opening
+mod Opening
 mod Performing
 pub mod Places
 mod Together

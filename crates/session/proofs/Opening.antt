@@ -25,11 +25,7 @@ use Rattle.session.specs.State.{AllShut, IsAt, IsGoing, IsHalted, Matches, Ran, 
 use Rattle.session.specs.Keeping.{IsBlank, IsHolding, IsNext, IsRun, IsSafe, IsSession, count_of}
 use Rattle.session.proofs.Laws.{Ended, Laws, ended}
 use Rattle.session.proofs.Running.{HeapLaws, live_session, next_run}
-
-pub at_all : {A : Type 0} (a : A) (n k : ℕ) → slice_index_or (replicate n a) k a ≡ a
-at_all a zero k = refl
-at_all a (suc n) zero = refl
-at_all a (suc n) (suc k) = at_all a n k
+use Rattle.session.proofs.Alike.{at_all}
 
 none_count : (o n : ℕ) → count_of o (replicate n None) ≡ 0
 none_count o zero = refl

@@ -384,7 +384,7 @@ impl<'a, S: RawStore> SeatedProgram<'a, S> {
         { table.load(seat, object, frame, index) };
         let store = |seat: &mut OwnerSeat<S>, object: usize, frame: usize, index: usize, value: u64|
             requires { IsSeat table.now seat.old × ((frame < table.now.sizes.frames) × (index < table.now.sizes.cells)) × (Owns seat.old.view object × ((note seat.old.view object).frame ≡ Some frame) × ((note seat.old.view object).writing ≡ true)) }
-            ensures { IsSeat table.entry.now seat.new × (seat.new ≡ record seat.old { view = with_note seat.old.view object (added (note seat.old.view object) index value) }) }
+            ensures { IsSeat table.entry.now seat.new × (seat.new ≡ record seat.old { view = with_note seat.old.view object (added (note seat.old.view object) index value); log = seat.new.log }) }
         { table.store(seat, object, frame, index, value) };
         let held = HeldPieces {
             scale: self.scale,

@@ -19,7 +19,7 @@ use Rattle.session.specs.declared.hold.Hold as own
 use Rattle.session.specs.Keeping.{IsNext, cleared, shut_at, wants}
 use Rattle.session.specs.Performing.{Acts, HoldsWanted, LosesAt, Performs, PerformsBy, WantsNext, shut_all}
 use Rattle.session.specs.State as session
-use Rattle.session.proofs.Opening.{at_all}
+use Rattle.session.proofs.Alike.{at_all}
 use Rattle.program_run.specs.Acting.{IsUnused, Share}
 use Rattle.program_run.specs.Executed.{EndsAs, HasRefused, IsFinishedOver}
 use Rattle.program_run.specs.declared.run.Finished.{Finished}

@@ -9,4 +9,7 @@ load-requires g c = let same = c.requires.table.1 in let at = c.frame_at-word.en
     (c.requires.table.0, c.frame_at-word.ensures.inside, looks _ _ _ _ _ _ _ _ c.args.frame at (omega arith))
 
 pub returns-clause-look : goal.returns-clause-look
-returns-clause-look g c = let same = c.requires.table.1 in look_is g.S.RawStore.honest c.args.seat.now.me.0 c.frame_at-word.result c.args.frame c.load.result (c.frame_at-word.ensures.at ∙ ap (λ (q : Sizes). frame_word q c.args.frame) (sym same)) c.load.ensures.2.3
+returns-clause-look g c = let same = c.requires.table.1 in look_is g.S.RawStore.honest c.args.seat.now.me.0.view c.frame_at-word.result c.args.frame c.load.result (c.frame_at-word.ensures.at ∙ ap (λ (q : Sizes). frame_word q c.args.frame) (sym same)) c.load.ensures.2.0.3
+
+pub returns-clause-same : goal.returns-clause-same
+returns-clause-same g c = let t = c.load.ensures.2.0 in let l = c.load.ensures.2.1 in λ i. (record { view = t.0 i; log = l i }, t.1 i)

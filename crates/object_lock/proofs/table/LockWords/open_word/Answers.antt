@@ -1,4 +1,4 @@
-use Rattle.std.proofs.Common.{arith}
+use Rattle.std.proofs.Common.{arith, refl}
 use mathlib.Core.Option.{none}
 use Rattle.atomic_table.specs.Table.{step}
 use Rattle.object_lock.proofs.Owner.{opens}
@@ -10,7 +10,10 @@ pub fetch_add-requires : goal.fetch_add-requires
 fetch_add-requires g c = let own = c.requires.hold.0.1 in let within = c.requires.table.2 in let sized = c.args.self.now.sized.0 in (c.requires.table.0, omega arith, opens _ _ _ _ _ _ _ _ c.requires.hold.0 c.requires.hold.1)
 
 pub returns-clause-exactly : goal.returns-clause-exactly
-returns-clause-exactly g c = let e = opens_exactly _ (step 0 c.args.obj 0 0 none) _ _ _ c.requires.hold.0 c.fetch_add.ensures.2 in (e.0, e.1, e.2, λ i. (e.3 i, e.4 i))
+returns-clause-exactly g c = let e = opens_exactly _ (step 0 c.args.obj 0 0 none) _ _ _ c.requires.hold.0 c.fetch_add.ensures.2.0 in (e.0, e.1, e.2, λ i. (e.3 i, e.4 i))
 
 pub returns-clause-step : goal.returns-clause-step
-returns-clause-step g c = let t = c.fetch_add.ensures.2.0 in (t.0, t.2, asks_open g.S.RawStore.honest c.args.seat.now.me.0 t.0 t.2.knew c.args.obj c.requires.hold.0 c.requires.hold.1, t.1)
+returns-clause-step g c = let t = c.fetch_add.ensures.2.0.0 in (t.0, t.2, asks_open g.S.RawStore.honest c.args.seat.now.me.0.view t.0 t.2.knew c.args.obj c.requires.hold.0 c.requires.hold.1, t.1)
+
+pub returns-clause-logged : goal.returns-clause-logged
+returns-clause-logged g c = (c.fetch_add.result, c.fetch_add.ensures.2.1, refl)

@@ -13,7 +13,7 @@ loop-made-preserved g c =
     let next : suc s.view.number ≡ first + (k + 1) = let h = i.2.1 in omega arith in (
       subst (λ (ys : List (SeatView g.row.S.Denot g.row.S-Cell.Denot)). AreNumbered first (k + 1) ys) (sym e) (numbered_on first k xs s' i.0 number),
       subst (λ (ys : List (SeatView g.row.S.Denot g.row.S-Cell.Denot)). All (IsFreshMover t) ys) (sym e) (all_on (IsFreshMover t) xs s' i.1 (mover_done t _ s s' i.2 n.0)),
-      subst (λ (q : ℕ). IsLastMover t q c.in_ok-next.next) next (mover_next t s c.in_ok-next.next i.2.0.0 i.2.2 n.1 n.2 n.3 n.4 n.5),
+      subst (λ (q : ℕ). IsLastMover t q c.in_ok-next.next) next (mover_next t s c.in_ok-next.next i.2.0.0 i.2.2 n.1 n.2 n.3 n.4 n.5 n.6),
     )
 
 pub returns-clause-made : goal.returns-clause-made

@@ -18,7 +18,7 @@ loop-program-preserved g c =
     let number : s'.view.number ≡ 1 + k = ap (λ (q : SeatView g.row.S.Denot g.row.S-Cell.Denot). q.view.number) n.0 ∙ (let h = i.2.1 in omega arith) in (
       subst (λ (ys : List (SeatView g.row.S.Denot g.row.S-Cell.Denot)). AreNumbered 1 (k + 1) ys) (sym e) (numbered_on 1 k xs s' i.0 number),
       subst (λ (ys : List (SeatView g.row.S.Denot g.row.S-Cell.Denot)). All (IsFreshOwner t c.args.share) ys) (sym e) (all_on (IsFreshOwner t c.args.share) xs s' i.1 (owner_done t c.args.share c.args.programs k s s' (omega arith) i.2 n.0)),
-      owner_next t c.args.share c.args.programs k s c.in_ok-next.next i.2 n.1 n.2 n.3 n.4 n.5,
+      owner_next t c.args.share c.args.programs k s c.in_ok-next.next i.2 n.1 n.2 n.3 n.4 n.5 n.6,
     )
 
 pub returns-clause-made : goal.returns-clause-made
