@@ -75,7 +75,7 @@ headline_of laws asked files held out err result did k v f is too loops text che
     let g : Setting = setting_in asked did.programs k in
     let by : EndsByEvents g f = run_shows_events asked files held out err result did k f too in
     let shown = run_shows laws asked files held out err result did k v f is too loops text checks cells meant compiled means in
-    (by, record { beginning = shown.beginning; stopped = shown.stopped; wanting = λ want e. wants_by g f by want (subst (IsAtEnd g.image by.program) e by.ended) })
+    (by, record { beginning = shown.beginning; stopped = shown.stopped; wanting = λ want e. (shown.wanting want e, wants_by g f by want (subst (IsAtEnd g.image by.program) e by.ended)) })
 
 -- of a store that never fails less may be asked
 refuses_less : (r : Type 0) (z : Sizes) (images : ℕ → Image) (w : World) (events : List Event) → NoneIsRefused r z images w events → NoneIsRefused ⊥ z images w events

@@ -29,13 +29,17 @@ use Rattle.c0far.specs.Replays.{HasReplayed}
 use Rattle.c0far.specs.Runs.{HasRun, IsReliableIn}
 use Rattle.c0far_headline.specs.Admitted.{PromisedEnd}
 
+-- Why a program that is run beside others, of so many, wants something where its code's run is at the end that is shown of it, with an equal share of the objects
+abbrev pub WantsThere : Started → ℕ → Verified → Finished → Want → Type 0
+WantsThere asked programs v f = WantsFor (IsReliableIn asked.memory) (asked.memory.objects / programs) (image_of v.image) (code_run (code (image_of v.image)) f.end.completed).0
+
 -- Of the ends that `run` shows, over the store in memory or over folders that are honest: each, of a program whose image a text was compiled to, is as promised of that text, and a
 -- want has its cause in the code's run, with an equal share of the objects
 abbrev pub RunShows : Type 0
 RunShows = (asked : Started) (files : List Text) (held : Text → Known) (out err : Writes) (result : ℕ) → (did : HasRun (Unit {0}) asked files held out err result)
     → (k : ℕ) (v : Verified) (f : Finished) → slice_get did.programs k ≡ Some v → slice_get did.finished k ≡ Some f
     → (loops : Bool) (text : List ℕ) (checks : Bool) (cells : ℕ) (meant : Typed) → IsCompiled loops text checks cells (image_of v.image) → IsTypedAs loops text meant
-    → PromisedEnd meant checks f.end (WantsFor (IsReliableIn asked.memory) (asked.memory.objects / length did.programs) (image_of v.image) (code_run (code (image_of v.image)) f.end.completed).0)
+    → PromisedEnd meant checks f.end (WantsThere asked (length did.programs) v f)
 
 -- what program k of these runs on in the world of all of them, of as many frames, objects, evacuators and fetchers as were asked for
 abbrev pub setting_in : Started → List Verified → ℕ → Setting
@@ -47,17 +51,18 @@ abbrev pub RunShowsEvents : Type 0
 RunShowsEvents = (asked : Started) (files : List Text) (held : Text → Known) (out err : Writes) (result : ℕ) → (did : HasRun (Unit {0}) asked files held out err result)
     → (k : ℕ) (f : Finished) → slice_get did.finished k ≡ Some f → EndsByEvents (setting_in asked did.programs k) f
 
--- Why the program of these events wants something behind them: one of them is the cause, and leads to it; or memory was refused for the text of an error, at which the program stands
+-- Among these events of a program stands what it wants something for behind them: one is the cause (of StoreFailed, a call of its own that the store refused). Or it wants memory, and stands at
+-- an instruction that ends it, for the text of whose error memory was refused
 abbrev pub WantsBy : (g : Setting) → (f : Finished) → EndsByEvents g f → Want → Type 0
 WantsBy g f by want = IsCausedAmong g want (begun g.image) unused by.events ⊎ ((want ≡ OutOfMemory) × (touch_of (effect g.image by.program.core) ≡ Ends))
 
 -- The headline of runs on threads. Of the ends that `run` shows, over the store in memory or over folders that are honest: each, of a program whose image a text was compiled to, is one to
--- which its program comes by some events in the world of all these programs, and is as promised of that text, where a want has its cause among these events
+-- which its program comes by some events in the world of all these programs, and is as promised of that text, where a want has its cause in the code's run, and stands among these events
 abbrev pub HeadlineOfRuns : Type 0
 HeadlineOfRuns = (asked : Started) (files : List Text) (held : Text → Known) (out err : Writes) (result : ℕ) → (did : HasRun (Unit {0}) asked files held out err result)
     → (k : ℕ) (v : Verified) (f : Finished) → slice_get did.programs k ≡ Some v → slice_get did.finished k ≡ Some f
     → (loops : Bool) (text : List ℕ) (checks : Bool) (cells : ℕ) (meant : Typed) → IsCompiled loops text checks cells (image_of v.image) → IsTypedAs loops text meant
-    → (by : EndsByEvents (setting_in asked did.programs k) f) × PromisedEnd meant checks f.end (WantsBy (setting_in asked did.programs k) f by)
+    → (by : EndsByEvents (setting_in asked did.programs k) f) × PromisedEnd meant checks f.end (λ want. WantsThere asked (length did.programs) v f want × WantsBy (setting_in asked did.programs k) f by want)
 
 -- Of the ends that `replay` shows, over the store in memory or over folders that are honest: each, of a program whose image a text was compiled to, is as promised of that text, and a
 -- want has its cause among the events of the schedule

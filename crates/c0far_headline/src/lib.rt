@@ -75,7 +75,8 @@ pub fn events_of_commands()
 {}
 
 /// The headline of runs on threads: of every text that the command `run` was given, what it shows of its program is a beginning of what the text means, and a stop is the meaning's with its
-/// whole output. The program came there by a list of events of its own, in the world of all programs that are run, and where it wants something the cause is among these.
+/// whole output. The program came there by a list of events of its own, in the world of all programs that are run. Where it wants something, the cause is in its code's run, and among these events,
+/// but for memory that was refused for the text of an error: there the program stands at the instruction that ends it.
 pub fn headline_of_runs()
     ensures { HeadlineOfRuns }
 {

@@ -76,7 +76,8 @@ IsAtEnd C q (Run.Wanted NoObjects) = q.mode ≡ Wanted NoObjects
 IsAtEnd C q (Run.Wanted OutOfMemory) = (q.mode ≡ Wanted OutOfMemory) ⊎ ((q.mode ≡ Ready) × (touch_of (effect C q.core) ≡ Ends))
 IsAtEnd C q (Run.Wanted StoreFailed) = q.mode ≡ Wanted StoreFailed
 
--- among these events, by which a program goes on from p where its seat knows k, one is the cause of this want, and leads to it
+-- Among these events, by which a program goes on from p where its seat knows k, one is the cause of this want: for memory or objects the one that leads to the want itself, for StoreFailed a
+-- call of its own that the store refused, from which on it gives back what it has in hand
 pub record IsCausedAmong (g : Setting) (want : Want) (p : Program) (k : Known) (events : List Event) : Type 0 where
   pub before : List Event
   pub event : Event

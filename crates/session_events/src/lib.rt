@@ -18,8 +18,8 @@ pub fn runs_are_events<S: RawStore>()
 {}
 
 /// Each end that is told of a program that was run on threads over an honest store, by whatever number of turns, is that to which its program comes in a world by some events, from
-/// its beginning on: with that output and as many instructions completed, stopped so or wanting this. Where memory was refused for the text of an error, the program of a world is
-/// at that instruction still.
+/// its beginning on: with that output and as many instructions completed, stopped so or wanting this, for a cause among these events. Where memory was refused for the text of an error,
+/// the program of a world is at that instruction still.
 pub fn ends_are_events<S: RawStore>()
     ensures { EndsAreEvents S.reliable }
 {}
