@@ -129,7 +129,8 @@ pub fn array_operand(
     here: Span,
     span: Span,
 ) -> Result<Typing, Fault>
-    ensures taken { IfOk result (λ x. (x ≡ array) × HasElements (env_of terms.now) (typing_of terms.now.texts.now array)) }
+    ensures taken { IfOk result (λ x. x ≡ array) }
+    ensures elements { IfOk result (λ _. HasElements (env_of terms.now) (typing_of terms.now.texts.now array)) }
     ensures refused { IfErr result (λ f. ArrayCause (env_of terms.now) f (typing_of terms.now.texts.now array) here span) }
 {
     let found = array_fault(terms, &array, here, span);
