@@ -1,2 +1,3 @@
+mod Bringing
 mod Filling
 mod Zeros
