@@ -1,9 +1,10 @@
 -- What a begin tells, and what a seat has in its hands when it gives a berth back.
-use Rattle.std.proofs.Common.{◌<◌, ◌≡◌, ℕ, List, ◌∷◌, length, sym, refl, ap, ◌∙◌, subst, ap₂, Bool, cond, eq-eqb, ne_eqb}
-use Rattle.std.specs.Prelude.{Option, Some, None, Result, Ok, Err, IfOk}
+use Rattle.std.proofs.Common.{◌<◌, ◌+◌, ◌≡◌, ℕ, true, false, List, ◌∷◌, length, sym, refl, ap, ◌∙◌, subst, ap₂, Bool, cond, eq-eqb, ne_eqb}
+use Rattle.std.specs.Prelude.{◌==◌, Option, Some, None, Result, Ok, Err, IfOk}
 use mathlib.Core.Path.{Path}
 use Rattle.atomic_table.specs.Table.{Me}
-use Rattle.pointer_word.specs.Words.{Place, Away, Coming, Here, Leaving, Word, face, framed}
+use Rattle.pointer_word.specs.Words.{Place, PlaceFits, Away, Coming, Here, Leaving, Word, face, framed, place_bits}
+use Rattle.pointer_word.proofs.Fields.{state_bits, told as fields_told}
 use Rattle.pointer_word.specs.Hands.{Hand, told, listed, seen}
 use Rattle.pointer_word.specs.Calls.{Filled}
 use Rattle.remote_store.specs.declared.berth.Berth.{Berth}
@@ -11,6 +12,7 @@ use Rattle.remote_store.specs.Kept.{Keeps}
 use Rattle.object_lock.specs.declared.answers.Begin.{Begin}
 use Rattle.object_lock.specs.declared.answers.Begin.TheVariants as B
 use Rattle.object_lock.specs.Seats.{Sizes, View, note, with_note}
+use Rattle.object_lock.specs.Logs.{Deed, tells_frame}
 use Rattle.object_lock.specs.Rule.{PlaceIn}
 use Rattle.object_lock.specs.Kept.{slot_keeps, slot_has, berth_fits, berth_keeps}
 use Rattle.object_lock.specs.Plays.{Found, Confirms}
@@ -28,6 +30,32 @@ never_taken (Coming m) e = cc
 never_taken (Here f k) e = cc
 never_taken (Leaving f m k) e = cc
 
+-- what the number of a word tells of a frame
+pub no_frame : (p : Place) (c n : ℕ) → c < 65536 → PlaceFits p → n ≡ c + place_bits p → framed p ≡ None → tells_frame n ≡ false
+no_frame p c n l k e none = ap (λ (b : ℕ). b == 2) (fields_told p c n l k e).3 ∙ by_place p none
+  where
+    by_place : (q : Place) → framed q ≡ None → (state_bits q == 2) ≡ false
+    by_place Away d = refl
+    by_place (Coming m) d = refl
+    by_place (Here f b) d = cc
+    by_place (Leaving f m b) d = cc
+
+pub some_frame : (p : Place) (c n f : ℕ) → c < 65536 → PlaceFits p → n ≡ c + place_bits p → framed p ≡ Some f → tells_frame n ≡ true
+some_frame p c n f l k e some = ap (λ (b : ℕ). b == 2) (fields_told p c n l k e).3 ∙ by_place p some
+  where
+    by_place : (q : Place) → framed q ≡ Some f → (state_bits q == 2) ≡ true
+    by_place Away d = cc
+    by_place (Coming m) d = cc
+    by_place (Here g b) d = refl
+    by_place (Leaving g m b) d = refl
+
+-- an object that is told in a frame is there
+pub told_frame : (p : Place) (f : ℕ) → begun p ≡ B.Here f → framed p ≡ Some f
+told_frame Away f e = cc
+told_frame (Coming m) f e = cc
+told_frame (Here g k) f e = let h : g ≡ f = cc in ap Some h
+told_frame (Leaving g m k) f e = let h : g ≡ f = cc in ap Some h
+
 -- a note in which no frame is known stays when none is told
 unknown : (v : View) (o : ℕ) → ((f : ℕ) → (note v o).frame ≡ Some f → None ≡ Some f) → with_note v o (told (note v o) None) ≡ v
 unknown v o none = go (note v o).frame refl
@@ -38,17 +66,17 @@ unknown v o none = go (note v o).frame refl
 
 module _ {W C : Type 0} (fits : C → ℕ → Type 0) (content : C → Option (List ℕ)) (o : ℕ) (old new : SeatView W C) where
   abbrev Left : Place → Type 0
-  Left p = Path (SeatView W C) new (record old { view = with_note old.view o (told (note old.view o) (framed p)) })
+  Left p = Path (SeatView W C) new (record old { view = with_note old.view o (told (note old.view o) (framed p)); log = new.log })
 
-  answered : (p : Place) → PlaceIn old.view.sizes p → Confirms old.view o p → Left p → Begun fits content o old new (begun p)
-  answered Away k c e = e ∙ ap (λ (v : View). record old { view = v }) (unknown old.view o c)
-  answered (Coming m) k c e = e ∙ ap (λ (v : View). record old { view = v }) (unknown old.view o c)
-  answered (Here f b) k c e = (k, (λ g h. let q = c g h in let r : f ≡ g = cc in sym r), e)
-  answered (Leaving f m b) k c e = (k.0, (λ g h. let q = c g h in let r : f ≡ g = cc in sym r), e)
+  answered : (p : Place) → PlaceIn old.view.sizes p → Confirms old.view o p → Left p → (framed p ≡ None → new.log ≡ old.log) → Begun fits content o old new (begun p)
+  answered Away k c e quiet = e ∙ ap₂ (λ (v : View) (l : List Deed). record old { view = v; log = l }) (unknown old.view o c) (quiet refl)
+  answered (Coming m) k c e quiet = e ∙ ap₂ (λ (v : View) (l : List Deed). record old { view = v; log = l }) (unknown old.view o c) (quiet refl)
+  answered (Here f b) k c e quiet = (k, (λ g h. let q = c g h in let r : f ≡ g = cc in sym r), e)
+  answered (Leaving f m b) k c e quiet = (k.0, (λ g h. let q = c g h in let r : f ≡ g = cc in sym r), e)
 
   -- what is answered of an object that was not begun
-  pub not_begun : (p : Place) (r : Begin) → r ≡ begun p → PlaceIn old.view.sizes p → Confirms old.view o p → Left p → Begun fits content o old new r
-  not_begun p r is k c e = subst (Begun fits content o old new) (sym is) (answered p k c e)
+  pub not_begun : (p : Place) (r : Begin) → r ≡ begun p → PlaceIn old.view.sizes p → Confirms old.view o p → Left p → (framed p ≡ None → new.log ≡ old.log) → Begun fits content o old new r
+  not_begun p r is k c e quiet = subst (Begun fits content o old new) (sym is) (answered p k c e quiet)
 
 module _ {W C : Type 0} (fits : C → ℕ → Type 0) (content : C → Option (List ℕ)) (o : ℕ) (old new : SeatView W C) where
   unfetched : (p : Place) → PlaceIn old.view.sizes p → Path (SeatView W C) new old → Fetched fits content o old new (begun p)

@@ -15,7 +15,7 @@ use Rattle.pointer_word.proofs.Bringing.{keeps_leave}
 use Rattle.pointer_word.proofs.Bits.{is_clean}
 use Rattle.object_lock.specs.Seats.{Sizes, View, learns, with_hand}
 use Rattle.object_lock.specs.Carrying.{Carries}
-use Rattle.object_lock.specs.Rule.{HandIn, Berthed, LoggedRule, Rule}
+use Rattle.object_lock.specs.Rule.{HandIn, Berthed, LoggedRule}
 use Rattle.object_lock.specs.Plays.{IsStep, Found, told_leave}
 use Rattle.object_lock.specs.Logs.{Seated, bare, kept_of}
 use Rattle.object_lock.specs.Logging.{logs_leave}
@@ -64,7 +64,7 @@ module _ {S : Type 0} (kept : S → ℕ → List ℕ → Type 0) (there : S → 
   pub leaves : (slots id : ℕ) (me : Me S Seated) (o f old : ℕ) → o < z.objects → f < z.frames → me.0.view.hand.freed ≡ None → old ≡ face (Here f true) 0
       → Allows (LoggedRule kept there honest z) slots id me o (λ n. either (eqb n old) 0 n) (logs_leave honest (step slots o old 0 maybe.none) me)
   leaves slots id me o f old near inside empty is_old = telling (LoggedRule kept there honest z) slots id me o (λ n. either (eqb n old) 0 n) (λ n m. told_leave honest (step slots o old 0 maybe.none) (bare me) n (bare m) × (m.0.log ≡ me.0.log ++ kept_of (record { word = o; found = n; calls = Leaves me.0.view.number o f ∷ [] }))) (logs_leave honest (step slots o old 0 maybe.none) me) (λ n m h. (h.0, (f, is_old, h.1)))
-      (allowed kept there honest z slots id me o (λ n. either (eqb n old) 0 n) (Leaves me.0.view.number o f ∷ []) (told_leave honest (step slots o old 0 maybe.none) (bare me)) (leaves_on slots id (bare me) o f old near inside empty is_old))
+      (allowed kept there honest z slots id me o (λ n. either (eqb n old) 0 n) (Leaves me.0.view.number o f ∷ []) (told_leave honest (step slots o old 0 maybe.none) (bare me)) (leaves_on slots id (bare me) o f old near inside empty is_old) (λ e w h. (refl, (refl, near))))
 
 -- the words of two frames differ
 pub clean_frames : (g f : ℕ) → face (Here g true) 0 ≡ face (Here f true) 0 → g ≡ f

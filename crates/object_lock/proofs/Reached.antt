@@ -54,7 +54,9 @@ all_parts {S} kept there honest z s r =
       steps = l.steps;
       led = subst (λ (cs : List Call). Runs honest z.cells opening cs q.machine) (sym l.made) q.led.1;
       follows = l.follows;
+      own = l.own;
       logs = l.logs;
+      none = l.none;
       parts = λ id v at. subst (IsPart v.view) (sym l.made) (part_of kept there honest z (unlogged s) q id v.view (at_map (λ (u : Seated). u.view) s.views id v at));
       words = λ o near. (q.objects o near).word;
     }

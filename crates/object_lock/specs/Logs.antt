@@ -1,9 +1,9 @@
 -- What the seats of a table did, each with what it found, and which part of that each seat keeps.
-use Rattle.std.specs.Prelude.{◌≡◌, ℕ, ◌==◌, ◌<◌, ◌≤◌, ◌++◌, Bool, true, false, cond, List, [], ◌∷◌, length, map, Some}
+use Rattle.std.specs.Prelude.{◌≡◌, ℕ, suc, ◌==◌, ◌&&◌, ◌||◌, ◌/◌, ◌%◌, ◌<◌, ◌≤◌, ◌++◌, Bool, true, false, cond, List, [], ◌∷◌, length, map, Some}
 use mathlib.Core.Option.{some}
 use lib.ListN.{get_elem?}
 use Rattle.atomic_table.specs.Table.{State, Me}
-use Rattle.pointer_word.specs.Words.{Here, pack, face}
+use Rattle.pointer_word.specs.Words.{Fits, Here, pack, face}
 use Rattle.pointer_word.specs.Hands.{seen, listed}
 use Rattle.pointer_word.specs.Machine.{State as Machine, Kept, opening}
 use Rattle.pointer_word.specs.Calls.{Call, Opens, Closes, Clears, Stores, Begins, Claims, Fills, Arrives, Unclaims, Retreats, Marks, Copies, Puts, Commits, Aborts, Leaves, Releases, act}
@@ -25,14 +25,18 @@ pub record Seated : Type 0 where
   pub view : View
   pub log : List Deed
 
--- a seat keeps the call: a try to begin, to claim, to mark or to have an object leave where it found the word that it asks for, and every other call; of a try to
--- commit the put before it shows
+-- the number is the word of an object that is in a frame
+abbrev pub tells_frame : ℕ → Bool
+tells_frame n = n / 262144 % 4 == 2
+
+-- a seat keeps the call: a try to begin, to claim, to mark or to have an object leave where it found the word that it asks for, or, as the object's
+-- owner, a frame, and every other call; of a try to commit the put before it shows
 abbrev pub is_told : ℕ → Call → Bool
 is_told n (Opens o) = true
 is_told n (Closes o) = true
 is_told n (Clears o) = true
 is_told n (Stores o f i v) = true
-is_told n (Begins m o c own) = n == c
+is_told n (Begins m o c own) = (n == c) || (own && tells_frame n)
 is_told n (Claims m o f) = n == 0
 is_told n (Fills m f i v) = true
 is_told n (Arrives m o f own) = true
@@ -65,14 +69,63 @@ abbrev pub calls_of : List (ℕ × Deed) → List Call
 calls_of [] = []
 calls_of (d ∷ ds) = d.1.calls ++ calls_of ds
 
+-- the word k of a table of these sizes is that of the object o
+abbrev pub IsObjectWord : Sizes → ℕ → ℕ → Type 0
+IsObjectWord z k o = (k ≡ o) × (o < z.objects)
+
+-- it is that of the frame f
+abbrev pub IsFrameWord : Sizes → ℕ → ℕ → Type 0
+IsFrameWord z k f = (k ≡ frame_word z f) × (f < z.frames)
+
+-- it is that of the cell i of the frame f
+abbrev pub IsCellWord : Sizes → ℕ → ℕ → ℕ → Type 0
+IsCellWord z k f i = k ≡ cell_word z f i
+
+-- the word k is the one that the call looks at, or changes; a mover's call is one of the mover m
+abbrev pub IsCallAt : Sizes → ℕ → ℕ → Call → Type 0
+IsCallAt z m k (Opens o) = IsObjectWord z k o
+IsCallAt z m k (Closes o) = IsObjectWord z k o
+IsCallAt z m k (Clears o) = IsObjectWord z k o
+IsCallAt z m k (Stores o f i v) = IsCellWord z k f i
+IsCallAt z m k (Begins j o c own) = (j ≡ m) × IsObjectWord z k o
+IsCallAt z m k (Claims j o f) = (j ≡ m) × IsFrameWord z k f
+IsCallAt z m k (Fills j f i v) = (j ≡ m) × IsCellWord z k f i
+IsCallAt z m k (Arrives j o f own) = (j ≡ m) × IsObjectWord z k o
+IsCallAt z m k (Unclaims j f) = (j ≡ m) × IsFrameWord z k f
+IsCallAt z m k (Retreats j o) = (j ≡ m) × IsObjectWord z k o
+IsCallAt z m k (Marks j o f) = (j ≡ m) × IsObjectWord z k o
+IsCallAt z m k (Copies j f i) = (j ≡ m) × IsCellWord z k f i
+IsCallAt z m k (Puts j o x) = (j ≡ m) × IsObjectWord z k o
+IsCallAt z m k (Commits j o f) = (j ≡ m) × IsObjectWord z k o
+IsCallAt z m k (Aborts j o f) = (j ≡ m) × IsObjectWord z k o
+IsCallAt z m k (Leaves j o f) = (j ≡ m) × IsObjectWord z k o
+IsCallAt z m k (Releases j f) = (j ≡ m) × IsFrameWord z k f
+
+-- a put, and a try to commit
+abbrev pub IsTry : Call → Call → Type 0
+IsTry (Puts j o x) (Commits i p f) = Unit {0}
+IsTry c d = ⊥
+
+-- these are calls of one step of the mover m, or of an owner, at the word k: none, one, or a try to commit behind its put
+abbrev pub AreCallsAt : Sizes → ℕ → ℕ → List Call → Type 0
+AreCallsAt z m k [] = Unit {0}
+AreCallsAt z m k (c ∷ []) = IsCallAt z m k c
+AreCallsAt z m k (c ∷ d ∷ []) = IsCallAt z m k c × IsCallAt z m k d × IsTry c d
+AreCallsAt z m k (c ∷ d ∷ e ∷ cs) = ⊥
+
+-- the calls of each step are such ones at its word, of the seat that made it, whose number as a mover is one more than its place among the seats
+abbrev pub AreOwn : Sizes → List (ℕ × Deed) → Type 0
+AreOwn z [] = Unit {0}
+AreOwn z (d ∷ ds) = AreCallsAt z (suc d.0) d.1.word d.1.calls × AreOwn z ds
+
 -- what these calls leave, one after the other
 abbrev pub act_all : Machine → List Call → Machine
 act_all x [] = x
 act_all x (c ∷ cs) = act_all (act x c) cs
 
--- the machine shows this number at the word k of a table of these sizes
+-- the machine shows this number at the word k of a table of these sizes; an object's word fits its 64 bits
 pub record IsShown (z : Sizes) (x : Machine) (k n : ℕ) : Type 0 where
-  pub object : k < z.objects → n ≡ pack (x.word k)
+  pub object : k < z.objects → (n ≡ pack (x.word k)) × Fits (x.word k)
   pub frame : (f : ℕ) → f < z.frames → k ≡ frame_word z f → n ≡ x.frame f
   pub cell : (f i : ℕ) → f < z.frames → i < z.cells → k ≡ cell_word z f i → n ≡ x.cell f i
 
@@ -81,11 +134,12 @@ abbrev pub Follows : Sizes → Machine → List (ℕ × Deed) → Machine → Ty
 Follows z x [] t = t ≡ x
 Follows z x (d ∷ ds) t = IsShown z x d.1.word d.1.found × Follows z (act_all x d.1.calls) ds t
 
--- These steps made these calls, which led from the opening machine to the machine x; the log of each seat is its part of them, and no other seat has made a step
+-- These steps, each at the word of its calls and by the seat that they name, made these calls, which led from the opening machine to the machine x; the log of each seat is its part of them, and each step that is kept is one of these seats'
 pub record IsLogged (z : Sizes) (calls : List Call) (x : Machine) (seats : List Seated) : Type 0 where
   pub steps : List (ℕ × Deed)
   pub made : calls_of steps ≡ calls
   pub follows : Follows z opening steps x
+  pub own : AreOwn z steps
   pub logs : (j : ℕ) (v : Seated) → get_elem? seats j ≡ some v → v.log ≡ log_of j steps
   pub none : (j : ℕ) → length seats ≤ j → log_of j steps ≡ []
 
@@ -93,13 +147,13 @@ pub record IsLogged (z : Sizes) (calls : List Call) (x : Machine) (seats : List 
 abbrev pub unlogged : {S : Type 0} → State S Seated → State S View
 unlogged s = record { words = s.words; homes = s.homes; views = map (λ v. v.view) s.views }
 
--- a seat without its log
+-- what a seat knows, and the slots that are out, without what it did
 abbrev pub bare : {S : Type 0} → Me S Seated → Me S View
 bare m = (m.0.view, m.1)
 
 -- a seat with this view that has done nothing yet
-abbrev pub seated : View → Seated
-seated v = record { view = v; log = [] }
+abbrev pub newly_seated : View → Seated
+newly_seated v = record { view = v; log = [] }
 
 -- the seat keeps what it did, and has this of its view
 abbrev pub keeping : (View → View) → Seated → Seated
@@ -107,7 +161,7 @@ keeping f v = record { view = f v.view; log = v.log }
 
 -- a new seat with this of the other's view
 abbrev pub beginning : (View → View) → Seated → Seated
-beginning f v = seated (f v.view)
+beginning f v = newly_seated (f v.view)
 
 -- the log grew by one step at this word, which made this call and found a number of which this is so
 abbrev pub Adds : List Deed → List Deed → ℕ → Call → (ℕ → Type 0) → Type 0

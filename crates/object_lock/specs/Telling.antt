@@ -46,7 +46,7 @@ module _ {W C : Type 0} (fits : C → ℕ → Type 0) (content : C → Option (L
   -- The object o was begun: its berth is in hand, and what that keeps is promised. Or it is in a frame, which is noted. Or nothing changed
   abbrev pub Begun : ℕ → SeatView W C → SeatView W C → Begin → Type 0
   Begun o old new B.Taken = (b : Berth C) × (ws : List ℕ) × berth_keeps fits content old.view.sizes.cells b o ws × (new ≡ record old { view = with_hand old.view (bringing old.view.hand o ws); brought = Some b; log = new.log })
-  Begun o old new (B.Here f) = (f < old.view.sizes.frames) × ((g : ℕ) → (note old.view o).frame ≡ Some g → g ≡ f) × (new ≡ record old { view = with_note old.view o (told (note old.view o) (Some f)) })
+  Begun o old new (B.Here f) = (f < old.view.sizes.frames) × ((g : ℕ) → (note old.view o).frame ≡ Some g → g ≡ f) × (new ≡ record old { view = with_note old.view o (told (note old.view o) (Some f)); log = new.log })
   Begun o old new B.Busy = new ≡ old
 
 -- the frame f was claimed, or nothing changed

@@ -1,12 +1,12 @@
 //! The calls of a mover that brings an object into a frame.
 ghost use Rattle.std.specs.Prelude.{◌≡◌, ℕ, ◌<◌, ◌≤◌, ◌==◌, ◌↔◌, not, true, false, Some, None};
-ghost use Rattle.pointer_word.specs.Words.{Away, Here};
+ghost use Rattle.pointer_word.specs.Words.{Away, Here, framed};
 ghost use Rattle.pointer_word.specs.Hands.{told, filling, arriving, retreating};
 ghost use Rattle.pointer_word.specs.Calls.{Filled, Begins, Claims, Fills, Arrives, Retreats};
 ghost use Rattle.pointer_word.specs.Asked.{HasNoFrame, HasNothing};
 ghost use Rattle.object_lock.specs.Seats.{Owns, cell_word, frame_word, note, with_note, with_hand};
 ghost use Rattle.object_lock.specs.Logs.{Adds, AddsOne};
-ghost use Rattle.object_lock.specs.Plays.{Steps, Holds, IsUnheld, LeavesWord, LeavesAt, LeavesCell};
+ghost use Rattle.object_lock.specs.Plays.{FoundWord, Steps, Holds, IsUnheld, LeavesWord, LeavesAt, LeavesCell};
 ghost use Rattle.object_lock.specs.SeatViews.{IsSeat};
 ghost use Rattle.object_lock.specs.Telling.{tried, Begun, Fetched, Claimed};
 
@@ -29,6 +29,7 @@ impl<S: RawStore> ObjectTable<S> {
         ensures told { 0 < count → Begun S.fits S.content obj mover.old mover.new result }
         ensures fetched { count ≡ 0 → Fetched S.fits S.content obj mover.old mover.new result }
         ensures logged { result ≡ Begin.Taken → Adds mover.old.log mover.new.log obj (Begins mover.old.view.number obj count (not (count == 0))) (λ n. n ≡ count) }
+        ensures noted { (f : ℕ) → 0 < count → result ≡ Begin.Here f → Adds mover.old.log mover.new.log obj (Begins mover.old.view.number obj count true) (FoundWord mover.old.view.sizes (λ w. framed w.place ≡ Some f)) }
         ensures step { Steps S.honest (Begins mover.old.view.number obj count (not (count == 0))) mover.old.view mover.new.view (λ x. result ≡ tried count (x.word obj)) }
     {
         let coming = Word::coming(count, mover.number);

@@ -1,11 +1,11 @@
 //! The calls of an owner on its own objects.
 ghost use Rattle.std.specs.Prelude.{◌≡◌, ℕ, ◌<◌, ◌-◌, true, Some};
-ghost use Rattle.pointer_word.specs.Words.{Field, cleared};
+ghost use Rattle.pointer_word.specs.Words.{cleared};
 ghost use Rattle.pointer_word.specs.Hands.{closed, writable, added, latest_of};
 ghost use Rattle.pointer_word.specs.Calls.{Opens, Closes, Clears, Stores};
 ghost use Rattle.object_lock.specs.Seats.{Owns, cell_word, note, with_note};
 ghost use Rattle.object_lock.specs.Logs.{Adds, AddsOne};
-ghost use Rattle.object_lock.specs.Plays.{Steps, IsLook, LeavesWord, LeavesCell};
+ghost use Rattle.object_lock.specs.Plays.{FoundWord, Steps, IsLook, LeavesWord, LeavesCell};
 ghost use Rattle.object_lock.specs.SeatViews.{IsSeat};
 ghost use Rattle.object_lock.specs.Telling.{held, Opened};
 
@@ -23,7 +23,7 @@ impl<S: RawStore> ObjectTable<S> {
         requires hold { Owns owner.old.view obj × ((note owner.old.view obj).count < 4) }
         ensures table { IsSeat self.now owner.new }
         ensures told { Opened obj owner.old owner.new result }
-        ensures logged { Adds owner.old.log owner.new.log obj (Opens obj) (λ n. Field n (λ w. result ≡ held w.place)) }
+        ensures logged { Adds owner.old.log owner.new.log obj (Opens obj) (FoundWord owner.old.view.sizes (λ w. (w.count ≡ (note owner.old.view obj).count) × (result ≡ held w.place))) }
         ensures step { Steps S.honest (Opens obj) owner.old.view owner.new.view (λ x. result ≡ held (x.word obj).place) }
     {
         held_of(self.words.open_word(&mut owner.seat, obj))

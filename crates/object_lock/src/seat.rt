@@ -24,7 +24,7 @@ pub struct MoverSeat<S: RawStore> {
 }
 
 /// The seat of a program: a mover's seat with objects of its own, from `low` to below `high`. One view tells what it
-/// holds and stored as an owner, and what it has in hand as a mover; a log has all that it did, in order. Of this nothing is kept at run time.
+/// holds and stored as an owner, and what it has in hand as a mover; a log has each step that had its effect, and each try to commit, in order. Of this nothing is kept at run time.
 pub type OwnerSeat<S> = MoverSeat<S>;
 
 impl<S: RawStore> Model for MoverSeat<S> {

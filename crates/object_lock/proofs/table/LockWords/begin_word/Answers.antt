@@ -1,4 +1,4 @@
-use Rattle.std.proofs.Common.{arith, ap, sym, ◌∙◌, eqb, ℕ, ne_eqb}
+use Rattle.std.proofs.Common.{arith, ap, sym, ◌∙◌, ◌≡◌, ap₂, eqb, eq-eqb, ℕ, ne_eqb}
 use prog.Atomic.{either}
 use Rattle.object_lock.specs.Logging.{logs_begin_any}
 use mathlib.Core.Option.{none}
@@ -9,9 +9,9 @@ use Rattle.object_lock.proofs.Either.{begins_any}
 use Rattle.object_lock.proofs.Exact.{begins_any_exactly, begins_any_step}
 use Rattle.object_lock.proofs.Stored.{allowed_at}
 use Rattle.object_lock.proofs.Asks.{asks_try}
-use Rattle.std.specs.Prelude.{◌==◌, not}
+use Rattle.std.specs.Prelude.{◌==◌, ◌&&◌, ◌||◌, false, not, Bool}
 use Rattle.pointer_word.specs.Calls.{Begins}
-use Rattle.object_lock.specs.Logs.{Deed, deed, bare}
+use Rattle.object_lock.specs.Logs.{Deed, bare, deed, is_kept, tells_frame}
 use Rattle.object_lock.proofs.Keeping.{not_kept}
 use Rattle.object_lock.proofs.table.LockWords.begin_word.Goals as goal
 
@@ -28,8 +28,17 @@ pub returns-clause-missed : goal.returns-clause-missed
 returns-clause-missed g c e =
     let t = (begins_any_exactly g.S.RawStore.honest (slot_keeps g.S.RawStore.fits g.S.RawStore.content c.args.seat.now.me.0.view.sizes.cells) (slot_has g.S.RawStore.fits c.args.seat.now.me.0.view.sizes.cells) (step 0 c.args.obj c.args.count 0 none) (bare c.args.seat.now.me) c.compare_exchange.result (bare c.compare_exchange.new.seat.me) (λ l. (c.requires.hold l).0) c.requires.low.1 c.compare_exchange.ensures.2.0).1 e in
     let d : Deed = deed c.args.obj c.compare_exchange.result (Begins c.args.seat.now.me.0.view.number c.args.obj c.args.count (not (c.args.count == 0))) in
-    let same = not_kept c.args.seat.now.me.0.log c.compare_exchange.new.seat.me.0.log d (ne_eqb c.compare_exchange.result c.args.count e) c.compare_exchange.ensures.2.1 in
-    (t.0, t.1, t.2, (λ l. let q = t.3 l in (q.0, λ i. (record { view = q.1 i; log = same i }, t.5 i))), (λ z. let q = t.4 z in λ i. (record { view = q i; log = same i }, t.5 i)))
+    let miss : (c.compare_exchange.result == c.args.count) ≡ false = ne_eqb c.compare_exchange.result c.args.count e in (
+      t.0,
+      t.1,
+      t.2,
+      (λ l. let q = t.3 l in (q.0, λ i. (q.1 i, t.5 i))),
+      (λ z.
+          let q = t.4 z in
+          let none : is_kept d.found d.calls ≡ false = ap₂ (λ (a b : Bool). a || (b && tells_frame c.compare_exchange.result)) miss (ap not (eq-eqb c.args.count 0 z)) in
+          let same = not_kept c.args.seat.now.me.0.log c.compare_exchange.new.seat.me.0.log d none c.compare_exchange.ensures.2.1 in
+          λ i. (record { view = q i; log = same i }, t.5 i)),
+    )
 
 pub returns-clause-step : goal.returns-clause-step
 returns-clause-step g c =

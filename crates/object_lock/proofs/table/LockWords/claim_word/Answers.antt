@@ -1,4 +1,4 @@
-use Rattle.std.proofs.Common.{arith, sym, ap, ◌∙◌, ℕ, suc, ◌≡◌, ◌++◌, [], ◌∷◌, subst, ne_eqb}
+use Rattle.std.proofs.Common.{arith, sym, ap, ◌∙◌, ℕ, suc, ◌≡◌, ◌++◌, subst, ne_eqb}
 use Rattle.pointer_word.specs.Hands.{or_zero}
 use Rattle.object_lock.specs.declared.shape.Shape.{Shape}
 use Rattle.object_lock.specs.Seats.{Sizes, frame_word, sizes}
