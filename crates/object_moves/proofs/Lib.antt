@@ -1,3 +1,4 @@
+mod Adding
 mod Copying
 pub mod Filling
 mod Looking

@@ -1,11 +1,13 @@
 -- Opening a hold of an object and bringing the object in.
-use Rattle.std.proofs.Common.{◌≡◌, ℕ, ◌+◌, ◌<◌, List, [], ◌∷◌, ◌++◌, length, sym, ap, ◌∙◌, subst}
+use Rattle.std.proofs.Common.{◌≡◌, ℕ, ◌+◌, ◌<◌, List, [], ◌∷◌, ◌++◌, length, sym, ap, ap₂, ◌∙◌, subst}
 use Rattle.std.specs.Prelude.{Option, Some, None, slice_set}
 use Rattle.std.proofs.lemmas.List.{get_or-set_same, set-set}
-use Rattle.pointer_word.specs.Hands.{Hand, Note, blank, closed, listed, opened, told}
+use Rattle.pointer_word.specs.Hands.{Hand, Note, arriving, blank, closed, listed, opened, told}
 use Rattle.pointer_word.specs.Calls.{Filled}
 use Rattle.object_lock.specs.Seats.{View, note, with_hand, with_note}
+use Rattle.object_lock.specs.Plays.{Holds, IsUnheld}
 use Rattle.object_lock.specs.SeatViews.{SeatView}
+use Rattle.object_moves.specs.Moving.{Arrived, hand_arrived}
 use Rattle.object_moves.specs.Taken.{Brings, ClosesAgain, FetchesOr, FilledBelow, FillsOnly, GivesUp, Refused, Takes, TakesOr, seat_of}
 use Rattle.object_moves.proofs.Filling.{filled_next}
 
@@ -74,3 +76,29 @@ pub taken_or : {W C : Type 0} (reliable : Type 0) (o : ℕ) (s t u : SeatView W 
     → FetchesOr reliable o t u r → TakesOr reliable o s u r
 taken_or {W} {C} reliable o s t u (Some f) away e wide k = (taken o s.view t.view u.view f away (same_view t _ e) wide k.0, k.1 ∙ ap (λ (x : SeatView W C). x.refusals) e)
 taken_or {W} {C} reliable o s t u None away e wide k = (given_up o s.view t.view u.view away (same_view t _ e) wide k.0, subst (λ n. Refused reliable n u.refusals) (ap (λ (x : SeatView W C). x.refusals) e) k.1)
+
+-- what is read and filled before an object arrives changes the cells that were filled alone
+pub arrived_by : {W C : Type 0} (o f : ℕ) (s r w t : SeatView W C) → r ≡ record s { store = r.store; refusals = r.refusals } → FillsOnly r w
+    → (Holds w.view o → t ≡ record w { view = with_note (with_hand w.view (arriving w.view.hand)) o (told (note w.view o) (Some f)); brought = None; log = t.log })
+    → (IsUnheld w.view o → t ≡ record w { view = with_hand w.view (arriving w.view.hand); brought = None; log = t.log }) → Arrived o f s t
+arrived_by {W} {C} o f s r w t read filled held unheld = (
+  (λ h.
+      let there : Holds w.view o = subst (λ (x : SeatView W C). Holds x.view o) (sym filled) (subst (λ (x : SeatView W C). Holds x.view o) (sym read) h) in
+      let e = held there ∙ ap arrive filled ∙ ap (λ (x : SeatView W C). arrive (put x)) read in
+      e ∙ ap₂ (λ (ps : List (ℕ × ℕ)) (x : SeatView W C). record s { view = with_note (with_hand s.view (hand_arrived s.view.hand ps)) o (told (note s.view o) (Some f)); brought = None; store = x.store; refusals = x.refusals; log = t.log })
+      (sym (ap (λ (x : SeatView W C). x.view.hand.filled) (held there))) (sym e)),
+  (λ h.
+      let there : IsUnheld w.view o = subst (λ (x : SeatView W C). IsUnheld x.view o) (sym filled) (subst (λ (x : SeatView W C). IsUnheld x.view o) (sym read) h) in
+      let e = unheld there ∙ ap give filled ∙ ap (λ (x : SeatView W C). give (put x)) read in
+      e ∙ ap₂ (λ (ps : List (ℕ × ℕ)) (x : SeatView W C). record s { view = with_hand s.view (hand_arrived s.view.hand ps); brought = None; store = x.store; refusals = x.refusals; log = t.log })
+      (sym (ap (λ (x : SeatView W C). x.view.hand.filled) (unheld there))) (sym e)),
+)
+  where
+    put : SeatView W C → SeatView W C
+    put x = record x { view = with_hand x.view (record x.view.hand { filled = w.view.hand.filled }); log = w.log }
+
+    arrive : SeatView W C → SeatView W C
+    arrive x = record x { view = with_note (with_hand x.view (arriving x.view.hand)) o (told (note x.view o) (Some f)); brought = None; log = t.log }
+
+    give : SeatView W C → SeatView W C
+    give x = record x { view = with_hand x.view (arriving x.view.hand); brought = None; log = t.log }

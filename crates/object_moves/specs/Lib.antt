@@ -1,3 +1,4 @@
+pub mod Deeds
 pub mod Moving
 pub mod Taken
 pub mod Visits

@@ -1,6 +1,9 @@
 -- What a mover did at frames where an object was to leave.
-use Rattle.std.specs.Prelude.{ℕ, List, [], ◌∷◌, ◌++◌}
+use Rattle.std.specs.Prelude.{◌≡◌, ℕ, ◌<◌, true, List, [], ◌∷◌, ◌++◌, length}
 use Rattle.pointer_word.specs.Hands.{Move, Marked, Committed, Aborted, Left, Released}
+use Rattle.object_lock.specs.Seats.{Sizes}
+use Rattle.object_lock.specs.Logs.{Deed}
+use Rattle.object_moves.specs.Deeds.{LeavesLogged, MovesLogged, marks}
 use Rattle.object_moves.specs.declared.moved.Moved.{Moved}
 use Rattle.object_moves.specs.declared.moved.Moved.TheVariants as M
 
@@ -28,3 +31,13 @@ AreServed (MovesOut o f M.Left ∷ xs) = AreServed xs
 AreServed (MovesOut o f M.Stayed ∷ xs) = AreServed xs
 AreServed (MovesOut o f M.Failed ∷ xs) = ⊥
 AreServed (LetsLeave f ∷ xs) = AreServed xs
+
+-- the log of the mover m of a table of these sizes grew by what it did at the visit, step by step
+abbrev pub VisitLogged : Sizes → ℕ → Visit → List Deed → List Deed → Type 0
+VisitLogged z m (MovesOut o f r) old new = (o < z.objects) × (f < z.frames) × (ws : List ℕ) × (length ws ≡ z.cells) × MovesLogged z m o f ws r (old ++ marks m o f ∷ []) new
+VisitLogged z m (LetsLeave f) old new = (o : ℕ) × (o < z.objects) × (f < z.frames) × LeavesLogged z m o f true old new
+
+-- the same of visits, one behind the other
+abbrev pub VisitsLogged : Sizes → ℕ → List Visit → List Deed → List Deed → Type 0
+VisitsLogged z m [] old new = new ≡ old
+VisitsLogged z m (x ∷ xs) old new = (mid : List Deed) × VisitLogged z m x old mid × VisitsLogged z m xs mid new

@@ -1,6 +1,8 @@
 //! How an object is brought into a frame that was claimed for it.
-ghost use Rattle.std.specs.Prelude.{◌≡◌, ◌<◌, ◌≤◌, ℕ, Some, MatchBool, length};
+ghost use Rattle.std.specs.Prelude.{◌≡◌, ◌<◌, ◌≤◌, ℕ, Some, MatchBool, false, length, true};
 ghost use Rattle.object_lock.specs.SeatViews.{IsSeat};
+ghost use Rattle.object_lock.specs.Plays.{Holds, IsUnheld};
+ghost use Rattle.object_moves.specs.Deeds.{AddsFills, BringsLogged};
 ghost use Rattle.object_moves.specs.Moving.{ArrivedOr, BringsInto};
 ghost use Rattle.object_moves.specs.Taken.{FilledBelow, FillsOnly, Refused};
 ghost use Rattle.pointer_word.specs.Hands.{listed};
@@ -42,6 +44,7 @@ pub fn fill<S: RawStore>(
     ensures table { IsSeat table.now mover.new }
     ensures same { FillsOnly mover.old mover.new }
     ensures filled { FilledBelow mover.new.view.hand.filled words.now table.now.sizes.cells }
+    ensures logged { AddsFills table.now.sizes mover.old.view.number frame words.now table.now.sizes.cells mover.old.log mover.new.log }
 {
     let first = table.first_cell(frame);
     for i in 0..words.len() {
@@ -64,6 +67,8 @@ fn bring_by_way_of<S: RawStore>(
     requires zeros { (i : ℕ) → listed words.old i ≡ 0 }
     ensures table { IsSeat table.now mover.new }
     ensures told { ArrivedOr S.reliable obj frame mover.old mover.new result }
+    ensures held_log { Holds mover.old.view obj → BringsLogged S.honest table.now.sizes mover.old.view.number obj frame true mover.old.view.hand.promised result mover.old.log mover.new.log }
+    ensures unheld_log { IsUnheld mover.old.view obj → BringsLogged S.honest table.now.sizes mover.old.view.number obj frame false mover.old.view.hand.promised result mover.old.log mover.new.log }
 {
     if read(mover, obj, &mut *words) {
         fill(table, mover, frame, &*words);
@@ -90,6 +95,8 @@ pub fn bring_into<S: RawStore>(
     requires hands { BringsInto obj frame mover.old.view.hand }
     ensures table { IsSeat table.now mover.new }
     ensures told { ArrivedOr S.reliable obj frame mover.old mover.new result }
+    ensures held_log { Holds mover.old.view obj → BringsLogged S.honest table.now.sizes mover.old.view.number obj frame true mover.old.view.hand.promised result mover.old.log mover.new.log }
+    ensures unheld_log { IsUnheld mover.old.view obj → BringsLogged S.honest table.now.sizes mover.old.view.number obj frame false mover.old.view.hand.promised result mover.old.log mover.new.log }
 {
     let cells = table.cells();
     if cells <= USUAL_CELLS {

@@ -1,9 +1,11 @@
 //! How an owner takes a hold of an object, which it brings into a frame where it is away.
 ghost use Rattle.std.specs.Prelude.{◌≡◌, ◌<◌, None, IfOk, IfSome, MatchResult};
 ghost use Rattle.object_lock.specs.SeatViews.{IsSeat};
-ghost use Rattle.object_lock.specs.Seats.{Owns, note};
+ghost use Rattle.object_lock.specs.Logs.{Adds};
+ghost use Rattle.object_lock.specs.Seats.{Owns, frame_word, note};
+ghost use Rattle.pointer_word.specs.Calls as call;
 ghost use Rattle.object_moves.specs.Taken.{BringsOr, Claims, ClaimsOne, ClaimsOr, FetchesOr, HandOnly, HasOnly, IsQuiet, Refused, StillBrings, TakesOr};
-ghost use Rattle.object_moves.specs.Ways.{Comes, GoesOn, LacksRoom, MakesRoomAt, MakesRoomFor};
+ghost use Rattle.object_moves.specs.Ways.{Comes, GoesOn, LacksRoom, MakesRoomAt, MakesRoomFor, TakeLogged, WayLogged, WayOrClosed, did_of};
 
 use crate::arrival::bring_into;
 use crate::moved::StoreRefused;
@@ -27,6 +29,7 @@ fn claim_freed<S: RawStore>(
     requires hands { HasOnly obj owner.old.view }
     ensures table { IsSeat table.now owner.new }
     ensures told { ClaimsOne owner.old owner.new result }
+    ensures logged { IfSome result (λ frame. Adds owner.old.log owner.new.log (frame_word table.now.sizes frame) (call.Claims owner.old.view.number obj frame) (λ n. n ≡ 0)) }
 {
     let Some(frame) = freed else {
         return None;
@@ -53,7 +56,7 @@ fn claim_once<S: RawStore>(
     ensures table { IsSeat table.now owner.new }
     ensures told { MatchResult result (λ claimed. ClaimsOr owner.old owner.new claimed)
         (λ _. HandOnly owner.old owner.new × StillBrings owner.old.view.hand owner.new.view.hand × Refused S.reliable owner.old.refusals owner.new.refusals) }
-    ensures visits { MatchResult result (λ claimed. MakesRoomFor claimed owner.old.view.hand.past owner.new.view.hand.past) (λ _. LacksRoom owner.old.view.hand.past owner.new.view.hand.past) }
+    ensures visits { MatchResult result (λ claimed. MakesRoomFor table.now.sizes owner.old.view.number obj claimed (did_of owner.old) (did_of owner.new)) (λ _. LacksRoom table.now.sizes owner.old.view.number (did_of owner.old) (did_of owner.new)) }
 {
     if let Some(frame) = find_near(table, owner, obj, from) {
         return Ok(Some(frame));
@@ -97,7 +100,7 @@ fn claim<R: Wait, S: RawStore>(
     ensures table { IsSeat table.now owner.new }
     ensures told { MatchResult result (λ frame. Claims owner.old owner.new frame)
         (λ _. HandOnly owner.old owner.new × StillBrings owner.old.view.hand owner.new.view.hand × Refused S.reliable owner.old.refusals owner.new.refusals) }
-    ensures visits { MatchResult result (λ frame. MakesRoomAt frame owner.old.view.hand.past owner.new.view.hand.past) (λ _. LacksRoom owner.old.view.hand.past owner.new.view.hand.past) }
+    ensures visits { MatchResult result (λ frame. MakesRoomAt table.now.sizes owner.old.view.number obj frame (did_of owner.old) (did_of owner.new)) (λ _. LacksRoom table.now.sizes owner.old.view.number (did_of owner.old) (did_of owner.new)) }
 {
     for _ in rt.forever() {
         match claim_once(table, owner, obj, *from, &mut *moves) {
@@ -126,7 +129,7 @@ fn bring<R: Wait, S: RawStore>(
     requires hands { HasOnly obj owner.old.view }
     ensures table { IsSeat table.now owner.new }
     ensures told { BringsOr S.reliable obj owner.old owner.new result }
-    ensures course { GoesOn result owner.old.view.hand.past owner.new.view.hand.past }
+    ensures course { GoesOn table.now.sizes owner.old.view.number obj result (did_of owner.old) (did_of owner.new) }
 {
     let Ok(frame) = claim(rt, table, owner, obj, from, moves) else {
         table.retreat(owner, obj);
@@ -157,7 +160,7 @@ fn fetch<R: Wait, S: RawStore>(
     requires quiet { IsQuiet owner.old.view }
     ensures table { IsSeat table.now owner.new }
     ensures told { BringsOr S.reliable obj owner.old owner.new result }
-    ensures way { Comes obj result owner.old.view.hand.past owner.new.view.hand.past }
+    ensures way { Comes (WayLogged table.now.sizes owner.old.view.number obj count result) obj result (did_of owner.old) (did_of owner.new) }
 {
     for _ in rt.forever() {
         match table.try_begin(owner, obj, count) {
@@ -185,7 +188,7 @@ fn fetch_or_close<R: Wait, S: RawStore>(
     requires quiet { IsQuiet owner.old.view }
     ensures table { IsSeat table.now owner.new }
     ensures told { FetchesOr S.reliable obj owner.old owner.new result }
-    ensures way { Comes obj result owner.old.view.hand.past owner.new.view.hand.past }
+    ensures way { Comes (WayOrClosed table.now.sizes owner.old.view.number obj count result) obj result (did_of owner.old) (did_of owner.new) }
 {
     let fetched = fetch(rt, table, owner, obj, count, from, moves);
     match fetched {
@@ -213,7 +216,7 @@ pub fn take<R: Wait, S: RawStore>(
     requires quiet { IsQuiet owner.old.view }
     ensures table { IsSeat table.now owner.new }
     ensures told { TakesOr S.reliable obj owner.old owner.new result }
-    ensures way { Comes obj result owner.old.view.hand.past owner.new.view.hand.past }
+    ensures way { Comes (TakeLogged table.now.sizes owner.old.view.number obj count result) obj result (did_of owner.old) (did_of owner.new) }
 {
     match table.open(owner, obj) {
         Held::Here(frame) => Some(frame),

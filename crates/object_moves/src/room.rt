@@ -1,12 +1,14 @@
 //! How an object is moved out of a frame, and room made for another.
-ghost use Rattle.std.specs.Prelude.{◌≡◌, ◌≢◌, ◌<◌, ◌≤◌, ℕ, None, Some, IfOk, IfSome, MatchResult, false, length, true};
+ghost use Rattle.std.specs.Prelude.{◌≡◌, ◌≢◌, ◌<◌, ◌≤◌, ◌++◌, ℕ, List, None, Some, IfOk, IfSome, MatchResult, false, length, true};
 ghost use Rattle.object_lock.specs.Plays.{IsLook};
 ghost use Rattle.object_lock.specs.SeatViews.{IsSeat};
 ghost use Rattle.object_lock.specs.Seats.{Owns};
 ghost use Rattle.object_lock.specs.Telling.{HasPut};
+ghost use Rattle.object_moves.specs.Deeds.{GoesLogged, LeavesLogged, MovesLogged, copies};
+ghost use Rattle.pointer_word.specs.Hands.{listed, seen};
 ghost use Rattle.object_moves.specs.Moving.{LeavesClean, LeavesOne, LetsGo, MovesAway};
 ghost use Rattle.object_moves.specs.Taken.{CopiesOnly, HandOnly, HasOnly, MovesOut, Refused, StillBrings};
-ghost use Rattle.object_moves.specs.Ways.{LacksRoom, MakesRoom};
+ghost use Rattle.object_moves.specs.Ways.{LacksRoom, MakesRoom, did_of};
 ghost use Rattle.pointer_word.specs.Asked.{HasNoFrame};
 ghost use Rattle.pointer_word.specs.Ordered.{IsCopied};
 ghost use Rattle.pointer_word.specs.Words.{Here, counted};
@@ -33,6 +35,7 @@ fn copy<S: RawStore>(
     ensures same { CopiesOnly mover.old mover.new }
     ensures length { length words.new ≡ table.now.sizes.cells }
     ensures copied { IsCopied mover.new.view.hand words.new table.now.sizes.cells }
+    ensures logged { mover.new.log ≡ mover.old.log ++ copies table.now.sizes mover.old.view.number frame words.new table.now.sizes.cells }
 {
     // For the proof alone: the clauses speak of the object that is moved out.
     let _ = obj;
@@ -56,6 +59,7 @@ fn let_go<S: RawStore>(
     requires put { HasPut S.fits S.content table.now.sizes.cells obj mover.old }
     ensures table { IsSeat table.now mover.new }
     ensures told { LetsGo mover.old mover.new result }
+    ensures logged { (ws : List ℕ) × (length ws ≡ table.now.sizes.cells) × ((i : ℕ) → i < table.now.sizes.cells → seen mover.old.view.hand.copied i ≡ Some (listed ws i)) × GoesLogged table.now.sizes mover.old.view.number obj frame ws result mover.old.log mover.new.log }
 {
     if table.try_commit(mover, obj) {
         table.release(mover, frame);
@@ -80,6 +84,7 @@ fn move_by_way_of<S: RawStore>(
     requires words { length words.old ≡ table.now.sizes.cells }
     ensures table { IsSeat table.now mover.new }
     ensures told { MovesAway S.reliable mover.old mover.new result }
+    ensures logged { (ws : List ℕ) × (length ws ≡ table.now.sizes.cells) × MovesLogged table.now.sizes mover.old.view.number obj frame ws result mover.old.log mover.new.log }
 {
     copy(table, mover, obj, frame, &mut *words);
     match mover.put(obj, &*words) {
@@ -105,6 +110,7 @@ pub fn move_out<S: RawStore>(
     requires hands { MovesOut obj frame mover.old.view.hand }
     ensures table { IsSeat table.now mover.new }
     ensures told { MovesAway S.reliable mover.old mover.new result }
+    ensures logged { (ws : List ℕ) × (length ws ≡ table.now.sizes.cells) × MovesLogged table.now.sizes mover.old.view.number obj frame ws result mover.old.log mover.new.log }
 {
     let cells = table.cells();
     if cells <= USUAL_CELLS {
@@ -130,6 +136,7 @@ pub fn leave_clean<S: RawStore>(
     requires own { (p : ℕ) → mover.old.view.hand.bringing ≡ Some p → Owns mover.old.view p }
     ensures table { IsSeat table.now mover.new }
     ensures told { LeavesClean frame mover.old mover.new result }
+    ensures logged { LeavesLogged table.now.sizes mover.old.view.number obj frame result mover.old.log mover.new.log }
     ensures stayed { result ≡ false → IsLook S.honest mover.old.view (λ x. x.word obj ≢ counted 0 (Here frame true)) }
 {
     if table.try_leave(mover, obj, frame) {
@@ -153,6 +160,7 @@ fn leave_one<S: RawStore>(
     requires hands { HasOnly obj owner.old.view }
     ensures table { IsSeat table.now owner.new }
     ensures told { LeavesOne owner.old owner.new result }
+    ensures logged { IfSome result (λ frame. (o : ℕ) × (o < table.now.sizes.objects) × LeavesLogged table.now.sizes owner.old.view.number o frame true owner.old.log owner.new.log) }
 {
     // For the proof alone: the clauses speak of the object that is being brought in.
     let _ = obj;
@@ -184,7 +192,7 @@ fn move_one_out<S: RawStore>(
     ensures brings { StillBrings owner.old.view.hand owner.new.view.hand }
     ensures low { IfOk result (λ freed. IfSome freed (λ frame. frame < table.now.sizes.frames)) }
     ensures told { MatchResult result (λ _. owner.new.refusals ≡ owner.old.refusals) (λ _. Refused S.reliable owner.old.refusals owner.new.refusals) }
-    ensures visits { MatchResult result (λ _. MakesRoom owner.old.view.hand.past owner.new.view.hand.past) (λ _. LacksRoom owner.old.view.hand.past owner.new.view.hand.past) }
+    ensures visits { MatchResult result (λ _. MakesRoom table.now.sizes owner.old.view.number (did_of owner.old) (did_of owner.new)) (λ _. LacksRoom table.now.sizes owner.old.view.number (did_of owner.old) (did_of owner.new)) }
 {
     // For the proof alone: the clauses speak of the object that is being brought in.
     let _ = obj;
@@ -225,7 +233,7 @@ fn make_room_among<S: RawStore>(
     ensures brings { StillBrings owner.old.view.hand owner.new.view.hand }
     ensures low { IfOk result (λ freed. IfSome freed (λ frame. frame < table.now.sizes.frames)) }
     ensures told { MatchResult result (λ _. owner.new.refusals ≡ owner.old.refusals) (λ _. Refused S.reliable owner.old.refusals owner.new.refusals) }
-    ensures visits { MatchResult result (λ _. MakesRoom owner.old.view.hand.past owner.new.view.hand.past) (λ _. LacksRoom owner.old.view.hand.past owner.new.view.hand.past) }
+    ensures visits { MatchResult result (λ _. MakesRoom table.now.sizes owner.old.view.number (did_of owner.old) (did_of owner.new)) (λ _. LacksRoom table.now.sizes owner.old.view.number (did_of owner.old) (did_of owner.new)) }
 {
     match leave_one(table, owner, obj, many) {
         Some(frame) => {
@@ -251,7 +259,7 @@ pub(crate) fn make_room<S: RawStore>(
     ensures brings { StillBrings owner.old.view.hand owner.new.view.hand }
     ensures low { IfOk result (λ freed. IfSome freed (λ frame. frame < table.now.sizes.frames)) }
     ensures told { MatchResult result (λ _. owner.new.refusals ≡ owner.old.refusals) (λ _. Refused S.reliable owner.old.refusals owner.new.refusals) }
-    ensures visits { MatchResult result (λ _. MakesRoom owner.old.view.hand.past owner.new.view.hand.past) (λ _. LacksRoom owner.old.view.hand.past owner.new.view.hand.past) }
+    ensures visits { MatchResult result (λ _. MakesRoom table.now.sizes owner.old.view.number (did_of owner.old) (did_of owner.new)) (λ _. LacksRoom table.now.sizes owner.old.view.number (did_of owner.old) (did_of owner.new)) }
 {
     let count = table.frames();
     match make_room_among(table, owner, obj, count.min(FEW), &mut *moves) {

@@ -1,5 +1,8 @@
 //! The search for a frame that is free.
-ghost use Rattle.std.specs.Prelude.{◌<◌, ◌≤◌};
+ghost use Rattle.std.specs.Prelude.{◌≡◌, ◌<◌, ◌≤◌, IfSome, true};
+ghost use Rattle.pointer_word.specs.Calls.{Claims};
+ghost use Rattle.object_lock.specs.Logs.{Adds};
+ghost use Rattle.object_lock.specs.Seats.{frame_word};
 ghost use Rattle.object_lock.specs.SeatViews.{IsSeat};
 ghost use Rattle.object_lock.specs.Telling.{Claimed};
 ghost use Rattle.object_moves.specs.Taken.{ClaimsOne, HasOnly};
@@ -22,6 +25,7 @@ fn try_frame<S: RawStore>(
     requires hands { HasOnly obj mover.old.view }
     ensures table { IsSeat table.now mover.new }
     ensures told { Claimed frame mover.old mover.new result }
+    ensures logged { result ≡ true → Adds mover.old.log mover.new.log (frame_word table.now.sizes frame) (Claims mover.old.view.number obj frame) (λ n. n ≡ 0) }
 {
     match table.look(mover, frame) {
         Some(_object) => false,
@@ -43,6 +47,7 @@ fn find_between<S: RawStore>(
     requires hands { HasOnly obj mover.old.view }
     ensures table { IsSeat table.now mover.new }
     ensures told { ClaimsOne mover.old mover.new result }
+    ensures logged { IfSome result (λ frame. Adds mover.old.log mover.new.log (frame_word table.now.sizes frame) (Claims mover.old.view.number obj frame) (λ n. n ≡ 0)) }
 {
     for frame in low..high {
         if try_frame(table, mover, obj, frame) {
@@ -65,6 +70,7 @@ pub(crate) fn find_near<S: RawStore>(
     requires hands { HasOnly obj mover.old.view }
     ensures table { IsSeat table.now mover.new }
     ensures told { ClaimsOne mover.old mover.new result }
+    ensures logged { IfSome result (λ frame. Adds mover.old.log mover.new.log (frame_word table.now.sizes frame) (Claims mover.old.view.number obj frame) (λ n. n ≡ 0)) }
 {
     let count = table.frames();
     let start = if from < count { from } else { 0 };
@@ -90,6 +96,7 @@ pub fn find_frame<S: RawStore>(
     requires hands { HasOnly obj mover.old.view }
     ensures table { IsSeat table.now mover.new }
     ensures told { ClaimsOne mover.old mover.new result }
+    ensures logged { IfSome result (λ frame. Adds mover.old.log mover.new.log (frame_word table.now.sizes frame) (Claims mover.old.view.number obj frame) (λ n. n ≡ 0)) }
 {
     let count = table.frames();
     let start = if from < count { from } else { 0 };

@@ -2,13 +2,16 @@
 ghost use Rattle.object_lock.specs.Fresh.{AreNumbered, EndWithLast, IsFreshMover, IsFreshOwner, sizes_of};
 ghost use Rattle.object_lock.specs.Kept.{slot_has, slot_keeps};
 ghost use Rattle.object_lock.specs.NewTable.{BeginsAway};
+ghost use Rattle.object_lock.specs.Logs.{Adds};
 ghost use Rattle.object_lock.specs.SeatViews.{IsSeat};
+ghost use Rattle.object_lock.specs.Seats.{frame_word};
 ghost use Rattle.object_moves.specs.Taken.{ClaimsOne, HasOnly};
+ghost use Rattle.pointer_word.specs.Calls.{Claims};
 ghost use Rattle.region.specs.Admission.{IsAdmitted, IsDenied, IsWithinWork, image_at};
 ghost use Rattle.world_semantics.specs.Pieces.{piece_of as first_piece};
 ghost use Rattle.region.specs.Finding.{frame_found};
 ghost use Rattle.std.specs.List.{All};
-ghost use Rattle.std.specs.Prelude.{◌≡◌, ◌+◌, ◌*◌, ◌/◌, ◌<◌, ◌≤◌, ◌++◌, IfErr, IfOk, Some, length, slice_get, suc};
+ghost use Rattle.std.specs.Prelude.{◌≡◌, ◌+◌, ◌*◌, ◌/◌, ◌<◌, ◌≤◌, ◌++◌, IfErr, IfOk, IfSome, Some, length, slice_get, suc};
 
 use crate::admission::{fits, piece_of};
 use crate::fault::AdmitFault;
@@ -88,6 +91,7 @@ impl<S: RawStore> Region<S> {
         requires hands { HasOnly obj mover.old.view }
         ensures table { IsSeat self.now.table mover.new }
         ensures told { ClaimsOne mover.old mover.new (frame_found result) }
+        ensures logged { IfSome (frame_found result) (λ frame. Adds mover.old.log mover.new.log (frame_word self.now.table.sizes frame) (Claims mover.old.view.number obj frame) (λ n. n ≡ 0)) }
     {
         match find_frame(&self.table, mover, obj, 0) {
             Some(frame) => Found::Claimed(frame),

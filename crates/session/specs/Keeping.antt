@@ -18,7 +18,7 @@ use Rattle.pointer_word.specs.Hands.{added, blank, closed, writable}
 use Rattle.object_lock.specs.Seats.{Owns, View, note, with_note}
 use Rattle.session.specs.declared.hold.Hold.{Hold}
 use Rattle.object_moves.specs.Taken.{GivesUp, IsQuiet, Refused, Takes, seat_of}
-use Rattle.object_moves.specs.Ways.{Comes}
+use Rattle.object_moves.specs.Ways.{ComesByMoves}
 use Rattle.session.specs.State.{AllShut, Caused, IsAt, IsGoing, SameProgram, ScopesHold, State, cells_in, hold_at, latest_in, next_touch, object_of, stores_of}
 
 -- allocations in pieces of `size` cells, the newest first, take their objects one behind the other, from low on; next is the object behind them
@@ -130,7 +130,7 @@ a_hold o f w = record { object = o; frame = f; writes = w }
 pub record Holds (k o : ℕ) (s t : State) : Type 0 where
   pub frame : ℕ
   pub takes : Takes o s.view t.view frame
-  pub came : Comes o (Some frame) s.view.hand.past t.view.hand.past
+  pub came : ComesByMoves o (Some frame) s.view.hand.past t.view.hand.past
   pub same : t ≡ record s { holds = slice_set s.holds k (Some (a_hold o frame false)); view = t.view }
 
 -- the scope that holds h may write
@@ -194,7 +194,7 @@ Halts s t = Closes (record s { want = Some StoreFailed }) t × AllShut t
 -- a hold of the object o was opened and closed again, as the store refused a call, and what its seat did meanwhile
 pub record Misses (reliable : Type 0) (o : ℕ) (s t : State) : Type 0 where
   pub gives : GivesUp o s.view t.view
-  pub came : Comes o None s.view.hand.past t.view.hand.past
+  pub came : ComesByMoves o None s.view.hand.past t.view.hand.past
   pub refused : Refused reliable s.refusals t.refusals
   pub same : t ≡ record s { view = t.view; refusals = t.refusals }
 
