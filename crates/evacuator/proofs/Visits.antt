@@ -1,9 +1,13 @@
 -- Visits of a round, one behind the other.
-use Rattle.std.proofs.Common.{◌≡◌, ℕ, List, [], ◌∷◌, ◌++◌, append_assoc, refl, sym, ap, ◌∙◌, arith}
+use Rattle.std.proofs.Common.{◌≡◌, ℕ, ◌<◌, true, List, [], ◌∷◌, ◌++◌, append_assoc, refl, sym, ap, ◌∙◌, arith}
 use Rattle.object_moves.specs.Moving.{hand_after}
-use Rattle.object_moves.specs.Visits.{LetsLeave, MovesOut, Visit}
+use Rattle.object_lock.specs.Seats.{Sizes}
+use Rattle.object_lock.specs.Logs.{Deed}
+use Rattle.object_moves.specs.Deeds.{LeavesLogged}
+use Rattle.object_moves.specs.Visits.{LetsLeave, MovesOut, Visit, VisitLogged}
+use Rattle.object_moves.specs.Ways.{Did}
 use Rattle.object_moves.specs.declared.moved.Moved.{Moved}
-use Rattle.object_moves.proofs.Visiting.{moved_past, nothing_more, then_more}
+use Rattle.object_moves.proofs.Visiting.{logged_both, logged_once, moved_past, nothing_more, then_more}
 use Rattle.pointer_word.specs.Hands.{Hand, Move, leaving, marking, releasing}
 use Rattle.evacuator.specs.declared.counts.Round.{Round}
 use Rattle.evacuator.specs.Rounds.{HasMadeRounds, Visits, both, moves_of, round_at, round_in}
@@ -30,28 +34,33 @@ pub rounds_in_order : (xs ys : List Visit) → round_in (xs ++ ys) ≡ both (rou
 rounds_in_order [] ys = sym (both_first (round_in ys))
 rounds_in_order (x ∷ xs) ys = ap (both (round_at x)) (rounds_in_order xs ys) ∙ sym (both_in_order (round_at x) (round_in xs) (round_in ys))
 
-pub visits_none : (before after : List Move) (r : Round) → after ≡ before → moves_of r ≡ 0 → Visits before after r
-visits_none before after r e h = record { visits = []; did = e ∙ nothing_more before; counted = nothing_counted r h }
+pub visits_none : (z : Sizes) (m : ℕ) (before after : Did) (r : Round) → after ≡ before → moves_of r ≡ 0 → Visits z m before after r
+visits_none z m before after r e h = record { visits = []; did = ap (λ (d : Did). d.past) e ∙ nothing_more before.past; logged = ap (λ (d : Did). d.log) e; counted = nothing_counted r h }
 
-pub visits_both : (before between after : List Move) (a b : Round) → Visits before between a → Visits between after b → Visits before after (both a b)
-visits_both before between after a b x y = record {
+pub visits_both : (z : Sizes) (m : ℕ) (before between after : Did) (a b : Round) → Visits z m before between a → Visits z m between after b → Visits z m before after (both a b)
+visits_both z m before between after a b x y = record {
   visits = x.visits ++ y.visits;
-  did = then_more before between after x.visits y.visits x.did y.did;
+  did = then_more before.past between.past after.past x.visits y.visits x.did y.did;
+  logged = logged_both z m x.visits y.visits before.log between.log after.log x.logged y.logged;
   counted = rounds_in_order x.visits y.visits ∙ ap (λ r. both r (round_in y.visits)) x.counted ∙ ap (both a) y.counted;
 }
 
 -- the object that was clean in the frame f left it
-pub visits_clean : (x : Hand) (after : List Move) (f : ℕ) → after ≡ (releasing (leaving x f)).past → Visits x.past after (round_at (LetsLeave f))
-visits_clean x after f e = record { visits = LetsLeave f ∷ []; did = e ∙ append_assoc x.past _ _; counted = one_counted (LetsLeave f) }
+pub visits_clean : (z : Sizes) (m : ℕ) (x : Hand) (old new : List Deed) (after : List Move) (o f : ℕ) → after ≡ (releasing (leaving x f)).past → o < z.objects → f < z.frames → LeavesLogged z m o f true old new
+    → Visits z m (record { past = x.past; log = old }) (record { past = after; log = new }) (round_at (LetsLeave f))
+visits_clean z m x old new after o f e near low l =
+    record { visits = LetsLeave f ∷ []; did = e ∙ append_assoc x.past _ _; logged = logged_once z m (LetsLeave f) old new (o, near, low, l); counted = one_counted (LetsLeave f) }
 
 -- the object o was marked in the frame f, and this became of it
-pub visits_marked : (x y : Hand) (o f : ℕ) (r : Moved) (ps : List (ℕ × ℕ)) → y ≡ hand_after r (marking x o f) ps → Visits x.past y.past (round_at (MovesOut o f r))
-visits_marked x y o f r ps e = record { visits = MovesOut o f r ∷ []; did = ap (λ z. z.past) e ∙ moved_past x o f r ps; counted = one_counted (MovesOut o f r) }
+pub visits_marked : (z : Sizes) (m : ℕ) (x y : Hand) (old new : List Deed) (o f : ℕ) (r : Moved) (ps : List (ℕ × ℕ)) → y ≡ hand_after r (marking x o f) ps → VisitLogged z m (MovesOut o f r) old new
+    → Visits z m (record { past = x.past; log = old }) (record { past = y.past; log = new }) (round_at (MovesOut o f r))
+visits_marked z m x y old new o f r ps e l =
+    record { visits = MovesOut o f r ∷ []; did = ap (λ (h : Hand). h.past) e ∙ moved_past x o f r ps; logged = logged_once z m (MovesOut o f r) old new l; counted = one_counted (MovesOut o f r) }
 
 -- ---- all rounds of a seat
 
-pub no_rounds : (past : List Move) → past ≡ [] → HasMadeRounds past
-no_rounds past e = (round_in [], record { visits = []; did = e; counted = refl })
+pub no_rounds : (z : Sizes) (m : ℕ) (did : Did) → did.past ≡ [] → did.log ≡ [] → HasMadeRounds z m did
+no_rounds z m did e l = (round_in [], record { visits = []; did = e; logged = l; counted = refl })
 
-pub rounds_and_one : (past after : List Move) (r : Round) → HasMadeRounds past → Visits past after r → HasMadeRounds after
-rounds_and_one past after r made v = (both made.0 r, visits_both [] past after made.0 r made.1 v)
+pub rounds_and_one : (z : Sizes) (m : ℕ) (did after : Did) (r : Round) → HasMadeRounds z m did → Visits z m did after r → HasMadeRounds z m after
+rounds_and_one z m did after r made v = (both made.0 r, visits_both z m (record { past = []; log = [] }) did after made.0 r made.1 v)

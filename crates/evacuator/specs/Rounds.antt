@@ -1,11 +1,11 @@
 -- What a round of an evacuator tells, and what it leaves of its seat.
 use Rattle.std.specs.Prelude.{◌≡◌, ℕ, ◌+◌, ◌%◌, ◌≤◌, List, [], ◌∷◌, ◌++◌}
-use Rattle.pointer_word.specs.Hands.{Move}
-use Rattle.object_lock.specs.Seats.{with_hand}
+use Rattle.object_lock.specs.Seats.{Sizes, with_hand}
 use Rattle.object_lock.specs.SeatViews.{SeatView}
 use Rattle.object_moves.specs.declared.moved.Moved.{Moved}
 use Rattle.object_moves.specs.declared.moved.Moved.TheVariants as M
-use Rattle.object_moves.specs.Visits.{LetsLeave, MovesOut, Visit, moves_in}
+use Rattle.object_moves.specs.Visits.{LetsLeave, MovesOut, Visit, VisitsLogged, moves_in}
+use Rattle.object_moves.specs.Ways.{Did}
 use Rattle.evacuator.specs.declared.counts.Round.{Round}
 
 -- how many objects a round marked, or had leave as they were clean
@@ -44,12 +44,14 @@ pub record Evacuates {W C : Type 0} (s t : SeatView W C) (r : Round) : Type 0 wh
   pub refusals : t.refusals.count ≡ (s.refusals.count + r.failed) % 18446744073709551616
   pub same : t ≡ record s { view = with_hand s.view (record s.view.hand { source = t.view.hand.source; copied = t.view.hand.copied; marks = t.view.hand.marks; commits = t.view.hand.commits; aborts = t.view.hand.aborts; leaves = t.view.hand.leaves; past = t.view.hand.past }); taken = t.taken; store = t.store; refusals = t.refusals; log = t.log }
 
--- a round of these counts is that of some visits, and what they did, one behind the other, is what came to what the seat had done before
-pub record Visits (before after : List Move) (r : Round) : Type 0 where
+-- A round of these counts is that of some visits of the seat m of a table of these sizes, and what they did, one behind the other, is what came to what the seat had done before, as its log
+-- tells step by step
+pub record Visits (z : Sizes) (m : ℕ) (before after : Did) (r : Round) : Type 0 where
   pub visits : List Visit
-  pub did : after ≡ before ++ moves_in visits
+  pub did : after.past ≡ before.past ++ moves_in visits
+  pub logged : VisitsLogged z m visits before.log after.log
   pub counted : round_in visits ≡ r
 
--- all that a seat has done is what rounds did, one behind the other
-abbrev pub HasMadeRounds : List Move → Type 0
-HasMadeRounds past = (r : Round) × Visits [] past r
+-- all that the seat m has done is what rounds did, one behind the other
+abbrev pub HasMadeRounds : Sizes → ℕ → Did → Type 0
+HasMadeRounds z m did = (r : Round) × Visits z m (record { past = []; log = [] }) did r

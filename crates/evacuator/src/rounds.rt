@@ -2,6 +2,7 @@
 ghost use Rattle.std.specs.Prelude.{◌≡◌, ◌<◌, ◌≤◌};
 ghost use Rattle.evacuator.specs.Rounds.{Evacuates, Visits, moves_of};
 ghost use Rattle.object_lock.specs.SeatViews.{IsSeat};
+ghost use Rattle.object_moves.specs.Ways.{did_of};
 ghost use Rattle.pointer_word.specs.Asked.{HasNothing};
 
 use crate::counts::Round;
@@ -17,7 +18,7 @@ fn visit<S: RawStore>(table: &ObjectTable<S>, seat: &mut MoverSeat<S>, frame: us
     requires empty { HasNothing seat.old.view.hand }
     ensures table { IsSeat table.now seat.new }
     ensures told { Evacuates seat.old seat.new result }
-    ensures visits { Visits seat.old.view.hand.past seat.new.view.hand.past result }
+    ensures visits { Visits table.now.sizes seat.old.view.number (did_of seat.old) (did_of seat.new) result }
     ensures once { moves_of result ≤ 1 }
     ensures still { moves_of result ≡ 0 → seat.new ≡ seat.old }
     ensures sure { S.reliable → result.failed ≡ 0 }
@@ -51,7 +52,7 @@ pub fn round_from<S: RawStore>(
     ensures table { IsSeat region.now.table seat.new }
     ensures empty { HasNothing seat.new.view.hand }
     ensures told { Evacuates seat.old seat.new result }
-    ensures visits { Visits seat.old.view.hand.past seat.new.view.hand.past result }
+    ensures visits { Visits region.now.table.sizes seat.old.view.number (did_of seat.old) (did_of seat.new) result }
     ensures within { moves_of result ≤ budget }
     ensures still { moves_of result ≡ 0 → seat.new ≡ seat.old }
     ensures sure { S.reliable → result.failed ≡ 0 }
@@ -78,7 +79,7 @@ pub fn round<S: RawStore>(region: &Region<S>, seat: &mut MoverSeat<S>, budget: u
     ensures table { IsSeat region.now.table seat.new }
     ensures empty { HasNothing seat.new.view.hand }
     ensures told { Evacuates seat.old seat.new result }
-    ensures visits { Visits seat.old.view.hand.past seat.new.view.hand.past result }
+    ensures visits { Visits region.now.table.sizes seat.old.view.number (did_of seat.old) (did_of seat.new) result }
     ensures within { moves_of result ≤ budget }
     ensures still { moves_of result ≡ 0 → seat.new ≡ seat.old }
     ensures sure { S.reliable → result.failed ≡ 0 }

@@ -61,7 +61,7 @@ numbered_at (suc n) a (d ∷ ds) rest x e = let later = numbered_at n (a + 1) ds
 
 -- a fresh seat has nothing in hand, and has done nothing
 pub seat_is_free : {W C : Type 0} (t : TableView) (s : SeatView W C) → IsFreshMover t s → IsSeatOf t s
-seat_is_free t s fresh = let hand = fresh.0.1 in (fresh.0.0, subst HasNothing (sym hand) (refl, refl, (refl, refl)), ap (λ (x : Hand). x.past) hand)
+seat_is_free t s fresh = let hand = fresh.0.1 in (fresh.0.0, subst HasNothing (sym hand) (refl, refl, (refl, refl)), ap (λ (x : Hand). x.past) hand, fresh.0.6)
 
 -- how many there are
 pub numbered_count : {W C : Type 0} (a n : ℕ) (seats : List (SeatView W C)) → AreNumbered a n seats → length seats ≡ n

@@ -18,7 +18,7 @@ use Rattle.executor.specs.declared.workers.Done.{Done}
 
 -- a seat of the table, with empty hands, that has done nothing as a mover yet
 abbrev pub IsSeatOf : {W C : Type 0} → TableView → SeatView W C → Type 0
-IsSeatOf t s = IsSeat t s × HasNothing s.view.hand × (s.view.hand.past ≡ [])
+IsSeatOf t s = IsSeat t s × HasNothing s.view.hand × (s.view.hand.past ≡ []) × (s.log ≡ [])
 
 -- how many tasks these are
 abbrev pub in_hand : Option RunView → ℕ

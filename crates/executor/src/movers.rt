@@ -48,6 +48,7 @@ pub(crate) struct SeatedEvacuator<'a, S: RawStore> {
 impl<'a, S: RawStore> Model for SeatedEvacuator<'a, S> {
     ghost use Rattle.evacuator.specs.Rounds.{HasMadeRounds};
     ghost use Rattle.object_lock.specs.SeatViews.{IsSeat};
+    ghost use Rattle.object_moves.specs.Ways.{did_of};
     ghost use Rattle.pointer_word.specs.Asked.{HasNothing};
     ghost use Rattle.std.specs.Prelude.{ℕ};
 
@@ -55,7 +56,7 @@ impl<'a, S: RawStore> Model for SeatedEvacuator<'a, S> {
 
     ghost view = { λ e. e.number };
 
-    ghost invariant = { λ e. IsSeat e.region.now.table e.seat × HasNothing e.seat.view.hand × HasMadeRounds e.seat.view.hand.past };
+    ghost invariant = { λ e. IsSeat e.region.now.table e.seat × HasNothing e.seat.view.hand × HasMadeRounds e.region.now.table.sizes e.seat.view.number (did_of e.seat) };
 }
 
 /// A fetcher at its seat, with its pass of the hints. Its hands are empty, and all that it did it did with hints.
@@ -72,6 +73,7 @@ pub(crate) struct SeatedFetcher<'a, S: RawStore> {
 impl<'a, S: RawStore> Model for SeatedFetcher<'a, S> {
     ghost use Rattle.fetcher.specs.Serving.{HasServed};
     ghost use Rattle.object_lock.specs.SeatViews.{IsSeat};
+    ghost use Rattle.object_moves.specs.Ways.{did_of};
     ghost use Rattle.pointer_word.specs.Asked.{HasNothing};
     ghost use Rattle.std.specs.Prelude.{◌≡◌, ℕ};
 
@@ -79,7 +81,7 @@ impl<'a, S: RawStore> Model for SeatedFetcher<'a, S> {
 
     ghost view = { λ f. f.number };
 
-    ghost invariant = { λ f. IsSeat f.region.now.table f.seat × HasNothing f.seat.view.hand × (f.pass ≡ f.hints.now) × (f.hints.now.objects ≡ f.region.now.objects) × HasServed f.seat.view.hand.past };
+    ghost invariant = { λ f. IsSeat f.region.now.table f.seat × HasNothing f.seat.view.hand × (f.pass ≡ f.hints.now) × (f.hints.now.objects ≡ f.region.now.objects) × HasServed f.region.now.table.sizes f.seat.view.number (did_of f.seat) };
 }
 
 /// An evacuator or a fetcher.

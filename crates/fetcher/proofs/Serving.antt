@@ -1,16 +1,19 @@
 -- What a fetcher leaves of its seat, call after call.
-use Rattle.std.proofs.Common.{◌≡◌, ℕ, zero, suc, Bool, List, ap, cond, ne_eqb, sym, refl, ◌∙◌, subst}
+use Rattle.std.proofs.Common.{◌≡◌, ℕ, zero, suc, Bool, true, false, List, [], ◌∷◌, ◌++◌, ap, ap₂, cond, ne_eqb, sym, refl, ◌∙◌, subst}
 use Rattle.std.specs.Prelude.{Option, None}
-use Rattle.fetcher.specs.Serving.{BringsIn, FindsNone}
+use Rattle.fetcher.specs.Serving.{BringsIn, FailsToGet, FindsNone}
 use Rattle.object_lock.specs.declared.answers.Begin.TheVariants as B
 use Rattle.object_lock.specs.Plays.{IsUnheld, Steps}
 use Rattle.object_lock.specs.SeatViews.{SeatView}
-use Rattle.object_lock.specs.Seats.{View, with_hand}
+use Rattle.object_lock.specs.Seats.{View, frame_word, with_hand}
+use Rattle.object_lock.specs.Logs.{Adds, AddsOne, Deed, deed}
 use Rattle.object_lock.specs.Telling.{tried, tried_at}
-use Rattle.object_moves.specs.Moving.{Arrived, hand_arrived}
+use Rattle.object_moves.specs.Deeds.{BringsLogged, BringsWith, begins, claims}
+use Rattle.object_moves.specs.Moving.{Arrived, GivenUp, hand_arrived}
+use Rattle.object_moves.specs.Taken.{Refused}
 use Rattle.pointer_word.specs.Asked.{HasNothing}
-use Rattle.pointer_word.specs.Calls.{Call}
-use Rattle.pointer_word.specs.Hands.{Note, bringing, claiming, retreating}
+use Rattle.pointer_word.specs.Calls.{Begins, Call, Claims, Retreats}
+use Rattle.pointer_word.specs.Hands.{Note, bringing, claiming, retreating, unclaiming}
 use Rattle.pointer_word.specs.Words.{Place, Away, Coming, Here, Leaving}
 use Rattle.remote_store.specs.declared.berth.Berth.{Berth}
 
@@ -28,21 +31,69 @@ unheld honest call v w o h own =
     ap (λ (n : Note). n.count) (h.1.knew.1 o own) ∙ (sym (h.1.sound.owner o).counts ∙ taken_at (h.0.word o).count (h.0.word o).place h.3)
 
 module _ {W C : Type 0} (s a b t : SeatView W C) (o : ℕ) (berth : Option (Berth C)) (ws : List ℕ) where
-  abbrev Begins : Type 0
-  Begins = a ≡ record s { view = with_hand s.view (bringing s.view.hand o ws); brought = berth; log = a.log }
+  abbrev Begun : Type 0
+  Begun = a ≡ record s { view = with_hand s.view (bringing s.view.hand o ws); brought = berth; log = a.log }
 
-  pub finds_none : Begins → b ≡ a → t ≡ record b { view = with_hand b.view (retreating b.view.hand); brought = None; log = t.log } → FindsNone o s t
-  finds_none begins none back =
+  -- it began the object with no hold
+  abbrev BegunLogged : Type 0
+  BegunLogged = Adds s.log a.log o (Begins s.view.number o 0 false) (λ n. n ≡ 0)
+
+  begun_log : BegunLogged → a.log ≡ s.log ++ begins s.view.number o 0 false ∷ []
+  begun_log l = l.1 ∙ ap (λ (n : ℕ). s.log ++ deed o n (Begins s.view.number o 0 false) ∷ []) l.2
+
+  pub finds_none : Begun → BegunLogged → b ≡ a → t ≡ record b { view = with_hand b.view (retreating b.view.hand); brought = None; log = t.log } → AddsOne b.log t.log o (Retreats b.view.number o) → FindsNone o s t
+  finds_none begun logged none back gone =
       let after : SeatView W C → SeatView W C = λ x. record x { view = with_hand x.view (retreating x.view.hand); brought = None; log = t.log } in
-      (ws, back ∙ ap after (none ∙ begins))
+      let same : b.log ≡ s.log ++ begins s.view.number o 0 false ∷ [] = ap (λ (x : SeatView W C). x.log) none ∙ begun_log logged in
+      let number : b.view.number ≡ s.view.number = ap (λ (x : SeatView W C). x.view.number) (none ∙ begun) in
+      (ws, back ∙ ap after (none ∙ begun), subst (λ (q : List Deed × ℕ). AddsOne q.0 t.log o (Retreats q.1 o)) (λ i. (same i, number i)) gone)
 
-  pub brings_in : (f : ℕ) → Begins → b ≡ record a { view = with_hand a.view (claiming a.view.hand f); log = b.log } → IsUnheld s.view o → Arrived o f b t → t.refusals ≡ b.refusals → BringsIn o s t
-  brings_in f begins claims unheld arrived same =
-      let claimed : SeatView W C → SeatView W C = λ x. record x { view = with_hand x.view (claiming x.view.hand f); log = b.log } in
+  claimed : (f : ℕ) → SeatView W C → SeatView W C
+  claimed f x = record x { view = with_hand x.view (claiming x.view.hand f); log = b.log }
+
+  is_claimed : (f : ℕ) → Begun → b ≡ record a { view = with_hand a.view (claiming a.view.hand f); log = b.log } → b ≡ claimed f (record s { view = with_hand s.view (bringing s.view.hand o ws); brought = berth; log = a.log })
+  unfolding claimed
+  is_claimed f begun claims = claims ∙ ap (claimed f) begun
+
+  -- it claimed the frame f for it
+  pub claim_log : (f : ℕ) → Begun → BegunLogged → Adds a.log b.log (frame_word s.view.sizes f) (Claims a.view.number o f) (λ n. n ≡ 0) → b.log ≡ (s.log ++ begins s.view.number o 0 false ∷ []) ++ claims s.view.sizes s.view.number o f ∷ []
+  claim_log f begun logged l =
+      let number : a.view.number ≡ s.view.number = ap (λ (x : SeatView W C). x.view.number) begun in
+      l.1 ∙ ap₂ (λ (n m : ℕ). a.log ++ deed (frame_word s.view.sizes f) n (Claims m o f) ∷ []) l.2 number ∙ ap (λ (ds : List Deed). ds ++ claims s.view.sizes s.view.number o f ∷ []) (begun_log logged)
+
+  pub brings_in : (honest : Type 0) (promised : List ℕ) (f : ℕ) → Begun → BegunLogged → b ≡ record a { view = with_hand a.view (claiming a.view.hand f); log = b.log } → Adds a.log b.log (frame_word s.view.sizes f) (Claims a.view.number o f) (λ n. n ≡ 0)
+      → IsUnheld s.view o → Arrived o f b t → t.refusals ≡ b.refusals → (IsUnheld b.view o → BringsLogged honest s.view.sizes b.view.number o f false promised true b.log t.log) → BringsIn o s t
+  unfolding claimed
+  brings_in honest promised f begun logged claims claim unheld arrived same brought =
       let after : SeatView W C → SeatView W C = λ x. record x { view = with_hand x.view (hand_arrived x.view.hand t.view.hand.filled); brought = None; store = t.store; refusals = t.refusals; log = t.log } in
-      let both : b ≡ claimed (record s { view = with_hand s.view (bringing s.view.hand o ws); brought = berth; log = a.log }) = claims ∙ ap claimed begins in
+      let both = is_claimed f begun claims in
       let free : IsUnheld b.view o = subst (λ (x : SeatView W C). IsUnheld x.view o) (sym both) unheld in
-      (f, ws, t.view.hand.filled, arrived.1 free ∙ ap after both, same ∙ ap (λ (x : SeatView W C). x.refusals) both)
+      let number : b.view.number ≡ s.view.number = ap (λ (x : SeatView W C). x.view.number) both in
+      let l = brought free in (
+        f,
+        ws,
+        t.view.hand.filled,
+        arrived.1 free ∙ ap after both,
+        same ∙ ap (λ (x : SeatView W C). x.refusals) both,
+        (l.0, subst (λ (q : List Deed × ℕ). BringsWith s.view.sizes q.1 o f false l.0 true q.0 t.log) (λ i. (claim_log f begun logged claim i, number i)) l.2),
+      )
+
+  -- the object and the frame were given up
+  pub fails_to_get : (honest reliable : Type 0) (promised : List ℕ) (f : ℕ) → Begun → BegunLogged → b ≡ record a { view = with_hand a.view (claiming a.view.hand f); log = b.log } → Adds a.log b.log (frame_word s.view.sizes f) (Claims a.view.number o f) (λ n. n ≡ 0)
+      → IsUnheld s.view o → GivenUp reliable b t → (IsUnheld b.view o → BringsLogged honest s.view.sizes b.view.number o f false promised false b.log t.log) → FailsToGet reliable o s t
+  unfolding claimed
+  fails_to_get honest reliable promised f begun logged claims claim unheld given back =
+      let after : SeatView W C → SeatView W C = λ x. record x { view = with_hand x.view (retreating (unclaiming x.view.hand)); brought = None; store = t.store; refusals = t.refusals; log = t.log } in
+      let both = is_claimed f begun claims in
+      let free : IsUnheld b.view o = subst (λ (x : SeatView W C). IsUnheld x.view o) (sym both) unheld in
+      let number : b.view.number ≡ s.view.number = ap (λ (x : SeatView W C). x.view.number) both in
+      let l = back free in (
+        f,
+        ws,
+        given.0 ∙ ap after both,
+        subst (λ (x : SeatView W C). Refused reliable x.refusals t.refusals) both given.1,
+        subst (λ (q : List Deed × ℕ). BringsWith s.view.sizes q.1 o f false l.0 false q.0 t.log) (λ i. (claim_log f begun logged claim i, number i)) l.2,
+      )
 
 -- what is brought in leaves nothing in hand
 pub emptied : {W C : Type 0} (o : ℕ) (s t : SeatView W C) → HasNothing s.view.hand → BringsIn o s t → HasNothing t.view.hand
