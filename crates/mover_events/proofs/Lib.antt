@@ -3,3 +3,6 @@ mod Lives
 mod Marking
 pub mod Serving
 pub mod Visiting
+pub mod Making
+pub mod Parts
+pub mod Served

@@ -10,6 +10,8 @@ use Rattle.object_moves.specs.declared.moved.Moved.TheVariants as M
 use Rattle.world_semantics.specs.declared.event.Choice.TheVariants as choice
 use Rattle.world_semantics.specs.Turns.{evacuator_turn}
 use Rattle.world_semantics.specs.Programs.{Copying, Eviction, Freed, NotStored, Refused, Stored}
+use Rattle.object_lock.specs.Seats.{Sizes}
+use Rattle.object_moves.specs.Ways.{Did}
 use Rattle.object_moves.specs.Visits.{LetsLeave, MovesOut, Visit, moves_at, moves_in}
 use Rattle.evacuator.specs.declared.counts.Round.{Round}
 use Rattle.evacuator.specs.Rounds.{Visits}
@@ -171,7 +173,7 @@ all_visits n m x (w ∷ ws) h =
     let first = visit_then n m x rest.1 w h (rest.0, rest.2) in
     (first.0, rest.1, first.1, rest.3, rest.4 ∙ ap (λ ms. ms ++ moves_in ws) (past_behind n x w) ∙ append_assoc x.past (moves_at w) (moves_in ws))
 
-pub by_rounds : (n m : ℕ) (x : Hand) (after : List Move) (r : Round) → HasNothing x → Visits x.past after r → DoesByEvents n m (evacuator_turn n m) x after
-by_rounds n m x after r h v =
-    let all = all_visits n m x v.visits h in
-    (all.0, all.1, all.2, all.3, all.4 ∙ sym v.did)
+pub by_rounds : (z : Sizes) (m : ℕ) (x : Hand) (before after : Did) (r : Round) → HasNothing x → before.past ≡ x.past → Visits z m before after r → DoesByEvents z.cells m (evacuator_turn z.cells m) x after.past
+by_rounds z m x before after r h e v =
+    let all = all_visits z.cells m x v.visits h in
+    (all.0, all.1, all.2, all.3, all.4 ∙ sym (v.did ∙ ap (λ (ms : List Move). ms ++ moves_in v.visits) e))

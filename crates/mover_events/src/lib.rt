@@ -2,6 +2,10 @@
 #![tactic(auto)]
 
 ghost use Rattle.mover_events.specs.Laws.{LivesAreEvents, RoundsAreEvents, ServesAreEvents};
+ghost use Rattle.mover_events.specs.Making.{RoundsAreMade};
+ghost use Rattle.mover_events.specs.Parts.{PartsAreSteps, RoundsAreInTheList, ServicesAreInTheList};
+
+use remote_store::RawStore;
 
 /// What an evacuator did by a round, visit by visit, is what the evacuator of a world does in some events, one behind the other: it is idle at first and at last, and
 /// each event is one that it may do at the state in which it comes.
@@ -19,4 +23,27 @@ pub fn serves_are_events()
 /// other: it is idle at first and at last, and each event is one that it may do at the state in which it comes.
 pub fn lives_are_events()
     ensures { LivesAreEvents }
+{}
+
+/// The steps that came to an evacuator's log are steps that the evacuator of a world makes, each by turns of its own, at every machine in which the step may have come: one that
+/// shows the number that was found, and where its calls may be made. What the evacuator is behind a step does not hang on which of these machines it was.
+pub fn rounds_are_made<S: RawStore>()
+    ensures { RoundsAreMade S.honest }
+{}
+
+/// What a seat keeps of the one list of steps of a table are the steps of its log, each at the machine in which it came, which is sound. What the seat has in hand as a mover is, before each,
+/// what its step before left: nobody else changes it.
+pub fn parts_are_steps<S: RawStore>()
+    ensures { PartsAreSteps S.honest }
+{}
+
+/// Where all that an evacuator did it did in rounds, its steps of the one list are made by the evacuator of a world, by turns of its own, each at the machine in which it came.
+pub fn rounds_are_in_the_list<S: RawStore>()
+    ensures { RoundsAreInTheList S.honest }
+{}
+
+/// Where all that a fetcher did it did with hints, and the store, which is honest, refused it no get, its steps of the one list are made by the fetcher of a world, by turns of its own, each at
+/// the machine in which it came.
+pub fn services_are_in_the_list<S: RawStore>()
+    ensures { ServicesAreInTheList S.honest }
 {}
