@@ -2,7 +2,7 @@
 """build_program.py ROOT FOLDER [WORD..]: proves and builds the program c0far of the checkout ROOT, where FOLDER has none of these sources, and starts it with the words; --install DIR puts it into DIR.
 
 The script c0far at the root calls it. In FOLDER stay the program, its log, a lock and a stamp. The stamp has three lines: the place of the sources, those that are watched, and their sum;
-its time is that of the last change among them, which the script compares. What rt has proved it keeps itself, beside the toolchain, so that a copy of the sources and what is built of them go when it ends."""
+its time is that of the last change among them, which the script compares. What rt has proved it keeps itself, beside the toolchain, where its kit does, so that a copy of the sources and what is built of them go when it ends."""
 
 import contextlib
 import ctypes
@@ -20,8 +20,8 @@ PROGRAM = "c0far_program"
 # Where a crate's code and contracts stand. Other proofs of the same leave the program as it is, and proved.
 SOURCES = ("src", "specs")
 LEFT_OUT = shutil.ignore_patterns("out", "must-fail", "further-edits")
-FIRST = "the first time takes 40 minutes on four slow processors, half that on fast ones, and 6.3 GB of disk; what rt has proved before is not proved again"
-KEPT = "what is proved so far is kept beside the toolchain, where rt may write there, and the next start goes on from it"
+FIRST = "the first time takes 40 minutes on four slow processors, half that on fast ones, and 6.3 GB of disk; a kit of rt that keeps proofs proves nothing twice"
+KEPT = "a kit of rt that keeps proofs, and may write beside the toolchain, goes on from what is proved so far"
 LIBC = ctypes.CDLL(None)
 PR_SET_PDEATHSIG = 1
 
@@ -100,7 +100,7 @@ def put_stamp(root, folder, paths, sum, changed):
 
 
 def cleared(folder):
-    """Leaves of the copy and of what was built in it nothing: rt reads none of it again, and what it proved it keeps elsewhere."""
+    """Leaves of the copy and of what was built in it nothing: rt reads none of it again, and what it proved it keeps elsewhere, if at all."""
     for it in (".git", "crates"):
         shutil.rmtree(f"{folder}/{it}", ignore_errors=True)
     for it in ("crates.txt", "HANDLES"):
@@ -132,7 +132,7 @@ class Progress:
     """Tells of each crate when rt is done with it, and of what rt does not keep."""
 
     def __init__(self, crates):
-        self.left, self.whole, self.begun, self.keeps = set(crates), len(crates), time.monotonic(), True
+        self.left, self.whole, self.begun, self.keeps = set(crates), len(crates), time.monotonic(), False
 
     def seconds(self):
         return f"{time.monotonic() - self.begun:.0f} s"
@@ -141,6 +141,7 @@ class Progress:
         found = re.match(r"rt: (\w+) (proved$|is kept: |NOT PROVED)", line)
         if found and found[1] in self.left:
             self.left.remove(found[1])
+            self.keeps |= found[2].startswith("is kept")
             how = {"p": "", "i": " was proved before", "N": " is NOT PROVED"}[found[2][0]]
             say(f"{self.whole - len(self.left)} of {self.whole} crates after {self.seconds()}: {found[1]}{how}")
         elif re.match(r"rt: note: .*(nothing is kept|the disk)", line):

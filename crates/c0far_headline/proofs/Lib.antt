@@ -2,3 +2,4 @@ pub mod Ends
 pub mod Headlines
 pub mod Ran
 pub mod Shown
+pub mod Tables

@@ -2,3 +2,4 @@ pub mod Admitted
 pub mod Headline
 pub mod Ran
 pub mod Shown
+pub mod Tables

@@ -5,10 +5,15 @@ ghost use Rattle.c0far_headline.specs.Admitted.{AdmittedHeadline, ReplayedHeadli
 ghost use Rattle.c0far_headline.specs.Headline.{Headline};
 ghost use Rattle.c0far_headline.specs.Ran.{EndsSettle, RunHeadline};
 ghost use Rattle.c0far_headline.specs.Shown.{HeadlineOfRuns, ReplayShows, RunShows, RunShowsEvents};
+ghost use Rattle.c0far_headline.specs.Tables.{HeadlineOfTables};
+ghost use Rattle.object_lock.specs.Kept.{slot_has, slot_keeps};
+ghost use Rattle.std.specs.Prelude.{ℕ};
 
 use c0_image::one_image;
 use c0_typed::more_turns;
 use code_form::run_laws;
+use remote_store::RawStore;
+use session_events::seats_are_a_world;
 use world_semantics::{enough_frames, programs_follow, wants};
 
 /// Whatever events programs and evacuators make in whichever order, over an honest store: of every text that is accepted, at whichever
@@ -85,4 +90,15 @@ pub fn headline_of_runs()
     run_laws();
     programs_follow();
     wants();
+}
+
+/// The headline of tables, of every interleaving of threads: whatever a table is whose seats are those of some programs, evacuators and fetchers, over a store that is honest and reliable, where what each seat did is a run of its
+/// program, rounds, or what was done with hints, all of it is one run of a world, from its beginning to what the table shows. Each program whose image a text was compiled to is then, where its session came to, as
+/// promised of that text: what it printed is a beginning of what the text means, a stop is the meaning's with its whole output, a want has its cause among the events, and where the meaning ends, the
+/// number of instructions that is the text's settles it.
+pub fn headline_of_tables<S: RawStore>()
+    ensures { (n : ℕ) → HeadlineOfTables (slot_keeps S.fits S.content n) (slot_has S.fits n) S.honest S.reliable }
+{
+    headline();
+    seats_are_a_world::<S>();
 }

@@ -3,7 +3,7 @@ ghost use Rattle.code_form.specs.Code.{all_shut, offset as offset_of, wanted, wr
 ghost use Rattle.code_form.specs.Touches.{cell_option};
 ghost use Rattle.call_execution.specs.Aimed.{index_of, scope_of};
 ghost use Rattle.code_operations.specs.Outcomes.{ReadsOffset};
-ghost use Rattle.std.specs.Prelude.{◌≡◌, ◌≤◌, drop, length, map, slice_index, slice_set, take};
+ghost use Rattle.std.specs.Prelude.{◌≡◌, ◌+◌, ◌<◌, ◌≤◌, drop, length, map, slice_index, slice_set, take};
 
 use code_form::Cell;
 use code_operations::{Allocations, Registers, offset_in};
@@ -104,6 +104,17 @@ pub(crate) fn put_scope(scopes: &mut [Scope], first: usize, number: u8, scope: S
     if (number as usize) < scopes.len() - first {
         scopes[first + number as usize] = scope;
     }
+}
+
+/// Changes the scope of this number of those from number `first` on.
+#[inline(always)]
+pub(crate) fn change_scope(scopes: &mut [Scope], first: usize, number: u8, scope: Scope)
+    requires { first + number < length scopes.old }
+    ensures own { map scope_of (drop first scopes.new) ≡ slice_set (map scope_of (drop first scopes.old)) number (scope_of scope) }
+    ensures others { take first scopes.new ≡ take first scopes.old }
+    ensures many { length scopes.new ≡ length scopes.old }
+{
+    scopes[first + number as usize] = scope;
 }
 
 /// Writes the register of this number of those from number `first` on, where there is one.

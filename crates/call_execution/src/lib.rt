@@ -8,6 +8,7 @@ mod held;
 mod hinted;
 mod holder;
 mod inside;
+mod pairs;
 mod plan;
 mod scopes;
 mod told;

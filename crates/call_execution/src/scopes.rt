@@ -2,9 +2,9 @@
 ghost use Rattle.code_form.specs.Code.{all_shut, written};
 ghost use Rattle.call_execution.specs.Aimed.{scope_of};
 ghost use Rattle.call_execution.specs.Marked.{IsMarked, is_marked};
-ghost use Rattle.std.specs.Prelude.{◌≡◌, ◌++◌, ◌≤◌, ℕ, IfOk, MatchResult, drop, false, length, map, replicate, slice_set, take, true};
+ghost use Rattle.std.specs.Prelude.{◌≡◌, ◌+◌, ◌++◌, ◌<◌, ◌≤◌, ℕ, IfOk, MatchResult, drop, false, length, map, replicate, slice_set, take, true};
 
-use crate::aims::{Scope, are_shut, make_stale_from, put_scope};
+use crate::aims::{Aim, Scope, are_shut, change_scope, make_stale_from, put_scope};
 use std::alloc::{AllocError, Global};
 use std::marker::Model;
 
@@ -134,8 +134,21 @@ impl Scopes {
         ensures others { take first self.new ≡ take first self.old }
         ensures many { length self.new ≡ length self.old }
     {
-        mark_scope(&mut self.marks, &scope);
         put_scope(&mut self.items, first, number, scope);
+        mark_scope(&mut self.marks, &scope);
+    }
+
+    /// Aims the scope of this number of those from number `first` on.
+    #[inline(always)]
+    pub(crate) fn aim(&mut self, first: usize, number: u8, aim: Aim)
+        requires { first + number < length self.old }
+        ensures own { map scope_of (drop first self.new) ≡ slice_set (map scope_of (drop first self.old)) number (scope_of (Scope.Aimed aim)) }
+        ensures others { take first self.new ≡ take first self.old }
+        ensures many { length self.new ≡ length self.old }
+    {
+        let scope = Scope::Aimed(aim);
+        change_scope(&mut self.items, first, number, scope);
+        mark_scope(&mut self.marks, &scope);
     }
 
     /// Makes each scope from number `first` on stale whose aim is by this register.

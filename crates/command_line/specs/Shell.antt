@@ -82,6 +82,14 @@ with_memory a =
 abbrev pub with_work : App → App
 with_work a = with_rule (with_rule a (option_rule (codes "workers"))) (option_rule (codes "quantum"))
 
+-- [--evacuators E] [--fetchers Q]
+abbrev pub with_movers : App → App
+with_movers a = with_rule (with_rule a (option_rule (codes "evacuators"))) (option_rule (codes "fetchers"))
+
+-- the command of this name, which makes code of texts and runs it, over a memory, with movers and workers
+abbrev pub of_programs : Text → App
+of_programs name = with_work (with_movers (with_memory (of_code name)))
+
 -- build [--level L] [-d] [--piece C] -o OUT FILE
 abbrev pub build_shape : Shape
 build_shape = (with_rule (with_rule (of_code (codes "build")) out_rule) file_rule).top

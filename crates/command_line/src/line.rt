@@ -1,9 +1,9 @@
 //! From words to a command.
 ghost use Rattle.std.specs.Prelude.{◌≡◌, ◌≢◌, [], codes, false, IfErr, IfOk, List, MatchResult, None, Some, ℕ, map, option_and_then, option_map, true};
-ghost use Rattle.clap.specs.Words.{all_of, app_of, first_of, found_of, kind_of, rows_of, rule_of, subcommand_rows_of};
+ghost use Rattle.clap.specs.Words.{App, Rule, Shape, all_of, app_of, first_of, found_of, kind_of, rows_of, rule_of, subcommand_rows_of, with_rule, with_subcommand};
 ghost use Rattle.c0_syntax.specs.Levels.{has_loops};
 ghost use Rattle.cells.specs.Pieces.{cells_in};
-ghost use Rattle.command_line.specs.Shell.{Check, Command as Asked, IsLocal, Names, bound_in, bound_of, build_command, build_shape, check_shape, command_in, command_of, compiling_in, compiling_of, file_rule, files_rule, has_checks, has_flag, is_signed, level_in, limit_in, list_command, list_shape, live_command, live_of as live_run, live_rule, mean_command, mean_shape, memory_in, memory_of, named_command, number_in, number_or, of_checked_texts as checked_texts_app, of_code as code_app, of_texts as texts_app, option_rule, piece_in, replay_command, replay_shape, replayed_in, replayed_of, run_command, run_shape, shell, short_number_in, short_option, started_in, started_of, stats_rule, texts_in, texts_of, turns_in, where_rule, whole_command, with_memory, with_work, work_in, work_of};
+ghost use Rattle.command_line.specs.Shell.{Check, Command as Asked, IsLocal, Names, bound_in, bound_of, build_command, build_shape, check_shape, command_in, command_of, compiling_in, compiling_of, file_rule, files_rule, has_checks, has_flag, is_signed, level_in, limit_in, list_command, list_shape, live_command, live_of as live_run, live_rule, mean_command, mean_shape, memory_in, memory_of, named_command, number_in, number_or, of_checked_texts as checked_texts_app, of_code as code_app, of_programs as programs_app, of_texts as texts_app, option_rule, piece_in, replay_command, replay_shape, replayed_in, replayed_of, run_command, run_shape, shell, short_number_in, short_option, started_in, started_of, stats_rule, texts_in, texts_of, turns_in, where_rule, whole_command, with_memory, with_movers as movers_app, with_work, work_in, work_of};
 
 use crate::words::{Bound, Compiling, Line, Memory, ReplayOptions, RunOptions, Texts, Usage, Work};
 use c0_syntax::level::Level;
@@ -20,12 +20,23 @@ fn option<'a>(alloc: Global, name: &'a str) -> Arg<'a>
     Arg::new(alloc, name).long(name).action(ArgAction::Set)
 }
 
+/// The command with this argument more, where it was made.
+fn with<'a>(
+    command: Result<Command<'a>, AllocError>,
+    arg: Arg<'a>,
+) -> Result<Command<'a>, AllocError>
+    ensures shape { (app : App) → (rule : Rule) → IfOk command.entry (λ c. app_of c ≡ app) → rule_of arg.entry ≡ rule → arg.entry.global ≡ false → IfOk result (λ c. app_of c ≡ with_rule app rule) }
+    ensures local { IfOk command.entry IsLocal → arg.entry.global ≡ false → IfOk result IsLocal }
+{
+    command?.arg(arg)
+}
+
 /// A command of this name, which reads texts at a level.
 fn of_texts<'a>(alloc: Global, name: &'a str) -> Result<Command<'a>, AllocError>
     ensures shape { IfOk result (λ c. app_of c ≡ texts_app name.now) }
     ensures local { IfOk result IsLocal }
 {
-    Command::new(alloc, name).arg(option(alloc, "level"))
+    with(Ok(Command::new(alloc, name)), option(alloc, "level"))
 }
 
 /// A command of this name, which reads texts at a level, with contracts checked or not.
@@ -33,11 +44,10 @@ fn of_checked_texts<'a>(alloc: Global, name: &'a str) -> Result<Command<'a>, All
     ensures shape { IfOk result (λ c. app_of c ≡ checked_texts_app name.now) }
     ensures local { IfOk result IsLocal }
 {
-    let command = of_texts(alloc, name)?;
     let checks = Arg::new(alloc, "checks")
         .short('d')
         .action(ArgAction::SetTrue);
-    command.arg(checks)
+    with(of_texts(alloc, name), checks)
 }
 
 /// A command of this name, which makes code of texts.
@@ -45,7 +55,7 @@ fn of_code<'a>(alloc: Global, name: &'a str) -> Result<Command<'a>, AllocError>
     ensures shape { IfOk result (λ c. app_of c ≡ code_app name.now) }
     ensures local { IfOk result IsLocal }
 {
-    of_checked_texts(alloc, name)?.arg(option(alloc, "piece"))
+    with(of_checked_texts(alloc, name), option(alloc, "piece"))
 }
 
 /// The file, just one.
@@ -63,7 +73,7 @@ fn check<'a>(alloc: Global) -> Result<Command<'a>, AllocError>
     ensures shape { IfOk result (λ c. app_of c ≡ record { top = check_shape; subs = [] }) }
     ensures local { IfOk result IsLocal }
 {
-    of_texts(alloc, "check")?.arg(one_file(alloc))
+    with(of_texts(alloc, "check"), one_file(alloc))
 }
 
 /// The listing, with its options and its file.
@@ -71,9 +81,8 @@ fn list<'a>(alloc: Global) -> Result<Command<'a>, AllocError>
     ensures shape { IfOk result (λ c. app_of c ≡ record { top = list_shape; subs = [] }) }
     ensures local { IfOk result IsLocal }
 {
-    of_texts(alloc, "list")?
-        .arg(option(alloc, "piece"))?
-        .arg(one_file(alloc))
+    let sized = with(of_texts(alloc, "list"), option(alloc, "piece"));
+    with(sized, one_file(alloc))
 }
 
 /// The writing of an image, with its options and its file.
@@ -81,12 +90,12 @@ fn build<'a>(alloc: Global) -> Result<Command<'a>, AllocError>
     ensures shape { IfOk result (λ c. app_of c ≡ record { top = build_shape; subs = [] }) }
     ensures local { IfOk result IsLocal }
 {
-    let command = of_code(alloc, "build")?;
     let out = Arg::new(alloc, "out")
         .short('o')
         .required(true)
         .action(ArgAction::Set);
-    command.arg(out)?.arg(one_file(alloc))
+    let named = with(of_code(alloc, "build"), out);
+    with(named, one_file(alloc))
 }
 
 /// The plain run, with its options and its file.
@@ -94,16 +103,14 @@ fn mean<'a>(alloc: Global) -> Result<Command<'a>, AllocError>
     ensures shape { IfOk result (λ c. app_of c ≡ record { top = mean_shape; subs = [] }) }
     ensures local { IfOk result IsLocal }
 {
-    let command = of_checked_texts(alloc, "mean")?;
     let turns = Arg::new(alloc, "turns")
         .long("turns")
         .required(true)
         .action(ArgAction::Set);
-    command
-        .arg(turns)?
-        .arg(explains(alloc))?
-        .arg(option(alloc, "memory"))?
-        .arg(one_file(alloc))
+    let bound = with(of_checked_texts(alloc, "mean"), turns);
+    let explained = with(bound, explains(alloc));
+    let limited = with(explained, option(alloc, "memory"));
+    with(limited, one_file(alloc))
 }
 
 /// A command with the options of its memory.
@@ -111,11 +118,10 @@ fn over_memory<'a>(alloc: Global, command: Command<'a>) -> Result<Command<'a>, A
     ensures shape { IfOk result (λ c. app_of c ≡ with_memory (app_of command.entry)) }
     ensures local { IsLocal command.entry → IfOk result IsLocal }
 {
-    command
-        .arg(option(alloc, "frames"))?
-        .arg(option(alloc, "objects"))?
-        .arg(option(alloc, "store"))?
-        .arg(option(alloc, "fail-from"))
+    let framed = with(Ok(command), option(alloc, "frames"));
+    let counted = with(framed, option(alloc, "objects"));
+    let stored = with(counted, option(alloc, "store"));
+    with(stored, option(alloc, "fail-from"))
 }
 
 /// A command with the options of its work.
@@ -123,9 +129,8 @@ fn with_workers<'a>(alloc: Global, command: Command<'a>) -> Result<Command<'a>, 
     ensures shape { IfOk result (λ c. app_of c ≡ with_work (app_of command.entry)) }
     ensures local { IsLocal command.entry → IfOk result IsLocal }
 {
-    command
-        .arg(option(alloc, "workers"))?
-        .arg(option(alloc, "quantum"))
+    let worked = with(Ok(command), option(alloc, "workers"));
+    with(worked, option(alloc, "quantum"))
 }
 
 /// The option that has what a program prints written as it comes.
@@ -168,23 +173,34 @@ fn files<'a>(alloc: Global) -> Arg<'a>
         .action(ArgAction::Append)
 }
 
+/// A command with the options of its movers.
+fn with_movers<'a>(alloc: Global, command: Command<'a>) -> Result<Command<'a>, AllocError>
+    ensures shape { IfOk result (λ c. app_of c ≡ movers_app (app_of command.entry)) }
+    ensures local { IsLocal command.entry → IfOk result IsLocal }
+{
+    let evacuated = with(Ok(command), option(alloc, "evacuators"));
+    with(evacuated, option(alloc, "fetchers"))
+}
+
+/// A command of this name, which runs programs.
+fn of_programs<'a>(alloc: Global, name: &'a str) -> Result<Command<'a>, AllocError>
+    ensures shape { IfOk result (λ c. app_of c ≡ programs_app name.now) }
+    ensures local { IfOk result IsLocal }
+{
+    let command = over_memory(alloc, of_code(alloc, name)?)?;
+    with_workers(alloc, with_movers(alloc, command)?)
+}
+
 /// The run, with its options and its files.
 fn run<'a>(alloc: Global) -> Result<Command<'a>, AllocError>
     ensures shape { IfOk result (λ c. app_of c ≡ record { top = run_shape; subs = [] }) }
     ensures local { IfOk result IsLocal }
 {
-    let command = of_code(alloc, "run")?;
-    with_workers(
-        alloc,
-        over_memory(alloc, command)?
-            .arg(option(alloc, "evacuators"))?
-            .arg(option(alloc, "fetchers"))?,
-    )?
-    .arg(live(alloc))?
-    .arg(stats(alloc))?
-    .arg(explains(alloc))?
-    .arg(option(alloc, "memory"))?
-    .arg(files(alloc))
+    let written = with(of_programs(alloc, "run"), live(alloc));
+    let told = with(written, stats(alloc));
+    let explained = with(told, explains(alloc));
+    let limited = with(explained, option(alloc, "memory"));
+    with(limited, files(alloc))
 }
 
 /// The replay of a schedule, with its options and its files.
@@ -192,29 +208,32 @@ fn replay<'a>(alloc: Global) -> Result<Command<'a>, AllocError>
     ensures shape { IfOk result (λ c. app_of c ≡ record { top = replay_shape; subs = [] }) }
     ensures local { IfOk result IsLocal }
 {
-    let command = of_code(alloc, "replay")?;
-    with_workers(
-        alloc,
-        over_memory(alloc, command)?
-            .arg(option(alloc, "evacuators"))?
-            .arg(option(alloc, "fetchers"))?,
-    )?
-    .arg(option(alloc, "schedule").required(true))?
-    .arg(files(alloc))
+    let schedule = option(alloc, "schedule").required(true);
+    let scheduled = with(of_programs(alloc, "replay"), schedule);
+    with(scheduled, files(alloc))
+}
+
+/// The command with this one below it, where both were made.
+fn with_below<'a>(
+    command: Result<Command<'a>, AllocError>,
+    below: Result<Command<'a>, AllocError>,
+) -> Result<Command<'a>, AllocError>
+    ensures { (top : App) → (shape : Shape) → IfOk command.entry (λ c. app_of c ≡ top) → IfOk below.entry (λ c. app_of c ≡ record { top = shape; subs = [] }) → IfOk below.entry IsLocal → IfOk result (λ c. app_of c ≡ with_subcommand top shape) }
+{
+    command?.subcommand(below?)
 }
 
 /// The commands that there are.
 fn command<'a>(alloc: Global) -> Result<Command<'a>, AllocError>
     ensures { IfOk result (λ c. app_of c ≡ shell) }
 {
-    Command::new(alloc, "c0far")
-        .subcommand_required(true)
-        .subcommand(build(alloc)?)?
-        .subcommand(check(alloc)?)?
-        .subcommand(list(alloc)?)?
-        .subcommand(mean(alloc)?)?
-        .subcommand(replay(alloc)?)?
-        .subcommand(run(alloc)?)
+    let none = Ok(Command::new(alloc, "c0far").subcommand_required(true));
+    let first = with_below(none, build(alloc));
+    let second = with_below(first, check(alloc));
+    let third = with_below(second, list(alloc));
+    let fourth = with_below(third, mean(alloc));
+    let fifth = with_below(fourth, replay(alloc));
+    with_below(fifth, run(alloc))
 }
 
 fn refusal(error: Error) -> Usage

@@ -4,9 +4,10 @@ use Rattle.object_moves.specs.Moving.{hand_after}
 use Rattle.object_lock.specs.Seats.{Sizes}
 use Rattle.object_lock.specs.Logs.{Deed}
 use Rattle.object_moves.specs.Deeds.{LeavesLogged}
-use Rattle.object_moves.specs.Visits.{LetsLeave, MovesOut, Visit, VisitLogged}
+use Rattle.object_moves.specs.Visits.{AreServed, LetsLeave, MovesOut, Visit, VisitLogged}
 use Rattle.object_moves.specs.Ways.{Did}
 use Rattle.object_moves.specs.declared.moved.Moved.{Moved}
+use Rattle.object_moves.specs.declared.moved.Moved.TheVariants as M
 use Rattle.object_moves.proofs.Visiting.{logged_both, logged_once, moved_past, nothing_more, then_more}
 use Rattle.pointer_word.specs.Hands.{Hand, Move, leaving, marking, releasing}
 use Rattle.evacuator.specs.declared.counts.Round.{Round}
@@ -59,8 +60,20 @@ visits_marked z m x y old new o f r ps e l =
 
 -- ---- all rounds of a seat
 
-pub no_rounds : (z : Sizes) (m : ℕ) (did : Did) → did.past ≡ [] → did.log ≡ [] → HasMadeRounds z m did
-no_rounds z m did e l = (round_in [], record { visits = []; did = e; logged = l; counted = refl })
+pub no_rounds : (reliable : Type 0) (z : Sizes) (m : ℕ) (did : Did) → did.past ≡ [] → did.log ≡ [] → HasMadeRounds reliable z m did
+no_rounds reliable z m did e l = (round_in [], record { visits = []; did = e; logged = l; counted = refl }, λ sure. refl)
 
-pub rounds_and_one : (z : Sizes) (m : ℕ) (did after : Did) (r : Round) → HasMadeRounds z m did → Visits z m did after r → HasMadeRounds z m after
-rounds_and_one z m did after r made v = (both made.0 r, visits_both z m (record { past = []; log = [] }) did after made.0 r made.1 v)
+pub rounds_and_one : (reliable : Type 0) (z : Sizes) (m : ℕ) (did after : Did) (r : Round) → HasMadeRounds reliable z m did → Visits z m did after r → (reliable → r.failed ≡ 0) → HasMadeRounds reliable z m after
+rounds_and_one reliable z m did after r made v none =
+    (both made.0 r, visits_both z m (record { past = []; log = [] }) did after made.0 r made.1 v, λ sure. let a = made.2 sure in let b = none sure in omega arith)
+
+-- where no put was refused, none was at any of the visits
+served_in : (vs : List Visit) → (round_in vs).failed ≡ 0 → AreServed vs
+served_in [] e = tt
+served_in (MovesOut o f M.Left ∷ vs) e = served_in vs (omega (arith, e))
+served_in (MovesOut o f M.Stayed ∷ vs) e = served_in vs (omega (arith, e))
+served_in (MovesOut o f M.Failed ∷ vs) e = absurd (omega (arith, e))
+served_in (LetsLeave f ∷ vs) e = served_in vs (omega (arith, e))
+
+pub visits_served : (z : Sizes) (m : ℕ) (before after : Did) (r : Round) (v : Visits z m before after r) → r.failed ≡ 0 → AreServed v.visits
+visits_served z m before after r v e = served_in v.visits (ap (λ (x : Round). x.failed) v.counted ∙ e)

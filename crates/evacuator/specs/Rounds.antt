@@ -52,6 +52,6 @@ pub record Visits (z : Sizes) (m : ℕ) (before after : Did) (r : Round) : Type 
   pub logged : VisitsLogged z m visits before.log after.log
   pub counted : round_in visits ≡ r
 
--- all that the seat m has done is what rounds did, one behind the other
-abbrev pub HasMadeRounds : Sizes → ℕ → Did → Type 0
-HasMadeRounds z m did = (r : Round) × Visits z m (record { past = []; log = [] }) did r
+-- all that the seat m has done is what rounds did, one behind the other; a reliable store refused it no put
+abbrev pub HasMadeRounds : Type 0 → Sizes → ℕ → Did → Type 0
+HasMadeRounds reliable z m did = (r : Round) × Visits z m (record { past = []; log = [] }) did r × (reliable → r.failed ≡ 0)

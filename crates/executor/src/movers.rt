@@ -56,7 +56,7 @@ impl<'a, S: RawStore> Model for SeatedEvacuator<'a, S> {
 
     ghost view = { λ e. e.number };
 
-    ghost invariant = { λ e. IsSeat e.region.now.table e.seat × HasNothing e.seat.view.hand × HasMadeRounds e.region.now.table.sizes e.seat.view.number (did_of e.seat) };
+    ghost invariant = { λ e. IsSeat e.region.now.table e.seat × HasNothing e.seat.view.hand × HasMadeRounds S.reliable e.region.now.table.sizes e.seat.view.number (did_of e.seat) };
 }
 
 /// A fetcher at its seat, with its pass of the hints. Its hands are empty, and all that it did it did with hints.
@@ -81,7 +81,7 @@ impl<'a, S: RawStore> Model for SeatedFetcher<'a, S> {
 
     ghost view = { λ f. f.number };
 
-    ghost invariant = { λ f. IsSeat f.region.now.table f.seat × HasNothing f.seat.view.hand × (f.pass ≡ f.hints.now) × (f.hints.now.objects ≡ f.region.now.objects) × HasServed f.region.now.table.sizes f.seat.view.number (did_of f.seat) };
+    ghost invariant = { λ f. IsSeat f.region.now.table f.seat × HasNothing f.seat.view.hand × (f.pass ≡ f.hints.now) × (f.hints.now.objects ≡ f.region.now.objects) × HasServed S.reliable f.region.now.table.sizes f.seat.view.number (did_of f.seat) };
 }
 
 /// An evacuator or a fetcher.

@@ -79,6 +79,13 @@ module _ {W C : Type 0} where
   ServesOne reliable objects s t S.Brought = (o : ℕ) × (o < objects) × Serves reliable o s t S.Brought
   ServesOne reliable objects s t S.Failed = (o : ℕ) × (o < objects) × Serves reliable o s t S.Failed
 
--- all that the seat m has done is what it did with hints, one behind the other, as its log tells step by step
-abbrev pub HasServed : Sizes → ℕ → Did → Type 0
-HasServed z m did = (xs : List Service) × (did.past ≡ moves_serving xs) × ServicesLogged z m xs [] did.log
+-- of no service the store refused the get
+abbrev pub AreRead : List Service → Type 0
+AreRead [] = Unit {0}
+AreRead (GivesUp o ∷ xs) = AreRead xs
+AreRead (ReadsNothing o f ∷ xs) = ⊥
+AreRead (BringsTo o f ∷ xs) = AreRead xs
+
+-- all that the seat m has done is what it did with hints, one behind the other, as its log tells step by step; a reliable store refused it no get
+abbrev pub HasServed : Type 0 → Sizes → ℕ → Did → Type 0
+HasServed reliable z m did = (xs : List Service) × (did.past ≡ moves_serving xs) × ServicesLogged z m xs [] did.log × (reliable → AreRead xs)

@@ -27,8 +27,8 @@ does_on : {B : Type 0} (n m : ℕ) (turn : Option B → Choice → Answer → Tu
 does_on n m turn x between after first then =
     (first.0 ++ then.0, then.1, goes_on n m turn None None None x first.1 then.1 first.0 then.0 first.2 then.2, then.3, then.4)
 
-pub all_rounds : (z : Sizes) (m : ℕ) (did : Did) → HasMadeRounds z m did → DoesByEvents z.cells m (evacuator_turn z.cells m) empty_handed did.past
-all_rounds z m did made = by_rounds z m empty_handed (record { past = []; log = [] }) did made.0 (refl, refl, (refl, refl)) refl made.1
+pub all_rounds : (reliable : Type 0) (z : Sizes) (m : ℕ) (did : Did) → HasMadeRounds reliable z m did → DoesByEvents z.cells m (evacuator_turn z.cells m) empty_handed did.past
+all_rounds reliable z m did made = by_rounds z m empty_handed (record { past = []; log = [] }) did made.0 (refl, refl, (refl, refl)) refl made.1
 
 service : (n m : ℕ) (x : Hand) (w : Service) → HasNothing x → DoesByEvents n m (fetcher_turn n m) x (x.past ++ moves_for w)
 service n m x (GivesUp o) h = subst (λ ms. DoesByEvents n m (fetcher_turn n m) x ms) (past_given_up x o []) (given_up n m o x [] h)
@@ -43,5 +43,5 @@ services n m x (w ∷ ws) h =
     let all = does_on n m (fetcher_turn n m) x (x.past ++ moves_for w) (first.1.past ++ moves_serving ws) first rest in
     subst (λ ms. DoesByEvents n m (fetcher_turn n m) x ms) (ap (λ ms. ms ++ moves_serving ws) first.4 ∙ append_assoc x.past (moves_for w) (moves_serving ws)) all
 
-pub all_served : (z : Sizes) (m : ℕ) (did : Did) → HasServed z m did → DoesByEvents z.cells m (fetcher_turn z.cells m) empty_handed did.past
-all_served z m did done = let n = z.cells in subst (λ ms. DoesByEvents n m (fetcher_turn n m) empty_handed ms) (sym done.1) (services n m empty_handed done.0 (refl, refl, (refl, refl)))
+pub all_served : (reliable : Type 0) (z : Sizes) (m : ℕ) (did : Did) → HasServed reliable z m did → DoesByEvents z.cells m (fetcher_turn z.cells m) empty_handed did.past
+all_served reliable z m did done = let n = z.cells in subst (λ ms. DoesByEvents n m (fetcher_turn n m) empty_handed ms) (sym done.1) (services n m empty_handed done.0 (refl, refl, (refl, refl)))

@@ -1,5 +1,5 @@
 -- Between two steps that a seat keeps nobody changes its hand.
-use Rattle.std.proofs.Common.{◌≡◌, ◌≢◌, ℕ, suc, ◌+◌, ◌<◌, Bool, true, false, cond, ◌||◌, ◌&&◌, List, [], ◌∷◌, ◌++◌, map, refl, sym, ap, ap₂, ◌∙◌, subst, arith, eq-eqb}
+use Rattle.std.proofs.Common.{◌≡◌, ◌≢◌, ℕ, suc, ◌+◌, ◌<◌, Bool, true, false, cond, ◌||◌, ◌&&◌, Option, List, [], ◌∷◌, ◌++◌, map, refl, sym, ap, ap₂, ◌∙◌, subst, arith, eq-eqb}
 use Rattle.std.specs.Prelude.{◌==◌}
 use Rattle.pointer_word.specs.Words.{Away, Coming, Here, Leaving, Place, face, pack}
 use Rattle.pointer_word.specs.Hands.{Hand}
@@ -85,12 +85,12 @@ module _ (z : Sizes) (m k : ℕ) where
 
 -- ---- a step that its seat does not keep leaves all hands
 
-or_left : (a b : Bool) → (a || b) ≡ false → a ≡ false
+pub or_left : (a b : Bool) → (a || b) ≡ false → a ≡ false
 or_left true b e = e
 or_left false b e = refl
 
 -- an object away with this count shows the count
-shows_count : (s : Machine) (o c n : ℕ) → (s.word o).place ≡ Away → ((s.word o).count == c) ≡ true → n ≡ pack (s.word o) → (n == c) ≡ true
+pub shows_count : (s : Machine) (o c n : ℕ) → (s.word o).place ≡ Away → ((s.word o).count == c) ≡ true → n ≡ pack (s.word o) → (n == c) ≡ true
 shows_count s o c n at counts is = ap (λ (i : ℕ). i == c) (is ∙ ap (λ (p : Place). pack (record { count = (s.word o).count; place = p })) at ∙ plain (s.word o).count) ∙ counts
   where
     plain : (i : ℕ) → i + 0 ≡ i
@@ -107,13 +107,13 @@ begin_vain s m o c n own i (Here f k) at is miss = told_hand own s o i
 begin_vain s m o c n own i (Leaving f j k) at is miss = told_hand own s o i
 
 -- a word that shows another number is not this one
-shows_another : (s : Machine) (o n : ℕ) (p : Place) → n ≡ pack (s.word o) → (n == face p 0) ≡ false → (s.word o).place ≡ p → (s.word o).count ≡ 0 → ⊥
+pub shows_another : (s : Machine) (o n : ℕ) (p : Place) → n ≡ pack (s.word o) → (n == face p 0) ≡ false → (s.word o).place ≡ p → (s.word o).count ≡ 0 → ⊥
 shows_another s o n p is miss at none =
     let same : n ≡ face p 0 = is ∙ ap₂ (λ (q : Place) (c : ℕ). face q c) at none in let both = sym miss ∙ eq-eqb n (face p 0) same in cc
 
 module _ (z : Sizes) (m k n : ℕ) (s : Machine) (shown : IsShown z s k n) (i : ℕ) where
   -- what is shown of an object's word
-  word_is : (o : ℕ) → (k ≡ o) × (o < z.objects) → n ≡ pack (s.word o)
+  pub word_is : (o : ℕ) → (k ≡ o) × (o < z.objects) → n ≡ pack (s.word o)
   word_is o at = (shown.object (subst (λ (j : ℕ). j < z.objects) (sym at.0) at.1)).0 ∙ ap (λ (j : ℕ). pack (s.word j)) at.0
 
   vain_call : (c : Call) → IsCallAt z m k c → is_told n c ≡ false → (act s c).hand i ≡ s.hand i
@@ -137,7 +137,7 @@ module _ (z : Sizes) (m k n : ℕ) (s : Machine) (shown : IsShown z s k n) (i : 
   vain_call (Leaves j o f) at e = ap (λ (t : Machine). t.hand i) (leave_misses s j o f (s.word o).place (shows_another s o n (Here f true) (word_is o at.1) e))
   vain_call (Releases j f) at e = absurd (cc)
 
-  first_told : (c d : Call) → IsTry c d → is_told n c ≡ true
+  pub first_told : (c d : Call) → IsTry c d → is_told n c ≡ true
   first_told (Puts j o x) (Commits l p f) t = refl
   first_told _ _ t = absurd (t)
 
@@ -149,7 +149,7 @@ module _ (z : Sizes) (m k n : ℕ) (s : Machine) (shown : IsShown z s k n) (i : 
 
 -- ---- the part of a seat
 
-run_parts : (h : Type 0) (n : ℕ) (cs ds : List Call) (x t : Machine) → Runs h n x (cs ++ ds) t → Runs h n x cs (act_all x cs) × Runs h n (act_all x cs) ds t
+pub run_parts : (h : Type 0) (n : ℕ) (cs ds : List Call) (x t : Machine) → Runs h n x (cs ++ ds) t → Runs h n x cs (act_all x cs) × Runs h n (act_all x cs) ds t
 run_parts h n [] ds x t r = (refl, r)
 run_parts h n (c ∷ cs) ds x t r = let rest = run_parts h n cs ds (act x c) t r.1 in ((r.0, rest.0), rest.1)
 
@@ -184,8 +184,9 @@ module _ (honest : Type 0) (z : Sizes) (j : ℕ) where
       go false other q kept rest may = (rest.0, from_hand _ _ _ _ (sym (step_hand z (suc d.0) d.1.word d.1.calls x (suc j) (not_this d.0 other) own.0)) rest.1)
 
 -- steps that an actor makes at all machines it makes at these
-pub makes_them : {A : Type 0} (n : ℕ) (turn : A → Choice → Answer → Turn A) (honest : Type 0) (z : Sizes) (m : ℕ) (a b : A) (x y : Hand) (ds : List Deed) (ps : List (Machine × Deed)) → MakesSteps n turn honest z a ds b → AreSteps honest z m x ps y → map (λ p. p.1) ps ≡ ds → MakesThem n turn a ps b
-makes_them n turn honest z m a b x y ds [] made steps e = subst (λ es. MakesSteps n turn honest z a es b) (sym e) made
-makes_them n turn honest z m a b x y ds (p ∷ ps) made steps e =
-    let at = subst (λ es. MakesSteps n turn honest z a es b) (sym e) made in
-    (at.0, at.1 p.0 steps.0, makes_them n turn honest z m at.0 b _ y (map (λ q. q.1) ps) ps at.2 steps.4 refl)
+pub makes_them : {A : Type 0} (z : Sizes) (turn : Machine → A → Choice → Answer → Turn A) (reads : Machine → A → Option (List ℕ) → Type 0) (reliable honest : Type 0) (m : ℕ) (a b : A) (x y : Hand) (ds : List Deed) (ps : List (Machine × Deed)) → MakesSteps z turn reads reliable honest a ds b
+    → AreSteps honest z m x ps y → map (λ p. p.1) ps ≡ ds → MakesThem reliable z turn reads a ps b
+makes_them z turn reads reliable honest m a b x y ds [] made steps e = subst (λ es. MakesSteps z turn reads reliable honest a es b) (sym e) made
+makes_them z turn reads reliable honest m a b x y ds (p ∷ ps) made steps e =
+    let at = subst (λ es. MakesSteps z turn reads reliable honest a es b) (sym e) made in
+    (at.0, at.1 p.0 steps.0, makes_them z turn reads reliable honest m at.0 b _ y (map (λ q. q.1) ps) ps at.2 steps.4 refl)

@@ -27,7 +27,7 @@ ServesAreEvents = (n m o f : ℕ) (x : Hand) (words : List ℕ) (filled : List (
     × DoesByEvents n m (fetcher_turn n m) x (hand_served x o f words filled).past
 
 -- so does an evacuator all that it did by its rounds, and a fetcher all that it did with hints, from its beginning on, where it had nothing in hand and had done nothing
-abbrev pub LivesAreEvents : Type 0
-LivesAreEvents = (z : Sizes) (m : ℕ) (did : Did) →
-    (HasMadeRounds z m did → DoesByEvents z.cells m (evacuator_turn z.cells m) empty_handed did.past)
-    × (HasServed z m did → DoesByEvents z.cells m (fetcher_turn z.cells m) empty_handed did.past)
+abbrev pub LivesAreEvents : Type 0 → Type 0
+LivesAreEvents reliable = (z : Sizes) (m : ℕ) (did : Did) →
+    (HasMadeRounds reliable z m did → DoesByEvents z.cells m (evacuator_turn z.cells m) empty_handed did.past)
+    × (HasServed reliable z m did → DoesByEvents z.cells m (fetcher_turn z.cells m) empty_handed did.past)

@@ -13,13 +13,13 @@ use Rattle.pointer_word.specs.Calls.{Leaves, leave_at, act}
 use Rattle.pointer_word.proofs.Upd.{upd-same}
 use Rattle.pointer_word.proofs.Bringing.{keeps_leave}
 use Rattle.pointer_word.proofs.Bits.{is_clean}
-use Rattle.object_lock.specs.Seats.{Sizes, View, learns, with_hand}
+use Rattle.object_lock.specs.Seats.{Owns, Sizes, View, learns, with_hand}
 use Rattle.object_lock.specs.Carrying.{Carries}
 use Rattle.object_lock.specs.Rule.{HandIn, Berthed, LoggedRule}
 use Rattle.object_lock.specs.Plays.{IsStep, Found, told_leave}
 use Rattle.object_lock.specs.Logs.{Seated, bare, kept_of}
 use Rattle.object_lock.specs.Logging.{logs_leave}
-use Rattle.object_lock.proofs.Allowing.{allowed, telling}
+use Rattle.object_lock.proofs.Allowing.{allowed, telling, no_object}
 use Rattle.object_lock.proofs.Moved.{fits, fitted}
 use Rattle.object_lock.proofs.Mover.{cond_true, cond_false, both, and_true, eq_of, Goes, mover_moves, mover_stays}
 
@@ -42,7 +42,7 @@ module _ {S : Type 0} (kept : S → ℕ → List ℕ → Type 0) (there : S → 
       let num = seat.numbered in let sl = r.slotted in let slot : o < length s.homes = omega arith in let fr = r.framed in
       let empty' : (x.hand m).freed ≡ None = subst (λ (h : Hand). h.freed ≡ None) seat.shows.0 empty in
       let hand : HandIn z (x.hand m) = subst (HandIn z) seat.shows.0 seat.inside in
-      exchanged word old 0 (Goes kept there honest z s o id me (act x (Leaves m o f)) (r.led.0 ++ Leaves m o f ∷ []) told)
+      exchanged word old 0 (Goes kept there honest z s o id me (act x (Leaves m o f)) (r.led.0 ++ Leaves m o f ∷ []) r.owner told)
       (λ hit. let is = is_clean p (x.word o).count f 0 (fits z p r.framed ok.inside) (omega arith) (omega arith) (omega arith) (sym ok.word ∙ hit ∙ is_old) in
       let home = subst (Berthed kept there o (x.far o) (get_elem? s.homes o)) is.0 ok.berthed in
       let y : Hand = leaving (x.hand m) f in let w : Word = counted (x.word o).count Away in let who : ℕ → Holder = upd x.who f (Freer m) in
@@ -64,7 +64,7 @@ module _ {S : Type 0} (kept : S → ℕ → List ℕ → Type 0) (there : S → 
   pub leaves : (slots id : ℕ) (me : Me S Seated) (o f old : ℕ) → o < z.objects → f < z.frames → me.0.view.hand.freed ≡ None → old ≡ face (Here f true) 0
       → Allows (LoggedRule kept there honest z) slots id me o (λ n. either (eqb n old) 0 n) (logs_leave honest (step slots o old 0 maybe.none) me)
   leaves slots id me o f old near inside empty is_old = telling (LoggedRule kept there honest z) slots id me o (λ n. either (eqb n old) 0 n) (λ n m. told_leave honest (step slots o old 0 maybe.none) (bare me) n (bare m) × (m.0.log ≡ me.0.log ++ kept_of (record { word = o; found = n; calls = Leaves me.0.view.number o f ∷ [] }))) (logs_leave honest (step slots o old 0 maybe.none) me) (λ n m h. (h.0, (f, is_old, h.1)))
-      (allowed kept there honest z slots id me o (λ n. either (eqb n old) 0 n) (Leaves me.0.view.number o f ∷ []) (told_leave honest (step slots o old 0 maybe.none) (bare me)) (leaves_on slots id (bare me) o f old near inside empty is_old) (λ e w h. (refl, (refl, near))))
+      (allowed kept there honest z slots id me o (λ n. either (eqb n old) 0 n) (Leaves me.0.view.number o f ∷ []) (told_leave honest (step slots o old 0 maybe.none) (bare me)) (leaves_on slots id (bare me) o f old near inside empty is_old) (λ e w h. (refl, (refl, near))) ((λ p q. no_object (Owns me.0.view) p q), tt))
 
 -- the words of two frames differ
 pub clean_frames : (g f : ℕ) → face (Here g true) 0 ≡ face (Here f true) 0 → g ≡ f

@@ -26,8 +26,8 @@ abbrev pub led_on : (h : Type 0) (n : ℕ) (x t : Machine) (c : Call) → IsLed 
 led_on h n x t c l may acts = (l.0 ++ c ∷ [], subst (Runs h n opening (l.0 ++ c ∷ [])) acts (run_on h n l.0 opening x c l.1 may))
 
 -- no call more
-pub none_made : {S : Type 0} (kept : S → ℕ → List ℕ → Type 0) (there : S → Type 0) (honest : Type 0) (z : Sizes) (s : State S View) (x : Machine) (cs : List Call) → RuleOf kept there honest z s x cs → RuleOf kept there honest z s x (cs ++ [])
-none_made kept there honest z s x cs q = (q.0, q.1, q.2 ∙ sym (append-nil cs))
+pub none_made : {S : Type 0} {owner : ℕ → ℕ} (kept : S → ℕ → List ℕ → Type 0) (there : S → Type 0) (honest : Type 0) (z : Sizes) (s : State S View) (x : Machine) (cs : List Call) → RuleOf kept there honest z s x cs owner → RuleOf kept there honest z s x (cs ++ []) owner
+none_made kept there honest z s x cs q = (q.0, q.1, q.2 ∙ sym (append-nil cs), q.3)
 
 -- what a seat did is its part of the list
 part_of : {S : Type 0} (kept : S → ℕ → List ℕ → Type 0) (there : S → Type 0) (honest : Type 0) (z : Sizes) (s : State S View) (r : Rule kept there honest z s) (id : ℕ) (v : View) → get_elem? s.views id ≡ some v → IsPart v r.led.0
@@ -55,6 +55,9 @@ all_parts {S} kept there honest z s r =
       led = subst (λ (cs : List Call). Runs honest z.cells opening cs q.machine) (sym l.made) q.led.1;
       follows = l.follows;
       own = l.own;
+      owner = q.owner;
+      owned = λ id v at. (q.seats id v.view (at_map (λ (u : Seated). u.view) s.views id v at)).owned;
+      owners = r.owners;
       logs = l.logs;
       none = l.none;
       parts = λ id v at. subst (IsPart v.view) (sym l.made) (part_of kept there honest z (unlogged s) q id v.view (at_map (λ (u : Seated). u.view) s.views id v at));

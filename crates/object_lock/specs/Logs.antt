@@ -1,5 +1,5 @@
 -- What the seats of a table did, each with what it found, and which part of that each seat keeps.
-use Rattle.std.specs.Prelude.{◌≡◌, ℕ, suc, ◌==◌, ◌&&◌, ◌||◌, ◌/◌, ◌%◌, ◌<◌, ◌≤◌, ◌++◌, Bool, true, false, cond, List, [], ◌∷◌, length, map, Some}
+use Rattle.std.specs.Prelude.{◌≡◌, ℕ, suc, ◌==◌, ◌&&◌, ◌||◌, ◌/◌, ◌%◌, ◌<◌, ◌≤◌, ◌++◌, Bool, true, false, cond, List, [], ◌∷◌, length, map, Option, Some, None}
 use mathlib.Core.Option.{some}
 use lib.ListN.{get_elem?}
 use Rattle.atomic_table.specs.Table.{State, Me}
@@ -117,6 +117,36 @@ AreCallsAt z m k (c ∷ d ∷ e ∷ cs) = ⊥
 abbrev pub AreOwn : Sizes → List (ℕ × Deed) → Type 0
 AreOwn z [] = Unit {0}
 AreOwn z (d ∷ ds) = AreCallsAt z (suc d.0) d.1.word d.1.calls × AreOwn z ds
+
+-- the object of a call that its owner alone makes; none of another call
+abbrev pub owners_object : Call → Option ℕ
+owners_object (Opens o) = Some o
+owners_object (Closes o) = Some o
+owners_object (Clears o) = Some o
+owners_object (Stores o f i v) = Some o
+owners_object (Begins m o c own) = cond own (Some o) None
+owners_object (Claims m o f) = None
+owners_object (Fills m f i v) = None
+owners_object (Arrives m o f own) = cond own (Some o) None
+owners_object (Unclaims m f) = None
+owners_object (Retreats m o) = None
+owners_object (Marks m o f) = None
+owners_object (Copies m f i) = None
+owners_object (Puts m o x) = None
+owners_object (Commits m o f) = None
+owners_object (Aborts m o f) = None
+owners_object (Leaves m o f) = None
+owners_object (Releases m f) = None
+
+-- those of these calls that an owner makes are of objects of which this is so
+abbrev pub AreOf : (ℕ → Type 0) → List Call → Type 0
+AreOf mine [] = Unit {0}
+AreOf mine (c ∷ cs) = ((o : ℕ) → owners_object c ≡ Some o → mine o) × AreOf mine cs
+
+-- each owner's call of a step that is kept was made by the seat that owns its object, by what owns each object
+abbrev pub AreOwners : (ℕ → ℕ) → List (ℕ × Deed) → Type 0
+AreOwners owner [] = Unit {0}
+AreOwners owner (d ∷ ds) = (is_kept d.1.found d.1.calls ≡ true → AreOf (λ o. owner o ≡ d.0) d.1.calls) × AreOwners owner ds
 
 -- what these calls leave, one after the other
 abbrev pub act_all : Machine → List Call → Machine

@@ -6,8 +6,8 @@ use Rattle.atomic_table.specs.Table.{State}
 use Rattle.pointer_word.specs.Words.{pack}
 use Rattle.pointer_word.specs.Machine.{State as Machine, opening}
 use Rattle.pointer_word.specs.Calls.{Runs}
-use Rattle.object_lock.specs.Seats.{Sizes}
-use Rattle.object_lock.specs.Logs.{AreOwn, Deed, Seated, Follows, calls_of, log_of}
+use Rattle.object_lock.specs.Seats.{Owns, Sizes}
+use Rattle.object_lock.specs.Logs.{AreOwn, AreOwners, Deed, Seated, Follows, calls_of, log_of}
 use Rattle.object_lock.specs.Rule.{LoggedRule}
 use Rattle.object_lock.specs.Plays.{IsPart}
 
@@ -20,6 +20,10 @@ pub record HasOneList {S : Type 0} (honest : Type 0) (z : Sizes) (s : State S Se
   pub led : Runs honest z.cells opening (calls_of steps) machine
   pub follows : Follows z opening steps machine
   pub own : AreOwn z steps
+  -- which seat owns each object, and that it alone made its owner's calls that are kept
+  pub owner : ℕ → ℕ
+  pub owned : (j : ℕ) (v : Seated) → get_elem? s.views j ≡ some v → (o : ℕ) → Owns v.view o → owner o ≡ j
+  pub owners : AreOwners owner steps
   pub logs : (j : ℕ) (v : Seated) → get_elem? s.views j ≡ some v → v.log ≡ log_of j steps
   pub none : (j : ℕ) → length s.views ≤ j → log_of j steps ≡ []
   pub parts : (j : ℕ) (v : Seated) → get_elem? s.views j ≡ some v → IsPart v.view (calls_of steps)

@@ -47,6 +47,7 @@ impl<S: RawStore> ObjectTable<S> {
         share: usize,
     ) -> Result<OwnerSeat<S>, Want>
         requires table { IsSeat self.now last.old × (0 < self.now.sizes.objects) }
+        requires unused { last.old.log ≡ [] }
         requires last { (last.old.view.last ≡ true) × (last.old.view.number < 65535) × (share ≡ last.old.view.share) × (last.old.view.low + share ≤ last.old.view.high) }
         ensures made { IfOk result (λ next. (last.new ≡ record last.old { view = first_part last.old.view }) × (next.table ≡ last.old.table) × (next.view ≡ next_owner last.old.view) × (next.log ≡ []) × (next.brought ≡ None) × (next.taken ≡ None) × (next.refusals ≡ no_refusals)) }
         ensures wants { IfErr result (λ want. want ≢ Want.NoObjects) }
@@ -75,6 +76,7 @@ impl<S: RawStore> ObjectTable<S> {
         last: &mut MoverSeat<S>,
     ) -> Result<MoverSeat<S>, Want>
         requires table { IsSeat self.now last.old × (0 < self.now.sizes.objects) }
+        requires unused { last.old.log ≡ [] }
         requires last { (last.old.view.last ≡ true) × (last.old.view.number < 65535) × (last.old.view.low ≤ last.old.view.high) }
         ensures made { IfOk result (λ next. (last.new ≡ record last.old { view = whole_part last.old.view }) × (next.table ≡ last.old.table) × (next.view ≡ next_mover last.old.view) × (next.log ≡ []) × (next.brought ≡ None) × (next.taken ≡ None) × (next.refusals ≡ no_refusals)) }
         ensures wants { IfErr result (λ want. want ≢ Want.NoObjects) }

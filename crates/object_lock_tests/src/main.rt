@@ -1,8 +1,10 @@
-//! Goes through scenarios of an owner and a mover at one table, and prints what each call told. What must be printed is written by hand.
+//! Goes through scenarios of an owner and a mover at one table, and of hints and fetchers, and prints what each call told, or what each came to. What must be
+//! printed is written by hand.
 #![tactic(auto)]
 
 mod fetchers;
 mod fixtures;
+mod hints;
 mod moving_out;
 mod owners;
 mod scenario;
@@ -40,6 +42,7 @@ fn play_faults(alloc: Global, scenario: Scenario, plan: FaultPlan, tape: &mut Ta
     play(alloc, scenario, stores, tape);
 }
 
+/// Prints all of it. What is moved out and in takes one put and one get of its store, and no call behind them.
 fn main(rt: HostRuntime) -> io::Result<()> {
     let mut out = io::writer(&rt);
     for (name, scenario) in SCENARIOS {
@@ -56,7 +59,6 @@ fn main(rt: HostRuntime) -> io::Result<()> {
         &mut tape,
     );
     show(&mut out, "a put that failed", &tape)?;
-    // One put and one get, and no call of the store behind them.
     let mut tape = Tape::new();
     play_faults(
         rt.alloc(),
@@ -80,5 +82,6 @@ fn main(rt: HostRuntime) -> io::Result<()> {
     show(&mut out, "a writer of 200 rounds beside a mover", &tape)?;
     let mut tape = Tape::new();
     read_beside_a_mover(rt.alloc(), &rt, &mut tape);
-    show(&mut out, "a reader of 200 rounds beside a mover", &tape)
+    show(&mut out, "a reader of 200 rounds beside a mover", &tape)?;
+    hints::tell(rt.alloc(), &rt, &mut out)
 }

@@ -38,6 +38,24 @@ pub(crate) fn marks_only_the_unheld<S: RawStore>(
     tell_word(table, mover, 0, tape);
 }
 
+/// Marks object 0 in frame 2, and its owner tries to mark it there, too: its word after each.
+pub(crate) fn is_marked_once<S: RawStore>(
+    table: &ObjectTable<S>,
+    owner: &mut OwnerSeat<S>,
+    mover: &mut MoverSeat<S>,
+    tape: &mut Tape,
+)
+    requires low { (3 < table.now.sizes.frames) × (0 < table.now.sizes.objects) }
+    requires seats { IsShut table.now owner.old 0 × IsIdle table.now mover.old }
+{
+    if !bring_with(table, owner, 0, 2, 5) || !mark(table, mover, 0, 2) {
+        return;
+    }
+    tell_word(table, mover, 0, tape);
+    tape.did(mark(table, owner, 0, 2));
+    tell_word(table, mover, 0, tape);
+}
+
 /// Marks object 0 in frame 2, gives it up, marks it again and moves it out: its word after each.
 pub(crate) fn marks_again<S: RawStore>(
     table: &ObjectTable<S>,

@@ -8,8 +8,8 @@ use crate::fetchers::{
 };
 use crate::fixtures::owner_and_mover;
 use crate::moving_out::{
-    copies_anew, is_moved_out_and_in, is_written_meanwhile, is_written_when_clean, marks_again,
-    marks_only_the_unheld, survives_a_failed_put,
+    copies_anew, is_marked_once, is_moved_out_and_in, is_written_meanwhile, is_written_when_clean,
+    marks_again, marks_only_the_unheld, survives_a_failed_put,
 };
 use crate::owners::{begins_after_a_close, begins_with_two_holds, holds_again, stores};
 use crate::tape::Tape;
@@ -31,6 +31,7 @@ pub(crate) enum Scenario {
     Here,
     ClaimedAgain,
     MarkedUnheld,
+    MarkedOnce,
     MarkedAgain,
     CopiedAnew,
     WrittenMeanwhile,
@@ -40,7 +41,7 @@ pub(crate) enum Scenario {
 }
 
 /// The scenarios over a store that doesn't fail, each with its name.
-pub(crate) const SCENARIOS: [(&str, Scenario); 16] = [
+pub(crate) const SCENARIOS: [(&str, Scenario); 17] = [
     ("stores of an owner", Scenario::Stores),
     ("a begin with two holds", Scenario::TwoHolds),
     ("a begin after a close", Scenario::AfterClose),
@@ -52,6 +53,7 @@ pub(crate) const SCENARIOS: [(&str, Scenario); 16] = [
     ("an object in a frame", Scenario::Here),
     ("a frame that was released", Scenario::ClaimedAgain),
     ("marks of a held object", Scenario::MarkedUnheld),
+    ("a mark of what another has", Scenario::MarkedOnce),
     ("a mark after giving up", Scenario::MarkedAgain),
     ("a copy after giving up", Scenario::CopiedAnew),
     ("written meanwhile", Scenario::WrittenMeanwhile),
@@ -83,6 +85,7 @@ fn act<S: RawStore>(
         Scenario::Here => is_here(table, owner, mover, tape),
         Scenario::ClaimedAgain => is_claimed_again(table, owner, mover, tape),
         Scenario::MarkedUnheld => marks_only_the_unheld(table, owner, mover, tape),
+        Scenario::MarkedOnce => is_marked_once(table, owner, mover, tape),
         Scenario::MarkedAgain => marks_again(table, owner, mover, tape),
         Scenario::CopiedAnew => copies_anew(table, owner, mover, tape),
         Scenario::WrittenMeanwhile => is_written_meanwhile(table, owner, mover, tape),

@@ -7,37 +7,66 @@ use Rattle.cells.specs.declared.ending.Want.TheVariants.{NoObjects, OutOfMemory,
 use Rattle.code_form.specs.Form.{Image}
 use Rattle.code_form.specs.declared.touch.Touch.{Touch}
 use Rattle.code_form.specs.declared.touch.Touch.TheVariants as touch
-use Rattle.remote_store.specs.Refusing.{no_refusals}
-use Rattle.session.specs.Performing.{Acts, ComesToWant, LosesAt, PerformsBy, PerformsSome}
-use Rattle.session.specs.State.{SameProgram, State, begin}
-use Rattle.program_run.specs.Acting.{HasActed, IsActedOver, Share}
+use Rattle.session.specs.Performing.{Acts, ComesToWant, LosesAt, Performs, PerformsBy, PerformsSome}
+use Rattle.session.specs.State.{Logged, SameProgram, State}
+use Rattle.program_run.specs.Acting.{HasActed, IsActedOver, Share, session_begun}
 use Rattle.program_run.specs.declared.run.Finished.{Finished}
 
 -- instructions were completed, and then others
-performs_on : (us : List State) (s u t : State) → PerformsBy us s u → PerformsSome u t → PerformsSome s t
-performs_on [] s u t first more = subst (λ (x : State). PerformsSome x t) first more
-performs_on (x ∷ us) s u t first more = let rest = performs_on us x u t first.1 more in (x ∷ rest.0, (first.0, rest.1))
+performs_on : (honest : Type 0) (us : List Logged) (s u t : Logged) → PerformsBy honest us s u → PerformsSome honest u t → PerformsSome honest s t
+performs_on honest [] s u t first more = subst (λ (x : Logged). PerformsSome honest x t) first more
+performs_on honest (x ∷ us) s u t first more = let rest = performs_on honest us x u t first.1 more in (x ∷ rest.0, (first.0, rest.1))
 
-acts_on : (reliable : Type 0) (s u t : State) (r : Run) → PerformsSome s u → Acts reliable u t r → Acts reliable s t r
-acts_on reliable s u t Running first more = performs_on first.0 s u t first.1 more
-acts_on reliable s u t (Stopped x) first more = performs_on first.0 s u t first.1 more
-acts_on reliable s u t (Wanted w) first more = (more.0, performs_on first.0 s u more.0 first.1 more.1, more.2)
+acts_on : (honest reliable : Type 0) (s u t : Logged) (r : Run) → PerformsSome honest s u → Acts honest reliable u t r → Acts honest reliable s t r
+acts_on honest reliable s u t Running first more = performs_on honest first.0 s u t first.1 more
+acts_on honest reliable s u t (Stopped x) first more = performs_on honest first.0 s u t first.1 more
+acts_on honest reliable s u t (Wanted w) first more = (more.0, performs_on honest first.0 s u more.0 first.1 more.1, more.2)
 
 same_on : (s u t : State) → SameProgram s u → SameProgram u t → SameProgram s t
 same_on s u t first more = (more.0 ∙ first.0, more.1 ∙ first.1, more.2 ∙ first.2, more.3 ∙ first.3)
 
 -- what a session did that went on, and then one turn more
-pub acted_on : (reliable : Type 0) (u t : State) (r : Run) → HasActed reliable u.image u Running → Acts reliable u t r → SameProgram u t → HasActed reliable t.image t r
-acted_on reliable u t r was more same =
-    let s = begin u.image was.0 no_refusals in
-    subst (λ (D : Image). HasActed reliable D t r) (sym same.0) (was.0, was.1, same_on s u t was.2 same, acts_on reliable s u t r was.3 more)
+pub acted_on : (honest reliable : Type 0) (u t : Logged) (r : Run) → HasActed honest reliable u.state.image u Running → Acts honest reliable u t r → SameProgram u.state t.state → HasActed honest reliable t.state.image t r
+acted_on honest reliable u t r was more same =
+    let s = session_begun u.state.image was.0 in
+    subst (λ (D : Image). HasActed honest reliable D t r) (sym same.0) (was.0, was.1, same_on s.state u.state t.state was.2 same, acts_on honest reliable s u t r was.3 more)
+
+-- ---- a store that is honest
+
+performs_honest : (h g : Type 0) (x : Touch) (s t : Logged) → (g → h) → Performs h x s t → Performs g x s t
+performs_honest h g touch.Plain s t so d = d
+performs_honest h g (touch.Hints w) s t so d = d
+performs_honest h g (touch.Aims k w) s t so d = d
+performs_honest h g (touch.Loads k a) s t so d = (d.0, d.1, d.2, (d.3.0, (λ q. d.3.1 (so q)), d.3.2))
+performs_honest h g (touch.Stores k a v) s t so d = d
+performs_honest h g (touch.Leaves k) s t so d = d
+performs_honest h g (touch.Allocs n) s t so d = d
+performs_honest h g touch.Ends s t so d = d
+performs_honest h g touch.Wrong s t so d = d
+performs_honest h g touch.Nothing s t so d = d
+
+by_honest : (h g : Type 0) (us : List Logged) (s t : Logged) → (g → h) → PerformsBy h us s t → PerformsBy g us s t
+by_honest h g [] s t so d = d
+by_honest h g (u ∷ us) s t so d =
+    let n = d.0 in
+    (record { touch = n.touch; safe = n.safe; going = n.going; next = n.next; performed = performs_honest h g n.touch s u so n.performed; same = n.same }, by_honest h g us u t so d.1)
+
+acts_honest : (h g reliable : Type 0) (s t : Logged) (r : Run) → (g → h) → Acts h reliable s t r → Acts g reliable s t r
+acts_honest h g reliable s t Running so d = (d.0, by_honest h g d.0 s t so d.1)
+acts_honest h g reliable s t (Stopped x) so d = (d.0, by_honest h g d.0 s t so d.1)
+acts_honest h g reliable s t (Wanted w) so d = (d.0, (d.1.0, by_honest h g d.1.0 s d.0 so d.1.1), d.2)
+
+-- what a session did over a store that is honest
+pub acted_honest : (honest reliable : Type 0) (C : Image) (t : Logged) (r : Run) → honest → HasActed honest reliable C t r → HasActed (Unit {0}) reliable C t r
+acted_honest honest reliable C t r is a = (a.0, a.1, a.2, acts_honest honest (Unit {0}) reliable (session_begun C a.0) t r (λ q. is) a.3)
 
 -- ---- a store of which less is asked
 
-loses_less : (r q : Type 0) (x : Touch) (s t : State) → (q → r) → LosesAt r x s t → LosesAt q x s t
+loses_less : (r q : Type 0) (x : Touch) (s t : Logged) → (q → r) → LosesAt r x s t → LosesAt q x s t
 loses_less r q (touch.Aims k (Some a)) s t less lost =
-    let m = lost.2 in
-    (lost.0, lost.1, record { gives = m.gives; came = m.came; refused = (m.refused.0, m.refused.1, λ sure. m.refused.2 (less sure)); same = m.same })
+    let m = lost.2.2 in
+    let n = m.0 in
+    (lost.0, lost.1, (lost.2.0, lost.2.1, (record { gives = n.gives; came = n.came; refused = (n.refused.0, n.refused.1, λ sure. n.refused.2 (less sure)); same = n.same }, m.1)))
 loses_less r q (touch.Aims k None) s t less lost = absurd lost
 loses_less r q touch.Plain s t less lost = absurd lost
 loses_less r q (touch.Hints w) s t less lost = absurd lost
@@ -49,7 +78,7 @@ loses_less r q touch.Ends s t less lost = absurd lost
 loses_less r q touch.Wrong s t less lost = absurd lost
 loses_less r q touch.Nothing s t less lost = absurd lost
 
-comes_less : (r q : Type 0) (w : Want) (s t : State) → (q → r) → ComesToWant r w s t → ComesToWant q w s t
+comes_less : (r q : Type 0) (w : Want) (s t : Logged) → (q → r) → ComesToWant r w s t → ComesToWant q w s t
 comes_less r q NoObjects s t less c = c
 comes_less r q OutOfMemory s t less c = c
 comes_less r q StoreFailed s t less c = elim c [
@@ -57,18 +86,18 @@ comes_less r q StoreFailed s t less c = elim c [
   | inr b ↦ inr b
 ]
 
-acts_less : (r q : Type 0) (s t : State) (run : Run) → (q → r) → Acts r s t run → Acts q s t run
-acts_less r q s t Running less d = d
-acts_less r q s t (Stopped x) less d = d
-acts_less r q s t (Wanted w) less d = (d.0, d.1, record { safe = d.2.safe; going = d.2.going; came = comes_less r q w d.0 t less d.2.came })
+acts_less : (h r q : Type 0) (s t : Logged) (run : Run) → (q → r) → Acts h r s t run → Acts h q s t run
+acts_less h r q s t Running less d = d
+acts_less h r q s t (Stopped x) less d = d
+acts_less h r q s t (Wanted w) less d = (d.0, d.1, record { safe = d.2.safe; going = d.2.going; came = comes_less r q w d.0 t less d.2.came })
 
 -- what a session did over a store it did over one of which less is asked
 pub acted_less : (r q : Type 0) (w : Share) (C : Image) (f : Finished) → (q → r) → IsActedOver r w C f → IsActedOver q w C f
 acted_less r q w C f less a =
-    let s = begin C a.acted.0 no_refusals in
+    let s = session_begun C a.acted.0 in
     record {
       last = a.last;
-      acted = (a.acted.0, a.acted.1, a.acted.2, acts_less r q s a.last f.end.run less a.acted.3);
+      acted = (a.acted.0, a.acted.1, a.acted.2, acts_less (Unit {0}) r q s a.last f.end.run less a.acted.3);
       core = a.core;
       cells = a.cells;
       mover = a.mover;

@@ -1,5 +1,5 @@
 -- What the session of a program did from its beginning on.
-use Rattle.std.specs.Prelude.{◌≡◌, ◌+◌, ◌-◌, ◌*◌, ℕ, suc, replicate}
+use Rattle.std.specs.Prelude.{◌≡◌, ◌+◌, ◌-◌, ◌*◌, ℕ, suc, [], replicate}
 use Rattle.cells.specs.declared.ending.Run.{Run}
 use Rattle.code_form.specs.Form.{Image}
 use Rattle.code_form.specs.Effects.{code_run}
@@ -8,7 +8,7 @@ use Rattle.pointer_word.specs.Hands.{blank, empty_handed}
 use Rattle.object_lock.specs.Seats.{View}
 use Rattle.remote_store.specs.Refusing.{no_refusals}
 use Rattle.session.specs.Performing.{Acts}
-use Rattle.session.specs.State.{SameProgram, State, begin}
+use Rattle.session.specs.State.{Logged, SameProgram, begin}
 use Rattle.program_run.specs.declared.run.Finished.{Finished}
 
 -- which program of a region one is, where its own objects begin, and how many they are
@@ -29,21 +29,25 @@ share_at v = record { program = v.number - 1; first = v.low; objects = v.high - 
 abbrev pub IsUnused : View → Type 0
 IsUnused v = (v.hand ≡ empty_handed) × (v.notes ≡ replicate v.sizes.objects blank)
 
+-- a session of this image at its beginning, at a seat with this view that has done nothing
+abbrev pub session_begun : Image → View → Logged
+session_begun C v = record { state = begin C v no_refusals; log = [] }
+
 -- A session of this image came to where it is, or to its end, from its beginning at this seat, which was unused: it completed instructions one behind the other, and where it wants
 -- something, it came to that then
-abbrev pub HasActed : Type 0 → Image → State → Run → Type 0
-HasActed reliable C t r = (v : View) × IsUnused v × SameProgram (begin C v no_refusals) t × Acts reliable (begin C v no_refusals) t r
+abbrev pub HasActed : Type 0 → Type 0 → Image → Logged → Run → Type 0
+HasActed honest reliable C t r = (v : View) × IsUnused v × SameProgram (begin C v no_refusals) t.state × Acts honest reliable (session_begun C v) t r
 
--- What is told of a program's end is what its session came to in all its turns, at the seat of this program and with these objects
+-- What is told of a program's end is what its session came to in all its turns over an honest store, at the seat of this program and with these objects
 pub record IsActedOver (reliable : Type 0) (w : Share) (C : Image) (f : Finished) : Type 0 where
-  -- where the session was then
-  pub last : State
-  pub acted : HasActed reliable C last f.end.run
-  pub core : last.core ≡ (code_run (code C) f.end.completed).0
-  pub cells : last.view.sizes.cells ≡ C.piece
-  pub mover : last.view.number ≡ suc w.program
-  pub first : last.view.low ≡ w.first
-  pub share : last.view.high ≡ last.view.low + w.objects
-  pub printed : f.end.output.items ≡ output_of last.core
-  pub completed : f.end.completed ≡ last.completed
-  pub refusals : f.refusals ≡ last.refusals
+  -- where the session was then, and all that its seat had done
+  pub last : Logged
+  pub acted : HasActed (Unit {0}) reliable C last f.end.run
+  pub core : last.state.core ≡ (code_run (code C) f.end.completed).0
+  pub cells : last.state.view.sizes.cells ≡ C.piece
+  pub mover : last.state.view.number ≡ suc w.program
+  pub first : last.state.view.low ≡ w.first
+  pub share : last.state.view.high ≡ last.state.view.low + w.objects
+  pub printed : f.end.output.items ≡ output_of last.state.core
+  pub completed : f.end.completed ≡ last.state.completed
+  pub refusals : f.refusals ≡ last.state.refusals

@@ -3,7 +3,7 @@ use Rattle.std.specs.Prelude.{◌≡◌, ◌≢◌, ℕ, ◌+◌, ◌≤◌, Boo
 use Rattle.cells.specs.declared.ending.Run.{Run}
 use Rattle.cells.specs.declared.ending.Run.TheVariants.{Running, Stopped, Wanted}
 use Rattle.cells.specs.declared.ending.Want.TheVariants.{StoreFailed}
-use Rattle.session.specs.State.{CompletesUpTo, IsAt, IsGoing, State}
+use Rattle.session.specs.State.{CompletesUpTo, IsAt, IsGoing, Logged, State}
 use Rattle.remote_store.specs.Refusing.{no_refusals}
 use Rattle.remote_store.specs.declared.port.Refusals.{Refusals}
 use Rattle.scope_verifier.specs.declared.acceptance.Verified.{Verified}
@@ -52,11 +52,11 @@ HasCome reliable s (Wanted w) = IsOver reliable no_refusals s (Wanted w)
 
 -- A session of a verified image, over a table of its pieces, that has come so far; over an honest store a call was refused through its port exactly where it wants
 -- the store, and over one that is reliable, too, it never does. It came there by what it did from its beginning on
-pub record IsOnRun (honest reliable : Type 0) (s : State) (r : Run) : Type 0 where
-  pub at : honest → IsAt s
-  pub cells : s.view.sizes.cells ≡ s.image.piece
-  pub share : s.view.low ≤ s.view.high
-  pub come : HasCome reliable s r
-  pub own : honest → HasRefused r s.refusals
+pub record IsOnRun (honest reliable : Type 0) (s : Logged) (r : Run) : Type 0 where
+  pub at : honest → IsAt s.state
+  pub cells : s.state.view.sizes.cells ≡ s.state.image.piece
+  pub share : s.state.view.low ≤ s.state.view.high
+  pub come : HasCome reliable s.state r
+  pub own : honest → HasRefused r s.state.refusals
   pub sure : honest → reliable → r ≢ Wanted StoreFailed
-  pub acted : HasActed reliable s.image s r
+  pub acted : HasActed honest reliable s.state.image s r

@@ -38,15 +38,15 @@ pub enum Turn {
 
 /// Runs the session for so many instructions, unless its program stops or wants something.
 fn run_on<S: RawStore, W: Wait>(rt: &W, session: &mut Session<'_, S>, quantum: u64) -> Run
-    requires going { IsGoing session.old }
-    requires room { session.old.completed + quantum < 2 ^ 64 }
-    ensures at { S.honest → IsAt session.new }
-    ensures same { SameProgram session.old session.new }
-    ensures told { HasRunOn S.reliable quantum session.old session.new result }
+    requires going { IsGoing session.old.state }
+    requires room { session.old.state.completed + quantum < 2 ^ 64 }
+    ensures at { S.honest → IsAt session.new.state }
+    ensures same { SameProgram session.old.state session.new.state }
+    ensures told { HasRunOn S.reliable quantum session.old.state session.new.state result }
     ensures sure { S.honest → S.reliable → result ≢ Wanted StoreFailed }
-    ensures own { S.honest → session.old.refusals ≡ no_refusals → HasRefused result session.new.refusals }
-    ensures acted { HasActed S.reliable session.old.image session.old Running → HasActed S.reliable session.new.image session.new result }
-    ensures grows { S.honest → IsAt session.old → IsPrefix (output_of session.old.core) (output_of session.new.core) }
+    ensures own { S.honest → session.old.state.refusals ≡ no_refusals → HasRefused result session.new.state.refusals }
+    ensures acted { HasActed S.honest S.reliable session.old.state.image session.old Running → HasActed S.honest S.reliable session.new.state.image session.new result }
+    ensures grows { S.honest → IsAt session.old.state → IsPrefix (output_of session.old.state.core) (output_of session.new.state.core) }
 {
     run_laws();
     session.run(rt, quantum)
@@ -101,13 +101,13 @@ impl<'a, S: RawStore> Model for ProgramRun<'a, S> {
 
     ghost Value = { RunView };
 
-    ghost view = { λ p. record { programs = p.region.now.programs; number = p.number; first = p.session.view.low; objects = p.session.view.high - p.session.view.low; completed = p.session.completed; refusals = p.session.refusals; printed = output_of p.session.core; over = is_over p.run } };
+    ghost view = { λ p. record { programs = p.region.now.programs; number = p.number; first = p.session.state.view.low; objects = p.session.state.view.high - p.session.state.view.low; completed = p.session.state.completed; refusals = p.session.state.refusals; printed = output_of p.session.state.core; over = is_over p.run } };
 
     ghost invariant = { λ p.
         IsOnRun S.honest S.reliable p.session p.run
         × (p.number < length p.region.now.programs)
-        × (p.session.image ≡ image_at p.region.now.programs p.number)
-        × (p.session.view.number ≡ suc p.number) };
+        × (p.session.state.image ≡ image_at p.region.now.programs p.number)
+        × (p.session.state.view.number ≡ suc p.number) };
 }
 
 impl<'a, S: RawStore> ProgramRun<'a, S> {

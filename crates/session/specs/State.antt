@@ -15,6 +15,7 @@ use Rattle.code_form.specs.declared.touch.Cell.{Cell}
 use Rattle.code_form.specs.declared.touch.Touch.{Touch}
 use Rattle.code_form.specs.declared.touch.Touch.TheVariants as touch
 use Rattle.pointer_word.specs.Hands.{latest_of}
+use Rattle.object_lock.specs.Logs.{Deed}
 use Rattle.object_lock.specs.Seats.{View, note}
 use Rattle.session.specs.declared.hold.Hold.{Hold}
 use Rattle.object_moves.specs.Taken.{Refused, seat_of}
@@ -133,3 +134,12 @@ IsUntold s t r = (t ≡ s) × (has_text (stop_of s.core) ≡ true) × (r ≡ Wan
 -- a session at its beginning
 abbrev pub begin : Image → View → Refusals → State
 begin C v n = record { image = C; core = (code C).start; holds = replicate 4 None; firsts = []; next = v.low; view = v; refusals = n; completed = 0; want = None }
+
+-- a session, and what its seat did, step by step
+pub record Logged : Type 0 where
+  pub state : State
+  pub log : List Deed
+
+-- the same steps, and this state
+abbrev pub with_state : Logged → State → Logged
+with_state s t = record { state = t; log = s.log }

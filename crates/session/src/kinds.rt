@@ -20,7 +20,7 @@ impl<'a, S: RawStore> SeatedProgram<'a, S> {
     /// The place of a cell in its piece.
     #[inline(always)]
     fn place(&self, cell: Cell) -> usize
-        ensures { result ≡ cell.index % self.now.view.sizes.cells }
+        ensures { result ≡ cell.index % self.now.state.view.sizes.cells }
     {
         self.scale().place(cell.index) as usize
     }
@@ -28,7 +28,7 @@ impl<'a, S: RawStore> SeatedProgram<'a, S> {
     /// How many pieces this many cells are.
     #[inline(always)]
     fn pieces(&self, cells: u64) -> u64
-        ensures { result ≡ pieces_of self.now.view.sizes.cells cells }
+        ensures { result ≡ pieces_of self.now.state.view.sizes.cells cells }
     {
         self.scale().pieces(cells)
     }
@@ -36,12 +36,12 @@ impl<'a, S: RawStore> SeatedProgram<'a, S> {
     /// Completes an instruction that touches nothing. `Err` where memory is refused: then nothing is changed.
     #[inline(never)]
     pub(crate) fn complete_plain(&mut self) -> Result<(), AllocError>
-        requires safe { IsSafe self.old }
-        requires next { IsNext Plain self.old }
-        requires room { self.old.completed + 1 < 2 ^ 64 }
-        ensures told { MatchResult result (λ _. IsSafe self.new × Moves S.honest Plain self.old self.new)
-            (λ _. (self.new ≡ self.old) × (may_grow (next_touch self.old) (rest_of self.old.core) ≡ true)) }
-        ensures performed { IfOk result (λ _. Performs Plain self.old self.new) }
+        requires safe { IsSafe self.old.state }
+        requires next { IsNext Plain self.old.state }
+        requires room { self.old.state.completed + 1 < 2 ^ 64 }
+        ensures told { MatchResult result (λ _. IsSafe self.new.state × Moves S.honest Plain self.old.state self.new.state)
+            (λ _. (self.new ≡ self.old) × (may_grow (next_touch self.old.state) (rest_of self.old.state.core) ≡ true)) }
+        ensures performed { IfOk result (λ _. Performs S.honest Plain self.old self.new) }
     {
         effect_laws();
         match self.proceed() {
@@ -53,12 +53,12 @@ impl<'a, S: RawStore> SeatedProgram<'a, S> {
     /// Completes an instruction that tells a cell: its object is hinted.
     #[inline(always)]
     pub(crate) fn hints<R: Wait>(&mut self, rt: &R, wanted: Option<Cell>)
-        requires safe { IsSafe self.old }
-        requires next { IsNext (Hints wanted) self.old }
-        requires room { self.old.completed + 1 < 2 ^ 64 }
-        ensures safe { IsSafe self.new }
-        ensures moves { Moves S.honest (Hints wanted) self.old self.new }
-        ensures performed { Performs (Hints wanted) self.old self.new }
+        requires safe { IsSafe self.old.state }
+        requires next { IsNext (Hints wanted) self.old.state }
+        requires room { self.old.state.completed + 1 < 2 ^ 64 }
+        ensures safe { IsSafe self.new.state }
+        ensures moves { Moves S.honest (Hints wanted) self.old.state self.new.state }
+        ensures performed { Performs S.honest (Hints wanted) self.old self.new }
     {
         effect_laws();
         self.hint_wanted(rt, wanted);
@@ -68,12 +68,12 @@ impl<'a, S: RawStore> SeatedProgram<'a, S> {
     /// False where the store failed.
     #[inline(always)]
     fn aims<R: Wait>(&mut self, rt: &R, scope: usize, wanted: Option<Cell>, plan: Plan) -> bool
-        requires safe { IsSafe self.old }
-        requires next { IsNext (Aims scope wanted) self.old }
-        requires plan { Plans plan self.old.image self.old.core }
-        requires room { self.old.completed + 1 < 2 ^ 64 }
-        ensures told { Made S.honest S.reliable (Aims scope wanted) self.old self.new result }
-        ensures performed { MatchBool result (Performs (Aims scope wanted) self.old self.new) (LosesWanted S.reliable scope wanted self.old self.new) }
+        requires safe { IsSafe self.old.state }
+        requires next { IsNext (Aims scope wanted) self.old.state }
+        requires plan { Plans plan self.old.state.image self.old.state.core }
+        requires room { self.old.state.completed + 1 < 2 ^ 64 }
+        ensures told { Made S.honest S.reliable (Aims scope wanted) self.old.state self.new.state result }
+        ensures performed { MatchBool result (Performs S.honest (Aims scope wanted) self.old self.new) (LosesWanted S.reliable scope wanted self.old self.new) }
     {
         effect_laws();
         if self.hold_wanted(rt, scope, wanted) {
@@ -86,13 +86,13 @@ impl<'a, S: RawStore> SeatedProgram<'a, S> {
 
     #[inline(always)]
     fn leaves(&mut self, scope: usize, plan: Plan)
-        requires safe { IsSafe self.old }
-        requires next { IsNext (Leaves scope) self.old }
-        requires plan { Plans plan self.old.image self.old.core }
-        requires room { self.old.completed + 1 < 2 ^ 64 }
-        ensures safe { IsSafe self.new }
-        ensures moves { Moves S.honest (Leaves scope) self.old self.new }
-        ensures performed { Performs (Leaves scope) self.old self.new }
+        requires safe { IsSafe self.old.state }
+        requires next { IsNext (Leaves scope) self.old.state }
+        requires plan { Plans plan self.old.state.image self.old.state.core }
+        requires room { self.old.state.completed + 1 < 2 ^ 64 }
+        ensures safe { IsSafe self.new.state }
+        ensures moves { Moves S.honest (Leaves scope) self.old.state self.new.state }
+        ensures performed { Performs S.honest (Leaves scope) self.old self.new }
     {
         effect_laws();
         self.shut(scope);
@@ -101,13 +101,13 @@ impl<'a, S: RawStore> SeatedProgram<'a, S> {
 
     #[inline(always)]
     fn loads(&mut self, scope: usize, cell: Cell, plan: Plan)
-        requires safe { IsSafe self.old }
-        requires next { IsNext (Loads scope cell) self.old }
-        requires plan { Plans plan self.old.image self.old.core }
-        requires room { self.old.completed + 1 < 2 ^ 64 }
-        ensures safe { IsSafe self.new }
-        ensures moves { Moves S.honest (Loads scope cell) self.old self.new }
-        ensures performed { Performs (Loads scope cell) self.old self.new }
+        requires safe { IsSafe self.old.state }
+        requires next { IsNext (Loads scope cell) self.old.state }
+        requires plan { Plans plan self.old.state.image self.old.state.core }
+        requires room { self.old.state.completed + 1 < 2 ^ 64 }
+        ensures safe { IsSafe self.new.state }
+        ensures moves { Moves S.honest (Loads scope cell) self.old.state self.new.state }
+        ensures performed { Performs S.honest (Loads scope cell) self.old self.new }
     {
         effect_laws();
         let hold = self.held(scope);
@@ -118,13 +118,13 @@ impl<'a, S: RawStore> SeatedProgram<'a, S> {
 
     #[inline(always)]
     fn stores(&mut self, scope: usize, cell: Cell, value: u64, plan: Plan)
-        requires safe { IsSafe self.old }
-        requires next { IsNext (Stores scope cell value) self.old }
-        requires plan { Plans plan self.old.image self.old.core }
-        requires room { self.old.completed + 1 < 2 ^ 64 }
-        ensures safe { IsSafe self.new }
-        ensures moves { Moves S.honest (Stores scope cell value) self.old self.new }
-        ensures performed { Performs (Stores scope cell value) self.old self.new }
+        requires safe { IsSafe self.old.state }
+        requires next { IsNext (Stores scope cell value) self.old.state }
+        requires plan { Plans plan self.old.state.image self.old.state.core }
+        requires room { self.old.state.completed + 1 < 2 ^ 64 }
+        ensures safe { IsSafe self.new.state }
+        ensures moves { Moves S.honest (Stores scope cell value) self.old.state self.new.state }
+        ensures performed { Performs S.honest (Stores scope cell value) self.old self.new }
     {
         effect_laws();
         let hold = self.held(scope);
@@ -137,12 +137,12 @@ impl<'a, S: RawStore> SeatedProgram<'a, S> {
     /// Completes an instruction that stops the program.
     #[inline(never)]
     pub(crate) fn ends(&mut self)
-        requires safe { IsSafe self.old }
-        requires next { IsNext Ends self.old }
-        requires room { self.old.completed + 1 < 2 ^ 64 }
-        ensures safe { IsSafe self.new }
-        ensures moves { Moves S.honest Ends self.old self.new }
-        ensures performed { Performs Ends self.old self.new }
+        requires safe { IsSafe self.old.state }
+        requires next { IsNext Ends self.old.state }
+        requires room { self.old.state.completed + 1 < 2 ^ 64 }
+        ensures safe { IsSafe self.new.state }
+        ensures moves { Moves S.honest Ends self.old.state self.new.state }
+        ensures performed { Performs S.honest Ends self.old self.new }
     {
         effect_laws();
         self.close_all();
@@ -152,11 +152,11 @@ impl<'a, S: RawStore> SeatedProgram<'a, S> {
     /// Completes an allocation, or tells what it wants.
     #[inline(never)]
     pub(crate) fn allocs(&mut self, cells: u64) -> Option<Want>
-        requires safe { IsSafe self.old }
-        requires next { IsNext (Allocs cells) self.old }
-        requires room { self.old.completed + 1 < 2 ^ 64 }
-        ensures told { Allocated S.honest cells self.old self.new result }
-        ensures performed { MatchOption result (Performs (Allocs cells) self.old self.new) (λ _. Unit) }
+        requires safe { IsSafe self.old.state }
+        requires next { IsNext (Allocs cells) self.old.state }
+        requires room { self.old.state.completed + 1 < 2 ^ 64 }
+        ensures told { Allocated S.honest cells self.old.state self.new.state result }
+        ensures performed { MatchOption result (Performs S.honest (Allocs cells) self.old self.new) (λ _. self.new ≡ self.old) }
     {
         effect_laws();
         let many = self.pieces(cells);
@@ -172,12 +172,12 @@ impl<'a, S: RawStore> SeatedProgram<'a, S> {
     /// Completes an instruction that aims, uses or leaves a scope, as it is planned. False where the store failed.
     #[inline(always)]
     pub(crate) fn make<R: Wait>(&mut self, rt: &R, plan: Plan) -> bool
-        requires safe { IsSafe self.old }
-        requires next { IsNext (touch_planned plan) self.old }
-        requires plan { Plans plan self.old.image self.old.core }
-        requires room { self.old.completed + 1 < 2 ^ 64 }
-        ensures told { Made S.honest S.reliable (touch_planned plan) self.old self.new result }
-        ensures performed { MatchBool result (Performs (touch_planned plan) self.old self.new) (LosesAt S.reliable (touch_planned plan) self.old self.new) }
+        requires safe { IsSafe self.old.state }
+        requires next { IsNext (touch_planned plan) self.old.state }
+        requires plan { Plans plan self.old.state.image self.old.state.core }
+        requires room { self.old.state.completed + 1 < 2 ^ 64 }
+        ensures told { Made S.honest S.reliable (touch_planned plan) self.old.state self.new.state result }
+        ensures performed { MatchBool result (Performs S.honest (touch_planned plan) self.old self.new) (LosesAt S.reliable (touch_planned plan) self.old self.new) }
     {
         match plan {
             Plan::Aims { scope, wanted, .. } => return self.aims(rt, scope as usize, wanted, plan),

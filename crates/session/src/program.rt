@@ -8,12 +8,14 @@ ghost use Rattle.code_form.specs.Touches.{IsCell, IsCellOrNone, IsWithin, resume
 ghost use Rattle.code_form.specs.declared.touch.Touch.TheVariants.{Allocs, Ends, Plain};
 ghost use Rattle.cells.specs.Stops.{stop_of as stop_read};
 ghost use Rattle.session.specs.Keeping.{Changes, Closes, Fails, HasWriter, Holds, HoldsObject, IsHolding, IsNext, cleared, count_of, extended, finished, first_of, has_object, is_simple, Misses, shut, shut_at, uses_scope, wants, written};
-ghost use Rattle.session.specs.Performing.{HoldsWanted, Loses, LosesWanted, Seizes, shut_all, writing_by};
+ghost use Rattle.session.specs.Performing.{HoldsLogged, HoldsWanted, Loses, LosesWanted, MissesLogged, Seizes, ShutLogged, ShutsAll, WritingLogged, wanting, writing_by};
 ghost use Rattle.session.specs.Pieces.{RanHeld};
-ghost use Rattle.session.specs.State.{AllShut, Matches, State, begin, hold_at, latest_in, next_touch, object_of};
+ghost use Rattle.session.specs.State.{AllShut, Matches, State, begin, hold_at, latest_in, next_touch, object_of, with_state};
 ghost use Rattle.object_moves.specs.Taken.{IsQuiet};
 ghost use Rattle.object_lock.specs.SeatViews.{IsSeat};
-ghost use Rattle.object_lock.specs.Seats.{Owns, note, with_note};
+ghost use Rattle.object_lock.specs.Logs.{AddsOne};
+ghost use Rattle.object_lock.specs.Seats.{Owns, cell_word, note, with_note};
+ghost use Rattle.pointer_word.specs.Calls as call;
 ghost use Rattle.pointer_word.specs.Hands.{added};
 ghost use Rattle.std.specs.Prelude.{◌≡◌, ◌≢◌, ◌⊎◌, ◌+◌, ◌-◌, ◌/◌, ◌%◌, ◌<◌, ◌≤◌, ◌^◌, ℕ, IfOk, MatchBool, MatchOption, MatchResult, None, Some, false, length, option_map, slice_index, true};
 
@@ -61,13 +63,13 @@ pub(crate) struct SeatedProgram<'a, S: RawStore> {
 }
 
 impl<'a, S: RawStore> Model for SeatedProgram<'a, S> {
-    ghost use Rattle.session.specs.State.{State};
+    ghost use Rattle.session.specs.State.{Logged};
     ghost use Rattle.object_lock.specs.SeatViews.{IsSeat};
     ghost use Rattle.std.specs.Prelude.{◌≡◌, ◌^◌, reverse};
 
-    ghost Value = { State };
+    ghost Value = { Logged };
 
-    ghost view = { λ m. record { image = m.execution.image; core = m.execution.core; holds = m.holds.items; firsts = reverse m.firsts.items; next = m.next; view = m.owner.view; refusals = m.owner.refusals; completed = m.completed; want = m.want } };
+    ghost view = { λ m. record { log = m.owner.log; state = record { image = m.execution.image; core = m.execution.core; holds = m.holds.items; firsts = reverse m.firsts.items; next = m.next; view = m.owner.view; refusals = m.owner.refusals; completed = m.completed; want = m.want } } };
 
     ghost invariant = { λ m. IsSeat m.table.now m.owner × (2 ^ m.scale.shift ≡ m.table.now.sizes.cells) };
 }
@@ -81,7 +83,7 @@ impl<'a, S: RawStore> SeatedProgram<'a, S> {
         sender: Option<HintSender<'a>>,
     ) -> Result<SeatedProgram<'a, S>, AllocError>
         requires table { IsSeat table.now owner }
-        ensures { IfOk result (λ m. m ≡ begin (image_of image.now) owner.view owner.refusals) }
+        ensures { IfOk result (λ m. m ≡ record { state = begin (image_of image.now) owner.view owner.refusals; log = owner.log }) }
     {
         let execution = Execution::new(alloc, image)?;
         let holds = Vec::from_elem(alloc, None, 4)?;
@@ -112,28 +114,28 @@ impl<'a, S: RawStore> SeatedProgram<'a, S> {
     /// The size of the table's pieces.
     #[inline(always)]
     pub(crate) fn scale(&self) -> Scale
-        ensures { 2 ^ result.shift ≡ self.now.view.sizes.cells }
+        ensures { 2 ^ result.shift ≡ self.now.state.view.sizes.cells }
     {
         self.scale
     }
 
     #[inline(always)]
     pub(crate) fn completed(&self) -> u64
-        ensures { result ≡ self.now.completed }
+        ensures { result ≡ self.now.state.completed }
     {
         self.completed
     }
 
     /// How many calls of the store were refused through the seat's port, and the last of these.
     pub(crate) fn refusals(&self) -> Refusals
-        ensures { result ≡ self.now.refusals }
+        ensures { result ≡ self.now.state.refusals }
     {
         self.owner.refusals()
     }
 
     /// What it did beside completing instructions.
     pub(crate) fn counts(&self) -> Counts
-        ensures { result.objects ≡ self.now.next - self.now.view.low }
+        ensures { result.objects ≡ self.now.state.next - self.now.state.view.low }
     {
         let Moves {
             brought,
@@ -171,44 +173,44 @@ impl<'a, S: RawStore> SeatedProgram<'a, S> {
     }
 
     pub(crate) fn output(&self) -> &[u8]
-        ensures { result.now ≡ output_of self.now.core }
+        ensures { result.now ≡ output_of self.now.state.core }
     {
         self.execution.output()
     }
 
     pub(crate) fn into_output(self) -> Vec<u8>
-        ensures { result.items ≡ output_of self.entry.core }
+        ensures { result.items ≡ output_of self.entry.state.core }
     {
         self.execution.into_output()
     }
 
     /// How the program has stopped, if it has. `Err` where memory is refused for the text of an error.
     pub(crate) fn stop(&self) -> Result<Option<Stop>, AllocError>
-        ensures { MatchResult result (λ s. option_map stop_read s ≡ stop_of self.now.core) (λ _. has_text (stop_of self.now.core) ≡ true) }
+        ensures { MatchResult result (λ s. option_map stop_read s ≡ stop_of self.now.state.core) (λ _. has_text (stop_of self.now.state.core) ≡ true) }
     {
         self.execution.stop(self.alloc)
     }
 
     /// How the next instruction stops the program. `Err` where memory is refused for the text of an error.
     pub(crate) fn stop_ahead(&self) -> Result<Option<Stop>, AllocError>
-        requires { next_touch self.now ≡ Ends }
+        requires { next_touch self.now.state ≡ Ends }
         ensures { MatchResult result
-            (λ s. option_map stop_read s ≡ stop_of (resumed (effect self.now.image self.now.core) self.now.core 0))
-            (λ _. may_grow (next_touch self.now) (rest_of self.now.core) ≡ true) }
+            (λ s. option_map stop_read s ≡ stop_of (resumed (effect self.now.state.image self.now.state.core) self.now.state.core 0))
+            (λ _. may_grow (next_touch self.now.state) (rest_of self.now.state.core) ≡ true) }
     {
         self.execution.stop_ahead(self.alloc)
     }
 
     #[inline(always)]
     pub(crate) fn want(&self) -> Option<Want>
-        ensures { result ≡ self.now.want }
+        ensures { result ≡ self.now.state.want }
     {
         self.want
     }
 
     #[inline(always)]
     pub(crate) fn is_blocked(&self) -> bool
-        ensures { result ≡ is_blocked_in self.now.core }
+        ensures { result ≡ is_blocked_in self.now.state.core }
     {
         self.execution.is_blocked()
     }
@@ -216,8 +218,8 @@ impl<'a, S: RawStore> SeatedProgram<'a, S> {
     /// What the next instruction touches.
     #[inline(always)]
     pub(crate) fn touch(&self) -> Touch
-        ensures value { result ≡ next_touch self.now }
-        ensures within { IsWithin (most_scopes self.now.image.functions) self.now.core result }
+        ensures value { result ≡ next_touch self.now.state }
+        ensures within { IsWithin (most_scopes self.now.state.image.functions) self.now.state.core result }
     {
         self.execution.next()
     }
@@ -225,7 +227,7 @@ impl<'a, S: RawStore> SeatedProgram<'a, S> {
     /// What the next instruction is to do, where it is one that aims, uses or leaves a scope.
     #[inline(always)]
     pub(crate) fn plan(&self) -> Option<Plan>
-        ensures { MatchOption result (uses_scope (next_touch self.now) ≡ false) (λ p. Plans p self.now.image self.now.core × IsNext (touch_planned p) self.now) }
+        ensures { MatchOption result (uses_scope (next_touch self.now.state) ≡ false) (λ p. Plans p self.now.state.image self.now.state.core × IsNext (touch_planned p) self.now.state) }
     {
         self.execution.plan()
     }
@@ -233,14 +235,14 @@ impl<'a, S: RawStore> SeatedProgram<'a, S> {
     /// The end of the program's own objects.
     #[inline(always)]
     pub(crate) fn end(&self) -> u64
-        ensures { result ≡ self.now.view.high }
+        ensures { result ≡ self.now.state.view.high }
     {
         self.owner.high() as u64
     }
 
     #[inline(always)]
     pub(crate) fn next(&self) -> u64
-        ensures { result ≡ self.now.next }
+        ensures { result ≡ self.now.state.next }
     {
         self.next
     }
@@ -248,17 +250,18 @@ impl<'a, S: RawStore> SeatedProgram<'a, S> {
     /// What the scope holds.
     #[inline(always)]
     pub(crate) fn hold(&self, scope: usize) -> Option<Hold>
-        requires { scope < length self.now.holds }
-        ensures { result ≡ hold_at self.now.holds scope }
+        requires { scope < length self.now.state.holds }
+        ensures { result ≡ hold_at self.now.state.holds scope }
     {
         self.holds[scope]
     }
 
     #[inline(always)]
     fn close_hold(&mut self, scope: usize, hold: Hold)
-        requires scope { scope < length self.old.holds }
-        requires hold { Owns self.old.view hold.object × (0 < (note self.old.view hold.object).count) }
-        ensures { self.new ≡ shut_at self.old scope (Some hold) }
+        requires scope { scope < length self.old.state.holds }
+        requires hold { Owns self.old.state.view hold.object × (0 < (note self.old.state.view hold.object).count) }
+        ensures shut { self.new.state ≡ shut_at self.old.state scope (Some hold) }
+        ensures logged { AddsOne self.old.log self.new.log hold.object (call.Closes hold.object) }
     {
         self.table.close(&mut self.owner, hold.object);
         self.holds[scope] = None;
@@ -266,10 +269,11 @@ impl<'a, S: RawStore> SeatedProgram<'a, S> {
 
     /// Opens a hold of the object for the scope. False where the store failed.
     fn open_hold<R: Wait>(&mut self, rt: &R, scope: usize, object: usize, count: u64) -> bool
-        requires scope { scope < length self.old.holds }
-        requires hold { Owns self.old.view object × (count < 4) × (count ≡ (note self.old.view object).count) }
-        requires quiet { IsQuiet self.old.view }
-        ensures { MatchBool result (Holds scope object self.old self.new) (Misses S.reliable object self.old self.new) }
+        requires scope { scope < length self.old.state.holds }
+        requires hold { Owns self.old.state.view object × (count < 4) × (count ≡ (note self.old.state.view object).count) }
+        requires quiet { IsQuiet self.old.state.view }
+        ensures exact { MatchBool result (Holds scope object self.old.state self.new.state) (Misses S.reliable object self.old.state self.new.state) }
+        ensures logged { MatchBool result (HoldsLogged scope object self.old self.new) (MissesLogged S.reliable object self.old self.new) }
     {
         let from = &mut self.next_frame;
         let moves = &mut self.moves;
@@ -289,9 +293,10 @@ impl<'a, S: RawStore> SeatedProgram<'a, S> {
 
     #[inline(always)]
     fn clear_hold(&mut self, scope: usize, hold: Hold)
-        requires scope { scope < length self.old.holds }
-        requires hold { Owns self.old.view hold.object × (0 < (note self.old.view hold.object).count) }
-        ensures { self.new ≡ cleared self.old scope hold }
+        requires scope { scope < length self.old.state.holds }
+        requires hold { Owns self.old.state.view hold.object × (0 < (note self.old.state.view hold.object).count) }
+        ensures cleared { self.new.state ≡ cleared self.old.state scope hold }
+        ensures logged { AddsOne self.old.log self.new.log hold.object (call.Clears hold.object) }
     {
         self.table.begin_write(&mut self.owner, hold.object);
         self.holds[scope] = Some(Hold {
@@ -303,9 +308,10 @@ impl<'a, S: RawStore> SeatedProgram<'a, S> {
 
     #[inline(always)]
     pub(crate) fn store_cell(&mut self, hold: Hold, index: usize, value: u64)
-        requires low { (hold.frame < self.old.view.sizes.frames) × (index < self.old.view.sizes.cells) }
-        requires hold { Owns self.old.view hold.object × ((note self.old.view hold.object).frame ≡ Some hold.frame) × ((note self.old.view hold.object).writing ≡ true) }
-        ensures { self.new ≡ written self.old hold index value }
+        requires low { (hold.frame < self.old.state.view.sizes.frames) × (index < self.old.state.view.sizes.cells) }
+        requires hold { Owns self.old.state.view hold.object × ((note self.old.state.view hold.object).frame ≡ Some hold.frame) × ((note self.old.state.view hold.object).writing ≡ true) }
+        ensures written { self.new.state ≡ written self.old.state hold index value }
+        ensures logged { AddsOne self.old.log self.new.log (cell_word self.old.state.view.sizes hold.frame index) (call.Stores hold.object hold.frame index value) }
     {
         let Hold { object, frame, .. } = hold;
         let owner = &mut self.owner;
@@ -314,10 +320,10 @@ impl<'a, S: RawStore> SeatedProgram<'a, S> {
 
     #[inline(always)]
     pub(crate) fn load_cell(&mut self, hold: Hold, index: usize) -> u64
-        requires low { (hold.frame < self.old.view.sizes.frames) × (index < self.old.view.sizes.cells) }
-        requires hold { Owns self.old.view hold.object × ((note self.old.view hold.object).frame ≡ Some hold.frame) }
+        requires low { (hold.frame < self.old.state.view.sizes.frames) × (index < self.old.state.view.sizes.cells) }
+        requires hold { Owns self.old.state.view hold.object × ((note self.old.state.view hold.object).frame ≡ Some hold.frame) }
         ensures same { self.new ≡ self.old }
-        ensures value { S.honest → result ≡ latest_in self.old.view hold.object index }
+        ensures value { S.honest → result ≡ latest_in self.old.state.view hold.object index }
     {
         let Hold { object, frame, .. } = hold;
         self.table.load(&mut self.owner, object, frame, index)
@@ -326,9 +332,9 @@ impl<'a, S: RawStore> SeatedProgram<'a, S> {
     /// Does what is left of the next instruction, which uses a scope or tells a cell.
     #[inline(always)]
     pub(crate) fn finish(&mut self, loaded: u64)
-        requires next { is_simple (next_touch self.old) ≡ true }
-        requires room { self.old.completed + 1 < 2 ^ 64 }
-        ensures { self.new ≡ finished self.old loaded }
+        requires next { is_simple (next_touch self.old.state) ≡ true }
+        requires room { self.old.state.completed + 1 < 2 ^ 64 }
+        ensures { self.new ≡ with_state self.old (finished self.old.state loaded) }
     {
         self.execution.complete(loaded);
         self.completed += 1;
@@ -337,9 +343,9 @@ impl<'a, S: RawStore> SeatedProgram<'a, S> {
     /// Does what is left of the next instruction, which is planned so.
     #[inline(always)]
     pub(crate) fn carry_out(&mut self, plan: Plan, loaded: u64)
-        requires plan { Plans plan self.old.image self.old.core }
-        requires room { self.old.completed + 1 < 2 ^ 64 }
-        ensures { self.new ≡ finished self.old loaded }
+        requires plan { Plans plan self.old.state.image self.old.state.core }
+        requires room { self.old.state.completed + 1 < 2 ^ 64 }
+        ensures { self.new ≡ with_state self.old (finished self.old.state loaded) }
     {
         self.execution.carry_out(plan, loaded);
         self.completed += 1;
@@ -347,9 +353,9 @@ impl<'a, S: RawStore> SeatedProgram<'a, S> {
 
     /// Does the next instruction, which ends the program.
     pub(crate) fn finish_end(&mut self)
-        requires next { next_touch self.old ≡ Ends }
-        requires room { self.old.completed + 1 < 2 ^ 64 }
-        ensures { self.new ≡ finished self.old 0 }
+        requires next { next_touch self.old.state ≡ Ends }
+        requires room { self.old.state.completed + 1 < 2 ^ 64 }
+        ensures { self.new ≡ with_state self.old (finished self.old.state 0) }
     {
         let Ok(()) = self.execution.proceed(0) else {
             unreachable!()
@@ -359,9 +365,9 @@ impl<'a, S: RawStore> SeatedProgram<'a, S> {
 
     /// Does the next instruction, which touches nothing. `Err` where memory is refused: then nothing is changed.
     pub(crate) fn proceed(&mut self) -> Result<(), AllocError>
-        requires next { next_touch self.old ≡ Plain }
-        requires room { self.old.completed + 1 < 2 ^ 64 }
-        ensures { MatchResult result (λ _. self.new ≡ finished self.old 0) (λ _. (self.new ≡ self.old) × (may_grow (next_touch self.old) (rest_of self.old.core) ≡ true)) }
+        requires next { next_touch self.old.state ≡ Plain }
+        requires room { self.old.state.completed + 1 < 2 ^ 64 }
+        ensures { MatchResult result (λ _. self.new ≡ with_state self.old (finished self.old.state 0)) (λ _. (self.new ≡ self.old) × (may_grow (next_touch self.old.state) (rest_of self.old.state.core) ≡ true)) }
     {
         self.execution.proceed(0)?;
         self.completed += 1;
@@ -372,8 +378,8 @@ impl<'a, S: RawStore> SeatedProgram<'a, S> {
     /// piece which it wants, and find no scope open that must be shut, at most `limit`, and tells how many.
     #[inline(always)]
     pub(crate) fn proceed_plainly(&mut self, limit: u64) -> u64
-        requires holding { IsHolding self.old }
-        requires room { self.old.completed + limit < 2 ^ 64 }
+        requires holding { IsHolding self.old.state }
+        requires room { self.old.state.completed + limit < 2 ^ 64 }
         ensures within { result ≤ limit }
         ensures ran { RanHeld S.honest result self.old self.new }
     {
@@ -384,7 +390,8 @@ impl<'a, S: RawStore> SeatedProgram<'a, S> {
         { table.load(seat, object, frame, index) };
         let store = |seat: &mut OwnerSeat<S>, object: usize, frame: usize, index: usize, value: u64|
             requires { IsSeat table.now seat.old × ((frame < table.now.sizes.frames) × (index < table.now.sizes.cells)) × (Owns seat.old.view object × ((note seat.old.view object).frame ≡ Some frame) × ((note seat.old.view object).writing ≡ true)) }
-            ensures { IsSeat table.entry.now seat.new × (seat.new ≡ record seat.old { view = with_note seat.old.view object (added (note seat.old.view object) index value); log = seat.new.log }) }
+            ensures { IsSeat table.entry.now seat.new × (seat.new ≡ record seat.old { view = with_note seat.old.view object (added (note seat.old.view object) index value); log = seat.new.log })
+                × AddsOne seat.old.log seat.new.log (cell_word table.entry.now.sizes frame index) (call.Stores object frame index value) }
         { table.store(seat, object, frame, index, value) };
         let held = HeldPieces {
             scale: self.scale,
@@ -405,11 +412,11 @@ impl<'a, S: RawStore> SeatedProgram<'a, S> {
     /// changed.
     #[inline(never)]
     pub(crate) fn extend(&mut self, cells: u64, many: u64) -> Result<(), AllocError>
-        requires next { next_touch self.old ≡ Allocs cells }
-        requires room { self.old.completed + 1 < 2 ^ 64 }
-        requires many { many ≡ pieces_of self.old.view.sizes.cells cells }
-        requires end { self.old.next + many < 2 ^ 64 }
-        ensures { MatchResult result (λ _. self.new ≡ extended self.old cells) (λ _. self.new ≡ self.old) }
+        requires next { next_touch self.old.state ≡ Allocs cells }
+        requires room { self.old.state.completed + 1 < 2 ^ 64 }
+        requires many { many ≡ pieces_of self.old.state.view.sizes.cells cells }
+        requires end { self.old.state.next + many < 2 ^ 64 }
+        ensures { MatchResult result (λ _. self.new ≡ with_state self.old (extended self.old.state cells)) (λ _. self.new ≡ self.old) }
     {
         self.firsts.push(self.next)?;
         if let Err(error) = self.execution.allocate() {
@@ -422,7 +429,7 @@ impl<'a, S: RawStore> SeatedProgram<'a, S> {
     }
 
     pub(crate) fn set_want(&mut self, want: Want)
-        ensures { self.new ≡ wants self.old want }
+        ensures { self.new ≡ wanting self.old want }
     {
         self.want = Some(want);
     }
@@ -430,11 +437,12 @@ impl<'a, S: RawStore> SeatedProgram<'a, S> {
     /// Closes what the scope holds.
     #[inline(always)]
     pub(crate) fn shut(&mut self, scope: usize)
-        requires holding { IsHolding self.old }
-        requires scope { scope < length self.old.holds }
-        ensures holding { IsHolding self.new }
-        ensures after { self.new ≡ shut self.old scope }
-        ensures changes { Changes scope self.old self.new }
+        requires holding { IsHolding self.old.state }
+        requires scope { scope < length self.old.state.holds }
+        ensures holding { IsHolding self.new.state }
+        ensures after { self.new.state ≡ shut self.old.state scope }
+        ensures logged { ShutLogged (hold_at self.old.state.holds scope) self.old.log self.new.log }
+        ensures changes { Changes scope self.old.state self.new.state }
     {
         if let Some(hold) = self.hold(scope) {
             self.close_hold(scope, hold);
@@ -444,8 +452,8 @@ impl<'a, S: RawStore> SeatedProgram<'a, S> {
     /// How many scopes hold the object.
     #[inline(always)]
     fn count(&self, object: usize) -> u64
-        requires four { length self.now.holds ≡ 4 }
-        ensures { result ≡ count_of object self.now.holds }
+        requires four { length self.now.state.holds ≡ 4 }
+        ensures { result ≡ count_of object self.now.state.holds }
     {
         count_in(&self.holds, object)
     }
@@ -453,8 +461,8 @@ impl<'a, S: RawStore> SeatedProgram<'a, S> {
     /// The first object of the allocation of this number.
     #[inline(always)]
     fn first(&self, reference: u64) -> u64
-        requires { (0 < reference) × (reference ≤ length self.now.firsts) }
-        ensures { result ≡ first_of self.now.firsts reference }
+        requires { (0 < reference) × (reference ≤ length self.now.state.firsts) }
+        ensures { result ≡ first_of self.now.state.firsts reference }
     {
         self.firsts[(reference - 1) as usize]
     }
@@ -462,10 +470,10 @@ impl<'a, S: RawStore> SeatedProgram<'a, S> {
     /// The object of a cell.
     #[inline(always)]
     fn object_at(&self, cell: Cell) -> usize
-        requires holding { IsHolding self.now }
-        requires cell { IsCell self.now.core cell }
-        ensures value { result ≡ object_of self.now cell }
-        ensures own { Owns self.now.view result }
+        requires holding { IsHolding self.now.state }
+        requires cell { IsCell self.now.state.core cell }
+        ensures value { result ≡ object_of self.now.state cell }
+        ensures own { Owns self.now.state.view result }
     {
         heap_laws();
         let whole = self.scale().before(cell.index);
@@ -474,8 +482,8 @@ impl<'a, S: RawStore> SeatedProgram<'a, S> {
 
     #[inline(always)]
     fn has(&self, scope: usize, object: usize) -> bool
-        requires { scope < length self.now.holds }
-        ensures { result ≡ has_object (hold_at self.now.holds scope) object }
+        requires { scope < length self.now.state.holds }
+        ensures { result ≡ has_object (hold_at self.now.state.holds scope) object }
     {
         is_of(&self.holds[scope], object)
     }
@@ -483,13 +491,14 @@ impl<'a, S: RawStore> SeatedProgram<'a, S> {
     /// Makes the scope, which held nothing, hold the object. False where the store failed.
     #[inline(never)]
     fn reopen<R: Wait>(&mut self, rt: &R, scope: usize, object: usize) -> bool
-        requires holding { IsHolding self.old }
-        requires scope { scope < length self.old.holds }
-        requires free { hold_at self.old.holds scope ≡ None }
-        requires own { Owns self.old.view object }
-        ensures holding { IsHolding self.new }
-        ensures told { MatchBool result (Changes scope self.old self.new × HoldsObject self.new scope object) (Fails S.reliable self.old self.new) }
-        ensures exact { MatchBool result (Holds scope object self.old self.new) (Misses S.reliable object self.old self.new) }
+        requires holding { IsHolding self.old.state }
+        requires scope { scope < length self.old.state.holds }
+        requires free { hold_at self.old.state.holds scope ≡ None }
+        requires own { Owns self.old.state.view object }
+        ensures holding { IsHolding self.new.state }
+        ensures told { MatchBool result (Changes scope self.old.state self.new.state × HoldsObject self.new.state scope object) (Fails S.reliable self.old.state self.new.state) }
+        ensures exact { MatchBool result (Holds scope object self.old.state self.new.state) (Misses S.reliable object self.old.state self.new.state) }
+        ensures logged { MatchBool result (HoldsLogged scope object self.old self.new) (MissesLogged S.reliable object self.old self.new) }
     {
         let count = self.count(object);
         self.open_hold(rt, scope, object, count)
@@ -498,12 +507,12 @@ impl<'a, S: RawStore> SeatedProgram<'a, S> {
     /// Makes the scope hold the piece of the cell. False where the store failed.
     #[inline(always)]
     fn seize<R: Wait>(&mut self, rt: &R, scope: usize, cell: Cell) -> bool
-        requires holding { IsHolding self.old }
-        requires scope { scope < length self.old.holds }
-        requires cell { IsCell self.old.core cell }
-        ensures holding { IsHolding self.new }
-        ensures told { MatchBool result (Changes scope self.old self.new × HoldsObject self.new scope (object_of self.old cell)) (Fails S.reliable self.old self.new) }
-        ensures exact { MatchBool result (Seizes scope (object_of self.old cell) self.old self.new) (Loses S.reliable scope (object_of self.old cell) self.old self.new) }
+        requires holding { IsHolding self.old.state }
+        requires scope { scope < length self.old.state.holds }
+        requires cell { IsCell self.old.state.core cell }
+        ensures holding { IsHolding self.new.state }
+        ensures told { MatchBool result (Changes scope self.old.state self.new.state × HoldsObject self.new.state scope (object_of self.old.state cell)) (Fails S.reliable self.old.state self.new.state) }
+        ensures exact { MatchBool result (Seizes scope (object_of self.old.state cell) self.old self.new) (Loses S.reliable scope (object_of self.old.state cell) self.old self.new) }
     {
         let object = self.object_at(cell);
         if self.has(scope, object) {
@@ -522,11 +531,11 @@ impl<'a, S: RawStore> SeatedProgram<'a, S> {
         scope: usize,
         wanted: Option<Cell>,
     ) -> bool
-        requires holding { IsHolding self.old }
-        requires scope { scope < length self.old.holds }
-        requires cell { IsCellOrNone self.old.core wanted }
-        ensures holding { IsHolding self.new }
-        ensures told { MatchBool result (Changes scope self.old self.new × Matches self.old wanted (hold_at self.new.holds scope)) (Fails S.reliable self.old self.new) }
+        requires holding { IsHolding self.old.state }
+        requires scope { scope < length self.old.state.holds }
+        requires cell { IsCellOrNone self.old.state.core wanted }
+        ensures holding { IsHolding self.new.state }
+        ensures told { MatchBool result (Changes scope self.old.state self.new.state × Matches self.old.state wanted (hold_at self.new.state.holds scope)) (Fails S.reliable self.old.state self.new.state) }
         ensures exact { MatchBool result (HoldsWanted scope wanted self.old self.new) (LosesWanted S.reliable scope wanted self.old self.new) }
     {
         match wanted {
@@ -541,8 +550,8 @@ impl<'a, S: RawStore> SeatedProgram<'a, S> {
     /// Hints the object of the cell, where it is away, was not hinted lately, and somebody serves hints.
     #[inline(never)]
     pub(crate) fn hint_wanted<R: Wait>(&mut self, rt: &R, wanted: Option<Cell>)
-        requires holding { IsHolding self.old }
-        requires cell { IsCellOrNone self.old.core wanted }
+        requires holding { IsHolding self.old.state }
+        requires cell { IsCellOrNone self.old.state.core wanted }
         ensures { self.new ≡ self.old }
     {
         let Some(cell) = wanted else {
@@ -569,13 +578,14 @@ impl<'a, S: RawStore> SeatedProgram<'a, S> {
     /// Makes the scope's hold one for writing.
     #[inline(always)]
     pub(crate) fn make_writable(&mut self, scope: usize, hold: Hold)
-        requires holding { IsHolding self.old }
-        requires scope { scope < length self.old.holds }
-        requires held { hold_at self.old.holds scope ≡ Some hold }
-        ensures holding { IsHolding self.new }
-        ensures changes { Changes scope self.old self.new }
-        ensures writer { HasWriter self.new scope hold }
-        ensures exact { self.new ≡ writing_by self.old scope hold }
+        requires holding { IsHolding self.old.state }
+        requires scope { scope < length self.old.state.holds }
+        requires held { hold_at self.old.state.holds scope ≡ Some hold }
+        ensures holding { IsHolding self.new.state }
+        ensures changes { Changes scope self.old.state self.new.state }
+        ensures writer { HasWriter self.new.state scope hold }
+        ensures exact { self.new.state ≡ writing_by self.old.state scope hold }
+        ensures logged { WritingLogged hold.writes hold.object self.old.log self.new.log }
     {
         if !hold.writes {
             self.clear_hold(scope, hold);
@@ -585,9 +595,9 @@ impl<'a, S: RawStore> SeatedProgram<'a, S> {
     /// What the scope holds, where it holds something.
     #[inline(always)]
     pub(crate) fn held(&self, scope: usize) -> Hold
-        requires scope { scope < length self.now.holds }
-        requires held { hold_at self.now.holds scope ≢ None }
-        ensures { hold_at self.now.holds scope ≡ Some result }
+        requires scope { scope < length self.now.state.holds }
+        requires held { hold_at self.now.state.holds scope ≢ None }
+        ensures { hold_at self.now.state.holds scope ≡ Some result }
     {
         match self.holds[scope] {
             Some(hold) => hold,
@@ -598,11 +608,11 @@ impl<'a, S: RawStore> SeatedProgram<'a, S> {
     /// Closes what every scope holds.
     #[inline(never)]
     pub(crate) fn close_all(&mut self)
-        requires holding { IsHolding self.old }
-        ensures holding { IsHolding self.new }
-        ensures closes { Closes self.old self.new }
-        ensures exact { self.new ≡ shut_all self.old }
-        ensures shut { AllShut self.new }
+        requires holding { IsHolding self.old.state }
+        ensures holding { IsHolding self.new.state }
+        ensures closes { Closes self.old.state self.new.state }
+        ensures exact { ShutsAll self.old self.new }
+        ensures shut { AllShut self.new.state }
     {
         for scope in 0..self.scopes() {
             self.shut(scope);
@@ -610,7 +620,7 @@ impl<'a, S: RawStore> SeatedProgram<'a, S> {
     }
 
     fn scopes(&self) -> usize
-        ensures { result ≡ length self.now.holds }
+        ensures { result ≡ length self.now.state.holds }
     {
         self.holds.len()
     }

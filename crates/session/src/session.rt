@@ -38,13 +38,13 @@ pub struct Session<'a, S: RawStore> {
 impl<'a, S: RawStore> Model for Session<'a, S> {
     ghost use Rattle.code_form.specs.Code.{Covered};
     ghost use Rattle.session.specs.Keeping.{IsSession};
-    ghost use Rattle.session.specs.State.{State};
+    ghost use Rattle.session.specs.State.{Logged};
 
-    ghost Value = { State };
+    ghost Value = { Logged };
 
     ghost view = { λ s. s.program };
 
-    ghost invariant = { λ s. IsSession S.honest s.program × Covered s.program.image };
+    ghost invariant = { λ s. IsSession S.honest s.program.state × Covered s.program.state.image };
 }
 
 impl<'a, S: RawStore> Session<'a, S> {
@@ -61,8 +61,8 @@ impl<'a, S: RawStore> Session<'a, S> {
         requires own { seat.view.low ≤ seat.view.high }
         requires program { (0 < seat.view.number) × (seat.view.number ≤ length region.now.programs) }
         requires pass { pass ≡ hints.now }
-        ensures begins { MatchResult result (λ s. s ≡ begin (image_at region.now.programs (seat.view.number - 1)) seat.view seat.refusals) (λ want. want ≡ OutOfMemory) }
-        ensures at { IfOk result (λ s. S.honest → IsAt s) }
+        ensures begins { MatchResult result (λ s. s ≡ record { state = begin (image_at region.now.programs (seat.view.number - 1)) seat.view seat.refusals; log = seat.log }) (λ want. want ≡ OutOfMemory) }
+        ensures at { IfOk result (λ s. S.honest → IsAt s.state) }
     {
         accepted_is_verified();
         let image = region.image(seat.number() as usize - 1).image();
@@ -83,8 +83,8 @@ impl<'a, S: RawStore> Session<'a, S> {
     ) -> Result<Session<'a, S>, Want>
         requires fresh { IsFresh table.now seat }
         requires own { seat.view.low ≤ seat.view.high }
-        ensures begins { MatchResult result (λ s. s ≡ begin (image_of verified.now.image) seat.view seat.refusals) (λ want. want ≡ OutOfMemory) }
-        ensures at { IfOk result (λ s. S.honest → IsAt s) }
+        ensures begins { MatchResult result (λ s. s ≡ record { state = begin (image_of verified.now.image) seat.view seat.refusals; log = seat.log }) (λ want. want ≡ OutOfMemory) }
+        ensures at { IfOk result (λ s. S.honest → IsAt s.state) }
     {
         accepted_is_verified();
         match SeatedProgram::new(alloc, table, verified.image(), seat, None) {
@@ -110,16 +110,16 @@ impl<'a, S: RawStore> Session<'a, S> {
     /// the store is not honest, and the code is stuck, or an allocation or a return finds a scope open. Then the session has given back what it had in hand, and
     /// every scope is shut.
     pub fn run<R: Wait>(&mut self, rt: &R, limit: u64) -> Run
-        requires { self.old.completed + limit < 2 ^ 64 }
-        ensures at { S.honest → IsAt self.new }
-        ensures told { Ran S.reliable limit self.old self.new result ⊎ IsUntold self.old self.new result }
-        ensures scopes { self.new.want ≢ Some StoreFailed → ScopesHold self.new }
-        ensures shut { (x : Stop) → stop_of self.new.core ≡ Some x → AllShut self.new }
-        ensures failed { self.new.want ≡ Some StoreFailed → AllShut self.new }
-        ensures quiet { IsQuiet self.new.view }
-        ensures refused { S.honest → IsGoing self.old → result ≡ Wanted StoreFailed → Refused S.reliable self.old.refusals self.new.refusals }
-        ensures acts { IsGoing self.old → Acts S.reliable self.old self.new result }
-        ensures ended { (IsGoing self.old → ⊥) → self.new ≡ self.old }
+        requires { self.old.state.completed + limit < 2 ^ 64 }
+        ensures at { S.honest → IsAt self.new.state }
+        ensures told { Ran S.reliable limit self.old.state self.new.state result ⊎ IsUntold self.old.state self.new.state result }
+        ensures scopes { self.new.state.want ≢ Some StoreFailed → ScopesHold self.new.state }
+        ensures shut { (x : Stop) → stop_of self.new.state.core ≡ Some x → AllShut self.new.state }
+        ensures failed { self.new.state.want ≡ Some StoreFailed → AllShut self.new.state }
+        ensures quiet { IsQuiet self.new.state.view }
+        ensures refused { S.honest → IsGoing self.old.state → result ≡ Wanted StoreFailed → Refused S.reliable self.old.state.refusals self.new.state.refusals }
+        ensures acts { IsGoing self.old.state → Acts S.honest S.reliable self.old self.new result }
+        ensures ended { (IsGoing self.old.state → ⊥) → self.new ≡ self.old }
     {
         effect_laws();
         heap_laws();
@@ -132,28 +132,28 @@ impl<'a, S: RawStore> Session<'a, S> {
 
     /// What the program printed.
     pub fn output(&self) -> &[u8]
-        ensures { result.now ≡ output_of self.now.core }
+        ensures { result.now ≡ output_of self.now.state.core }
     {
         self.program.output()
     }
 
     /// What the program printed, where it is run no further.
     pub fn into_output(self) -> Vec<u8>
-        ensures { result.items ≡ output_of self.entry.core }
+        ensures { result.items ≡ output_of self.entry.state.core }
     {
         self.program.into_output()
     }
 
     /// How many instructions were completed.
     pub fn completed(&self) -> u64
-        ensures { result ≡ self.now.completed }
+        ensures { result ≡ self.now.state.completed }
     {
         self.program.completed()
     }
 
     /// How many calls of the store were refused through the session's own port, and the last of these.
     pub fn refusals(&self) -> Refusals
-        ensures { result ≡ self.now.refusals }
+        ensures { result ≡ self.now.state.refusals }
     {
         self.program.refusals()
     }
@@ -167,7 +167,7 @@ impl<'a, S: RawStore> Session<'a, S> {
 
     /// What it did beside completing instructions.
     pub fn counts(&self) -> Counts
-        ensures { result.objects ≡ self.now.next - self.now.view.low }
+        ensures { result.objects ≡ self.now.state.next - self.now.state.view.low }
     {
         self.program.counts()
     }

@@ -1,5 +1,5 @@
 -- A want has its cause among the events that lead to it.
-use Rattle.std.proofs.Common.{◌≡◌, ◌⊎◌, List, [], ◌∷◌, Some, refl, ap, subst, inl, inr}
+use Rattle.std.proofs.Common.{◌≡◌, ◌⊎◌, List, [], ◌∷◌, refl, ap, subst, inl, inr}
 use Rattle.cells.specs.declared.ending.Want.{Want}
 use Rattle.pointer_word.specs.Machine.{State}
 use Rattle.world_semantics.specs.Programs.{Program, Setting, Wanted, begun}

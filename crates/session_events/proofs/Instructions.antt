@@ -18,7 +18,7 @@ use Rattle.object_lock.specs.Seats.{Owns, View, note}
 use Rattle.session.specs.declared.hold.Hold as own
 use Rattle.session.specs.Keeping.{Holds, IsHolding, IsNext, a_hold, cleared, count_of, extended, has_object, shut, shut_at, written}
 use Rattle.session.specs.Keeping as keeping
-use Rattle.session.specs.Performing.{Performs, PerformsBy, Seizes, writing_by}
+use Rattle.session.specs.Performing.{Performs, PerformsBy, writing_by}
 use Rattle.session.specs.State as session
 use Rattle.session.proofs.Holding.{hold_counts, holding_shut, owned_here}
 use Rattle.session.proofs.Places.{next_is}
@@ -32,6 +32,7 @@ use Rattle.session_events.specs.Laws.{DoesByEvents, IsKnown, hold_seen, program_
 use Rattle.session_events.proofs.Ready.{IsReady, aims_elsewhere, aims_held, aims_turn, alone, answers, clearing, closing, leaves_turn, loads_turn, stage, store_or_clear, stores_turn, storing, upd_same, with_closed, with_note}
 use Rattle.session_events.proofs.Seizing.{ComesTo, at_last, before, behind_taking, closed_then, finished_is, going_is, holding_seen, known_noted, known_taken, ready_of, seen_at, took_then}
 use Rattle.session_events.proofs.Ending.{ready_along, shuts_all}
+use Rattle.session_events.proofs.Stated.{Took, stated, took_so}
 
 -- a state that the seat's knowledge makes, whose cells are 0
 abbrev at_rest : Known → State
@@ -102,7 +103,7 @@ aims_none g s u t k n r low none image ok e done is = by_hold (session.hold_at s
         (λ known. aims_at_none g v t k (with_closed n h.object) (shut_ready g s k h x r) less none image (get_or-set_same s.holds k None None low) (done ∙ ap (λ z. keeping.finished z 0) (e ∙ ap (shut_at s k) d)) known)
 
 aims_some : (g : Setting) (s u t : session.State) (k : ℕ) (a : Cell) (n : Known) → let o : ℕ = object_of g (ready_of s) a in IsReady g (ready_of s) (touch.Aims k (Some a)) → k < length s.holds → s.want ≡ None → g.image ≡ s.image → IsHolding s
-    → Seizes k o s u → t ≡ keeping.finished u 0 → IsKnown s.view n → ComesTo g (ready_of s) n t
+    → Took k o s u → t ≡ keeping.finished u 0 → IsKnown s.view n → ComesTo g (ready_of s) n t
 aims_some g s u t k a n r low none image ok (inl b) done is =
     let o : ℕ = object_of g (ready_of s) a in
     let x : Touch = touch.Aims k (Some a) in
@@ -223,25 +224,27 @@ allocates_so g s t many n r none image size base limit ok room done is =
 pub scope_low : (s : session.State) (k : ℕ) → IsHolding s → k < most_scopes s.image.functions → k < length s.holds
 scope_low s k h l = let a = h.four in let b = h.few in omega arith
 
-one : (s t : session.State) (x : Touch) (n : Known) → IsHolding s → s.want ≡ None → IsNext x s → Performs x s t → IsKnown s.view n → ComesTo (setting_of s) (ready_of s) n t
-one s t touch.Plain n ok none next done is = alone_at (setting_of s) s t 0 n touch.Plain (record { mode = refl; free = next.free; is = next.is }) none refl done is refl
-one s t (touch.Hints w) n ok none next done is = alone_at (setting_of s) s t 0 n (touch.Hints w) (record { mode = refl; free = next.free; is = next.is }) none refl done is refl
-one s t (touch.Aims k None) n ok none next done is =
-    aims_none (setting_of s) s done.0 t k n (record { mode = refl; free = next.free; is = next.is }) (scope_low s k ok next.within.0) none refl ok done.1 done.2 is
-one s t (touch.Aims k (Some a)) n ok none next done is =
-    aims_some (setting_of s) s done.0 t k a n (record { mode = refl; free = next.free; is = next.is }) (scope_low s k ok next.within.0) none refl ok done.1 done.2 is
-one s t (touch.Loads k a) n ok none next done is =
-    loads_so (setting_of s) s t k a done.3.0 done.0 n (record { mode = refl; free = next.free; is = next.is }) none refl ok done.1 (sym done.2) done.3.1 is
-one s t (touch.Stores k a v) n ok none next done is =
-    stores_so (setting_of s) s t k a v done.0 n (record { mode = refl; free = next.free; is = next.is }) (scope_low s k ok next.within.0) none refl ok done.1 (sym done.2) refl done.3 is
-one s t (touch.Leaves k) n ok none next done is =
-    leaves_so (setting_of s) s t k n (record { mode = refl; free = next.free; is = next.is }) (scope_low s k ok next.within) none refl ok done is
-one s t (touch.Allocs many) n ok none next done is =
-    allocates_so (setting_of s) s t many n (record { mode = refl; free = next.free; is = next.is }) none refl refl refl refl ok done.0 done.1 is
-one s t touch.Ends n ok none next done is =
-    shuts_all (setting_of s) s t (record { mode = refl; free = next.free; is = next.is }) refl none done n ok is
-one s t touch.Wrong n ok none next done is = absurd done
-one s t touch.Nothing n ok none next done is = absurd done
+one : (honest : Type 0) (s t : session.Logged) (x : Touch) (n : Known) → IsHolding s.state → s.state.want ≡ None → IsNext x s.state → Performs honest x s t → IsKnown s.state.view n → ComesTo (setting_of s.state) (ready_of s.state) n t.state
+one honest s t touch.Plain n ok none next done is = alone_at (setting_of s.state) s.state t.state 0 n touch.Plain (record { mode = refl; free = next.free; is = next.is }) none refl (ap stated done) is refl
+one honest s t (touch.Hints w) n ok none next done is = alone_at (setting_of s.state) s.state t.state 0 n (touch.Hints w) (record { mode = refl; free = next.free; is = next.is }) none refl (ap stated done) is refl
+one honest s t (touch.Aims k None) n ok none next done is =
+    aims_none (setting_of s.state) s.state done.0.state t.state k n (record { mode = refl; free = next.free; is = next.is }) (scope_low s.state k ok next.within.0) none refl ok done.1.0 (ap stated done.2) is
+one honest s t (touch.Aims k (Some a)) n ok none next done is =
+    aims_some (setting_of s.state) s.state done.0.state t.state k a n (record { mode = refl; free = next.free; is = next.is }) (scope_low s.state k ok next.within.0) none refl ok
+    (took_so k (session.object_of s.state a) s done.0 done.1) (ap stated done.2) is
+one honest s t (touch.Loads k a) n ok none next done is =
+    loads_so (setting_of s.state) s.state t.state k a done.3.0 done.0 n (record { mode = refl; free = next.free; is = next.is }) none refl ok done.1 (sym done.2) (ap stated done.3.2) is
+one honest s t (touch.Stores k a v) n ok none next done is =
+    stores_so (setting_of s.state) s.state t.state k a v done.0 n (record { mode = refl; free = next.free; is = next.is }) (scope_low s.state k ok next.within.0) none refl ok done.1 (sym done.2) refl done.3 is
+one honest s t (touch.Leaves k) n ok none next done is =
+    leaves_so (setting_of s.state) s.state t.state k n (record { mode = refl; free = next.free; is = next.is }) (scope_low s.state k ok next.within) none refl ok
+    (ap stated done.2 ∙ ap (λ (y : session.State). keeping.finished y 0) done.1.0) is
+one honest s t (touch.Allocs many) n ok none next done is =
+    allocates_so (setting_of s.state) s.state t.state many n (record { mode = refl; free = next.free; is = next.is }) none refl refl refl refl ok done.0 (ap stated done.1) is
+one honest s t touch.Ends n ok none next done is =
+    shuts_all (setting_of s.state) s.state t.state (record { mode = refl; free = next.free; is = next.is }) refl none (ap stated done.2 ∙ ap (λ (y : session.State). keeping.finished y 0) done.1.0) n ok is
+one honest s t touch.Wrong n ok none next done is = absurd done
+one honest s t touch.Nothing n ok none next done is = absurd done
 
 -- ---- one behind the other
 
@@ -261,11 +264,11 @@ goes_on g p q r k l m [] fs a b = first_known fs b
     first_known (f ∷ fs) b = ((b.0.0 ∙ a.1, λ o w. b.0.1 o w ∙ a.2 o w), (b.1.0, b.1.1, subst (λ (c : Program). taken g.size f.state (program_turn g f.state c f.choice f.answer) ≡ Some (b.1.0, b.1.1)) a.0 b.1.2, b.1.3))
 goes_on g p q r k l m (e ∷ es) fs a b = (a.0, (a.1.0, a.1.1, a.1.2, goes_on g a.1.1 q r (learned g a.1.0) l m es fs a.1.3 b))
 
-pub all : (us : List session.State) (s t : session.State) → PerformsBy us s t → DoesByEvents s t
-all [] s t e = λ k is. ([], k, (ap program_of e, refl, λ o w. refl), subst (λ (y : session.State). IsKnown y.view k) (sym e) is)
-all (u ∷ us) s t d = λ k is.
-    let first = one s u d.0.touch k d.0.safe.holding d.0.going.1 d.0.next d.0.performed is in
-    let rest = all us u t d.1 first.1 first.3 in
-    let goes : Goes (setting_of s) (program_of s) k first.0 (program_of u) first.1 = subst (λ (p : Program). Goes (setting_of s) p k first.0 (program_of u) first.1) (going_is s d.0.going.1) first.2 in
-    let on : Goes (setting_of s) (program_of u) first.1 rest.0 (program_of t) rest.1 = subst (λ g. Goes g (program_of u) first.1 rest.0 (program_of t) rest.1) (same_setting s u d.0.same) rest.2 in
-    (first.0 ++ rest.0, rest.1, goes_on (setting_of s) (program_of s) (program_of u) (program_of t) k first.1 rest.1 first.0 rest.0 goes on, rest.3)
+pub all : (honest : Type 0) (us : List session.Logged) (s t : session.Logged) → PerformsBy honest us s t → DoesByEvents s.state t.state
+all honest [] s t e = λ k is. ([], k, (ap (λ (y : session.Logged). program_of y.state) e, refl, λ o w. refl), subst (λ (y : session.Logged). IsKnown y.state.view k) (sym e) is)
+all honest (u ∷ us) s t d = λ k is.
+    let first = one honest s u d.0.touch k d.0.safe.holding d.0.going.1 d.0.next d.0.performed is in
+    let rest = all honest us u t d.1 first.1 first.3 in
+    let goes : Goes (setting_of s.state) (program_of s.state) k first.0 (program_of u.state) first.1 = subst (λ (p : Program). Goes (setting_of s.state) p k first.0 (program_of u.state) first.1) (going_is s.state d.0.going.1) first.2 in
+    let on : Goes (setting_of s.state) (program_of u.state) first.1 rest.0 (program_of t.state) rest.1 = subst (λ g. Goes g (program_of u.state) first.1 rest.0 (program_of t.state) rest.1) (same_setting s.state u.state d.0.same) rest.2 in
+    (first.0 ++ rest.0, rest.1, goes_on (setting_of s.state) (program_of s.state) (program_of u.state) (program_of t.state) k first.1 rest.1 first.0 rest.0 goes on, rest.3)

@@ -22,7 +22,7 @@ use Rattle.object_lock.specs.Seats.{Owns}
 use Rattle.object_moves.specs.Ways.{Begun, Found, LeadsTo, Way, moves_on}
 use Rattle.session.specs.declared.hold.Hold as own
 use Rattle.session.specs.Keeping.{IsHolding, IsNext, Misses, count_of, shut_at, wants}
-use Rattle.session.specs.Performing.{Acts, Loses, LosesAt, PerformsBy, WantsNext, shut_all}
+use Rattle.session.specs.Performing.{Acts, GivesIn, LosesAt, PerformsBy, WantsNext, shut_all}
 use Rattle.session.specs.State as session
 use Rattle.session.proofs.Holding.{holding_shut}
 use Rattle.session.proofs.Writing.{may_open}
@@ -36,9 +36,10 @@ use Rattle.session_events.proofs.Instructions.{all, goes_on, not_held, same_sett
 use Rattle.session_events.proofs.Losing.{lost_then}
 use Rattle.session_events.proofs.Ready.{IsReady, aims_elsewhere, aims_turn, answers, stage, step, turn_of, with_closed}
 use Rattle.session_events.proofs.Seizing.{ComesTo, at_last, before, closed_then, going_is, ready_of, seen_at}
+use Rattle.session_events.proofs.Stated.{Missed, gave_in, missed_so, stated}
 
 -- memory does not grow
-abbrev refuses : Answer
+abbrev pub refuses : Answer
 refuses = record { stored = true; read = None; grew = false }
 
 -- one event, with no call, by which the program comes to want something
@@ -56,7 +57,7 @@ refused_at : (s : session.State) → may_grow (session.next_touch s) (rest_of s.
 refused_at s grow = ap (λ b. cond b (in_mode (ready_of s) (Wanted OutOfMemory)) (finished (setting_of s) (ready_of s) 0)) grow
 
 -- which turn it takes, but for a stop
-refused_turn : (s : session.State) (m : State) (x : Touch) → may_grow (session.next_touch s) (rest_of s.core) ≡ true → may_grow x (rest_of s.core) ≡ true → session.HasRoom s x → x ≢ touch.Ends
+pub refused_turn : (s : session.State) (m : State) (x : Touch) → may_grow (session.next_touch s) (rest_of s.core) ≡ true → may_grow x (rest_of s.core) ≡ true → session.HasRoom s x → x ≢ touch.Ends
     → ready (setting_of s) m (ready_of s) refuses x ≡ Alone (in_mode (ready_of s) (Wanted OutOfMemory))
 refused_turn s m touch.Plain grow here room other = ap Alone (refused_at s grow)
 refused_turn s m (touch.Allocs n) grow here room other =
@@ -73,13 +74,13 @@ refused_turn s m touch.Wrong grow here room other = absurd (cc here)
 refused_turn s m touch.Nothing grow here room other = absurd (cc here)
 
 -- the pieces of an allocation do not fit
-full_turn : (s : session.State) (m : State) (n : ℕ) → s.view.high < next_object s.view.sizes.cells s.view.low (session.cells_in s) + pieces s.view.sizes.cells n
+pub full_turn : (s : session.State) (m : State) (n : ℕ) → s.view.high < next_object s.view.sizes.cells s.view.low (session.cells_in s) + pieces s.view.sizes.cells n
     → ready (setting_of s) m (ready_of s) refuses (touch.Allocs n) ≡ Alone (in_mode (ready_of s) (Wanted NoObjects))
 full_turn s m n full =
     let size : ℕ = s.view.sizes.cells in
     ap (λ b. cond b (Alone (grows (setting_of s) (ready_of s) refuses)) (Alone (in_mode (ready_of s) (Wanted NoObjects)))) (lt-leb (next_object size s.view.low (session.cells_in s) + pieces size n) s.view.high full)
 
-same_next : (s t : session.State) (w : Want) → t ≡ wants s w → session.next_touch t ≡ session.next_touch s
+pub same_next : (s t : session.State) (w : Want) → t ≡ wants s w → session.next_touch t ≡ session.next_touch s
 same_next s t w e = ap session.next_touch e
 
 -- ---- the store refuses a call
@@ -98,7 +99,7 @@ loses_object reliable g s u t k a n r low free ok mine m e is = by_way m.came.wa
         lost_then reliable s u t k o n c low free ok mine m leads did e is g (touch.Aims k (Some a)) r count
         (λ b. aims_turn g b (ready_of s) (answers true) k (Some a) None (Some o) (omega (arith, length-map s.holds hold_seen)) (seen_at s.holds k ∙ ap hold_seen free) refl)
 
-loses_some : (reliable : Type 0) (g : Setting) (s u t : session.State) (k : ℕ) (a : Cell) (n : Known) → let o : ℕ = object_of g (ready_of s) a in IsReady g (ready_of s) (touch.Aims k (Some a)) → k < length s.holds → IsHolding s → Loses reliable k o s u
+loses_some : (reliable : Type 0) (g : Setting) (s u t : session.State) (k : ℕ) (a : Cell) (n : Known) → let o : ℕ = object_of g (ready_of s) a in IsReady g (ready_of s) (touch.Aims k (Some a)) → k < length s.holds → IsHolding s → Missed reliable k o s u
     → t ≡ wants (shut_all u) StoreFailed → IsKnown s.view n → ComesTo g (ready_of s) n t
 loses_some reliable g s u t k a n r low ok b e is = by_hold (session.hold_at s.holds k) refl
   where
@@ -115,9 +116,10 @@ loses_some reliable g s u t k a n r low ok b e is = by_hold (session.hold_at s.h
         (λ known. loses_object reliable g v u t k a (with_closed n h.object) (shut_ready g s k h x r) less (get_or-set_same s.holds k None None low) (holding_shut s k (Some h) d ok low) b.1
         (subst (λ (z : session.State). Misses reliable o z u) (ap (shut_at s k) d) b.2) e known)
 
-lost_so : (reliable : Type 0) (x : Touch) (s u t : session.State) (n : Known) → IsHolding s → IsNext x s → LosesAt reliable x s u → t ≡ wants (shut_all u) StoreFailed → IsKnown s.view n → ComesTo (setting_of s) (ready_of s) n t
+lost_so : (reliable : Type 0) (x : Touch) (s u t : session.Logged) (n : Known) → IsHolding s.state → IsNext x s.state → LosesAt reliable x s u → GivesIn u t → IsKnown s.state.view n → ComesTo (setting_of s.state) (ready_of s.state) n t.state
 lost_so reliable (touch.Aims k (Some a)) s u t n ok next lost e is =
-    loses_some reliable (setting_of s) s u t k a n (record { mode = refl; free = next.free; is = next.is }) (scope_low s k ok next.within.0) ok lost e is
+    loses_some reliable (setting_of s.state) s.state u.state t.state k a n (record { mode = refl; free = next.free; is = next.is }) (scope_low s.state k ok next.within.0) ok
+    (missed_so reliable k (session.object_of s.state a) s u lost) (gave_in u t e) is
 lost_so reliable (touch.Aims k None) s u t n ok next lost e is = absurd lost
 lost_so reliable touch.Plain s u t n ok next lost e is = absurd lost
 lost_so reliable (touch.Hints w) s u t n ok next lost e is = absurd lost
@@ -139,22 +141,26 @@ halted_still s t e h =
     subst (λ (y : session.State). session.IsHalted y) (sym e) there
 
 -- what is wanted for a cause
-wanted_so : (reliable : Type 0) (w : Want) (s t : session.State) → WantsNext reliable w s t → (w ≡ StoreFailed → session.IsHalted t → ⊥) → (w ≡ OutOfMemory → session.next_touch t ≢ touch.Ends) → DoesByEvents s t
+wanted_so : (reliable : Type 0) (w : Want) (s t : session.Logged) → WantsNext reliable w s t → (w ≡ StoreFailed → session.IsHalted t.state → ⊥) → (w ≡ OutOfMemory → session.next_touch t.state ≢ touch.Ends) → DoesByEvents s.state t.state
 wanted_so reliable NoObjects s t d other text = λ k is.
     let c = d.came in
     let full = c.1.1 in
-    let r : IsReady (setting_of s) (ready_of s) (touch.Allocs full.0) = record { mode = refl; free = c.0; is = full.1 } in
-    subst (λ (p : Program). ComesTo (setting_of s) p k t) (going_is s d.going.1) (wanted_by (setting_of s) s t NoObjects k (touch.Allocs full.0) r c.2 is (full_turn s (stage (counted 0 Away) Never 0 k) full.0 full.2))
+    let z : session.State = s.state in
+    let r : IsReady (setting_of z) (ready_of z) (touch.Allocs full.0) = record { mode = refl; free = c.0; is = full.1 } in
+    subst (λ (p : Program). ComesTo (setting_of z) p k t.state) (going_is z d.going.1)
+    (wanted_by (setting_of z) z t.state NoObjects k (touch.Allocs full.0) r (ap stated c.2) is (full_turn z (stage (counted 0 Away) Never 0 k) full.0 full.2))
 wanted_so reliable OutOfMemory s t d other text = λ k is.
     let c = d.came in
-    let x : Touch = session.next_touch s in
-    let not_text : x ≢ touch.Ends = λ e. text refl (same_next s t OutOfMemory c.2 ∙ e) in
-    let r : IsReady (setting_of s) (ready_of s) x = record { mode = refl; free = c.0; is = refl } in
-    subst (λ (p : Program). ComesTo (setting_of s) p k t) (going_is s d.going.1) (wanted_by (setting_of s) s t OutOfMemory k x r c.2 is (refused_turn s (stage (counted 0 Away) Never 0 k) x c.1.1 c.1.1 c.1.2 not_text))
+    let z : session.State = s.state in
+    let x : Touch = session.next_touch z in
+    let not_text : x ≢ touch.Ends = λ e. text refl (same_next z t.state OutOfMemory (ap stated c.2) ∙ e) in
+    let r : IsReady (setting_of z) (ready_of z) x = record { mode = refl; free = c.0; is = refl } in
+    subst (λ (p : Program). ComesTo (setting_of z) p k t.state) (going_is z d.going.1)
+    (wanted_by (setting_of z) z t.state OutOfMemory k x r (ap stated c.2) is (refused_turn z (stage (counted 0 Away) Never 0 k) x c.1.1 c.1.1 c.1.2 not_text))
 wanted_so reliable StoreFailed s t d other text = λ k is.
     elim d.came [
-      | inl b ↦ subst (λ (p : Program). ComesTo (setting_of s) p k t) (going_is s d.going.1) (lost_so reliable b.0 s b.1 t k d.safe.holding b.2 b.3 b.4 is)
-      | inr b ↦ absurd (other refl (halted_still s t b.1 b.0))
+      | inl b ↦ subst (λ (p : Program). ComesTo (setting_of s.state) p k t.state) (going_is s.state d.going.1) (lost_so reliable b.0 s b.1 t k d.safe.holding b.2 b.3 b.4 is)
+      | inr b ↦ absurd (other refl (halted_still s.state t.state (gave_in s t b.1) b.0))
     ]
 
 -- events behind events
@@ -165,12 +171,12 @@ does_both s u t same first then = λ k is.
     let on = subst (λ g. Goes g (program_of u) a.1 b.0 (program_of t) b.1) same b.2 in
     (a.0 ++ b.0, b.1, goes_on (setting_of s) (program_of s) (program_of u) (program_of t) k a.1 b.1 a.0 b.0 a.2 on, b.3)
 
-settings_stay : (us : List session.State) (s t : session.State) → PerformsBy us s t → setting_of t ≡ setting_of s
-settings_stay [] s t e = ap setting_of e
-settings_stay (u ∷ us) s t d = settings_stay us u t d.1 ∙ same_setting s u d.0.same
+pub settings_stay : (honest : Type 0) (us : List session.Logged) (s t : session.Logged) → PerformsBy honest us s t → setting_of t.state ≡ setting_of s.state
+settings_stay honest [] s t e = ap (λ (y : session.Logged). setting_of y.state) e
+settings_stay honest (u ∷ us) s t d = settings_stay honest us u t d.1 ∙ same_setting s.state u.state d.0.same
 
-pub runs : (reliable : Type 0) (s t : session.State) (r : ending.Run) → Acts reliable s t r → (r ≡ Run.Wanted StoreFailed → session.IsHalted t → ⊥) → (r ≡ Run.Wanted OutOfMemory → session.next_touch t ≢ touch.Ends) → DoesByEvents s t
-runs reliable s t Run.Running d other text = all d.0 s t d.1
-runs reliable s t (Run.Stopped x) d other text = all d.0 s t d.1
-runs reliable s t (Run.Wanted w) d other text =
-    does_both s d.0 t (settings_stay d.1.0 s d.0 d.1.1) (all d.1.0 s d.0 d.1.1) (wanted_so reliable w d.0 t d.2 (λ e. other (ap Run.Wanted e)) (λ e. text (ap Run.Wanted e)))
+pub runs : (honest reliable : Type 0) (s t : session.Logged) (r : ending.Run) → Acts honest reliable s t r → (r ≡ Run.Wanted StoreFailed → session.IsHalted t.state → ⊥) → (r ≡ Run.Wanted OutOfMemory → session.next_touch t.state ≢ touch.Ends) → DoesByEvents s.state t.state
+runs honest reliable s t Run.Running d other text = all honest d.0 s t d.1
+runs honest reliable s t (Run.Stopped x) d other text = all honest d.0 s t d.1
+runs honest reliable s t (Run.Wanted w) d other text =
+    does_both s.state d.0.state t.state (settings_stay honest d.1.0 s d.0 d.1.1) (all honest d.1.0 s d.0 d.1.1) (wanted_so reliable w d.0 t d.2 (λ e. other (ap Run.Wanted e)) (λ e. text (ap Run.Wanted e)))

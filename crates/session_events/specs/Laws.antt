@@ -55,13 +55,14 @@ abbrev pub DoesByEvents : session.State → session.State → Type 0
 DoesByEvents s t = (k : Known) → IsKnown s.view k → (es : List Event) × (l : Known) × Goes (setting_of s) (program_of s) k es (program_of t) l × IsKnown t.view l
 
 -- so it does what a session did by which it completed instructions one behind the other
-abbrev pub InstructionsAreEvents : Type 0
-InstructionsAreEvents = (s t : session.State) → PerformsSome s t → DoesByEvents s t
+abbrev pub InstructionsAreEvents : Type 0 → Type 0
+InstructionsAreEvents honest = (s t : session.Logged) → PerformsSome honest s t → DoesByEvents s.state t.state
 
 -- So it does what a session that was going on did in a run. Left out are a want of the store as the code is halted, which is never so over an honest store; and one of memory for the
 -- text of an error, where the session keeps its holds, which the program of a world shuts before it stops
-abbrev pub RunsAreEvents : Type 0 → Type 0
-RunsAreEvents reliable = (s t : session.State) (r : ending.Run) → Acts reliable s t r → (r ≡ Run.Wanted StoreFailed → session.IsHalted t → ⊥) → (r ≡ Run.Wanted OutOfMemory → session.next_touch t ≢ Ends) → DoesByEvents s t
+abbrev pub RunsAreEvents : Type 0 → Type 0 → Type 0
+RunsAreEvents honest reliable = (s t : session.Logged) (r : ending.Run) → Acts honest reliable s t r → (r ≡ Run.Wanted StoreFailed → session.IsHalted t.state → ⊥) → (r ≡ Run.Wanted OutOfMemory → session.next_touch t.state ≢ Ends)
+    → DoesByEvents s.state t.state
 
 -- an unused seat has nothing in hand, and knows of no store and no hold
 abbrev pub unused : Known

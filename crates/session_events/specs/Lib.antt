@@ -1,2 +1,4 @@
 pub mod Knowing
 pub mod Laws
+pub mod Listed
+pub mod OneWorld

@@ -1,11 +1,7 @@
-use Rattle.std.proofs.Common.{◌∙◌, ap₂}
-use Rattle.std.proofs.lemmas.Result.{IfOk-weaker}
-use Rattle.clap.specs.Words.{with_rule}
-use Rattle.command_line.proofs.Found.{still_local}
 use Rattle.command_line.proofs.line.of_texts.Goals as goal
 
 pub returns-clause-shape : goal.returns-clause-shape
-returns-clause-shape c = IfOk-weaker c.arg.result _ _ (λ r h. h.shape c.option.ensures.own ∙ ap₂ with_rule c.new.ensures.app c.option.ensures.rule) c.arg.ensures
+returns-clause-shape c = c.with.ensures.shape _ _ c.new.ensures.app c.option.ensures.rule c.option.ensures.own
 
 pub returns-clause-local : goal.returns-clause-local
-returns-clause-local c = IfOk-weaker c.arg.result _ _ (λ r h. still_local _ _ _ h.globals c.new.ensures.local c.option.ensures.own) c.arg.ensures
+returns-clause-local c = c.with.ensures.local c.new.ensures.local c.option.ensures.own

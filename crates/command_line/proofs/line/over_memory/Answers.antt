@@ -1,19 +1,16 @@
-use Rattle.std.proofs.Common.{◌∙◌, ap, ap₂}
-use Rattle.std.proofs.lemmas.Result.{IfOk-weaker}
-use Rattle.clap.specs.Words.{app_of, with_rule}
-use Rattle.command_line.proofs.Found.{still_local}
+use Rattle.std.proofs.Common.{refl}
 use Rattle.command_line.proofs.line.over_memory.Goals as goal
 
 pub returns-clause-shape : goal.returns-clause-shape
 returns-clause-shape c =
-    let first = c.in_ok-arg.ensures.shape c.option.ensures.own ∙ ap (with_rule (app_of c.args.command)) c.option.ensures.rule in
-    let second = c.in_ok-arg-2.ensures.shape c.option-2.ensures.own ∙ ap₂ with_rule first c.option-2.ensures.rule in
-    let third = c.in_ok-arg-3.ensures.shape c.option-3.ensures.own ∙ ap₂ with_rule second c.option-3.ensures.rule in
-    IfOk-weaker c.arg-4.result _ _ (λ r h. h.shape c.option-4.ensures.own ∙ ap₂ with_rule third c.option-4.ensures.rule) c.arg-4.ensures
+    let framed = c.with-framed.ensures.shape _ _ refl c.option.ensures.rule c.option.ensures.own in
+    let counted = c.with-counted.ensures.shape _ _ framed c.option-2.ensures.rule c.option-2.ensures.own in
+    let stored = c.with-stored.ensures.shape _ _ counted c.option-3.ensures.rule c.option-3.ensures.own in
+    c.with.ensures.shape _ _ stored c.option-4.ensures.rule c.option-4.ensures.own
 
 pub returns-clause-local : goal.returns-clause-local
 returns-clause-local c local =
-    let first = still_local _ _ _ c.in_ok-arg.ensures.globals local c.option.ensures.own in
-    let second = still_local _ _ _ c.in_ok-arg-2.ensures.globals first c.option-2.ensures.own in
-    let third = still_local _ _ _ c.in_ok-arg-3.ensures.globals second c.option-3.ensures.own in
-    IfOk-weaker c.arg-4.result _ _ (λ r h. still_local _ _ _ h.globals third c.option-4.ensures.own) c.arg-4.ensures
+    let framed = c.with-framed.ensures.local local c.option.ensures.own in
+    let counted = c.with-counted.ensures.local framed c.option-2.ensures.own in
+    let stored = c.with-stored.ensures.local counted c.option-3.ensures.own in
+    c.with.ensures.local stored c.option-4.ensures.own

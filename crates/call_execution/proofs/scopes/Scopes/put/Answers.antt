@@ -14,9 +14,9 @@ invariant_of-self c =
     let ms = c.mark_scope.new.marks in
     let new = c.put_scope.new.scopes in
     let P : List Bool → List RustScope → Type 0 = λ m l. AreMarked m (map scope_of l) in
-    let first = subst (P i.marks.items) (sym c.deref_mut-2.ensures.value) c.self.invariant in
-    let more = subst (λ (l : List Bool). (k : ℕ) → is_marked l k ≡ true → is_marked ms k ≡ true) c.deref_mut.ensures.value c.mark_scope.ensures.others in
-    let own = behind_set ms c.args.first c.args.number c.args.scope c.deref_mut-2.result.now new c.put_scope.ensures.others c.put_scope.ensures.own c.mark_scope.ensures.own
-    (all_more i.marks.items ms more (map scope_of c.deref_mut-2.result.now) first) in
-    let scopes = subst (P ms) (sym (with_items_is i.items new (c.put_scope.ensures.many ∙ c.deref_mut-2.ensures.len))) own in
-    subst (λ m. P m (with_items i.items new).items) (sym (with_items_is i.marks ms (c.mark_scope.ensures.many ∙ c.deref_mut.ensures.len))) scopes
+    let first = subst (P i.marks.items) (sym c.deref_mut.ensures.value) c.self.invariant in
+    let more = subst (λ (l : List Bool). (k : ℕ) → is_marked l k ≡ true → is_marked ms k ≡ true) c.deref_mut-2.ensures.value c.mark_scope.ensures.others in
+    let own = behind_set ms c.args.first c.args.number c.args.scope c.deref_mut.result.now new c.put_scope.ensures.others c.put_scope.ensures.own c.mark_scope.ensures.own
+    (all_more i.marks.items ms more (map scope_of c.deref_mut.result.now) first) in
+    let scopes = subst (P ms) (sym (with_items_is i.items new (c.put_scope.ensures.many ∙ c.deref_mut.ensures.len))) own in
+    subst (λ m. P m (with_items i.items new).items) (sym (with_items_is i.marks ms (c.mark_scope.ensures.many ∙ c.deref_mut-2.ensures.len))) scopes
