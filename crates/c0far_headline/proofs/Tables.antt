@@ -34,9 +34,9 @@ promised_run headline honest z images words t ends some sure shows one =
           let said = headline loops text checks cells (images k) compiled meant means in (
             subst (λ (p : Program). Promised meant checks p (λ want. HasCause (Unit {0}) z images k want (start images) events)) (at k low) (said.0 z images events v k (some, follows) refl),
             subst (λ (p : Program). IsSettledIn meant checks (images k) p) (at k low) (λ s o ends_so.
-            let by = said.1 s o ends_so in
-            let stops = by.1 (images k) compiled in
-            (by.0, stops.0, stops.1 z images events v k (some, follows) refl)),
+                let by = said.1 s o ends_so in
+                let stops = by.1 (images k) compiled in
+                (by.0, stops.0, stops.1 z images events v k (some, follows) refl)),
           );
     }
 
