@@ -28,9 +28,9 @@ EndWithLast [] = ⊥
 EndWithLast (s ∷ []) = s.view.last ≡ true
 EndWithLast (s ∷ t ∷ ts) = EndWithLast (t ∷ ts)
 
--- the numbers of a table of this many objects and frames, with pieces of n cells
-abbrev pub sizes_of : ℕ → ℕ → ℕ → Sizes
-sizes_of objects frames n = record { objects = objects; frames = frames; cells = n }
+-- the numbers of a table of this many objects and frames, with pieces of n cells, and with so many seats at most
+abbrev pub sizes_of : ℕ → ℕ → ℕ → ℕ → Sizes
+sizes_of objects frames n seats = record { objects = objects; frames = frames; cells = n; seats = seats }
 
 -- The last seat of a table that is being made, which may make more: it is fresh, and that of program k; the objects of all programs from k on are its own
 abbrev pub IsLastOwner : {W C : Type 0} → TableView → ℕ → ℕ → ℕ → SeatView W C → Type 0

@@ -33,6 +33,10 @@ IsTable t = (t.sizes.objects ≤ 16777216) × (t.sizes.frames ≤ 1048576) × (i
 abbrev pub IsSeat : {W C : Type 0} → TableView → SeatView W C → Type 0
 IsSeat t s = (s.table ≡ t.id) × (s.view.sizes ≡ t.sizes) × (s.view.high ≤ t.sizes.objects) × (s.view.high ≤ length s.view.notes) × IsTable t
 
+-- the seat has no berth in hand: it is bringing no object in, and moving none out
+abbrev pub HasNoBerth : {W C : Type 0} → SeatView W C → Type 0
+HasNoBerth s = (s.view.hand.bringing ≡ None) × (s.view.hand.leaving ≡ None)
+
 -- the slots that are out: the berths themselves lie in the seat
 abbrev pub carried : {C : Type 0} → Option ℕ → Option ℕ → List (ℕ × Option (Berth C))
 carried (Some q) (Some p) = (q, None) ∷ (p, None) ∷ []

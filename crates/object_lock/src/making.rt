@@ -48,7 +48,7 @@ impl<S: RawStore> ObjectTable<S> {
     ) -> Result<OwnerSeat<S>, Want>
         requires table { IsSeat self.now last.old × (0 < self.now.sizes.objects) }
         requires unused { last.old.log ≡ [] }
-        requires last { (last.old.view.last ≡ true) × (last.old.view.number < 65535) × (share ≡ last.old.view.share) × (last.old.view.low + share ≤ last.old.view.high) }
+        requires last { (last.old.view.last ≡ true) × (last.old.view.number < 65535) × (share ≡ last.old.view.share) × (last.old.view.low + share ≤ last.old.view.high) × (last.old.view.number < self.now.sizes.seats) }
         ensures made { IfOk result (λ next. (last.new ≡ record last.old { view = first_part last.old.view }) × (next.table ≡ last.old.table) × (next.view ≡ next_owner last.old.view) × (next.log ≡ []) × (next.brought ≡ None) × (next.taken ≡ None) × (next.refusals ≡ no_refusals)) }
         ensures wants { IfErr result (λ want. want ≢ Want.NoObjects) }
     {
@@ -77,7 +77,7 @@ impl<S: RawStore> ObjectTable<S> {
     ) -> Result<MoverSeat<S>, Want>
         requires table { IsSeat self.now last.old × (0 < self.now.sizes.objects) }
         requires unused { last.old.log ≡ [] }
-        requires last { (last.old.view.last ≡ true) × (last.old.view.number < 65535) × (last.old.view.low ≤ last.old.view.high) }
+        requires last { (last.old.view.last ≡ true) × (last.old.view.number < 65535) × (last.old.view.low ≤ last.old.view.high) × (last.old.view.number < self.now.sizes.seats) }
         ensures made { IfOk result (λ next. (last.new ≡ record last.old { view = whole_part last.old.view }) × (next.table ≡ last.old.table) × (next.view ≡ next_mover last.old.view) × (next.log ≡ []) × (next.brought ≡ None) × (next.taken ≡ None) × (next.refusals ≡ no_refusals)) }
         ensures wants { IfErr result (λ want. want ≢ Want.NoObjects) }
     {
@@ -104,7 +104,7 @@ impl<S: RawStore> ObjectTable<S> {
         programs: usize,
         share: usize,
     ) -> Result<(Vec<OwnerSeat<S>>, OwnerSeat<S>), Want>
-        requires numbers { (0 < self.now.sizes.objects) × (0 < programs) × (programs ≤ 256) }
+        requires numbers { (0 < self.now.sizes.objects) × (0 < programs) × (programs ≤ 256) × (programs ≤ self.now.sizes.seats) }
         requires first { IsLastOwner self.now share programs 0 first }
         ensures made { IfOk result (λ t. AreNumbered 1 (programs - 1) t.0.items × All (IsFreshOwner self.now share) t.0.items × IsLastOwner self.now share programs (programs - 1) t.1) }
         ensures wants { IfErr result (λ want. want ≢ Want.NoObjects) }
@@ -129,7 +129,7 @@ impl<S: RawStore> ObjectTable<S> {
         owner: &mut OwnerSeat<S>,
         count: usize,
     ) -> Result<Vec<MoverSeat<S>>, Want>
-        requires numbers { (0 < self.now.sizes.objects) × (owner.old.view.number + count < 65535) }
+        requires numbers { (0 < self.now.sizes.objects) × (owner.old.view.number + count < 65535) × (owner.old.view.number + count ≤ self.now.sizes.seats) }
         requires owner { IsFresh self.now owner.old × (owner.old.view.low ≤ owner.old.view.high) × (owner.old.view.last ≡ true) }
         ensures made { IfOk result (λ v. AreNumbered (suc owner.old.view.number) count v.items × All (IsFreshMover self.now) v.items × (owner.new ≡ record owner.old { view = record owner.old.view { last = owner.new.view.last } })) }
         ensures last { IfOk result (λ v. EndWithLast (owner.new ∷ v.items)) }
@@ -163,7 +163,7 @@ impl<S: RawStore> ObjectTable<S> {
         share: usize,
         count: usize,
     ) -> Result<(Vec<OwnerSeat<S>>, Vec<MoverSeat<S>>), Want>
-        requires numbers { (0 < self.now.sizes.objects) × (0 < programs) × (programs ≤ 256) × (count ≤ 128) }
+        requires numbers { (0 < self.now.sizes.objects) × (0 < programs) × (programs ≤ 256) × (count ≤ 128) × (programs + count ≤ self.now.sizes.seats) }
         requires first { IsLastOwner self.now share programs 0 first }
         ensures made { IfOk result (λ t. AreNumbered 1 programs t.0.items × All (IsFreshOwner self.now share) t.0.items × AreNumbered (suc programs) count t.1.items × All (IsFreshMover self.now) t.1.items) }
         ensures last { IfOk result (λ t. EndWithLast (t.0.items ++ t.1.items)) }
@@ -178,8 +178,8 @@ impl<S: RawStore> ObjectTable<S> {
     }
 
     /// A table of `config`'s numbers, with frames for pieces of this size, whose objects are all away and in whose store nothing was put yet, with the seats of
-    /// the programs and those of the evacuators and then the fetchers: the table has no other seat. `OutOfMemory` where a growth was refused, and
-    /// the wants of making the stores and their cells.
+    /// the programs and those of the evacuators and then the fetchers: the table has no other seat, and its numbers tell how many these are. `OutOfMemory`
+    /// where a growth was refused, and the wants of making the stores and their cells.
     pub fn new<M: Stores<S = S> + Drop>(
         alloc: Global,
         programs: u32,
@@ -188,7 +188,7 @@ impl<S: RawStore> ObjectTable<S> {
     ) -> Result<(ObjectTable<S>, Vec<OwnerSeat<S>>, Vec<MoverSeat<S>>), Want>
         requires limits { IsWithinLimits programs config.now.frames config.now.objects config.now.evacuators config.now.fetchers }
         requires store { M.makes config.now.stores (cells_in piece + 3) }
-        ensures made { IfOk result (λ t. (t.0.sizes ≡ sizes_of config.now.objects config.now.frames (cells_in piece))
+        ensures made { IfOk result (λ t. (t.0.sizes ≡ sizes_of config.now.objects config.now.frames (cells_in piece) (programs + config.now.evacuators + config.now.fetchers))
             × AreNumbered 1 programs t.1.items × All (IsFreshOwner t.0 (config.now.objects / programs)) t.1.items
             × AreNumbered (suc programs) (config.now.evacuators + config.now.fetchers) t.2.items × All (IsFreshMover t.0) t.2.items) }
         ensures last { IfOk result (λ t. EndWithLast (t.1.items ++ t.2.items)) }
@@ -203,6 +203,7 @@ impl<S: RawStore> ObjectTable<S> {
             cells: piece.cells() as u64,
             share: share as u64,
             owned: (share * programs) as u64,
+            seats: programs as u64 + config.evacuators as u64 + config.fetchers as u64,
         };
         let slots = empty_berths(alloc, port.store(), config.objects as usize)?;
         let Ok((words, seat)) = LockWords::lay(alloc, shape, slots) else {

@@ -155,7 +155,7 @@ pub(crate) fn owner_and_mover<M: Stores + Drop>(
 ) -> Option<(ObjectTable<M::S>, OwnerSeat<M::S>, MoverSeat<M::S>)>
     requires objects { (0 < objects) × (objects ≤ 16777216) }
     requires store { M.makes stores 67 }
-    ensures { IfSome result (λ t. (t.0.sizes ≡ sizes_of objects 4 64) × IsFreshOwner t.0 (objects / 1) t.1 × IsFreshMover t.0 t.2) }
+    ensures { IfSome result (λ t. (t.0.sizes ≡ sizes_of objects 4 64 2) × IsFreshOwner t.0 (objects / 1) t.1 × IsFreshMover t.0 t.2) }
 {
     let config = Config {
         frames: 4,

@@ -111,7 +111,7 @@ pub fn admit<S: RawStore, M: Stores<S = S> + Drop>(
     requires { M.makes config.stores (first_piece (image_at programs.items) + 3) }
     ensures admitted { IfOk result (λ t. IsAdmitted programs.items config.frames config.objects config.evacuators config.fetchers) }
     ensures work { IfOk result (λ t. IsWithinWork config.workers config.quantum) }
-    ensures region { IfOk result (λ t. (t.0.programs ≡ programs.items) × (t.0.table.sizes ≡ sizes_of config.objects config.frames (first_piece (image_at programs.items)))) }
+    ensures region { IfOk result (λ t. (t.0.programs ≡ programs.items) × (t.0.table.sizes ≡ sizes_of config.objects config.frames (first_piece (image_at programs.items)) (length programs.items + config.evacuators + config.fetchers))) }
     ensures numbers { IfOk result (λ t. (t.0.objects ≡ config.objects / length programs.items * length programs.items) × (t.0.fetchers ≡ config.fetchers)) }
     ensures owners { IfOk result (λ t. AreNumbered 1 (length programs.items) t.1.items × All (IsFreshOwner t.0.table (config.objects / length programs.items)) t.1.items) }
     ensures movers { IfOk result (λ t. AreNumbered (suc (length programs.items)) (config.evacuators + config.fetchers) t.2.items × All (IsFreshMover t.0.table) t.2.items) }

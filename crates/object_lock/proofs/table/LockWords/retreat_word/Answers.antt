@@ -10,17 +10,17 @@ use Rattle.object_lock.proofs.Stored.{allowed_at}
 use Rattle.object_lock.proofs.Asks.{asks_retreat}
 use Rattle.object_lock.proofs.Left.{word_retreats}
 use Rattle.object_lock.proofs.Exact.{retreats_exactly}
-use Rattle.object_lock.specs.Logs.{bare}
+use Rattle.object_lock.specs.Joining.{own_view, own_seat}
 use Rattle.object_lock.proofs.table.LockWords.retreat_word.Goals as goal
 
 pub fetch_and-requires : goal.fetch_and-requires
-fetch_and-requires g c = let sized = c.args.self.now.sized.0 in let keyed = c.args.self.now.keyed in let same = c.requires.table.1 in let so = ap (λ (q : Sizes). q.objects) same in let sf = ap (λ (q : Sizes). q.frames) same in let near = c.requires.hands.0 in let q = c.requires.hands.3 in (c.requires.table.0, omega arith, allowed_at g.S.RawStore.fits g.S.RawStore.content g.S.RawStore.honest _ _ (same ∙ sym (ap sizes keyed)) _ _ _ _ (λ (m : ℕ). bit_and m keep_coming) (logs_retreat g.S.RawStore.honest (step c.args.self.now.table.shared.table_id.slots c.args.obj keep_coming 0 none) c.args.seat.now.me) (retreats (slot_keeps g.S.RawStore.fits g.S.RawStore.content c.args.seat.now.me.0.view.sizes.cells) (slot_has g.S.RawStore.fits c.args.seat.now.me.0.view.sizes.cells) _ _ _ _ _ _ q.0 c.requires.hands.1 q.1 q.2))
+fetch_and-requires g c = let sized = c.args.self.now.sized.0 in let keyed = c.args.self.now.keyed in let same = c.requires.table.1 in let so = ap (λ (q : Sizes). q.objects) same in let sf = ap (λ (q : Sizes). q.frames) same in let near = c.requires.hands.0 in let q = c.requires.hands.3 in (c.requires.table.0, omega arith, allowed_at g.S.RawStore.fits g.S.RawStore.content g.S.RawStore.honest _ _ (same ∙ sym (ap sizes keyed)) _ _ _ (λ (m : ℕ). bit_and m keep_coming) (logs_retreat g.S.RawStore.honest (step c.args.self.now.table.shared.table_id.slots c.args.obj keep_coming 0 none) (own_seat c.args.seat.now.me)) (retreats (slot_keeps g.S.RawStore.fits g.S.RawStore.content c.args.seat.now.me.0.view.sizes.cells) (slot_has g.S.RawStore.fits c.args.seat.now.me.0.view.sizes.cells) _ _ _ _ _ _ q.0 c.requires.hands.1 q.1 q.2))
 
 pub returns-clause-step : goal.returns-clause-step
-returns-clause-step g c = let t = c.fetch_and.ensures.2.0.0 in (t.0, t.2, asks_retreat g.S.RawStore.honest c.args.seat.now.me.0.view t.0 t.2.knew c.args.obj c.requires.hands.2 t.2.may, word_retreats t.0 c.args.seat.now.me.0.view.number c.args.obj)
+returns-clause-step g c = let t = c.fetch_and.ensures.2.0.0.0 in (t.0, t.2, asks_retreat g.S.RawStore.honest c.args.seat.now.me.0.view t.0 t.2.knew c.args.obj c.requires.hands.2 t.2.may, word_retreats t.0 c.args.seat.now.me.0.view.number c.args.obj)
 
 pub returns-clause-exactly : goal.returns-clause-exactly
-returns-clause-exactly g c = let e = retreats_exactly g.S.RawStore.honest (step 0 c.args.obj 0 0 none) (bare c.args.seat.now.me) _ (bare c.fetch_and.new.seat.me) c.fetch_and.ensures.2.0 in λ i. (e.0 i, e.1 i)
+returns-clause-exactly g c = let e = retreats_exactly g.S.RawStore.honest (step 0 c.args.obj 0 0 none) (own_view c.args.seat.now.me) _ (own_view c.fetch_and.new.seat.me) c.fetch_and.ensures.2.0.0 in λ i. (e.0 i, e.1 i)
 
 pub returns-clause-logged : goal.returns-clause-logged
-returns-clause-logged g c = (c.fetch_and.result, c.fetch_and.ensures.2.1)
+returns-clause-logged g c = (c.fetch_and.result, c.fetch_and.ensures.2.0.1)

@@ -7,9 +7,9 @@ use Rattle.object_lock.proofs.table.ObjectTable.owners.Goals as goal
 
 pub next_owner-requires-clause-last : goal.next_owner-requires-clause-last
 next_owner-requires-clause-last g c κs within =
-    let i = c.loop-program.invariant.2 in let k = c.loop-program._program in let v = c.loop-program.last.view in let l = c.loop-program-test.true in let p = c.requires.numbers.2 in let n = i.1 in
+    let i = c.loop-program.invariant.2 in let k = c.loop-program._program in let v = c.loop-program.last.view in let l = c.loop-program-test.true in let p = c.requires.numbers.2 in let seats = c.requires.numbers.3 in let n = i.1 in
     let room = room_for c.args.share c.args.programs k (omega arith) in
-    (i.5, omega arith, sym i.4, subst (λ (q : ℕ × ℕ). q.0 + c.args.share ≤ q.1) (λ j. (sym i.2 j, sym i.3 j)) room)
+    (i.5, omega arith, sym i.4, subst (λ (q : ℕ × ℕ). q.0 + c.args.share ≤ q.1) (λ j. (sym i.2 j, sym i.3 j)) room, omega arith)
 
 pub loop-program-preserved : goal.loop-program-preserved
 loop-program-preserved g c =

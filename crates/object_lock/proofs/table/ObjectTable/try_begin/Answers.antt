@@ -8,6 +8,7 @@ use Rattle.remote_store.specs.declared.berth.Berth.{Berth}
 use Rattle.object_lock.specs.Kept.{slot_keeps}
 use Rattle.object_lock.specs.Seats.{View, with_hand}
 use Rattle.object_lock.specs.Logs.{Seated, Adds, Deed, deed, tells_frame}
+use Rattle.object_lock.specs.Joining.{Joined}
 use Rattle.object_lock.proofs.Keeping.{is_so, not_kept}
 use Rattle.object_lock.specs.SeatViews.{SeatView}
 use Rattle.object_lock.specs.declared.answers.Begin.TheVariants as B
@@ -35,7 +36,7 @@ returns-else-found-count-clause-fetched g c none =
     let new : SeatView g.row.S.Denot g.row.S-Cell.Denot = record { table = w.new.seat.table_id; id = w.new.seat.id; view = w.new.seat.me.0.view; log = w.new.seat.me.0.log; brought = c.mover.inside.brought; taken = c.mover.inside.taken; store = c.mover.inside.port.store; refusals = c.mover.inside.port.refusals } in
     subst (λ (h : SeatView g.row.S.Denot g.row.S-Cell.Denot). Fetched g.S.RawStore.fits g.S.RawStore.content o h new c.begin_of.result) v
     (not_fetched g.S.RawStore.fits g.S.RawStore.content o old new t.1 c.begin_of.result (c.begin_of.ensures (counted t.0 t.1) t.2.1.0 t.2.0) t.2.1.1
-    (λ i. record { table = w.ensures.seat.0 i; id = w.ensures.seat.1 i; view = ap (λ (m : Me (Option (Berth g.row.S-Cell.Denot)) Seated). m.0.view) same i; log = ap (λ (m : Me (Option (Berth g.row.S-Cell.Denot)) Seated). m.0.log) same i; brought = c.mover.inside.brought; taken = c.mover.inside.taken; store = c.mover.inside.port.store; refusals = c.mover.inside.port.refusals }))
+    (λ i. record { table = w.ensures.seat.0 i; id = w.ensures.seat.1 i; view = ap (λ (m : Me (Option (Berth g.row.S-Cell.Denot)) Joined). m.0.view) same i; log = ap (λ (m : Me (Option (Berth g.row.S-Cell.Denot)) Joined). m.0.log) same i; brought = c.mover.inside.brought; taken = c.mover.inside.taken; store = c.mover.inside.port.store; refusals = c.mover.inside.port.refusals }))
 
 pub returns-then-found-count-clause-told : goal.returns-then-found-count-clause-told
 returns-then-found-count-clause-told g c held =
@@ -51,7 +52,7 @@ returns-then-found-count-clause-told g c held =
       λ i. record {
         table = (x.0 ∙ (w.ensures.seat.0 ∙ ap (λ (h : SeatView g.row.S.Denot g.row.S-Cell.Denot). h.table) v)) i;
         id = (x.1 ∙ (w.ensures.seat.1 ∙ ap (λ (h : SeatView g.row.S.Denot g.row.S-Cell.Denot). h.id) v)) i;
-        view = (ap (λ (m : Me (Option (Berth g.row.S-Cell.Denot)) Seated). m.0.view) x.3 ∙ (ap (λ (m : Me (Option (Berth g.row.S-Cell.Denot)) View). m.0) t.3 ∙ ap (λ (h : SeatView g.row.S.Denot g.row.S-Cell.Denot). with_hand h.view (bringing h.view.hand c.args.obj t.1)) v)) i;
+        view = (ap (λ (m : Me (Option (Berth g.row.S-Cell.Denot)) Joined). m.0.view) x.3 ∙ (ap (λ (m : Me (Option (Berth g.row.S-Cell.Denot)) View). m.0) t.3 ∙ ap (λ (h : SeatView g.row.S.Denot g.row.S-Cell.Denot). with_hand h.view (bringing h.view.hand c.args.obj t.1)) v)) i;
         log = c.exchange.new.seat.me.0.log;
         brought = b.2 i;
         taken = ap (λ (h : SeatView g.row.S.Denot g.row.S-Cell.Denot). h.taken) v i;
@@ -74,7 +75,7 @@ returns-then-found-count-clause-fetched g c none =
       λ i. record {
         table = (x.0 ∙ (w.ensures.seat.0 ∙ ap (λ (h : SeatView g.row.S.Denot g.row.S-Cell.Denot). h.table) v)) i;
         id = (x.1 ∙ (w.ensures.seat.1 ∙ ap (λ (h : SeatView g.row.S.Denot g.row.S-Cell.Denot). h.id) v)) i;
-        view = (ap (λ (m : Me (Option (Berth g.row.S-Cell.Denot)) Seated). m.0.view) x.3 ∙ (ap (λ (m : Me (Option (Berth g.row.S-Cell.Denot)) View). m.0) t.3 ∙ ap (λ (h : SeatView g.row.S.Denot g.row.S-Cell.Denot). with_hand h.view (bringing h.view.hand c.args.obj t.1)) v)) i;
+        view = (ap (λ (m : Me (Option (Berth g.row.S-Cell.Denot)) Joined). m.0.view) x.3 ∙ (ap (λ (m : Me (Option (Berth g.row.S-Cell.Denot)) View). m.0) t.3 ∙ ap (λ (h : SeatView g.row.S.Denot g.row.S-Cell.Denot). with_hand h.view (bringing h.view.hand c.args.obj t.1)) v)) i;
         log = c.exchange.new.seat.me.0.log;
         brought = b.2 i;
         taken = ap (λ (h : SeatView g.row.S.Denot g.row.S-Cell.Denot). h.taken) v i;
@@ -87,7 +88,7 @@ pub returns-then-found-count-clause-step : goal.returns-then-found-count-clause-
 returns-then-found-count-clause-step g c =
     let w = c.begin_word-found in let s = w.ensures.step in let o : ℕ = c.args.obj in let n : ℕ = c.args.count in let low = c.requires.low.1 in
     let e : c.mover.inside.seat.me.0.view ≡ c.args.mover.now.view = ap (λ (h : SeatView g.row.S.Denot g.row.S-Cell.Denot). h.view) c.mover.view_is in
-    let d : w.new.seat.me.0.view ≡ c.exchange.new.seat.me.0.view = sym (ap (λ (m : Me (Option (Berth g.row.S-Cell.Denot)) Seated). m.0.view) c.exchange.ensures.3) in
+    let d : w.new.seat.me.0.view ≡ c.exchange.new.seat.me.0.view = sym (ap (λ (m : Me (Option (Berth g.row.S-Cell.Denot)) Joined). m.0.view) c.exchange.ensures.3) in
     subst (λ (q : View × View). Steps g.S.RawStore.honest (Begins q.0.number o n (not (n == 0))) q.0 q.1 (λ x. B.Taken ≡ tried n (x.word o))) (λ i. (e i, d i))
     (s.0, s.1, s.2, tried_hit c.mover.inside.seat.me.0.view.sizes (s.0.word o) w.result n (omega arith) s.3 c.if-found-count.true)
 
@@ -102,7 +103,7 @@ pub returns-then-found-count-clause-logged : goal.returns-then-found-count-claus
 returns-then-found-count-clause-logged g c _ =
     let w = c.begin_word-found in let o : ℕ = c.args.obj in let n : ℕ = c.args.count in
     let e : c.mover.inside.seat.me.0.view ≡ c.args.mover.now.view = ap (λ (h : SeatView g.row.S.Denot g.row.S-Cell.Denot). h.view) c.mover.view_is in let l : c.mover.inside.seat.me.0.log ≡ c.args.mover.now.log = ap (λ (h : SeatView g.row.S.Denot g.row.S-Cell.Denot). h.log) c.mover.view_is in
-    let d : w.new.seat.me.0.log ≡ c.exchange.new.seat.me.0.log = sym (ap (λ (m : Me (Option (Berth g.row.S-Cell.Denot)) Seated). m.0.log) c.exchange.ensures.3) in
+    let d : w.new.seat.me.0.log ≡ c.exchange.new.seat.me.0.log = sym (ap (λ (m : Me (Option (Berth g.row.S-Cell.Denot)) Joined). m.0.log) c.exchange.ensures.3) in
     let made = is_so c.mover.inside.seat.me.0.log w.new.seat.me.0.log (deed o w.result (Begins c.mover.inside.seat.me.0.view.number o n (not (n == 0)))) (ap (λ (a : Bool). a || (not (n == 0) && tells_frame w.result)) (eq-eqb w.result n c.if-found-count.true)) w.ensures.logged in
     subst (λ (q : Seated × List Deed). Adds q.0.log q.1 o (Begins q.0.view.number o n (not (n == 0))) (λ k. k ≡ n)) (λ i. (record { view = e i; log = l i }, d i)) (w.result, made, c.if-found-count.true)
 

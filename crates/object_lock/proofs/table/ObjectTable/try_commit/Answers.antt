@@ -8,7 +8,8 @@ use Rattle.pointer_word.proofs.Bits.{is_marked_here}
 use Rattle.object_lock.specs.Plays.{Found, Steps}
 use Rattle.remote_store.specs.declared.berth.Berth.{Berth}
 use Rattle.object_lock.specs.Seats.{Sizes, View}
-use Rattle.object_lock.specs.Logs.{AddsTry, Deed, Seated, bare}
+use Rattle.object_lock.specs.Logs.{AddsTry, Deed, Seated}
+use Rattle.object_lock.specs.Joining.{Joined, own_view}
 use Rattle.object_lock.specs.SeatViews.{TableView, SeatView}
 use Rattle.object_lock.proofs.Answered.{put_copied}
 use Rattle.object_lock.proofs.table.ObjectTable.try_commit.Goals as goal
@@ -17,26 +18,26 @@ pub commit_word-found-requires-clause-copied : goal.commit_word-found-requires-c
 commit_word-found-requires-clause-copied g c κs within =
     let e : c.mover.inside.seat.me.0.view ≡ c.args.mover.now.view = ap (λ (h : SeatView g.row.S.Denot g.row.S-Cell.Denot). h.view) c.mover.view_is in
     let taken : Path (Option (Berth g.row.S-Cell.Denot)) c.take-berth.result c.args.mover.now.taken = c.take-berth.ensures.value ∙ ap (λ (h : SeatView g.row.S.Denot g.row.S-Cell.Denot). h.taken) c.mover.view_is in
-    put_copied g.S.RawStore.fits g.S.RawStore.content c.args.obj (bare c.exchange.new.seat.me) c.mover.inside.seat.me.0.view _ c.take-berth.result c.args.mover.now _ _ (ap bare c.exchange.ensures.3) e taken
+    put_copied g.S.RawStore.fits g.S.RawStore.content c.args.obj (own_view c.exchange.new.seat.me) c.mover.inside.seat.me.0.view _ c.take-berth.result c.args.mover.now _ _ (ap own_view c.exchange.ensures.3) e taken
     (ap (λ (v : View). v.sizes.cells) e ∙ ap (λ (z : Sizes). z.cells) c.requires.table.1) (ap (λ (t : TableView). t.sizes.cells) c.self.view_is) c.requires.put
 
 pub returns-then-found-marked-clause-logged : goal.returns-then-found-marked-clause-logged
 returns-then-found-marked-clause-logged g c =
     let e : c.mover.inside.seat.me.0.view ≡ c.args.mover.now.view = ap (λ (h : SeatView g.row.S.Denot g.row.S-Cell.Denot). h.view) c.mover.view_is in let f : c.mover.inside.seat.me.0.log ≡ c.args.mover.now.log = ap (λ (h : SeatView g.row.S.Denot g.row.S-Cell.Denot). h.log) c.mover.view_is in
-    let d : c.exchange.new.seat.me.0 ≡ c.mover.inside.seat.me.0 = ap (λ (m : Me (Option (Berth g.row.S-Cell.Denot)) Seated). m.0) c.exchange.ensures.3 in
-    let v : c.exchange.new.seat.me.0.view ≡ c.args.mover.now.view = ap (λ (q : Seated). q.view) d ∙ e in let l : c.exchange.new.seat.me.0.log ≡ c.args.mover.now.log = ap (λ (q : Seated). q.log) d ∙ f in
+    let d : c.exchange.new.seat.me.0 ≡ c.mover.inside.seat.me.0 = ap (λ (m : Me (Option (Berth g.row.S-Cell.Denot)) Joined). m.0) c.exchange.ensures.3 in
+    let v : c.exchange.new.seat.me.0.view ≡ c.args.mover.now.view = ap (λ (q : Joined). q.view) d ∙ e in let l : c.exchange.new.seat.me.0.log ≡ c.args.mover.now.log = ap (λ (q : Joined). q.log) d ∙ f in
     let source : c.mover.inside.source ≡ c.args.mover.now.view.hand.source = c.mover.invariant.7 ∙ ap (λ (q : View). q.hand.source) e in let number : c.mover.inside.number ≡ c.args.mover.now.view.number = c.mover.invariant.0 ∙ ap (λ (q : View). q.number) e in
     let bits : c.leaving-marked.result.bits ≡ face (Leaving c.args.mover.now.view.hand.source c.args.mover.now.view.number true) 0 = c.leaving-marked.ensures ∙ ap₂ (λ (k m : ℕ). face (Leaving k m true) 0) source number in
     let cells : c.self.inside.words.shape.cells ≡ c.args.self.now.sizes.cells = ap (λ (t : TableView). t.sizes.cells) c.self.view_is in
     let made = subst (λ (q : ℕ × Seated). AddsTry q.0 q.1.view q.1.log c.commit_word-found.new.seat.me.0.log c.args.obj c.commit_word-found.result) (λ i. (cells i, record { view = v i; log = l i })) c.commit_word-found.ensures.logged in
-    let back : c.commit_word-found.new.seat.me.0.log ≡ c.exchange-then-found-marked.new.seat.me.0.log = sym (ap (λ (m : Me (Option (Berth g.row.S-Cell.Denot)) Seated). m.0.log) c.exchange-then-found-marked.ensures.3) in
+    let back : c.commit_word-found.new.seat.me.0.log ≡ c.exchange-then-found-marked.new.seat.me.0.log = sym (ap (λ (m : Me (Option (Berth g.row.S-Cell.Denot)) Joined). m.0.log) c.exchange-then-found-marked.ensures.3) in
     (c.commit_word-found.result, subst (λ (ds : List Deed). AddsTry c.args.self.now.sizes.cells c.args.mover.now.view c.args.mover.now.log ds c.args.obj c.commit_word-found.result) back made, ((λ h. absurd (cc)), (λ h. absurd (c.if-found-marked.true (h ∙ sym bits)))))
 
 pub returns-clause-logged : goal.returns-clause-logged
 returns-clause-logged g c =
     let e : c.mover.inside.seat.me.0.view ≡ c.args.mover.now.view = ap (λ (h : SeatView g.row.S.Denot g.row.S-Cell.Denot). h.view) c.mover.view_is in let f : c.mover.inside.seat.me.0.log ≡ c.args.mover.now.log = ap (λ (h : SeatView g.row.S.Denot g.row.S-Cell.Denot). h.log) c.mover.view_is in
-    let d : c.exchange.new.seat.me.0 ≡ c.mover.inside.seat.me.0 = ap (λ (m : Me (Option (Berth g.row.S-Cell.Denot)) Seated). m.0) c.exchange.ensures.3 in
-    let v : c.exchange.new.seat.me.0.view ≡ c.args.mover.now.view = ap (λ (q : Seated). q.view) d ∙ e in let l : c.exchange.new.seat.me.0.log ≡ c.args.mover.now.log = ap (λ (q : Seated). q.log) d ∙ f in
+    let d : c.exchange.new.seat.me.0 ≡ c.mover.inside.seat.me.0 = ap (λ (m : Me (Option (Berth g.row.S-Cell.Denot)) Joined). m.0) c.exchange.ensures.3 in
+    let v : c.exchange.new.seat.me.0.view ≡ c.args.mover.now.view = ap (λ (q : Joined). q.view) d ∙ e in let l : c.exchange.new.seat.me.0.log ≡ c.args.mover.now.log = ap (λ (q : Joined). q.log) d ∙ f in
     let source : c.mover.inside.source ≡ c.args.mover.now.view.hand.source = c.mover.invariant.7 ∙ ap (λ (q : View). q.hand.source) e in let number : c.mover.inside.number ≡ c.args.mover.now.view.number = c.mover.invariant.0 ∙ ap (λ (q : View). q.number) e in
     let bits : c.leaving-marked.result.bits ≡ face (Leaving c.args.mover.now.view.hand.source c.args.mover.now.view.number true) 0 = c.leaving-marked.ensures ∙ ap₂ (λ (k m : ℕ). face (Leaving k m true) 0) source number in
     let cells : c.self.inside.words.shape.cells ≡ c.args.self.now.sizes.cells = ap (λ (t : TableView). t.sizes.cells) c.self.view_is in
@@ -46,19 +47,19 @@ returns-clause-logged g c =
 pub returns-then-found-marked-clause-step : goal.returns-then-found-marked-clause-step
 returns-then-found-marked-clause-step g c =
     let e : c.mover.inside.seat.me.0.view ≡ c.args.mover.now.view = ap (λ (h : SeatView g.row.S.Denot g.row.S-Cell.Denot). h.view) c.mover.view_is in let f : c.mover.inside.seat.me.0.log ≡ c.args.mover.now.log = ap (λ (h : SeatView g.row.S.Denot g.row.S-Cell.Denot). h.log) c.mover.view_is in
-    let d : c.exchange.new.seat.me.0 ≡ c.mover.inside.seat.me.0 = ap (λ (m : Me (Option (Berth g.row.S-Cell.Denot)) Seated). m.0) c.exchange.ensures.3 in
-    let v : c.exchange.new.seat.me.0.view ≡ c.args.mover.now.view = ap (λ (q : Seated). q.view) d ∙ e in let l : c.exchange.new.seat.me.0.log ≡ c.args.mover.now.log = ap (λ (q : Seated). q.log) d ∙ f in
+    let d : c.exchange.new.seat.me.0 ≡ c.mover.inside.seat.me.0 = ap (λ (m : Me (Option (Berth g.row.S-Cell.Denot)) Joined). m.0) c.exchange.ensures.3 in
+    let v : c.exchange.new.seat.me.0.view ≡ c.args.mover.now.view = ap (λ (q : Joined). q.view) d ∙ e in let l : c.exchange.new.seat.me.0.log ≡ c.args.mover.now.log = ap (λ (q : Joined). q.log) d ∙ f in
     let source : c.mover.inside.source ≡ c.args.mover.now.view.hand.source = c.mover.invariant.7 ∙ ap (λ (q : View). q.hand.source) e in let number : c.mover.inside.number ≡ c.args.mover.now.view.number = c.mover.invariant.0 ∙ ap (λ (q : View). q.number) e in
     let bits : c.leaving-marked.result.bits ≡ face (Leaving c.args.mover.now.view.hand.source c.args.mover.now.view.number true) 0 = c.leaving-marked.ensures ∙ ap₂ (λ (k m : ℕ). face (Leaving k m true) 0) source number in
-    let back : c.commit_word-found.new.seat.me.0.view ≡ c.exchange-then-found-marked.new.seat.me.0.view = sym (ap (λ (m : Me (Option (Berth g.row.S-Cell.Denot)) Seated). m.0.view) c.exchange-then-found-marked.ensures.3) in
+    let back : c.commit_word-found.new.seat.me.0.view ≡ c.exchange-then-found-marked.new.seat.me.0.view = sym (ap (λ (m : Me (Option (Berth g.row.S-Cell.Denot)) Joined). m.0.view) c.exchange-then-found-marked.ensures.3) in
     let s = subst (λ (q : View × View). Steps g.S.RawStore.honest (Commits q.0.number c.args.obj q.0.hand.source) q.0 q.1 (λ x. Found q.0.sizes (x.word c.args.obj) c.commit_word-found.result)) (λ i. (v i, back i)) c.commit_word-found.ensures.step in
     (s.0, s.1, s.2, ((λ h. absurd (cc)), (λ h. absurd (c.if-found-marked.true (s.3.0 ∙ ap pack h ∙ sym bits)))))
 
 pub returns-clause-step : goal.returns-clause-step
 returns-clause-step g c =
     let e : c.mover.inside.seat.me.0.view ≡ c.args.mover.now.view = ap (λ (h : SeatView g.row.S.Denot g.row.S-Cell.Denot). h.view) c.mover.view_is in let f : c.mover.inside.seat.me.0.log ≡ c.args.mover.now.log = ap (λ (h : SeatView g.row.S.Denot g.row.S-Cell.Denot). h.log) c.mover.view_is in
-    let d : c.exchange.new.seat.me.0 ≡ c.mover.inside.seat.me.0 = ap (λ (m : Me (Option (Berth g.row.S-Cell.Denot)) Seated). m.0) c.exchange.ensures.3 in
-    let v : c.exchange.new.seat.me.0.view ≡ c.args.mover.now.view = ap (λ (q : Seated). q.view) d ∙ e in let l : c.exchange.new.seat.me.0.log ≡ c.args.mover.now.log = ap (λ (q : Seated). q.log) d ∙ f in
+    let d : c.exchange.new.seat.me.0 ≡ c.mover.inside.seat.me.0 = ap (λ (m : Me (Option (Berth g.row.S-Cell.Denot)) Joined). m.0) c.exchange.ensures.3 in
+    let v : c.exchange.new.seat.me.0.view ≡ c.args.mover.now.view = ap (λ (q : Joined). q.view) d ∙ e in let l : c.exchange.new.seat.me.0.log ≡ c.args.mover.now.log = ap (λ (q : Joined). q.log) d ∙ f in
     let source : c.mover.inside.source ≡ c.args.mover.now.view.hand.source = c.mover.invariant.7 ∙ ap (λ (q : View). q.hand.source) e in let number : c.mover.inside.number ≡ c.args.mover.now.view.number = c.mover.invariant.0 ∙ ap (λ (q : View). q.number) e in
     let bits : c.leaving-marked.result.bits ≡ face (Leaving c.args.mover.now.view.hand.source c.args.mover.now.view.number true) 0 = c.leaving-marked.ensures ∙ ap₂ (λ (k m : ℕ). face (Leaving k m true) 0) source number in
     let s = subst (λ (q : View). Steps g.S.RawStore.honest (Commits q.number c.args.obj q.hand.source) q c.commit_word-found.new.seat.me.0.view (λ x. Found q.sizes (x.word c.args.obj) c.commit_word-found.result)) v c.commit_word-found.ensures.step in

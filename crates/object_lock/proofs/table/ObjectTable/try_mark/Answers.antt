@@ -5,7 +5,7 @@ use Rattle.atomic_table.specs.Table.{Me}
 use Rattle.pointer_word.specs.Hands.{marking}
 use Rattle.remote_store.specs.declared.berth.Berth.{Berth}
 use Rattle.object_lock.specs.Seats.{View, with_hand}
-use Rattle.object_lock.specs.Logs.{Seated}
+use Rattle.object_lock.specs.Joining.{Joined}
 use Rattle.object_lock.specs.SeatViews.{SeatView}
 use Rattle.object_lock.proofs.Answered.{berth_there, first_slot}
 use Rattle.object_lock.proofs.table.ObjectTable.try_mark.Goals as goal
@@ -20,7 +20,7 @@ returns-then-found-plain-clause-told g c =
       λ i. record {
         table = (x.0 ∙ (w.ensures.seat.0 ∙ ap (λ (h : SeatView g.row.S.Denot g.row.S-Cell.Denot). h.table) v)) i;
         id = (x.1 ∙ (w.ensures.seat.1 ∙ ap (λ (h : SeatView g.row.S.Denot g.row.S-Cell.Denot). h.id) v)) i;
-        view = (ap (λ (m : Me (Option (Berth g.row.S-Cell.Denot)) Seated). m.0.view) x.3 ∙ (ap (λ (m : Me (Option (Berth g.row.S-Cell.Denot)) View). m.0) t.2 ∙ ap (λ (h : SeatView g.row.S.Denot g.row.S-Cell.Denot). with_hand h.view (marking h.view.hand c.args.obj c.args.frame)) v)) i;
+        view = (ap (λ (m : Me (Option (Berth g.row.S-Cell.Denot)) Joined). m.0.view) x.3 ∙ (ap (λ (m : Me (Option (Berth g.row.S-Cell.Denot)) View). m.0) t.2 ∙ ap (λ (h : SeatView g.row.S.Denot g.row.S-Cell.Denot). with_hand h.view (marking h.view.hand c.args.obj c.args.frame)) v)) i;
         log = c.exchange.new.seat.me.0.log;
         brought = ap (λ (h : SeatView g.row.S.Denot g.row.S-Cell.Denot). h.brought) v i;
         taken = b.1 i;
