@@ -59,7 +59,10 @@ fn run_region<S: RawStore, O: Stream, R: Wait>(
     };
     program.bound(limit);
     match go_on(rt, &mut program, quantum, out) {
-        Ok(()) => Ok(program.into_finished()),
+        Ok(()) => {
+            let (finished, _seat) = program.into_finished();
+            Ok(finished)
+        }
         Err(Failed) => Err(LiveError::Unwritten),
     }
 }

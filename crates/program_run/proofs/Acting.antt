@@ -1,5 +1,5 @@
 -- What a session did in turns, one behind the other.
-use Rattle.std.proofs.Common.{◌∙◌, inl, inr, List, [], ◌∷◌, Some, None, subst, sym}
+use Rattle.std.proofs.Common.{◌≡◌, ◌∙◌, inl, inr, List, [], ◌∷◌, Some, None, ap, subst, sym}
 use Rattle.cells.specs.declared.ending.Run.{Run}
 use Rattle.cells.specs.declared.ending.Run.TheVariants.{Running, Stopped, Wanted}
 use Rattle.cells.specs.declared.ending.Want.{Want}
@@ -8,8 +8,11 @@ use Rattle.code_form.specs.Form.{Image}
 use Rattle.code_form.specs.declared.touch.Touch.{Touch}
 use Rattle.code_form.specs.declared.touch.Touch.TheVariants as touch
 use Rattle.session.specs.Performing.{Acts, ComesToWant, LosesAt, Performs, PerformsBy, PerformsSome}
-use Rattle.session.specs.State.{Logged, SameProgram, State}
-use Rattle.program_run.specs.Acting.{HasActed, IsActedOver, Share, session_begun}
+use Rattle.session.specs.State.{Logged, SameProgram, State, begin}
+use Rattle.atomic_table.specs.Seated.{TableId}
+use Rattle.object_lock.specs.Seats.{View}
+use Rattle.remote_store.specs.Refusing.{no_refusals}
+use Rattle.program_run.specs.Acting.{HasActed, IsActedOver, IsUnused, Share, session_begun}
 use Rattle.program_run.specs.declared.run.Finished.{Finished}
 
 -- instructions were completed, and then others
@@ -28,8 +31,11 @@ same_on s u t first more = (more.0 ∙ first.0, more.1 ∙ first.1, more.2 ∙ f
 -- what a session did that went on, and then one turn more
 pub acted_on : (honest reliable : Type 0) (u t : Logged) (r : Run) → HasActed honest reliable u.state.image u Running → Acts honest reliable u t r → SameProgram u.state t.state → HasActed honest reliable t.state.image t r
 acted_on honest reliable u t r was more same =
-    let s = session_begun u.state.image was.0 in
-    subst (λ (D : Image). HasActed honest reliable D t r) (sym same.0) (was.0, was.1, same_on s.state u.state t.state was.2 same, acts_on honest reliable s u t r was.3 more)
+    let table : u.state.table ≡ t.state.table = sym (ap (λ (z : TableId × View). z.0) same.3) in
+    let s : TableId → Logged = λ z. session_begun z u.state.image was.0 in
+    subst (λ (D : Image). HasActed honest reliable D t r) (sym same.0) (subst
+    (λ (z : TableId). (v : View) × IsUnused v × SameProgram (begin z u.state.image v no_refusals) t.state × Acts honest reliable (session_begun z u.state.image v) t r) table
+    (was.0, was.1, same_on (s u.state.table).state u.state t.state was.2 same, acts_on honest reliable (s u.state.table) u t r was.3 more))
 
 -- ---- a store that is honest
 
@@ -58,7 +64,11 @@ acts_honest h g reliable s t (Wanted w) so d = (d.0, (d.1.0, by_honest h g d.1.0
 
 -- what a session did over a store that is honest
 pub acted_honest : (honest reliable : Type 0) (C : Image) (t : Logged) (r : Run) → honest → HasActed honest reliable C t r → HasActed (Unit {0}) reliable C t r
-acted_honest honest reliable C t r is a = (a.0, a.1, a.2, acts_honest honest (Unit {0}) reliable (session_begun C a.0) t r (λ q. is) a.3)
+acted_honest honest reliable C t r is a = (a.0, a.1, a.2, acts_honest honest (Unit {0}) reliable (session_begun t.state.table C a.0) t r (λ q. is) a.3)
+
+-- and over one that may be honest or not
+pub acted_so : (honest reliable : Type 0) (C : Image) (t : Logged) (r : Run) → HasActed (Unit {0}) reliable C t r → HasActed honest reliable C t r
+acted_so honest reliable C t r a = (a.0, a.1, a.2, acts_honest (Unit {0}) honest reliable (session_begun t.state.table C a.0) t r (λ q. tt) a.3)
 
 -- ---- a store of which less is asked
 
@@ -94,7 +104,7 @@ acts_less h r q s t (Wanted w) less d = (d.0, d.1, record { safe = d.2.safe; goi
 -- what a session did over a store it did over one of which less is asked
 pub acted_less : (r q : Type 0) (w : Share) (C : Image) (f : Finished) → (q → r) → IsActedOver r w C f → IsActedOver q w C f
 acted_less r q w C f less a =
-    let s = session_begun C a.acted.0 in
+    let s = session_begun a.last.state.table C a.acted.0 in
     record {
       last = a.last;
       acted = (a.acted.0, a.acted.1, a.acted.2, acts_less (Unit {0}) r q s a.last f.end.run less a.acted.3);

@@ -3,6 +3,7 @@ use Rattle.std.specs.Prelude.{◌≡◌, ◌≢◌, ℕ, ◌+◌, ◌≤◌, Boo
 use Rattle.cells.specs.declared.ending.Run.{Run}
 use Rattle.cells.specs.declared.ending.Run.TheVariants.{Running, Stopped, Wanted}
 use Rattle.cells.specs.declared.ending.Want.TheVariants.{StoreFailed}
+use Rattle.object_lock.specs.SeatViews.{TableView}
 use Rattle.session.specs.State.{CompletesUpTo, IsAt, IsGoing, Logged, State}
 use Rattle.remote_store.specs.Refusing.{no_refusals}
 use Rattle.remote_store.specs.declared.port.Refusals.{Refusals}
@@ -12,8 +13,9 @@ use Rattle.program_run.specs.Executed.{HasRefused, IsOver}
 use Rattle.program_run.specs.declared.run.Turn.{Turn}
 use Rattle.program_run.specs.declared.run.Turn.TheVariants as turn
 
--- a program that is run: the programs of its region, its number, where its objects begin and how many they are, how many instructions it completed, what was refused through its own port, what it printed, and whether its run is over
+-- a program that is run: the table and the programs of its region, its number, where its objects begin and how many they are, how many instructions it completed, what was refused through its own port, what it printed, and whether its run is over
 pub record RunView : Type 0 where
+  pub table : TableView
   pub programs : List Verified
   pub number : ℕ
   pub first : ℕ
@@ -23,9 +25,9 @@ pub record RunView : Type 0 where
   pub printed : List ℕ
   pub over : Bool
 
--- this one of these programs, at its beginning
-abbrev pub begun : List Verified → Share → RunView
-begun programs w = record { programs = programs; number = w.program; first = w.first; objects = w.objects; completed = 0; refusals = no_refusals; printed = []; over = false }
+-- this one of these programs, at its beginning, at a seat of this table
+abbrev pub begun : TableView → List Verified → Share → RunView
+begun table programs w = record { table = table; programs = programs; number = w.program; first = w.first; objects = w.objects; completed = 0; refusals = no_refusals; printed = []; over = false }
 
 -- which program it is, with which objects
 abbrev pub share_in : RunView → Share

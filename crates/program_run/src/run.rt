@@ -5,7 +5,7 @@ ghost use Rattle.cells.specs.declared.ending.Want.TheVariants.{OutOfMemory, Stor
 ghost use Rattle.cells.specs.Outcomes.{IsPrefix};
 ghost use Rattle.code_form.specs.Code.{output_of};
 ghost use Rattle.object_lock.specs.Fresh.{IsFresh};
-ghost use Rattle.program_run.specs.Acting.{HasActed, share_at};
+ghost use Rattle.program_run.specs.Acting.{HasActed, IsLeft, share_at};
 ghost use Rattle.program_run.specs.Executed.{HasRefused, HasRunOn, IsFinishedOver};
 ghost use Rattle.program_run.specs.Runs.{HasTurned, begun, share_in};
 ghost use Rattle.region.specs.Admission.{image_at};
@@ -42,6 +42,7 @@ fn run_on<S: RawStore, W: Wait>(rt: &W, session: &mut Session<'_, S>, quantum: u
     requires room { session.old.state.completed + quantum < 2 ^ 64 }
     ensures at { S.honest → IsAt session.new.state }
     ensures same { SameProgram session.old.state session.new.state }
+    ensures seat { (session.new.state.table ≡ session.old.state.table) × (session.new.state.view.sizes ≡ session.old.state.view.sizes) }
     ensures told { HasRunOn S.reliable quantum session.old.state session.new.state result }
     ensures sure { S.honest → S.reliable → result ≢ Wanted StoreFailed }
     ensures own { S.honest → session.old.state.refusals ≡ no_refusals → HasRefused result session.new.state.refusals }
@@ -81,7 +82,7 @@ pub struct Finished {
     pub counts: Counts,
 }
 
-/// A program of a region that is run to its end at its seat. A contract sees the region's programs, the number of this one, where its objects begin and how many
+/// A program of a region that is run to its end at its seat. A contract sees the region's table and programs, the number of this one, where its objects begin and how many
 /// they are, how many instructions it completed, what was refused through its own port, what it printed, and whether its run is over.
 #[derive(Drop)]
 pub struct ProgramRun<'a, S: RawStore> {
@@ -101,13 +102,15 @@ impl<'a, S: RawStore> Model for ProgramRun<'a, S> {
 
     ghost Value = { RunView };
 
-    ghost view = { λ p. record { programs = p.region.now.programs; number = p.number; first = p.session.state.view.low; objects = p.session.state.view.high - p.session.state.view.low; completed = p.session.state.completed; refusals = p.session.state.refusals; printed = output_of p.session.state.core; over = is_over p.run } };
+    ghost view = { λ p. record { table = p.region.now.table; programs = p.region.now.programs; number = p.number; first = p.session.state.view.low; objects = p.session.state.view.high - p.session.state.view.low; completed = p.session.state.completed; refusals = p.session.state.refusals; printed = output_of p.session.state.core; over = is_over p.run } };
 
     ghost invariant = { λ p.
         IsOnRun S.honest S.reliable p.session p.run
         × (p.number < length p.region.now.programs)
         × (p.session.state.image ≡ image_at p.region.now.programs p.number)
-        × (p.session.state.view.number ≡ suc p.number) };
+        × (p.session.state.view.number ≡ suc p.number)
+        × (p.session.state.table ≡ p.region.now.table.id)
+        × (p.session.state.view.sizes ≡ p.region.now.table.sizes) };
 }
 
 impl<'a, S: RawStore> ProgramRun<'a, S> {
@@ -125,7 +128,7 @@ impl<'a, S: RawStore> ProgramRun<'a, S> {
         requires program { (0 < seat.view.number) × (seat.view.number ≤ length region.now.programs) }
         requires pass { pass ≡ hints.now }
         requires cells { region.now.table.sizes.cells ≡ (image_at region.now.programs (seat.view.number - 1)).piece }
-        ensures begun { IfOk result (λ p. p ≡ begun region.now.programs (share_at seat.view)) }
+        ensures begun { IfOk result (λ p. p ≡ begun region.now.table region.now.programs (share_at seat.view)) }
         ensures wants { IfErr result (λ want. want ≡ OutOfMemory) }
     {
         // For the proof alone: there are at most 256 programs.
@@ -194,13 +197,14 @@ impl<'a, S: RawStore> ProgramRun<'a, S> {
 
     /// What it printed, how it ended, and how many instructions it completed: over an honest store those of the code's run, and what its session came to by what it did,
     /// instruction by instruction, in all its turns, at its seat. Beside it, what was refused through its own port to the store: over an honest store one call where it
-    /// wants the store, and else none.
-    pub fn into_finished(self) -> Finished
+    /// wants the store, and else none. And its seat: all that it did is what the session did.
+    pub fn into_finished(self) -> (Finished, OwnerSeat<S>)
         requires over { self.over ≡ true }
-        ensures end { S.honest → IsFinishedOver S.reliable (share_in self.entry) (image_at self.entry.programs self.entry.number) result }
-        ensures refusals { result.refusals ≡ self.entry.refusals }
-        ensures printed { result.end.output.items ≡ self.entry.printed }
-        ensures completed { result.end.completed ≡ self.entry.completed }
+        ensures end { S.honest → IsFinishedOver S.reliable (share_in self.entry) (image_at self.entry.programs self.entry.number) result.0 }
+        ensures seat { IsLeft S.honest S.reliable self.entry.table (share_in self.entry) (image_at self.entry.programs self.entry.number) result.0 result.1 }
+        ensures refusals { result.0.refusals ≡ self.entry.refusals }
+        ensures printed { result.0.end.output.items ≡ self.entry.printed }
+        ensures completed { result.0.end.completed ≡ self.entry.completed }
     {
         let ProgramRun {
             session,
@@ -212,16 +216,18 @@ impl<'a, S: RawStore> ProgramRun<'a, S> {
         let completed = session.completed();
         let refusals = session.refusals();
         let counts = session.counts();
+        let (output, seat) = session.into_parts();
         let end = Ended {
-            output: session.into_output(),
+            output,
             run,
             completed,
         };
-        Finished {
+        let finished = Finished {
             end,
             refusals,
             turns,
             counts,
-        }
+        };
+        (finished, seat)
     }
 }

@@ -206,7 +206,7 @@ module _ (s t : State) (k o : ℕ) (ok : IsHolding s) (l : k < length s.holds) (
     refusals = ap (λ (u : State). u.refusals) h.same;
     low = h.takes.low;
     high = h.takes.high;
-    seat = h.takes.seat;
+    seat = λ i. (ap (λ (u : State). u.table) h.same i, h.takes.seat i);
     stored = λ p. ap (λ (z : Note). z.history) (at p) ∙ stored_note s.view o n p here refl;
     others = λ j ne. ap (λ (u : State). hold_at u.holds j) h.same ∙ get_or-set_other s.holds k j (Some (a_hold o f false)) None ne;
     many = ap (λ (u : State). length u.holds) h.same ∙ length-set s.holds k (Some (a_hold o f false));

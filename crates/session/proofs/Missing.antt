@@ -75,7 +75,7 @@ module _ (reliable : Type 0) (s t : State) (o : ℕ) (ok : IsHolding s) (own : O
       refusals = refl;
       low = m.gives.low;
       high = m.gives.high;
-      seat = m.gives.seat;
+      seat = λ i. (ap (λ (u : State). u.table) m.same i, m.gives.seat i);
       stored = λ p. ap (λ (z : Note). z.history) (at p) ∙ stored_note s.view o n p here refl;
     },
     m.refused,

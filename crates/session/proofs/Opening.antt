@@ -18,6 +18,7 @@ use Rattle.pointer_word.specs.Hands.{Note, blank, latest_of}
 use Rattle.object_lock.specs.Fresh.{IsFresh}
 use Rattle.object_lock.specs.SeatViews.{SeatView, TableView}
 use Rattle.object_lock.specs.Seats.{View}
+use Rattle.atomic_table.specs.Seated.{TableId}
 use Rattle.session.specs.declared.hold.Hold.{Hold}
 use Rattle.object_moves.specs.Taken.{Refused}
 use Rattle.remote_store.specs.declared.port.Refusals.{Refusals}
@@ -63,8 +64,8 @@ blank_seat t s f low =
       quiet = (ap (λ h. h.bringing) hand, ap (λ h. h.leaving) hand, ap (λ h. h.claimed) hand, ap (λ h. h.freed) hand);
     }
 
-pub opened_run : (honest : Type 0) (C : Image) (v : View) (n : Refusals) → IsBlank v → most_scopes C.functions ≤ 4 → IsRun honest (begin C v n)
-opened_run honest C v n f few =
+pub opened_run : (honest : Type 0) (t : TableId) (C : Image) (v : View) (n : Refusals) → IsBlank v → most_scopes C.functions ≤ 4 → IsRun honest (begin t C v n)
+opened_run honest t C v n f few =
     let b = begins_so (slice_get C.functions 0) in
     let none : Option Hold = None in
     record {
@@ -82,7 +83,7 @@ opened_run honest C v n f few =
           few = few;
           quiet = f.quiet;
         };
-        scopes = λ k. subst (λ x. Matches (begin C v n) (cell_option x) (hold_at (replicate 4 none) k)) (sym (b.holds k)) (subst (λ h. Matches (begin C v n) None h) (sym (at_all none 4 k)) tt);
+        scopes = λ k. subst (λ x. Matches (begin t C v n) (cell_option x) (hold_at (replicate 4 none) k)) (sym (b.holds k)) (subst (λ h. Matches (begin t C v n) None h) (sym (at_all none 4 k)) tt);
         waits = b.waits;
       };
       at = λ q. record {
@@ -98,8 +99,8 @@ opened_run honest C v n f few =
       };
     }
 
-pub fresh_run : {W C : Type 0} (honest : Type 0) (t : TableView) (s : SeatView W C) (image : Image) → IsFresh t s → s.view.low ≤ s.view.high → most_scopes image.functions ≤ 4 → IsSession honest (begin image s.view s.refusals)
-fresh_run honest t s image f low few = live_session honest (begin image s.view s.refusals) (opened_run honest image s.view s.refusals (blank_seat t s f low) few) refl
+pub fresh_run : {W C : Type 0} (honest : Type 0) (t : TableView) (s : SeatView W C) (image : Image) → IsFresh t s → s.view.low ≤ s.view.high → most_scopes image.functions ≤ 4 → IsSession honest (begin s.table image s.view s.refusals)
+fresh_run honest t s image f low few = live_session honest (begin s.table image s.view s.refusals) (opened_run honest s.table image s.view s.refusals (blank_seat t s f low) few) refl
 
 -- where the program has stopped every scope is shut
 stopped_holds : (c : Core) (x : Stop) (k : ℕ) → stop_of c ≡ Some x → held c k ≡ None

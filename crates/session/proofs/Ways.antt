@@ -18,9 +18,9 @@ use Rattle.code_form.specs.declared.touch.Touch.TheVariants as touch
 use Rattle.pointer_word.specs.Hands.{Note, added, blank, latest_of, or_zero}
 use Rattle.std.proofs.Math.Nat.{mod-lt}
 use Rattle.object_lock.specs.Seats.{Owns, View, note, with_note}
+use Rattle.atomic_table.specs.Seated.{TableId}
 use Rattle.session.specs.declared.hold.Hold.{Hold}
-use Rattle.session.specs.State.{AllShut, Matches, State, cells_in, hold_at, latest_in, next_touch, object_of}
-use Rattle.object_moves.specs.Taken.{seat_of}
+use Rattle.session.specs.State.{AllShut, Matches, State, cells_in, hold_at, latest_in, next_touch, object_of, seat_in}
 use Rattle.session.specs.Keeping.{Changes, Closes, HasWriter, IsHolding, IsNext, IsPlaced, IsSafe, Moves, a_hold, extended, finished, shut, shut_at, written}
 use Rattle.object_moves.proofs.Filling.{seen_else, seen_here}
 use Rattle.session.proofs.Holding.{owned_here}
@@ -132,8 +132,8 @@ one_match s t d k w safe ch here others m j =
 pub safe_aimed : Laws → (s t u : State) (k : ℕ) (w : Option Cell) → IsSafe s → IsNext (touch.Aims k w) s → IsHolding t → Changes k s t → Matches s w (hold_at t.holds k) → u ≡ finished t 0 → IsSafe u
 safe_aimed laws s t u k w safe next ok ch m e =
     let x = touch.Aims k w in
-    let d = did laws s t u x 0 safe next ok ch.image ch.core ch.low (ap (λ (y : View). y.sizes.cells) ch.seat) e in
-    safe_after laws s t u x 0 safe next ok ch.image ch.core ch.low (ap (λ (y : View). y.sizes.cells) ch.seat) e d.tidies (one_match s t u.core k w safe ch d.tracks.0 d.tracks.1 m)
+    let d = did laws s t u x 0 safe next ok ch.image ch.core ch.low (ap (λ (y : TableId × View). y.1.sizes.cells) ch.seat) e in
+    safe_after laws s t u x 0 safe next ok ch.image ch.core ch.low (ap (λ (y : TableId × View). y.1.sizes.cells) ch.seat) e d.tidies (one_match s t u.core k w safe ch d.tracks.0 d.tracks.1 m)
 
 shut_none : (s : State) (k : ℕ) (x : Option Hold) → k < length s.holds → hold_at s.holds k ≡ x → hold_at (shut_at s k x).holds k ≡ None
 shut_none s k None l e = e
@@ -143,9 +143,9 @@ pub safe_left : Laws → (s t u : State) (k : ℕ) → IsSafe s → IsNext (touc
 safe_left laws s t u k safe next ok ch l after e =
     let x = touch.Leaves k in
     let none : Option Cell = None in
-    let d = did laws s t u x 0 safe next ok ch.image ch.core ch.low (ap (λ (y : View). y.sizes.cells) ch.seat) e in
+    let d = did laws s t u x 0 safe next ok ch.image ch.core ch.low (ap (λ (y : TableId × View). y.1.sizes.cells) ch.seat) e in
     let gone : hold_at t.holds k ≡ None = ap (λ (y : State). hold_at y.holds k) after ∙ shut_none s k (hold_at s.holds k) l refl in
-    safe_after laws s t u x 0 safe next ok ch.image ch.core ch.low (ap (λ (y : View). y.sizes.cells) ch.seat) e d.tidies
+    safe_after laws s t u x 0 safe next ok ch.image ch.core ch.low (ap (λ (y : TableId × View). y.1.sizes.cells) ch.seat) e d.tidies
     (one_match s t u.core k none safe ch (ap cell_option d.tracks.0) d.tracks.1 (subst (λ h. Matches s none h) (sym gone) tt))
 
 -- ---- loads and stores
@@ -209,7 +209,7 @@ safe_stored laws s t v u k a n i h safe next l e ok ch w d f =
     let image : v.image ≡ s.image = ap (λ (y : State). y.image) d ∙ ch.image in
     let core : v.core ≡ s.core = ap (λ (y : State). y.core) d ∙ ch.core in
     let low : v.view.low ≡ s.view.low = ap (λ (y : State). y.view.low) d ∙ ch.low in
-    let size : v.view.sizes.cells ≡ s.view.sizes.cells = ap (λ (y : State). y.view.sizes.cells) d ∙ ap (λ (y : View). y.sizes.cells) ch.seat in
+    let size : v.view.sizes.cells ≡ s.view.sizes.cells = ap (λ (y : State). y.view.sizes.cells) d ∙ ap (λ (y : TableId × View). y.1.sizes.cells) ch.seat in
     let holds : v.holds ≡ t.holds = ap (λ (y : State). y.holds) d in
     let p = did laws s v u x 0 safe next hv image core low size f in
     let o = object_is s k a h safe (stores_cell laws s k a n safe next) e in
@@ -230,8 +230,8 @@ safe_stored laws s t v u k a n i h safe next l e ok ch w d f =
 
 pub safe_ended : Laws → (s t u : State) → IsSafe s → IsNext touch.Ends s → IsHolding t → Closes s t → AllShut t → u ≡ finished t 0 → IsSafe u
 safe_ended laws s t u safe next ok ch all e =
-    let d = did laws s t u touch.Ends 0 safe next ok ch.image ch.core ch.low (ap (λ (y : View). y.sizes.cells) ch.seat) e in
-    safe_after laws s t u touch.Ends 0 safe next ok ch.image ch.core ch.low (ap (λ (y : View). y.sizes.cells) ch.seat) e d.tidies
+    let d = did laws s t u touch.Ends 0 safe next ok ch.image ch.core ch.low (ap (λ (y : TableId × View). y.1.sizes.cells) ch.seat) e in
+    safe_after laws s t u touch.Ends 0 safe next ok ch.image ch.core ch.low (ap (λ (y : TableId × View). y.1.sizes.cells) ch.seat) e d.tidies
     (λ k. subst (λ z. Matches s (cell_option z) (hold_at t.holds k)) (sym (d.tracks k)) (subst (λ z. Matches s None z) (sym (all k)) tt))
 
 no_match : (s u : State) (x : Option Cell) (h : Option Hold) → x ≡ None → Matches s x h → Matches u None h
@@ -293,7 +293,7 @@ module _ (honest : Type 0) (s t u : State) (k : ℕ) (ch : Changes k s t) (e : u
     added = λ o. ap (λ (y : State). (note y.view o).history) e ∙ (ch.stored o ∙ sym (append-nil (note s.view o).history));
     low = ap (λ (y : State). y.view.low) e ∙ ch.low;
     high = ap (λ (y : State). y.view.high) e ∙ ch.high;
-    seat = ap (λ (y : State). seat_of y.view) e ∙ ch.seat;
+    seat = ap seat_in e ∙ ch.seat;
     completed = ap (λ (y : State). y.completed) e ∙ ap (λ n. n + 1) ch.completed;
   }
 
@@ -309,7 +309,7 @@ module _ (honest : Type 0) (s t u : State) (k : ℕ) (ch : Changes k s t) (e : u
     added = λ o. ap (λ (y : State). (note y.view o).history) e ∙ (ch.stored o ∙ sym (append-nil (note s.view o).history));
     low = ap (λ (y : State). y.view.low) e ∙ ch.low;
     high = ap (λ (y : State). y.view.high) e ∙ ch.high;
-    seat = ap (λ (y : State). seat_of y.view) e ∙ ch.seat;
+    seat = ap seat_in e ∙ ch.seat;
     completed = ap (λ (y : State). y.completed) e ∙ ap (λ n. n + 1) ch.completed;
   }
 
@@ -325,7 +325,7 @@ moves_ended honest s t u ch e = record {
   added = λ o. ap (λ (y : State). (note y.view o).history) e ∙ (ch.stored o ∙ sym (append-nil (note s.view o).history));
   low = ap (λ (y : State). y.view.low) e ∙ ch.low;
   high = ap (λ (y : State). y.view.high) e ∙ ch.high;
-  seat = ap (λ (y : State). seat_of y.view) e ∙ ch.seat;
+  seat = ap seat_in e ∙ ch.seat;
   completed = ap (λ (y : State). y.completed) e ∙ ap (λ n. n + 1) ch.completed;
 }
 
@@ -376,7 +376,7 @@ upd_same f g o x n h p i =
 pub moves_stored : (honest : Type 0) → Laws → (s t v u : State) (k : ℕ) (a : Cell) (n i : ℕ) (h : Hold) → IsSafe s → IsNext (touch.Stores k a n) s → hold_at s.holds k ≡ Some h → IsHolding t → Changes k s t → HasWriter t k h
     → i ≡ a.index % t.view.sizes.cells → v ≡ written t h i n → u ≡ finished v 0 → Moves honest (touch.Stores k a n) s u
 moves_stored honest laws s t v u k a n i h safe next e ok ch w at d f =
-    let p : i ≡ a.index % s.view.sizes.cells = at ∙ ap (λ (y : View). a.index % y.sizes.cells) ch.seat in
+    let p : i ≡ a.index % s.view.sizes.cells = at ∙ ap (λ (y : TableId × View). a.index % y.1.sizes.cells) ch.seat in
     let image : v.image ≡ s.image = ap (λ (y : State). y.image) d ∙ ch.image in
     let core : v.core ≡ s.core = ap (λ (y : State). y.core) d ∙ ch.core in
     let o = object_is s k a h safe (stores_cell laws s k a n safe next) e in
@@ -398,7 +398,7 @@ moves_stored honest laws s t v u k a n i h safe next e ok ch w at d f =
           (ap (λ z. (note s.view q).history ++ cond (q == z) ((i, n) ∷ []) []) o ∙ ap (λ z. (note s.view q).history ++ cond (q == object_of s a) ((z, n) ∷ []) []) p))));
       low = ap (λ (y : State). y.view.low) f ∙ (ap (λ (y : State). y.view.low) d ∙ ch.low);
       high = ap (λ (y : State). y.view.high) f ∙ (ap (λ (y : State). y.view.high) d ∙ ch.high);
-      seat = ap (λ (y : State). seat_of y.view) f ∙ (ap (λ (y : State). seat_of y.view) d ∙ ch.seat);
+      seat = ap seat_in f ∙ (ap seat_in d ∙ ch.seat);
       completed = ap (λ (y : State). y.completed) f ∙ (ap (λ (y : State). y.completed + 1) d ∙ ap (λ n. n + 1) ch.completed);
     }
 

@@ -17,9 +17,9 @@ use Rattle.code_form.specs.declared.touch.Touch.TheVariants as touch
 use Rattle.pointer_word.specs.Hands.{added, blank, closed, writable}
 use Rattle.object_lock.specs.Seats.{Owns, View, note, with_note}
 use Rattle.session.specs.declared.hold.Hold.{Hold}
-use Rattle.object_moves.specs.Taken.{GivesUp, IsQuiet, Refused, Takes, seat_of}
+use Rattle.object_moves.specs.Taken.{GivesUp, IsQuiet, Refused, Takes}
 use Rattle.object_moves.specs.Ways.{ComesByMoves}
-use Rattle.session.specs.State.{AllShut, Caused, IsAt, IsGoing, SameProgram, ScopesHold, State, cells_in, hold_at, latest_in, next_touch, object_of, stores_of}
+use Rattle.session.specs.State.{AllShut, Caused, IsAt, IsGoing, SameProgram, ScopesHold, State, cells_in, hold_at, latest_in, next_touch, object_of, seat_in, stores_of}
 
 -- allocations in pieces of `size` cells, the newest first, take their objects one behind the other, from low on; next is the object behind them
 abbrev pub IsPlaced : ℕ → ℕ → List ℕ → List ℕ → ℕ → Type 0
@@ -110,7 +110,7 @@ pub record Moves (honest : Type 0) (x : Touch) (s t : State) : Type 0 where
   pub added : (o : ℕ) → (note t.view o).history ≡ (note s.view o).history ++ stores_of s.view.sizes.cells s.view.low (cells_in s) o x
   pub low : t.view.low ≡ s.view.low
   pub high : t.view.high ≡ s.view.high
-  pub seat : seat_of t.view ≡ seat_of s.view
+  pub seat : seat_in t ≡ seat_in s
   pub completed : t.completed ≡ s.completed + 1
 
 -- the state with a scope shut that held x
@@ -164,7 +164,7 @@ pub record Changes (k : ℕ) (s t : State) : Type 0 where
   pub refusals : t.refusals ≡ s.refusals
   pub low : t.view.low ≡ s.view.low
   pub high : t.view.high ≡ s.view.high
-  pub seat : seat_of t.view ≡ seat_of s.view
+  pub seat : seat_in t ≡ seat_in s
   pub stored : (o : ℕ) → (note t.view o).history ≡ (note s.view o).history
   pub others : (j : ℕ) → j ≢ k → hold_at t.holds j ≡ hold_at s.holds j
   pub many : length t.holds ≡ length s.holds
@@ -180,7 +180,7 @@ pub record Closes (s t : State) : Type 0 where
   pub refusals : t.refusals ≡ s.refusals
   pub low : t.view.low ≡ s.view.low
   pub high : t.view.high ≡ s.view.high
-  pub seat : seat_of t.view ≡ seat_of s.view
+  pub seat : seat_in t ≡ seat_in s
   pub stored : (o : ℕ) → (note t.view o).history ≡ (note s.view o).history
 
 -- The store refused a call: nothing else changed but holds that were shut

@@ -1,5 +1,6 @@
 -- What a session is to its caller, and where its code run is.
 use Rattle.std.specs.Prelude.{◌≡◌, ◌⊎◌, ℕ, zero, suc, ◌+◌, ◌%◌, ◌<◌, ◌≤◌, ◌==◌, true, cond, List, [], ◌∷◌, ◌++◌, Option, Some, None, slice_index_or, replicate}
+use Rattle.atomic_table.specs.Seated.{TableId}
 use Rattle.cells.specs.declared.ending.Want.{Want}
 use Rattle.cells.specs.declared.ending.Want.TheVariants.{OutOfMemory, NoObjects, StoreFailed}
 use Rattle.cells.specs.declared.ending.Run.{Run}
@@ -22,7 +23,7 @@ use Rattle.object_moves.specs.Taken.{Refused, seat_of}
 use Rattle.remote_store.specs.declared.port.Refusals.{Refusals}
 
 -- A session: its image, where its program is, what each scope holds, the first object of each allocation, the newest first, the next
--- object, what its seat knows, what was refused through its port, how many instructions were completed, and what it
+-- object, which table its seat is of and what it knows, what was refused through its port, how many instructions were completed, and what it
 -- wants if it wants anything
 pub record State : Type 0 where
   pub image : Image
@@ -30,6 +31,7 @@ pub record State : Type 0 where
   pub holds : List (Option Hold)
   pub firsts : List ℕ
   pub next : ℕ
+  pub table : TableId
   pub view : View
   pub refusals : Refusals
   pub completed : ℕ
@@ -111,10 +113,14 @@ Caused reliable before s NoObjects = (s.refusals ≡ before) × ((n : ℕ) × (n
 Caused reliable before s OutOfMemory = (s.refusals ≡ before) × (may_grow (next_touch s) (rest_of s.core) ≡ true) × HasRoom s (next_touch s)
 Caused reliable before s StoreFailed = Refused reliable before s.refusals ⊎ ((s.refusals ≡ before) × IsHalted s)
 
+-- which table its seat is of, and what it knows from when it was made
+abbrev pub seat_in : State → TableId × View
+seat_in s = (s.table, seat_of s.view)
+
 -- The program is the same, and so is what its seat knows from when it was made: its table's numbers, its own number, how many objects each program has, and its own
--- objects. Whether it is a seat of the same table is not told
+-- objects; and it is a seat of the same table
 abbrev pub SameProgram : State → State → Type 0
-SameProgram s t = (t.image ≡ s.image) × (t.view.low ≡ s.view.low) × (t.view.high ≡ s.view.high) × (seat_of t.view ≡ seat_of s.view)
+SameProgram s t = (t.image ≡ s.image) × (t.view.low ≡ s.view.low) × (t.view.high ≡ s.view.high) × (seat_in t ≡ seat_in s)
 
 -- from the one number of completed instructions to the other at most n more were completed
 abbrev pub CompletesUpTo : ℕ → ℕ → ℕ → Type 0
@@ -132,8 +138,8 @@ abbrev pub IsUntold : State → State → Run → Type 0
 IsUntold s t r = (t ≡ s) × (has_text (stop_of s.core) ≡ true) × (r ≡ Wanted OutOfMemory)
 
 -- a session at its beginning
-abbrev pub begin : Image → View → Refusals → State
-begin C v n = record { image = C; core = (code C).start; holds = replicate 4 None; firsts = []; next = v.low; view = v; refusals = n; completed = 0; want = None }
+abbrev pub begin : TableId → Image → View → Refusals → State
+begin t C v n = record { image = C; core = (code C).start; holds = replicate 4 None; firsts = []; next = v.low; table = t; view = v; refusals = n; completed = 0; want = None }
 
 -- a session, and what its seat did, step by step
 pub record Logged : Type 0 where

@@ -69,7 +69,7 @@ impl<'a, S: RawStore> Model for SeatedProgram<'a, S> {
 
     ghost Value = { Logged };
 
-    ghost view = { λ m. record { log = m.owner.log; state = record { image = m.execution.image; core = m.execution.core; holds = m.holds.items; firsts = reverse m.firsts.items; next = m.next; view = m.owner.view; refusals = m.owner.refusals; completed = m.completed; want = m.want } } };
+    ghost view = { λ m. record { log = m.owner.log; state = record { image = m.execution.image; core = m.execution.core; holds = m.holds.items; firsts = reverse m.firsts.items; next = m.next; table = m.owner.table; view = m.owner.view; refusals = m.owner.refusals; completed = m.completed; want = m.want } } };
 
     ghost invariant = { λ m. IsSeat m.table.now m.owner × (2 ^ m.scale.shift ≡ m.table.now.sizes.cells) };
 }
@@ -83,7 +83,7 @@ impl<'a, S: RawStore> SeatedProgram<'a, S> {
         sender: Option<HintSender<'a>>,
     ) -> Result<SeatedProgram<'a, S>, AllocError>
         requires table { IsSeat table.now owner }
-        ensures { IfOk result (λ m. m ≡ record { state = begin (image_of image.now) owner.view owner.refusals; log = owner.log }) }
+        ensures { IfOk result (λ m. m ≡ record { state = begin owner.table (image_of image.now) owner.view owner.refusals; log = owner.log }) }
     {
         let execution = Execution::new(alloc, image)?;
         let holds = Vec::from_elem(alloc, None, 4)?;
@@ -178,10 +178,19 @@ impl<'a, S: RawStore> SeatedProgram<'a, S> {
         self.execution.output()
     }
 
-    pub(crate) fn into_output(self) -> Vec<u8>
-        ensures { result.items ≡ output_of self.entry.state.core }
+    /// What the program printed, and its seat, which has nothing in hand.
+    pub(crate) fn into_parts(self) -> (Vec<u8>, OwnerSeat<S>)
+        requires holding { IsHolding self.state }
+        ensures output { result.0.items ≡ output_of self.entry.state.core }
+        ensures seat { (result.1.view ≡ self.entry.state.view) × (result.1.log ≡ self.entry.log) × IsQuiet result.1.view }
+        ensures table { IsSeat (record { id = self.entry.state.table; sizes = self.entry.state.view.sizes }) result.1 }
     {
-        self.execution.into_output()
+        let SeatedProgram {
+            owner,
+            execution,
+            ..
+        } = self;
+        (execution.into_output(), owner)
     }
 
     /// How the program has stopped, if it has. `Err` where memory is refused for the text of an error.

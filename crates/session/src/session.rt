@@ -9,6 +9,7 @@ ghost use Rattle.session.specs.Performing.{Acts};
 ghost use Rattle.session.specs.State.{AllShut, IsAt, IsGoing, IsUntold, Ran, ScopesHold, State, begin};
 ghost use Rattle.object_moves.specs.Taken.{IsQuiet, Refused};
 ghost use Rattle.object_lock.specs.Fresh.{IsFresh};
+ghost use Rattle.object_lock.specs.SeatViews.{IsSeat};
 ghost use Rattle.region.specs.Admission.{image_at};
 ghost use Rattle.std.specs.Prelude.{◌≡◌, ◌≢◌, ◌⊎◌, ◌+◌, ◌<◌, ◌≤◌, ◌^◌, ◌-◌, IfOk, MatchResult, Some, length};
 
@@ -61,7 +62,7 @@ impl<'a, S: RawStore> Session<'a, S> {
         requires own { seat.view.low ≤ seat.view.high }
         requires program { (0 < seat.view.number) × (seat.view.number ≤ length region.now.programs) }
         requires pass { pass ≡ hints.now }
-        ensures begins { MatchResult result (λ s. s ≡ record { state = begin (image_at region.now.programs (seat.view.number - 1)) seat.view seat.refusals; log = seat.log }) (λ want. want ≡ OutOfMemory) }
+        ensures begins { MatchResult result (λ s. s ≡ record { state = begin seat.table (image_at region.now.programs (seat.view.number - 1)) seat.view seat.refusals; log = seat.log }) (λ want. want ≡ OutOfMemory) }
         ensures at { IfOk result (λ s. S.honest → IsAt s.state) }
     {
         accepted_is_verified();
@@ -83,7 +84,7 @@ impl<'a, S: RawStore> Session<'a, S> {
     ) -> Result<Session<'a, S>, Want>
         requires fresh { IsFresh table.now seat }
         requires own { seat.view.low ≤ seat.view.high }
-        ensures begins { MatchResult result (λ s. s ≡ record { state = begin (image_of verified.now.image) seat.view seat.refusals; log = seat.log }) (λ want. want ≡ OutOfMemory) }
+        ensures begins { MatchResult result (λ s. s ≡ record { state = begin seat.table (image_of verified.now.image) seat.view seat.refusals; log = seat.log }) (λ want. want ≡ OutOfMemory) }
         ensures at { IfOk result (λ s. S.honest → IsAt s.state) }
     {
         accepted_is_verified();
@@ -137,11 +138,13 @@ impl<'a, S: RawStore> Session<'a, S> {
         self.program.output()
     }
 
-    /// What the program printed, where it is run no further.
-    pub fn into_output(self) -> Vec<u8>
-        ensures { result.items ≡ output_of self.entry.state.core }
+    /// What the program printed, and its seat, which has nothing in hand, where it is run no further.
+    pub fn into_parts(self) -> (Vec<u8>, OwnerSeat<S>)
+        ensures output { result.0.items ≡ output_of self.entry.state.core }
+        ensures seat { (result.1.view ≡ self.entry.state.view) × (result.1.log ≡ self.entry.log) × IsQuiet result.1.view }
+        ensures table { IsSeat (record { id = self.entry.state.table; sizes = self.entry.state.view.sizes }) result.1 }
     {
-        self.program.into_output()
+        self.program.into_parts()
     }
 
     /// How many instructions were completed.

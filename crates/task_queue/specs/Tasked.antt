@@ -2,18 +2,19 @@
 use Rattle.std.specs.Prelude.{◌≡◌, ◌⊎◌, ◌<◌, ◌+◌, ◌*◌, ℕ, List, [], ◌∷◌, Option, Some, None, All, length, false}
 use mathlib.Core.Option.{some}
 use lib.ListN.{get_elem?}
+use Rattle.object_lock.specs.SeatViews.{TableView}
 use Rattle.program_run.specs.Runs.{RunView}
 use Rattle.scope_verifier.specs.declared.acceptance.Verified.{Verified}
 use Rattle.task_queue.specs.declared.rule.KnowsRoster.{KnowsRoster}
 use Rattle.task_queue.specs.declared.rule.Roster.{Roster}
 
--- these programs, with so many objects each
-abbrev pub roster : List Verified → ℕ → Roster
-roster programs objects = record { programs = programs; objects = objects }
+-- these programs, with so many objects each, at seats of this table
+abbrev pub roster : TableView → List Verified → ℕ → Roster
+roster table programs objects = record { programs = programs; objects = objects; table = table }
 
 -- the roster of which a program that is run is
 abbrev pub roster_of : RunView → Roster
-roster_of p = roster p.programs p.objects
+roster_of p = roster p.table p.programs p.objects
 
 -- what a pass knows that has so many tasks in hand
 abbrev pub knows : Roster → ℕ → KnowsRoster
@@ -23,9 +24,13 @@ knows r n = record { roster = Some r; in_hand = n }
 abbrev pub unknown : KnowsRoster
 unknown = record { roster = None; in_hand = 0 }
 
+-- of no table
+abbrev pub no_table : TableView
+no_table = record { id = record { words = 0; slots = 0; views_name = 0; atom = 0; block = 0; offset = 0; slot_names = [] }; sizes = record { objects = 0; frames = 0; cells = 0; seats = 0 } }
+
 -- this roster, or one without programs
 abbrev pub roster_or_none : Option Roster → Roster
-roster_or_none None = roster [] 0
+roster_or_none None = roster no_table [] 0
 roster_or_none (Some r) = r
 
 -- the roster that a pass knows, or one without programs

@@ -30,7 +30,7 @@ impl<'a, S: RawStore> Model for TaskQueue<'a, S> {
 
     ghost Value = { QueueView };
 
-    ghost view = { λ q. record { id = q.queue.table.shared.table_id; roster = roster q.region.now.programs q.objects } };
+    ghost view = { λ q. record { id = q.queue.table.shared.table_id; roster = roster q.region.now.table q.region.now.programs q.objects } };
 
     ghost invariant = { λ q. ruled_capacity q.queue ≡ 256 };
 }
@@ -61,8 +61,8 @@ impl<'a, S: RawStore> TaskQueue<'a, S> {
         objects: usize,
         task: ProgramRun<'a, S>,
     ) -> Result<(TaskQueue<'a, S>, TaskPass<ProgramRun<'a, S>>), AllocError>
-        requires { IsTask (roster region.now.programs objects) task }
-        ensures queue { IfOk result (λ r. r.0.roster ≡ roster region.now.programs objects) }
+        requires { IsTask (roster region.now.table region.now.programs objects) task }
+        ensures queue { IfOk result (λ r. r.0.roster ≡ roster region.now.table region.now.programs objects) }
         ensures pass { IfOk result (λ r. (r.1.queue ≡ r.0) × (r.1.in_hand + 1 ≡ length region.now.programs)) }
     {
         let (queue, mut pass) = RuledArrayQueue::ruled(alloc, ROOM)?;

@@ -1,14 +1,16 @@
 //! The rule of the queue of tasks.
 use crossbeam_queue::protocol::{Lesson, Outcome, Protocol, Split};
+use object_lock::TableName;
 use program_run::ProgramRun;
 use remote_store::RawStore;
 use scope_verifier::Verified;
 use std::collections::LinkedList;
 
-/// The programs that are run, and how many objects each has. No value of it is made.
+/// The programs that are run, how many objects each has, and the table of their seats. No value of it is made.
 pub struct Roster {
     pub programs: LinkedList<Verified>,
     pub objects: usize,
+    pub table: TableName,
 }
 
 /// What a pass knows: the roster, and how many tasks are in hand with it. No value of it is made.

@@ -1,6 +1,9 @@
 use Rattle.program_run.proofs.Acting.{acted_on}
 use Rattle.program_run.proofs.Ending.{refused_own}
 use Rattle.program_run.proofs.Growing.{grown, same_program}
+use Rattle.std.proofs.Common.{ap}
+use Rattle.atomic_table.specs.Seated.{TableId}
+use Rattle.object_lock.specs.Seats.{View}
 use Rattle.program_run.proofs.run.run_on.Goals as goal
 
 pub returns-clause-own : goal.returns-clause-own
@@ -15,3 +18,8 @@ pub returns-clause-acted : goal.returns-clause-acted
 returns-clause-acted g c = λ was.
     let same = same_program g.S.RawStore.reliable c.args.quantum c.args.session.now.state c.run.new.self.state c.run.result c.run.ensures.told in
     acted_on g.S.RawStore.honest g.S.RawStore.reliable c.args.session.now c.run.new.self c.run.result was (c.run.ensures.acts c.requires.going) same
+
+pub returns-clause-seat : goal.returns-clause-seat
+returns-clause-seat g c =
+    let same = same_program g.S.RawStore.reliable c.args.quantum c.args.session.now.state c.run.new.self.state c.run.result c.run.ensures.told in
+    (ap (λ (z : TableId × View). z.0) same.3, ap (λ (z : TableId × View). z.1.sizes) same.3)

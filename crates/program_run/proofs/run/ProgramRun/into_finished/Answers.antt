@@ -1,4 +1,5 @@
 use Rattle.std.proofs.Common.{◌≡◌, ◌∙◌, ◌+◌, ◌-◌, ap, arith, subst, suc, sym}
+use Rattle.object_lock.specs.SeatViews.{IsSeat, TableView}
 use Rattle.remote_store.specs.Refusing.{no_refusals}
 use Rattle.program_run.specs.Acting.{HasActed}
 use Rattle.program_run.specs.Executed.{HasRefused}
@@ -22,7 +23,7 @@ returns-clause-end g c = λ honest.
     let share : t.state.view.high ≡ t.state.view.low + c.args.self.objects = omega arith in
     let over = has_come reliable t.state c.self.inside.run (ap (λ (p : RunView). p.over) c.self.view_is ∙ c.requires.over) here.come in
     record {
-      executed = executed reliable c.args.self.objects no_refusals (image_at c.args.self.programs c.args.self.number) t.state c.into_output.result c.self.inside.run c.completed-completed.result image here.cells share (here.at honest) c.into_output.ensures c.completed-completed.ensures over (λ failed sure. here.sure honest sure failed);
+      executed = executed reliable c.args.self.objects no_refusals (image_at c.args.self.programs c.args.self.number) t.state c.into_parts-output.result.0 c.self.inside.run c.completed-completed.result image here.cells share (here.at honest) c.into_parts-output.ensures.output c.completed-completed.ensures over (λ failed sure. here.sure honest sure failed);
       own = subst (HasRefused c.self.inside.run) (sym c.refusals-refusals.ensures) (here.own honest);
       acted = record {
         last = t;
@@ -33,8 +34,21 @@ returns-clause-end g c = λ honest.
         mover = ap (λ (s : Logged). s.state.view.number) same ∙ c.self.invariant.3 ∙ ap (λ (p : RunView). suc p.number) c.self.view_is;
         first = ap (λ (s : Logged). s.state.view.low) same ∙ ap (λ (p : RunView). p.first) c.self.view_is;
         share = share;
-        printed = c.into_output.ensures;
+        printed = c.into_parts-output.ensures.output;
         completed = c.completed-completed.ensures;
         refusals = c.refusals-refusals.ensures;
       };
+    }
+
+pub returns-clause-seat : goal.returns-clause-seat
+unfolding returns-clause-end
+returns-clause-seat g c =
+    let same : c.looked_last-session.result ≡ c.self.inside.session = c.looked_last-session.ensures in
+    let id = ap (λ (s : Logged). s.state.table) same ∙ c.self.invariant.4 ∙ ap (λ (p : RunView). p.table.id) c.self.view_is in
+    let sizes = ap (λ (s : Logged). s.state.view.sizes) same ∙ c.self.invariant.5 ∙ ap (λ (p : RunView). p.table.sizes) c.self.view_is in
+    let is = c.into_parts-output.ensures.seat in
+    record {
+      seat = subst (λ (t : TableView). IsSeat t c.into_parts-output.result.1) (λ i. record { id = id i; sizes = sizes i }) c.into_parts-output.ensures.table;
+      quiet = is.2;
+      by = λ honest. ((returns-clause-end g c honest).acted, λ i. record { view = is.0 i; log = is.1 i });
     }
