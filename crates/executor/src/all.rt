@@ -1,14 +1,17 @@
 //! The run of all programs of a region.
 ghost use Rattle.std.specs.List.{All};
-ghost use Rattle.std.specs.Prelude.{◌≡◌, ◌+◌, ◌/◌, ◌<◌, ◌≤◌, ℕ, IfErr, IfOk, length};
-ghost use Rattle.executor.specs.Ends.{AreEnds, AreFinished};
-ghost use Rattle.object_lock.specs.Fresh.{AreNumbered, IsFreshMover, IsFreshOwner};
+ghost use Rattle.std.specs.Prelude.{◌≡◌, ◌+◌, ◌-◌, ◌/◌, ◌<◌, ◌≤◌, ℕ, List, IfErr, IfOk, length, map};
+ghost use Rattle.executor.specs.Ends.{AreEnds, AreFinished, end_of};
+ghost use Rattle.object_lock.specs.Kept.{slot_has, slot_keeps};
+ghost use Rattle.executor.specs.Together.{HasRunTogether};
+ghost use Rattle.object_lock.specs.Fresh.{AreNumbered, IsFreshMover, IsFreshOwner, sizes_of};
+ghost use Rattle.program_run.specs.declared.run.Finished.{Finished};
 ghost use Rattle.region.specs.Admission.{IsAdmitted, IsDenied, IsWithinWork, image_at};
 ghost use Rattle.world_semantics.specs.Pieces.{piece_of};
 
 use crate::counts::Counted;
 use crate::filing::{all_ends, file_all, no_ends, without_numbers};
-use crate::movers::counts_of;
+use crate::movers::{counts_of, seats_of};
 use crate::places::run_beside;
 use crate::starting::{begin_all, enqueue, start_movers, start_workers};
 use cells::Ended;
@@ -44,7 +47,12 @@ fn run_region<S: RawStore + Send, G: Gate, R: Threads + Wait + Clock + Sync>(
     requires movers { All (IsFreshMover region.now.table) movers.items }
     requires enough { length movers.items ≤ evacuators + region.now.fetchers }
     requires cells { (k : ℕ) → k < length region.now.programs → (image_at region.now.programs k).piece ≡ region.now.table.sizes.cells }
-    ensures { IfOk result (λ r. AreFinished S.honest S.reliable share region.now.programs r.programs.items) }
+    requires mover_numbers { AreNumbered (length region.now.programs + 1) (length movers.items) movers.items }
+    requires some { (0 < length region.now.programs) × (0 < region.now.table.sizes.objects) × (evacuators ≤ length movers.items) }
+    requires seats { region.now.table.sizes.seats ≡ length region.now.programs + length movers.items }
+    ensures ends { IfOk result (λ r. AreFinished S.honest S.reliable share region.now.programs r.programs.items) }
+    ensures together { IfOk result (λ r. S.honest → HasRunTogether (slot_keeps S.fits S.content region.now.table.sizes.cells) (slot_has S.fits region.now.table.sizes.cells) S.honest S.reliable region.now.table.sizes share (length region.now.programs)
+        evacuators (length movers.items - evacuators) (image_at region.now.programs) r.programs.items) }
 {
     let Ok((hints, mut passes)) = Hints::new(alloc, region) else {
         return Err(AllocError);
@@ -52,21 +60,28 @@ fn run_region<S: RawStore + Send, G: Gate, R: Threads + Wait + Clock + Sync>(
     let count = region.programs();
     let ends = Vec::with_capacity(alloc, count)?;
     let counts = Vec::with_capacity(alloc, movers.len())?;
+    let seats = Vec::with_capacity(alloc, count + movers.len())?;
     let tasks = begin_all(alloc, region, &hints, &mut passes, owners, share, limit)?;
     let (queue, mut pass) = enqueue(alloc, rt, region, share, tasks)?;
     let places = no_ends(alloc, &queue, count)?;
     let workers = start_workers(alloc, &queue, &mut pass, workers, count)?;
-    let movers = start_movers(alloc, region, &hints, evacuators, movers, passes)?;
+    let movers = start_movers(alloc, region, &hints, evacuators, count + 1, movers, passes)?;
     let left = AtomicUsize::new(count);
     let (movers, workers) = run_beside(rt, gate, &left, quantum, movers, workers);
-    let movers = counts_of(&movers, counts);
-    let programs = all_ends(&queue, file_all(&queue, workers, places), ends)?;
-    Ok(Counted { programs, movers })
+    let counts = counts_of(&movers, counts);
+    let seats = seats_of(movers, seats);
+    let (programs, seats) = all_ends(&queue, file_all(&queue, workers, places), ends, seats)?;
+    // Of all seats at once: what each of them knows is so in one state of the table.
+    region.table().meet(seats);
+    Ok(Counted {
+        programs,
+        movers: counts,
+    })
 }
 
 /// Runs the programs as `run_all` does, and tells beside each end how many calls of the store were refused through the program's own port, modulo 2^64: over an
 /// honest store one where the program wants the store, and else none. So what fails through other ports, those of other programs, evacuators and fetchers, ends no
-/// program. It tells what else was counted of each program and of each mover, too, of which no contract speaks. The calls of each program, and its output, keep within
+/// program. All of it is told in one state of the table: what each of its seats did, and of whom it is. It tells what else was counted of each program and of each mover, too, of which no contract speaks. The calls of each program, and its output, keep within
 /// a limit of memory: where one comes to more, the program wants memory. The faults are those of `run_all`.
 pub fn run_all_counted<
     S: RawStore + Send,
@@ -83,6 +98,8 @@ pub fn run_all_counted<
 ) -> Result<Counted, AdmitFault>
     requires { M.makes config.stores (piece_of (image_at programs.items) + 3) }
     ensures ends { IfOk result (λ r. AreFinished S.honest S.reliable (config.objects / length programs.items) programs.items r.programs.items) }
+    ensures together { IfOk result (λ r. S.honest → HasRunTogether (slot_keeps S.fits S.content (piece_of (image_at programs.items))) (slot_has S.fits (piece_of (image_at programs.items))) S.honest S.reliable
+        (sizes_of config.objects config.frames (piece_of (image_at programs.items)) (length programs.items + config.evacuators + config.fetchers)) (config.objects / length programs.items) (length programs.items) config.evacuators config.fetchers (image_at programs.items) r.programs.items) }
     ensures admitted { IfOk result (λ _. IsAdmitted programs.items config.frames config.objects config.evacuators config.fetchers × IsWithinWork config.workers config.quantum) }
     ensures refused { IfErr result (λ fault. IsDenied programs.items config.frames config.objects config.evacuators config.fetchers config.workers config.quantum fault) }
 {
@@ -121,6 +138,8 @@ pub fn run_all<
 ) -> Result<Vec<Ended>, AdmitFault>
     requires { M.makes config.stores (piece_of (image_at programs.items) + 3) }
     ensures ends { IfOk result (λ v. AreEnds S.honest S.reliable (config.objects / length programs.items) programs.items v.items) }
+    ensures together { IfOk result (λ v. S.honest → (all : List Finished) × (v.items ≡ map end_of all) × HasRunTogether (slot_keeps S.fits S.content (piece_of (image_at programs.items))) (slot_has S.fits (piece_of (image_at programs.items))) S.honest S.reliable
+        (sizes_of config.objects config.frames (piece_of (image_at programs.items)) (length programs.items + config.evacuators + config.fetchers)) (config.objects / length programs.items) (length programs.items) config.evacuators config.fetchers (image_at programs.items) all) }
     ensures admitted { IfOk result (λ _. IsAdmitted programs.items config.frames config.objects config.evacuators config.fetchers × IsWithinWork config.workers config.quantum) }
     ensures refused { IfErr result (λ fault. IsDenied programs.items config.frames config.objects config.evacuators config.fetchers config.workers config.quantum fault) }
 {

@@ -1,10 +1,11 @@
-//! Ends of programs, filed under their numbers.
-ghost use Rattle.std.specs.Prelude.{◌≡◌, [], ◌≤◌, IfOk, length, map, vec_capacity, vec_len};
+//! Ends of programs with their seats, filed under their numbers.
+ghost use Rattle.std.specs.Prelude.{◌≡◌, [], ◌+◌, ◌≤◌, IfOk, length, map, vec_capacity, vec_len};
 ghost use Rattle.std.specs.List.{All};
-ghost use Rattle.executor.specs.Ends.{AreDone, AreFiled, AreFinished, end_of};
+ghost use Rattle.executor.specs.Ends.{AreAllDone, AreDone, AreFiled, end_of};
 
 use crate::workers::{Done, Worker};
 use cells::Ended;
+use object_lock::OwnerSeat;
 use program_run::Finished;
 use remote_store::RawStore;
 use std::alloc::{AllocError, Global};
@@ -15,7 +16,7 @@ pub(crate) fn no_ends<S: RawStore>(
     alloc: Global,
     queue: &TaskQueue<'_, S>,
     count: usize,
-) -> Result<Vec<Option<Finished>>, AllocError>
+) -> Result<Vec<Option<Done<S>>>, AllocError>
     requires { count ≡ length queue.now.roster.programs }
     ensures { IfOk result (λ v. AreFiled S.honest S.reliable queue.now.roster v.items) }
 {
@@ -31,17 +32,19 @@ pub(crate) fn no_ends<S: RawStore>(
 /// Files each end under its program's number.
 fn file_done<S: RawStore>(
     queue: &TaskQueue<'_, S>,
-    done: Vec<Done>,
-    places: &mut [Option<Finished>],
+    done: Vec<Done<S>>,
+    places: &mut Vec<Option<Done<S>>>,
 )
     requires done { AreDone S.honest S.reliable queue.now.roster done.items }
-    requires filed { AreFiled S.honest S.reliable queue.now.roster places.old }
-    ensures { AreFiled S.honest S.reliable queue.now.roster places.new }
+    requires filed { AreFiled S.honest S.reliable queue.now.roster places.old.items }
+    ensures { AreFiled S.honest S.reliable queue.now.roster places.new.items }
 {
     // The queue is told for the contract alone.
     let _ = queue;
     for one in done {
-        places[one.number] = Some(one.end);
+        if let Some(place) = places.get_mut(one.number) {
+            *place = Some(one);
+        }
     }
 }
 
@@ -49,38 +52,43 @@ fn file_done<S: RawStore>(
 pub(crate) fn file_all<S: RawStore>(
     queue: &TaskQueue<'_, S>,
     workers: Vec<Worker<'_, '_, S>>,
-    mut places: Vec<Option<Finished>>,
-) -> Vec<Option<Finished>>
+    mut places: Vec<Option<Done<S>>>,
+) -> Vec<Option<Done<S>>>
     requires workers { All (λ w. w ≡ queue.now) workers.items }
     requires filed { AreFiled S.honest S.reliable queue.now.roster places.items }
     ensures { AreFiled S.honest S.reliable queue.now.roster result.items }
 {
     for worker in workers {
-        file_done(queue, worker.into_done(), places.as_mut_slice());
+        file_done(queue, worker.into_done(), &mut places);
     }
     places
 }
 
-/// The ends in their order, where each place has one. `ends` has room for them.
+/// The ends in their order, and their seats behind these, where each place has one. `ends` and `seats` have room for them.
 pub(crate) fn all_ends<S: RawStore>(
     queue: &TaskQueue<'_, S>,
-    places: Vec<Option<Finished>>,
+    places: Vec<Option<Done<S>>>,
     mut ends: Vec<Finished>,
-) -> Result<Vec<Finished>, AllocError>
+    mut seats: Vec<OwnerSeat<S>>,
+) -> Result<(Vec<Finished>, Vec<OwnerSeat<S>>), AllocError>
     requires filed { AreFiled S.honest S.reliable queue.now.roster places.items }
     requires empty { (vec_len ends ≡ 0) × (ends.items ≡ []) }
     requires room { length places.items ≤ vec_capacity ends }
-    ensures { IfOk result (λ v. AreFinished S.honest S.reliable queue.now.roster.objects queue.now.roster.programs v.items) }
+    requires seats { vec_len seats + length places.items ≤ vec_capacity seats }
+    ensures { IfOk result (λ r. AreAllDone S.honest S.reliable queue.now.roster seats.items r.0.items r.1.items) }
 {
     // The queue is told for the contract alone.
     let _ = queue;
     for place in places {
         match place {
-            Some(end) => ends.push_reserved(end),
+            Some(one) => {
+                ends.push_reserved(one.end);
+                seats.push_reserved(one.seat);
+            }
             None => return Err(AllocError),
         }
     }
-    Ok(ends)
+    Ok((ends, seats))
 }
 
 /// The ends without their numbers of refused calls. `ends` has room for them.

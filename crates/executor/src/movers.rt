@@ -1,6 +1,11 @@
 //! Movers: evacuators and fetchers, which go on until every program has ended.
-ghost use Rattle.std.specs.Prelude.{◌≡◌};
-ghost use Rattle.executor.specs.Ends.{IsSeatOf};
+ghost use Rattle.std.specs.Prelude.{◌≡◌, ◌≤◌, [], length, vec_capacity, vec_len};
+ghost use Rattle.object_moves.specs.Ways.{did_of};
+ghost use Rattle.executor.specs.Ends.{AreSame, IsSeatOf};
+ghost use Rattle.executor.specs.Given.{AreGivenBack, IsGivenBack};
+ghost use Rattle.executor.specs.Movers.{IsOf};
+ghost use Rattle.evacuator.specs.Rounds.{HasMadeRounds};
+ghost use Rattle.fetcher.specs.Serving.{HasServed};
 ghost use Rattle.object_lock.specs.SeatViews.{IsSeat};
 ghost use Rattle.pointer_word.specs.Asked.{HasNothing};
 
@@ -50,11 +55,11 @@ impl<'a, S: RawStore> Model for SeatedEvacuator<'a, S> {
     ghost use Rattle.object_lock.specs.SeatViews.{IsSeat};
     ghost use Rattle.object_moves.specs.Ways.{did_of};
     ghost use Rattle.pointer_word.specs.Asked.{HasNothing};
-    ghost use Rattle.std.specs.Prelude.{ℕ};
+    ghost use Rattle.executor.specs.Movers.{MoverView};
 
-    ghost Value = { ℕ };
+    ghost Value = { MoverView };
 
-    ghost view = { λ e. e.number };
+    ghost view = { λ e. record { table = e.region.now.table; mover = e.seat.view.number } };
 
     ghost invariant = { λ e. IsSeat e.region.now.table e.seat × HasNothing e.seat.view.hand × HasMadeRounds S.reliable e.region.now.table.sizes e.seat.view.number (did_of e.seat) };
 }
@@ -75,11 +80,12 @@ impl<'a, S: RawStore> Model for SeatedFetcher<'a, S> {
     ghost use Rattle.object_lock.specs.SeatViews.{IsSeat};
     ghost use Rattle.object_moves.specs.Ways.{did_of};
     ghost use Rattle.pointer_word.specs.Asked.{HasNothing};
-    ghost use Rattle.std.specs.Prelude.{◌≡◌, ℕ};
+    ghost use Rattle.executor.specs.Movers.{MoverView};
+    ghost use Rattle.std.specs.Prelude.{◌≡◌};
 
-    ghost Value = { ℕ };
+    ghost Value = { MoverView };
 
-    ghost view = { λ f. f.number };
+    ghost view = { λ f. record { table = f.region.now.table; mover = f.seat.view.number } };
 
     ghost invariant = { λ f. IsSeat f.region.now.table f.seat × HasNothing f.seat.view.hand × (f.pass ≡ f.hints.now) × (f.hints.now.objects ≡ f.region.now.objects) × HasServed S.reliable f.region.now.table.sizes f.seat.view.number (did_of f.seat) };
 }
@@ -117,7 +123,7 @@ impl<'a, S: RawStore> SeatedEvacuator<'a, S> {
         seat: MoverSeat<S>,
     ) -> SeatedEvacuator<'a, S>
         requires seat { IsSeatOf region.now.table seat }
-        ensures { result ≡ number }
+        ensures { result ≡ record { table = region.now.table; mover = seat.view.number } }
     {
         SeatedEvacuator {
             region,
@@ -144,6 +150,14 @@ impl<'a, S: RawStore> SeatedEvacuator<'a, S> {
         self.counts.add(round);
         round.left > 0
     }
+
+    /// Its seat, at which all that was done are its rounds.
+    fn into_seat(self) -> MoverSeat<S>
+        ensures of { IsOf self.entry result }
+        ensures did { HasMadeRounds S.reliable self.entry.table.sizes self.entry.mover (did_of result) }
+    {
+        self.seat
+    }
 }
 
 impl<'a, S: RawStore> SeatedFetcher<'a, S> {
@@ -158,7 +172,7 @@ impl<'a, S: RawStore> SeatedFetcher<'a, S> {
         requires seat { IsSeatOf region.now.table seat }
         requires pass { pass ≡ hints.now }
         requires hints { hints.now.objects ≡ region.now.objects }
-        ensures { result ≡ number }
+        ensures { result ≡ record { table = region.now.table; mover = seat.view.number } }
     {
         SeatedFetcher {
             region,
@@ -181,6 +195,14 @@ impl<'a, S: RawStore> SeatedFetcher<'a, S> {
             Served::Dropped | Served::Brought | Served::Failed => true,
         }
     }
+
+    /// Its seat, at which all that was done it did with hints.
+    fn into_seat(self) -> MoverSeat<S>
+        ensures of { IsOf self.entry result }
+        ensures did { HasServed S.reliable self.entry.table.sizes self.entry.mover (did_of result) }
+    {
+        self.seat
+    }
 }
 
 /// Waits a little, the longer the more turns there were with nothing to do: who is idle takes next to no processor.
@@ -196,7 +218,9 @@ pub(crate) fn rest<C: Clock>(clock: &C, idle: u32) {
 
 impl<'a, S: RawStore> Mover<'a, S> {
     /// Makes a round, or serves a hint, and tells the gate so. False where there was nothing to do.
-    fn turn<R: Wait, G: Gate>(&mut self, rt: &R, gate: &G) -> bool {
+    fn turn<R: Wait, G: Gate>(&mut self, rt: &R, gate: &G) -> bool
+        ensures { self.new ≡ self.old }
+    {
         match self {
             Mover::Evacuates(evacuator) => {
                 let moved = evacuator.turn();
@@ -219,8 +243,20 @@ impl<'a, S: RawStore> Mover<'a, S> {
         }
     }
 
+    /// Its seat, at which all that was done it did.
+    fn into_seat(self) -> MoverSeat<S>
+        ensures { IsGivenBack S.reliable self.entry result }
+    {
+        match self {
+            Mover::Evacuates(evacuator) => evacuator.into_seat(),
+            Mover::Fetches(fetcher) => fetcher.into_seat(),
+        }
+    }
+
     /// Goes on until every program has ended, when none is left.
-    fn go_on<R: Wait + Clock, G: Gate>(&mut self, rt: &R, gate: &G, left: &AtomicUsize) {
+    fn go_on<R: Wait + Clock, G: Gate>(&mut self, rt: &R, gate: &G, left: &AtomicUsize)
+        ensures { self.new ≡ self.old }
+    {
         let mut idle = 0u32;
         for _ in rt.forever() {
             if left.load(Ordering::SeqCst) == 0 {
@@ -242,11 +278,14 @@ pub(crate) fn move_all<S: RawStore + Send, G: Gate, R: Threads + Wait + Clock + 
     gate: &G,
     left: &AtomicUsize,
     movers: &mut [Mover<'_, S>],
-) {
+)
+    ensures { AreSame movers.old movers.new }
+{
     let count = movers.len();
-    if count > 0 {
-        thread::for_each_mut(rt, movers, count, &|_, mover| mover.go_on(rt, gate, left));
+    if count == 0 {
+        return;
     }
+    thread::for_each_mut(rt, movers, count, &|_, mover| mover.go_on(rt, gate, left));
 }
 
 /// Has each mover go on until every program has ended.
@@ -255,7 +294,9 @@ pub(crate) fn move_each<'a, S: RawStore + Send, G: Gate, R: Threads + Wait + Clo
     gate: &G,
     left: &AtomicUsize,
     mut movers: Vec<Mover<'a, S>>,
-) -> Vec<Mover<'a, S>> {
+) -> Vec<Mover<'a, S>>
+    ensures { AreSame movers.entry.items result.items }
+{
     move_all(rt, gate, left, movers.as_mut_slice());
     movers
 }
@@ -271,4 +312,20 @@ pub(crate) fn counts_of<S: RawStore>(
         }
     }
     counts
+}
+
+/// The seats of these movers, in their order. `seats` has room for them.
+pub(crate) fn seats_of<S: RawStore>(
+    movers: Vec<Mover<'_, S>>,
+    mut seats: Vec<MoverSeat<S>>,
+) -> Vec<MoverSeat<S>>
+    requires empty { (vec_len seats ≡ 0) × (seats.items ≡ []) }
+    requires room { length movers.items ≤ vec_capacity seats }
+    ensures given { AreGivenBack S.reliable movers.entry.items result.items }
+    ensures room { (vec_capacity result ≡ vec_capacity seats) × (vec_len result ≡ length movers.entry.items) }
+{
+    for mover in movers {
+        seats.push_reserved(mover.into_seat());
+    }
+    seats
 }

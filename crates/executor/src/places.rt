@@ -59,7 +59,8 @@ pub(crate) fn run_beside<'q, 'a, S: RawStore + Send, G: Gate, R: Threads + Wait 
     movers: Vec<Mover<'a, S>>,
     workers: Vec<Worker<'q, 'a, S>>,
 ) -> (Vec<Mover<'a, S>>, Vec<Worker<'q, 'a, S>>)
-    ensures { AreSame workers.entry.items result.1.items }
+    ensures movers { AreSame movers.entry.items result.0.items }
+    ensures workers { AreSame workers.entry.items result.1.items }
 {
     thread::join(
         rt,

@@ -1,6 +1,7 @@
 //! What a region's run begins with: programs at their beginning in the queue of tasks, workers with passes of it, and movers at their seats.
 ghost use Rattle.std.specs.List.{All};
 ghost use Rattle.std.specs.Prelude.{◌≡◌, ◌+◌, ◌<◌, ◌≤◌, ℕ, IfOk, OnOk, length};
+ghost use Rattle.executor.specs.Given.{AreMovers};
 ghost use Rattle.object_lock.specs.Fresh.{AreNumbered, IsFreshMover, IsFreshOwner};
 ghost use Rattle.region.specs.Admission.{image_at};
 ghost use Rattle.task_queue.specs.Tasked.{IsTask, roster};
@@ -46,7 +47,7 @@ pub(crate) fn begin_all<'a, S: RawStore>(
     requires passes { All (λ p. p ≡ hints.now) passes.old.items }
     requires enough { length region.now.programs ≤ length passes.old.items }
     requires cells { (k : ℕ) → k < length region.now.programs → (image_at region.now.programs k).piece ≡ region.now.table.sizes.cells }
-    ensures tasks { IfOk result (λ v. All (IsTask (roster region.now.programs share)) v.items) }
+    ensures tasks { IfOk result (λ v. All (IsTask (roster region.now.table region.now.programs share)) v.items) }
     ensures count { IfOk result (λ v. length v.items ≡ length region.now.programs) }
     ensures passes { All (λ p. p ≡ hints.now) passes.new.items }
     ensures left { IfOk result (λ v. length passes.new.items + length region.now.programs ≡ length passes.old.items) }
@@ -93,9 +94,9 @@ pub(crate) fn enqueue<'a, S: RawStore, W: Wait>(
     share: usize,
     mut tasks: Vec<ProgramRun<'a, S>>,
 ) -> Result<(TaskQueue<'a, S>, TaskPass<ProgramRun<'a, S>>), AllocError>
-    requires tasks { All (IsTask (roster region.now.programs share)) tasks.items }
+    requires tasks { All (IsTask (roster region.now.table region.now.programs share)) tasks.items }
     requires count { length tasks.items ≡ length region.now.programs }
-    ensures queue { IfOk result (λ r. r.0.roster ≡ roster region.now.programs share) }
+    ensures queue { IfOk result (λ r. r.0.roster ≡ roster region.now.table region.now.programs share) }
     ensures pass { IfOk result (λ r. (r.1.queue ≡ r.0) × (r.1.in_hand ≡ 0)) }
 {
     if tasks.is_empty() {
@@ -135,6 +136,7 @@ pub(crate) fn start_movers<'a, S: RawStore>(
     region: &'a Region<S>,
     hints: &'a Hints,
     evacuators: usize,
+    first: usize,
     seats: Vec<MoverSeat<S>>,
     mut passes: Vec<HintPass>,
 ) -> Result<Vec<Mover<'a, S>>, AllocError>
@@ -142,7 +144,11 @@ pub(crate) fn start_movers<'a, S: RawStore>(
     requires passes { All (λ p. p ≡ hints.now) passes.items }
     requires enough { length seats.items ≤ evacuators + length passes.items }
     requires hints { hints.now.objects ≡ region.now.objects }
+    requires numbers { AreNumbered first (length seats.items) seats.items }
+    ensures { IfOk result (λ v. AreMovers region.now.table first evacuators (length seats.items) v.items) }
 {
+    // The first number is told for the contract alone.
+    let _ = first;
     let mut movers = Vec::with_capacity(alloc, seats.len())?;
     for seat in seats {
         let at = movers.len();

@@ -4,6 +4,7 @@ ghost use Rattle.executor.specs.Ends.{AreDone};
 ghost use Rattle.task_queue.specs.Tasked.{IsTask};
 
 use crate::movers::rest;
+use object_lock::OwnerSeat;
 use program_run::{Finished, Gate, ProgramRun, Turn};
 use remote_store::RawStore;
 use std::alloc::{AllocError, Global};
@@ -14,11 +15,20 @@ use std::sync::atomic::{AtomicUsize, Ordering};
 use std::time::Clock;
 use task_queue::{TaskPass, TaskQueue};
 
-/// The end of a program, with the program's number.
+/// The end of a program, with the program's number, and its seat.
 #[derive(Drop)]
-pub(crate) struct Done {
+pub(crate) struct Done<S: RawStore> {
     pub(crate) number: usize,
     pub(crate) end: Finished,
+    pub(crate) seat: OwnerSeat<S>,
+}
+
+impl<S: RawStore> Model for Done<S> {
+    ghost use Rattle.executor.specs.Ends.{DoneView};
+
+    ghost Value = { DoneView S S.Cell };
+
+    ghost view = { λ d. record { number = d.number; end = d.end; seat = d.seat } };
 }
 
 // The pass has no bytes, and nothing to drop: a type that borrows and has a pass as it is has no proof of its drop.
@@ -29,7 +39,7 @@ pub(crate) struct Worker<'q, 'a, S: RawStore> {
     queue: &'q TaskQueue<'a, S>,
     pass: ManuallyDrop<TaskPass<ProgramRun<'a, S>>>,
     kept: Option<ProgramRun<'a, S>>,
-    done: Vec<Done>,
+    done: Vec<Done<S>>,
 }
 
 impl<'q, 'a, S: RawStore> Model for Worker<'q, 'a, S> {
@@ -118,10 +128,9 @@ impl<'q, 'a, S: RawStore> Worker<'q, 'a, S> {
                 true
             }
             Turn::Ended => {
-                self.done.push_reserved(Done {
-                    number: task.number() as usize,
-                    end: task.into_finished(),
-                });
+                let number = task.number() as usize;
+                let (end, seat) = task.into_finished();
+                self.done.push_reserved(Done { number, end, seat });
                 left.fetch_sub(1, Ordering::SeqCst);
                 true
             }
@@ -153,8 +162,8 @@ impl<'q, 'a, S: RawStore> Worker<'q, 'a, S> {
         }
     }
 
-    /// The ends of the programs that ended with it.
-    pub(crate) fn into_done(self) -> Vec<Done>
+    /// The ends of the programs that ended with it, with their seats.
+    pub(crate) fn into_done(self) -> Vec<Done<S>>
         ensures { AreDone S.honest S.reliable self.entry.roster result.items }
     {
         self.done

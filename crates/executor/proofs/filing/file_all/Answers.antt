@@ -1,9 +1,8 @@
-use Rattle.std.proofs.Common.{rules, ◌≡◌, ◌∙◌, ◌++◌, ◌∷◌, ap, drop, length, subst, sym, take}
-use Rattle.std.proofs.Math.Seq.{take-append_seam}
+use Rattle.std.proofs.Common.{rules, ◌≡◌, ◌∷◌, subst, sym}
 use Rattle.std.specs.List.{All}
 use Rattle.std.specs.Vec.Iter.{into_iter_items}
 use Rattle.task_queue.specs.Queues.{QueueView}
-use Rattle.executor.specs.Ends.{AreDone, AreFiled}
+use Rattle.executor.specs.Ends.{AreDone}
 use Rattle.executor.proofs.Composed.{all_first, all_rest}
 use Rattle.executor.proofs.filing.file_all.Goals as goal
 
@@ -25,16 +24,4 @@ pub loop-worker-preserved : goal.loop-worker-preserved
 loop-worker-preserved g c =
     let With : QueueView → Type 0 = λ w. w ≡ c.args.queue.now in
     let took : into_iter_items c.loop-worker.worker-iterator ≡ c.in-Some.worker ∷ into_iter_items c.next.new.self = search rules in
-    let items = c.loop-worker.places.items in
-    let new = c.file_done.new.places in
-    let rest = drop (length new) items in
-    let count = c.file_done.ensures.count in
-    let before = c.loop-worker.invariant.3.count in
-    let many : length items ≡ length new = before ∙ sym count in
-    let long : c.loop-worker.places.len ≡ length new = search (rules, many) in
-    let whole = ap (λ n. take n (new ++ rest)) long ∙ take-append_seam new rest in (
-      tt,
-      tt,
-      all_rest With _ (into_iter_items c.next.new.self) c.in-Some.worker took c.loop-worker.invariant.2,
-      subst (AreFiled g.S.RawStore.honest g.S.RawStore.reliable c.args.queue.now.roster) (sym whole) c.file_done.ensures,
-    )
+    (tt, tt, all_rest With _ (into_iter_items c.next.new.self) c.in-Some.worker took c.loop-worker.invariant.2, c.file_done.ensures)

@@ -85,8 +85,8 @@ loop-seat-preserved g c =
     let many : seat.view.high - seat.view.low ≡ share = omega arith in
     let place : seat.view.number - 1 < n = omega arith in
     let is = c.bound.ensures ∙ c.in-Ok.ensures.begun in
-    let task : IsTask (roster c.args.region.now.programs share) run = record {
-      of = ap roster_of is ∙ ap (roster c.args.region.now.programs) many;
+    let task : IsTask (roster c.args.region.now.table c.args.region.now.programs share) run = record {
+      of = ap roster_of is ∙ ap (roster c.args.region.now.table c.args.region.now.programs) many;
       named = subst (λ k. k < n) (sym (ap (λ (p : RunView). p.number) is)) place;
       placed = ap (λ (p : RunView). p.first) is ∙ fresh.1 ∙ ap (λ (p : RunView). p.number * share) (sym is);
       going = ap (λ (p : RunView). p.over) is;
@@ -100,7 +100,7 @@ loop-seat-preserved g c =
       more c.loop-seat.yielded (into_iter_items c.loop-seat.seat-iterator) (into_iter_items c.next.new.self) _ seat before.2 took,
       omega arith,
       search rules,
-      subst (All (IsTask (roster c.args.region.now.programs share))) (sym pushed) (All-push (IsTask (roster c.args.region.now.programs share)) runs run before.5 task),
+      subst (All (IsTask (roster c.args.region.now.table c.args.region.now.programs share))) (sym pushed) (All-push (IsTask (roster c.args.region.now.table c.args.region.now.programs share)) runs run before.5 task),
       c.take_pass-pass.ensures.passes,
       omega arith,
     )

@@ -10,6 +10,6 @@ invariant-loop-seat g l =
     × (l.yielded ++ into_iter_items l.seat-iterator ≡ l.fn.seats.items)
     × (length l.yielded ≡ length l.runs.items)
     × (vec_len l.runs + length (into_iter_items l.seat-iterator) ≤ vec_capacity l.runs)
-    × All (IsTask (roster l.region.programs l.share)) l.runs.items
+    × All (IsTask (roster l.region.table l.region.programs l.share)) l.runs.items
     × All (λ p. p ≡ l.hints) l.passes.items
     × (length l.passes.items + length l.runs.items ≡ length l.initial.passes.items)

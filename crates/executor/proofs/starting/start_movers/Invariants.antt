@@ -1,7 +1,8 @@
-use Rattle.std.proofs.Common.{◌≡◌, ◌+◌, ◌-◌, ◌≤◌, length, vec_capacity, vec_len}
+use Rattle.std.proofs.Common.{◌≡◌, ◌+◌, ◌-◌, ◌++◌, ◌≤◌, length, vec_capacity, vec_len}
 use Rattle.std.specs.List.{All}
 use Rattle.std.specs.Vec.Iter.{into_iter_items}
 use Rattle.object_lock.specs.Fresh.{IsFreshMover}
+use Rattle.executor.specs.Given.{AreMovers}
 use Rattle.executor.proofs.starting.start_movers.Given as goal
 
 abbrev pub invariant-loop-seat : goal.invariant-loop-seat
@@ -11,3 +12,5 @@ invariant-loop-seat g l =
     × All (IsFreshMover l.region.table) (into_iter_items l.seat-iterator)
     × All (λ p. p ≡ l.hints) l.passes.items
     × (length (into_iter_items l.seat-iterator) ≤ (l.evacuators - vec_len l.movers) + length l.passes.items)
+    × (l.yielded ++ into_iter_items l.seat-iterator ≡ l.fn.seats.items)
+    × AreMovers l.region.table l.first l.evacuators (length l.yielded) l.movers.items
