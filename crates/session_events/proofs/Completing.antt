@@ -4,6 +4,7 @@ use Rattle.std.specs.Prelude.{Option, Some, None, slice_index_or, slice_set}
 use Rattle.std.proofs.lemmas.Bool.{le-leb}
 use Rattle.std.proofs.lemmas.Bool.Decides.{eqb_tells}
 use Rattle.std.proofs.lemmas.List.{get_or-set_same, length-map, length-set}
+use Rattle.atomic_table.specs.Seated.{TableId}
 use Rattle.cells.proofs.Pieces.{piece_some}
 use Rattle.cells.specs.declared.ending.Run.{Run}
 use Rattle.cells.specs.declared.ending.Run.TheVariants as ending
@@ -412,8 +413,8 @@ all reliable honest sure [] s t narrow low e = (
   λ k is. stays reliable honest s.state.view.sizes (setting_of s.state) k (program_of s.state) (program_of t.state) (Noted t.state.view) (ap (λ (y : session.Logged). program_of y.state) e) (subst (λ (y : session.Logged). Noted y.state.view k) (sym e) is),
 )
 all reliable honest sure (u ∷ us) s t narrow low d =
-    let sizes : u.state.view.sizes ≡ s.state.view.sizes = ap (λ (v : View). v.sizes) d.0.same.3 in
-    let number : u.state.view.number ≡ s.state.view.number = ap (λ (v : View). v.number) d.0.same.3 in
+    let sizes : u.state.view.sizes ≡ s.state.view.sizes = ap (λ (v : TableId × View). v.1.sizes) d.0.same.3 in
+    let number : u.state.view.number ≡ s.state.view.number = ap (λ (v : TableId × View). v.1.number) d.0.same.3 in
     let first = one reliable honest sure s u narrow low d.0.safe.holding d.0.going.1 d.0.touch d.0.next d.0.performed in
     let rest = all reliable honest sure us u t (subst (λ (z : Sizes). z.frames ≤ 1048576) (sym sizes) narrow) (subst (λ i. i < 65536) (sym number) low) d.1 in
     performed_both reliable honest s u t sizes (same_setting s.state u.state d.0.same)
@@ -423,7 +424,7 @@ all reliable honest sure (u ∷ us) s t narrow low d =
 
 sizes_stay : (honest : Type 0) (us : List session.Logged) (s t : session.Logged) → PerformsBy honest us s t → t.state.view.sizes ≡ s.state.view.sizes
 sizes_stay honest [] s t e = ap (λ (y : session.Logged). y.state.view.sizes) e
-sizes_stay honest (u ∷ us) s t d = sizes_stay honest us u t d.1 ∙ ap (λ (v : View). v.sizes) d.0.same.3
+sizes_stay honest (u ∷ us) s t d = sizes_stay honest us u t d.1 ∙ ap (λ (v : TableId × View). v.1.sizes) d.0.same.3
 
 -- it comes to want this by a turn without a call
 wanted_by : (reliable honest : Type 0) (s t : session.Logged) (w : Want) (x : Touch) → IsReady (setting_of s.state) (ready_of s.state) x → s.state.want ≡ None → t ≡ wanting s w

@@ -7,6 +7,7 @@ use Rattle.std.proofs.lemmas.List.{get_or-set_same, length-map, length-set}
 use Rattle.pointer_word.specs.Hands.{Note, added, closed, known, writable}
 use Rattle.pointer_word.specs.Machine.{Never, State}
 use Rattle.pointer_word.specs.Words.{Away, counted}
+use Rattle.atomic_table.specs.Seated.{TableId}
 use Rattle.cells.specs.declared.ending.Want.TheVariants.{NoObjects}
 use Rattle.code_form.specs.Code.{most_scopes}
 use Rattle.pointer_word.specs.Calls.{Clears, Closes, Stores}
@@ -250,8 +251,8 @@ one honest s t touch.Nothing n ok none next done is = absurd done
 
 pub same_setting : (s t : session.State) → session.SameProgram s t → setting_of t ≡ setting_of s
 same_setting s t e =
-    let size : t.view.sizes.cells ≡ s.view.sizes.cells = ap (λ (v : View). v.sizes.cells) e.3 in
-    let number : t.view.number ≡ s.view.number = ap (λ (v : View). v.number) e.3 in
+    let size : t.view.sizes.cells ≡ s.view.sizes.cells = ap (λ (v : TableId × View). v.1.sizes.cells) e.3 in
+    let number : t.view.number ≡ s.view.number = ap (λ (v : TableId × View). v.1.number) e.3 in
     ap (λ i. record (setting_of t) { image = i }) e.0 ∙ ap (λ z. record (setting_of t) { image = s.image; base = z }) e.1 ∙ ap (λ z. record (setting_of t) { image = s.image; base = s.view.low; limit = z }) e.2
     ∙ ap (λ z. record (setting_of t) { image = s.image; base = s.view.low; limit = s.view.high; size = z }) size ∙ ap (λ z. record (setting_of s) { mover = z }) number
 

@@ -16,3 +16,4 @@ mod Placing
 pub mod Told
 mod Merging
 mod Seats
+mod Together

@@ -39,13 +39,13 @@ comes_of reliable honest z g owner j is mine k (p ∷ ps) y last s n = (
 )
 
 pub placed : (reliable honest : Type 0) (owner : ℕ → ℕ) (j : ℕ) (steps : List (ℕ × Deed)) (t : State) (C : Image) (v : View) (s : Logged) (r : Run) → honest → v.sizes.frames ≤ 1048576 → suc j < 65536 → v.number ≡ suc j → IsUnused v → ((o : ℕ) → Owns v o → owner o ≡ j)
-    → Follows v.sizes opening steps t → Runs honest v.sizes.cells opening (calls_of steps) t → AreOwn v.sizes steps → AreOwners owner steps → Acts honest reliable (session_begun C v) s r → r ≢ Wanted StoreFailed → (r ≡ Wanted OutOfMemory → next_touch s.state ≢ Ends) → s.log ≡ log_of j steps
-    → MakesOwn reliable honest v.sizes (setting_of (session_begun C v).state) unused (begun C) (kept_at j opening steps) (program_of s.state)
+    → Follows v.sizes opening steps t → Runs honest v.sizes.cells opening (calls_of steps) t → AreOwn v.sizes steps → AreOwners owner steps → Acts honest reliable (session_begun s.state.table C v) s r → r ≢ Wanted StoreFailed → (r ≡ Wanted OutOfMemory → next_touch s.state ≢ Ends) → s.log ≡ log_of j steps
+    → MakesOwn reliable honest v.sizes (setting_of (session_begun s.state.table C v).state) unused (begun C) (kept_at j opening steps) (program_of s.state)
 placed reliable honest owner j steps t C v s r sure narrow low number is owned follows runs own owners done stored text log =
-    let g : Setting = setting_of (session_begun C v).state in
+    let g : Setting = setting_of (session_begun s.state.table C v).state in
     let parts = parts_are honest v.sizes j steps opening t (opens_well honest v.sizes.cells) follows runs own in
     let notes = notes_stay honest v.sizes owner j steps opening t (opens_well honest v.sizes.cells) follows runs own owners in
     let come = comes_of reliable honest v.sizes g owner j number owned unused (kept_at j opening steps) (t.hand (suc j)) t.note parts.1 notes in
-    let did = acted reliable honest sure (session_begun C v) s r narrow (subst (λ (i : ℕ). i < 65536) (sym number) low) done stored text in
+    let did = acted reliable honest sure (session_begun s.state.table C v) s r narrow (subst (λ (i : ℕ). i < 65536) (sym number) low) done stored text in
     let known : Noted v unused = λ o mine. sym (ap (λ (ns : List Note). slice_index_or ns o blank) is.1 ∙ at_all blank v.sizes.objects o) in
     (did.2 unused known (kept_at j opening steps) (parts.0 ∙ sym log ∙ did.1) come).0

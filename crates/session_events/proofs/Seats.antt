@@ -3,6 +3,7 @@ use Rattle.std.proofs.Common.{◌≡◌, ℕ, suc, ◌+◌, ◌<◌, ◌≤◌, 
 use mathlib.Core.Option.{some}
 use lib.ListN.{get_elem?}
 use Rattle.atomic_table.proofs.Lists.{at_map}
+use Rattle.atomic_table.specs.Seated.{TableId}
 use Rattle.atomic_table.specs.Table.{State as Table}
 use Rattle.code_form.specs.Form.{Image}
 use Rattle.pointer_word.specs.Calls.{Runs}
@@ -33,11 +34,11 @@ module _ (reliable honest : Type 0) (sure : honest) (z : Sizes) (wz : worlds.Siz
     first : View
     first = has.acted.0
 
-    setting_first : setting_of (session_begun (images k) has.acted.0).state ≡ setting wz images k
-    setting_first = sym (same_setting (session_begun (images k) has.acted.0).state has.session.state has.acted.2) ∙ has.setting_is
+    setting_first : setting_of (session_begun has.session.state.table (images k) has.acted.0).state ≡ setting wz images k
+    setting_first = sym (same_setting (session_begun has.session.state.table (images k) has.acted.0).state has.session.state has.acted.2) ∙ has.setting_is
 
     sizes_first : has.acted.0.sizes ≡ z
-    sizes_first = sym (ap (λ (v : View). v.sizes) has.acted.2.3) ∙ has.sizes
+    sizes_first = sym (ap (λ (v : TableId × View). v.1.sizes) has.acted.2.3) ∙ has.sizes
 
     -- the objects of a program are those of its seat
     owns_so : (o : ℕ) → Owns has.acted.0 o → Owns seat.view o
@@ -54,7 +55,7 @@ module _ (reliable honest : Type 0) (sure : honest) (z : Sizes) (wz : worlds.Siz
         (sym (ap (λ (y : Seated). y.log) has.seated) ∙ log) in
         subst (λ (p : Program). MakesOwn reliable honest z (setting wz images k) unused (begun (images k)) (kept_at k opening steps) p) has.at
         (subst (λ (g : Setting). MakesOwn reliable honest z g unused (begun (images k)) (kept_at k opening steps) (program_of has.session.state)) setting_first
-        (subst (λ (y : Sizes). MakesOwn reliable honest y (setting_of (session_begun (images k) v).state) unused (begun (images k)) (kept_at k opening steps) (program_of has.session.state)) (sym e) made))
+        (subst (λ (y : Sizes). MakesOwn reliable honest y (setting_of (session_begun has.session.state.table (images k) v).state) unused (begun (images k)) (kept_at k opening steps) (program_of has.session.state)) (sym e) made))
 
     -- which are those of the program of a world
     pub mine_by : ((o : ℕ) → Owns seat.view o → owner o ≡ k) → (o : ℕ) → IsOwn (setting wz images k) o → owner o ≡ k

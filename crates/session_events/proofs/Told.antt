@@ -1,6 +1,7 @@
 -- The events of a program that was run to its end.
 use Rattle.std.proofs.Common.{◌≡◌, ◌≢◌, ℕ, suc, ◌+◌, Bool, true, false, cond, List, ◌∷◌, [], length, refl, sym, ap, ◌∙◌, subst, inl, inr, arith}
 use Rattle.std.specs.Prelude.{◌⊎◌, None, Option, Some, slice_index_or}
+use Rattle.atomic_table.specs.Seated.{TableId}
 use Rattle.cells.specs.declared.ending.Run as ending
 use Rattle.cells.specs.declared.ending.Run.TheVariants as Run
 use Rattle.cells.specs.declared.ending.Want.{Want}
@@ -152,7 +153,7 @@ is_text (touch.Allocs m) = inr (λ e. cc e)
 is_text touch.Wrong = inr (λ e. cc e)
 is_text touch.Nothing = inr (λ e. cc e)
 
-wants_so : (reliable : Type 0) (w : Want) (u t : session.Logged) → WantsNext reliable w u t → t.state.want ≡ Some w
+pub wants_so : (reliable : Type 0) (w : Want) (u t : session.Logged) → WantsNext reliable w u t → t.state.want ≡ Some w
 wants_so reliable NoObjects u t d = ap (λ (y : session.Logged). y.state.want) d.came.2
 wants_so reliable OutOfMemory u t d = ap (λ (y : session.Logged). y.state.want) d.came.2
 wants_so reliable StoreFailed u t d = elim d.came [
@@ -197,8 +198,8 @@ told reliable w C f is =
     let a = is.acted in
     let t : session.State = a.last.state in
     let v : View = a.acted.0 in
-    let s : session.State = session.begin C v no_refusals in
-    let first : session.Logged = session_begun C v in
+    let s : session.State = session.begin t.table C v no_refusals in
+    let first : session.Logged = session_begun t.table C v in
     let same = a.acted.2 in
     let refused : HasRefused f.end.run t.refusals = subst (HasRefused f.end.run) a.refusals is.own in
     let ends : EndsAs reliable w.objects C t.core f.end.run = subst (λ (c : Core). EndsAs reliable w.objects C c f.end.run) (sym a.core) is.executed.ends in
@@ -208,9 +209,9 @@ told reliable w C f is =
     let low : t.view.low ≡ v.low = same.1 in
     let high : t.view.high ≡ v.high = same.2 in
     let made : ℕ → ℕ → ℕ → ℕ → Setting = λ size base limit mover. record { size = size; base = base; limit = limit; mover = mover; image = C } in
-    let cells : v.sizes.cells ≡ C.piece = sym (ap (λ (x : View). x.sizes.cells) same.3) ∙ a.cells in
+    let cells : v.sizes.cells ≡ C.piece = sym (ap (λ (x : TableId × View). x.1.sizes.cells) same.3) ∙ a.cells in
     let behind : v.high ≡ w.first + w.objects = sym high ∙ a.share ∙ ap (λ n. n + w.objects) a.first in
-    let mover : v.number ≡ suc w.program = sym (ap (λ (x : View). x.number) same.3) ∙ a.mover in
+    let mover : v.number ≡ suc w.program = sym (ap (λ (x : TableId × View). x.1.number) same.3) ∙ a.mover in
     let here : setting_of s ≡ setting_with w C =
     ap (λ n. made n v.low v.high v.number) cells ∙ ap (λ n. made C.piece n v.high v.number) (sym low ∙ a.first) ∙ ap (λ n. made C.piece w.first n v.number) behind ∙ ap (made C.piece w.first (w.first + w.objects)) mover in
     let goes : Goes (setting_with w C) (begun C) unused by.0 (program_of q) by.1 = subst (λ (g : Setting). Goes g (begun C) unused by.0 (program_of q) by.1) here by.2 in

@@ -51,5 +51,5 @@ MakesOwn reliable honest z g k p (s ∷ ss) q =
 abbrev pub SessionsAreInTheList : Type 0 → Type 0 → Type 0
 SessionsAreInTheList honest reliable = (owner : ℕ → ℕ) (j : ℕ) (steps : List (ℕ × Deed)) (t : State) (C : Image) (v : View) (s : Logged) (r : Run) → honest → v.sizes.frames ≤ 1048576 → suc j < 65536
     → v.number ≡ suc j → IsUnused v → ((o : ℕ) → Owns v o → owner o ≡ j) → Follows v.sizes opening steps t → Runs honest v.sizes.cells opening (calls_of steps) t → AreOwn v.sizes steps → AreOwners owner steps
-    → Acts honest reliable (session_begun C v) s r → r ≢ Wanted StoreFailed → (r ≡ Wanted OutOfMemory → next_touch s.state ≢ Ends) → s.log ≡ log_of j steps
-    → MakesOwn reliable honest v.sizes (setting_of (session_begun C v).state) unused (begun C) (kept_at j opening steps) (program_of s.state)
+    → Acts honest reliable (session_begun s.state.table C v) s r → r ≢ Wanted StoreFailed → (r ≡ Wanted OutOfMemory → next_touch s.state ≢ Ends) → s.log ≡ log_of j steps
+    → MakesOwn reliable honest v.sizes (setting_of (session_begun s.state.table C v).state) unused (begun C) (kept_at j opening steps) (program_of s.state)

@@ -4,6 +4,7 @@
 ghost use Rattle.session_events.specs.Laws.{EndsAreEvents, InstructionsAreEvents, RunsAreEvents};
 ghost use Rattle.session_events.specs.Listed.{SessionsAreInTheList};
 ghost use Rattle.session_events.specs.OneWorld.{SeatsAreAWorld, TheListIsAWorlds};
+ghost use Rattle.session_events.specs.Together.{RunsAreSeats};
 ghost use Rattle.object_lock.specs.Kept.{slot_has, slot_keeps};
 ghost use Rattle.std.specs.Prelude.{ℕ};
 
@@ -45,4 +46,11 @@ pub fn the_list_is_a_worlds<S: RawStore>()
 /// what all of them did is one list of events of one world, which leads to the machine that the table shows. Each program is then at the place to which its session came.
 pub fn seats_are_a_world<S: RawStore>()
     ensures { (n : ℕ) → SeatsAreAWorld (slot_keeps S.fits S.content n) (slot_has S.fits n) S.honest S.reliable }
+{}
+
+/// Where all programs of a region have run on threads over a store that is honest and reliable, beside evacuators and fetchers, and no end is a want of the store, or of memory
+/// for the text of an error: the seats of the state of the table in which they are told together are those of these programs, evacuators and fetchers, and each program is where its
+/// end is told of.
+pub fn runs_are_seats<S: RawStore>()
+    ensures { (n : ℕ) → RunsAreSeats (slot_keeps S.fits S.content n) (slot_has S.fits n) S.honest S.reliable }
 {}
