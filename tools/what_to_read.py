@@ -29,6 +29,8 @@ READ = (
     ("c0far_headline", "Headline", "Headline", "the promise over every list of events"),
     ("c0far_headline", "Ran", "RunHeadline", "the promise of the ends that `run_all` answers, by what texts mean"),
     ("c0far_headline", "Tables", "HeadlineOfTables", "the promise over every interleaving of threads, of a table with all its seats"),
+    ("c0far_headline", "Threads", "HeadlineOfThreads", "the same of what `run_all` answers"),
+    ("c0far_headline", "Threads", "HeadlineOfRunsTogether", "the same of what the command `run` shows"),
 )
 
 USE = re.compile(r"(pub )?use Rattle\.(\w+)\.specs\.([\w.]+?)(?:\.\{(.*)\})?(?: as (\w+))?$")

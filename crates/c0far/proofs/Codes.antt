@@ -1,5 +1,5 @@
 -- The codes of files, one after the other.
-use Rattle.std.proofs.Common.{◌≡◌, ◌∙◌, ◌<◌, ◌+◌, arith, ℕ, zero, suc, Bool, true, false, Bor, List, [], ◌∷◌, ◌++◌, ap, drop, get_or, inl, inr, length, map, refl, sym, subst, take}
+use Rattle.std.proofs.Common.{◌≡◌, ◌∙◌, ◌<◌, ◌+◌, arith, ℕ, zero, suc, Bool, true, false, Bor, List, [], ◌∷◌, ◌++◌, ap, drop, get_or, inl, length, map, refl, sym, subst, take}
 use Rattle.std.proofs.lemmas.List.{map-append, take_more}
 use Rattle.std.specs.Prelude.{◌⊎◌, Option}
 use Rattle.code_form.specs.Form.{Image, image_of}
@@ -11,7 +11,7 @@ use Rattle.c0far.specs.FileCode.{AreCodes, HoldsCode, HoldsImage, HoldsText, nam
 use Rattle.command_files.specs.FileTexts.{Known}
 use Rattle.c0far.specs.NoCode.{HasNoCode, LacksCode, LacksMemory}
 use Rattle.c0far.specs.Replays.{Replays}
-use Rattle.streams.specs.Streams.{Held, IsQuiet, Says, Writes, writes}
+use Rattle.streams.specs.Streams.{Held, IsQuiet, Writes, writes}
 
 held_fits : ImagesAreEncodable → (compiling : Compiling) (held : Known) (C : Image) (b : Bool) → elim b as (λ x. Type 0) [ true ↦ HoldsImage held C | false ↦ HoldsText compiling held C ] → IsEncodable C
 held_fits law compiling held C true h = h.is.0

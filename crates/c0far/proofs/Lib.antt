@@ -8,3 +8,4 @@ pub mod Placed
 pub mod Ran
 pub mod Replayed
 pub mod Rooms
+pub mod Together

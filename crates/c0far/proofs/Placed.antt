@@ -1,5 +1,5 @@
 -- Where programs stopped, as it is told.
-use Rattle.std.proofs.Common.{◌≡◌, ◌⊎◌, ◌++◌, ◌∙◌, ◌≤◌, Bor, ℕ, List, [], Option, Some, Result, Ok, Err, drop, get_or, inl, inr, length, map, ap, arith, refl, subst}
+use Rattle.std.proofs.Common.{◌≡◌, ◌++◌, ◌∙◌, ◌≤◌, Bor, ℕ, List, [], Option, Some, Result, Ok, Err, drop, get_or, inl, inr, length, map, ap, arith, refl, subst}
 use Rattle.std.specs.Io.KnownBytes.{Appends}
 use Rattle.std.specs.Prelude.{IfOk, MatchResult, Bool, true, false, ◌∷◌}
 use Rattle.cells.specs.Stops.{stop_of}

@@ -1,5 +1,5 @@
 -- The cells of stores in folders have room for a piece of any programs.
-use Rattle.std.proofs.Common.{◌≤◌, ◌+◌, ℕ, List, Option, Some, None, arith, lit≤}
+use Rattle.std.proofs.Common.{◌≤◌, ◌+◌, List, Option, Some, None, arith, lit≤}
 use Rattle.std.specs.Prelude.{slice_get}
 use Rattle.cells.proofs.Pieces.{is_a_piece, piece_most}
 use Rattle.cells.specs.Pieces.{cells_in}

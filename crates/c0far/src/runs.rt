@@ -4,7 +4,7 @@ ghost use Rattle.command_line.specs.Shell.{memory_of, started_of};
 ghost use Rattle.executor.specs.Ends.{AreFinished};
 ghost use Rattle.region.specs.Admission.{IsAdmitted, IsDenied, IsRefused, IsWithinWork, image_at};
 ghost use Rattle.world_semantics.specs.Pieces.{piece_of as first_piece};
-ghost use Rattle.c0far.specs.Runs.{RanOver, Runs};
+ghost use Rattle.c0far.specs.Runs.{IsHonestIn, IsReliableIn, RanAsOne, RanOver, Runs, world_over};
 ghost use Rattle.streams.specs.Streams.{writes};
 
 use crate::code::codes_of;
@@ -19,6 +19,7 @@ use memory_limit::MemoryLimit;
 use region::{AdmitFault, fits, piece_of};
 use remote_store::{Config, FarHeap, FaultPlan, FaultStores, Stores};
 use scope_verifier::Verified;
+use session_events::{runs_are_seats, seats_are_a_world};
 use std::alloc::Global;
 use std::sync::Wait;
 use std::thread::Threads;
@@ -35,6 +36,7 @@ fn run_with<W: Wait + Threads + Clock + Sync, M: Stores + Drop>(
 ) -> Result<Counted, AdmitFault>
     requires { M.makes stores (first_piece (image_at programs.items) + 3) }
     ensures ended { IfOk result (λ r. AreFinished M.S.honest M.S.reliable (asked.entry.memory.objects / length programs.items) programs.items r.programs.items) }
+    ensures together { IfOk result (λ r. RanAsOne M.S.honest M.S.reliable (world_over (memory_of asked.entry.memory) asked.entry.evacuators asked.entry.fetchers programs.items) (image_at programs.items) r.programs.items) }
     ensures refused { IfErr result (λ fault. (fault ≡ AdmitFault.OutOfMemory) ⊎ IsRefused programs.items asked.entry.memory.frames asked.entry.memory.objects asked.entry.evacuators asked.entry.fetchers asked.entry.work.workers asked.entry.work.quantum fault) }
 {
     let config = Config {
@@ -47,6 +49,8 @@ fn run_with<W: Wait + Threads + Clock + Sync, M: Stores + Drop>(
         stores,
     };
     let limit = MemoryLimit::of_mebibytes(asked.limit);
+    runs_are_seats::<M::S>();
+    seats_are_a_world::<M::S>();
     run_all_counted(alloc, rt, programs, config, limit, &OpenGate)
 }
 
@@ -60,6 +64,7 @@ fn run_over<W: Wait + Threads + Clock + Sync, M: Stores + Drop>(
 ) -> Result<Counted, AdmitFault>
     requires { M.makes stores (first_piece (image_at programs.items) + 3) }
     ensures ended { IfOk result (λ r. AreFinished M.S.honest (M.S.reliable × (asked.entry.memory.fail_from ≡ 0)) (asked.entry.memory.objects / length programs.items) programs.items r.programs.items) }
+    ensures together { IfOk result (λ r. RanAsOne M.S.honest (M.S.reliable × (asked.entry.memory.fail_from ≡ 0)) (world_over (memory_of asked.entry.memory) asked.entry.evacuators asked.entry.fetchers programs.items) (image_at programs.items) r.programs.items) }
     ensures refused { IfErr result (λ fault. (fault ≡ AdmitFault.OutOfMemory) ⊎ IsRefused programs.items asked.entry.memory.frames asked.entry.memory.objects asked.entry.evacuators asked.entry.fetchers asked.entry.work.workers asked.entry.work.quantum fault) }
 {
     if asked.memory.fail_from == 0 {
@@ -80,6 +85,7 @@ fn run_programs<W: Wait + Threads + Clock + Sync, F: Files>(
     files: &F,
 ) -> Result<Counted, AdmitFault>
     ensures ended { IfOk result (λ r. RanOver F.Place.honest (memory_of asked.entry.memory) programs.items r.programs.items) }
+    ensures together { IfOk result (λ r. RanAsOne (IsHonestIn F.Place.honest (memory_of asked.entry.memory).store) (IsReliableIn (memory_of asked.entry.memory)) (world_over (memory_of asked.entry.memory) asked.entry.evacuators asked.entry.fetchers programs.items) (image_at programs.items) r.programs.items) }
     ensures refused { IfErr result (λ fault. (fault ≡ AdmitFault.OutOfMemory) ⊎ IsRefused programs.items asked.entry.memory.frames asked.entry.memory.objects asked.entry.evacuators asked.entry.fetchers asked.entry.work.workers asked.entry.work.quantum fault) }
 {
     match asked.memory.store {
@@ -121,6 +127,7 @@ fn run_asked<W: Wait + Threads + Clock + Sync, F: Files>(
     files: &F,
 ) -> Result<Counted, AdmitFault>
     ensures ended { IfOk result (λ r. RanOver F.Place.honest (memory_of asked.entry.memory) programs.items r.programs.items) }
+    ensures together { IfOk result (λ r. RanAsOne (IsHonestIn F.Place.honest (memory_of asked.entry.memory).store) (IsReliableIn (memory_of asked.entry.memory)) (world_over (memory_of asked.entry.memory) asked.entry.evacuators asked.entry.fetchers programs.items) (image_at programs.items) r.programs.items) }
     ensures admitted { IfOk result (λ v. IsAdmitted programs.items asked.entry.memory.frames asked.entry.memory.objects asked.entry.evacuators asked.entry.fetchers × IsWithinWork asked.entry.work.workers asked.entry.work.quantum) }
     ensures refused { IfErr result (λ fault. IsDenied programs.items asked.entry.memory.frames asked.entry.memory.objects asked.entry.evacuators asked.entry.fetchers asked.entry.work.workers asked.entry.work.quantum fault) }
 {

@@ -31,7 +31,7 @@ use Rattle.c0far_headline.proofs.Headlines.{Laws}
 use Rattle.c0far_headline.proofs.Ran.{promised_end}
 
 -- where folders are honest each store is
-honest_in : (store : Option Text) → IsHonestIn (Unit {0}) store
+pub honest_in : (store : Option Text) → IsHonestIn (Unit {0}) store
 honest_in None = tt
 honest_in (Some folder) = tt
 

@@ -1,6 +1,6 @@
 -- what is promised of the programs of a table, as the one list of its steps is one of events of a world
-use Rattle.std.proofs.Common.{◌≡◌, ℕ, ◌<◌, List, [], ◌∷◌, refl, sym, subst}
-use Rattle.std.specs.Prelude.{slice_index_or}
+use Rattle.std.proofs.Common.{◌≡◌, ℕ, ◌<◌, List, refl, sym, subst}
+use Rattle.std.specs.Prelude.{slice_get, slice_index_or}
 use Rattle.code_form.specs.Form.{Image}
 use Rattle.pointer_word.specs.Machine.{State}
 use Rattle.pointer_word.specs.Words.{pack}
@@ -9,26 +9,27 @@ use Rattle.world_semantics.specs.Causes.{HasCause}
 use Rattle.world_semantics.specs.Programs.{Program}
 use Rattle.world_semantics.specs.Worlds.{Event, Follows, Sizes, World, start}
 use Rattle.c0far_headline.specs.Headline.{Headline, Promised}
+use Rattle.program_run.specs.Acting.{share_by}
+use Rattle.region.specs.Admission.{image_at}
+use Rattle.session_events.specs.Together.{RunsAreSeats}
+use Rattle.c0far.proofs.Together.{never_wanted, world_honest}
+use Rattle.c0far.specs.Runs.{world_over}
 use Rattle.c0far_headline.specs.Tables.{HeadlineOfTables, IsPromisedRun, IsSettledIn}
-
--- a list of events over a store that is honest is one over an honest store
-over_honest : (honest : Type 0) (z : Sizes) (images : ℕ → Image) (sure : honest) (w : World) (es : List Event) (v : World) → Follows honest z images w es v → Follows (Unit {0}) z images w es v
-over_honest honest z images sure w [] v f = f
-over_honest honest z images sure w (e ∷ es) v f = (f.0, f.1, λ u. f.2 sure, over_honest honest z images sure f.0 es v f.3)
+use Rattle.c0far_headline.specs.Threads.{HeadlineOfRunsTogether, HeadlineOfThreads}
+use Rattle.c0far_headline.proofs.Ends.{some_cells}
+use Rattle.c0far_headline.proofs.Shown.{honest_in}
 
 -- a world with these ends of its programs is a promised run
-promised_run : (headline : Headline) (honest : Type 0) (z : Sizes) (images : ℕ → Image) (words : List ℕ) (t : State) (ends : ℕ → Program) → 0 < z.cells → (sure : honest)
-    → ((o : ℕ) → o < z.objects → slice_index_or words o 0 ≡ pack (t.word o)) → IsOneWorld honest z images t ends → IsPromisedRun z images words ends
-promised_run headline honest z images words t ends some sure shows one =
+pub promised_run : (headline : Headline) (z : Sizes) (images : ℕ → Image) (t : State) (ends : ℕ → Program) → 0 < z.cells → IsOneWorld (Unit {0}) z images t ends → IsPromisedRun z images ends
+promised_run headline z images t ends some one =
     let events : List Event = one.0 in
     let v : World = one.1 in
-    let follows : Follows (Unit {0}) z images (start images) events v = over_honest honest z images sure (start images) events v one.2 in
+    let follows : Follows (Unit {0}) z images (start images) events v = one.2 in
     let at : (k : ℕ) → k < z.programs → v.programs k ≡ ends k = one.4 in
     record {
       events = events;
       world = v;
       run = (some, follows);
-      shows = λ o low. subst (λ (x : State). slice_index_or words o 0 ≡ pack (x.word o)) (sym one.3) (shows o low);
       at = at;
       promised = λ k low loops text checks cells meant compiled means.
           let said = headline loops text checks cells (images k) compiled meant means in (
@@ -41,6 +42,25 @@ promised_run headline honest z images words t ends some sure shows one =
     }
 
 pub of_tables : {S : Type 0} (kept : S → ℕ → List ℕ → Type 0) (there : S → Type 0) (honest reliable : Type 0) → Headline → SeatsAreAWorld kept there honest reliable → HeadlineOfTables kept there honest reliable
+unfolding promised_run
 of_tables kept there honest reliable headline worlds_are z s programs evacuators fetchers images ends some sure never rule seats =
     let one = worlds_are z s programs evacuators fetchers images ends sure never rule seats in
-    promised_run headline honest (world_sizes z programs evacuators fetchers) images s.words one.0 ends some sure one.1 one.2
+    let wz = world_sizes z programs evacuators fetchers in
+    let world = world_honest honest wz images one.0 ends sure one.2 in
+    record {
+      led = promised_run headline wz images one.0 ends some world;
+      shows = λ o low. subst (λ (x : State). slice_index_or s.words o 0 ≡ pack (x.word o)) (sym world.3) (one.1 o low);
+    }
+
+-- all that programs did together is one run, in which each is where its end is told of
+pub of_threads : {S : Type 0} (kept : S → ℕ → List ℕ → Type 0) (there : S → Type 0) (honest reliable : Type 0) → RunsAreSeats kept there honest reliable → HeadlineOfTables kept there honest reliable → HeadlineOfThreads kept there honest reliable
+of_threads kept there honest reliable are tables z objects programs evacuators fetchers images ends some sure never share many over told run =
+    let seats = are z objects programs evacuators fetchers images ends sure never share many (λ k e at. never_wanted reliable (share_by k objects) (images k) e never (over k e at)) told run in
+    (seats.0, tables z run.table programs evacuators fetchers images seats.0 some sure never run.rule seats.1, seats.2)
+
+-- and so is what `run` shows of them
+pub of_runs : Headline → HeadlineOfRunsTogether
+of_runs headline asked files held out err result ran sure told =
+    let one = ran.1 (honest_in asked.memory.store) sure told in
+    let all = ran.0.programs in
+    (one.1, promised_run headline (world_over asked.memory asked.evacuators asked.fetchers all) (image_at all) one.0 one.1 (some_cells (slice_get all 0)) one.2, one.3)

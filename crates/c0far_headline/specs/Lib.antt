@@ -3,3 +3,4 @@ pub mod Headline
 pub mod Ran
 pub mod Shown
 pub mod Tables
+pub mod Threads

@@ -28,17 +28,21 @@ abbrev pub ArePromised : worlds.Sizes → (ℕ → Image) → List Event → (�
 ArePromised z images events ends = (k : ℕ) → k < z.programs → (loops : Bool) (text : List ℕ) (checks : Bool) (cells : ℕ) (meant : Typed) → IsCompiled loops text checks cells (images k) → IsTypedAs loops text meant
     → Promised meant checks (ends k) (λ want. HasCause (Unit {0}) z images k want (start images) events) × IsSettledIn meant checks (images k) (ends k)
 
--- a run of a world to these ends of its programs, which are as promised of their texts, and to the machine that the words of objects show
-pub record IsPromisedRun (z : worlds.Sizes) (images : ℕ → Image) (words : List ℕ) (ends : ℕ → Program) : Type 0 where
+-- a run of a world to these ends of its programs, which are as promised of their texts
+pub record IsPromisedRun (z : worlds.Sizes) (images : ℕ → Image) (ends : ℕ → Program) : Type 0 where
   pub events : List Event
   pub world : World
   pub run : IsRun z images events world
-  pub shows : (o : ℕ) → o < z.objects → slice_index_or words o 0 ≡ pack (world.lock.word o)
   pub at : (k : ℕ) → k < z.programs → world.programs k ≡ ends k
   pub promised : ArePromised z images events ends
+
+-- ... and to the machine that these words of objects show
+pub record IsShownRun (z : worlds.Sizes) (images : ℕ → Image) (words : List ℕ) (ends : ℕ → Program) : Type 0 where
+  pub led : IsPromisedRun z images ends
+  pub shows : (o : ℕ) → o < z.objects → slice_index_or words o 0 ≡ pack (led.world.lock.word o)
 
 -- Whatever a table is whose seats are those of some programs, evacuators and fetchers, with pieces of some cells, over a store that is honest and reliable: what all of them did is one run of a world. It leads to what the table
 -- shows, and each program, where its session came to, is as promised of its text
 abbrev pub HeadlineOfTables : {S : Type 0} → (S → ℕ → List ℕ → Type 0) → (S → Type 0) → Type 0 → Type 0 → Type 0
 HeadlineOfTables {S} kept there honest reliable = (z : Sizes) (s : Table S Seated) (programs evacuators fetchers : ℕ) (images : ℕ → Image) (ends : ℕ → Program) → 0 < z.cells → honest → reliable → LoggedRule kept there honest z s
-    → AreSeatsOf honest reliable z programs evacuators fetchers images s.views ends → IsPromisedRun (world_sizes z programs evacuators fetchers) images s.words ends
+    → AreSeatsOf honest reliable z programs evacuators fetchers images s.views ends → IsShownRun (world_sizes z programs evacuators fetchers) images s.words ends

@@ -6,6 +6,7 @@ ghost use Rattle.c0far_headline.specs.Headline.{Headline};
 ghost use Rattle.c0far_headline.specs.Ran.{EndsSettle, RunHeadline};
 ghost use Rattle.c0far_headline.specs.Shown.{HeadlineOfRuns, ReplayShows, RunShows, RunShowsEvents};
 ghost use Rattle.c0far_headline.specs.Tables.{HeadlineOfTables};
+ghost use Rattle.c0far_headline.specs.Threads.{HeadlineOfRunsTogether, HeadlineOfThreads};
 ghost use Rattle.object_lock.specs.Kept.{slot_has, slot_keeps};
 ghost use Rattle.std.specs.Prelude.{ℕ};
 
@@ -13,7 +14,7 @@ use c0_image::one_image;
 use c0_typed::more_turns;
 use code_form::run_laws;
 use remote_store::RawStore;
-use session_events::seats_are_a_world;
+use session_events::{runs_are_seats, seats_are_a_world};
 use world_semantics::{enough_frames, programs_follow, wants};
 
 /// Whatever events programs and evacuators make in whichever order, over an honest store: of every text that is accepted, at whichever
@@ -101,4 +102,21 @@ pub fn headline_of_tables<S: RawStore>()
 {
     headline();
     seats_are_a_world::<S>();
+}
+
+/// The headline of what `run_all` answers, whatever its threads did in whichever order: where all programs of a region have run together, over a store that is honest and reliable, all that they and their movers did is one run of
+/// a world, from its beginning on, and each program is then where its end is told of: with that output, so many instructions completed, wanting what it wants. Of each whose image a text was compiled to all is as promised of that text.
+pub fn headline_of_threads<S: RawStore>()
+    ensures { (n : ℕ) → HeadlineOfThreads (slot_keeps S.fits S.content n) (slot_has S.fits n) S.honest S.reliable }
+{
+    headline_of_tables::<S>();
+    runs_are_seats::<S>();
+}
+
+/// The headline of what the command `run` shows of all programs at once, whatever its threads did in whichever order: over the store in memory, where no call is to fail, and memory was refused for no text of an error, all that the
+/// programs, evacuators and fetchers did is one run of one world, from its beginning on. Each program is then where its end is shown, and all of it is as promised of the text that its image was compiled to.
+pub fn headline_of_runs_together()
+    ensures { HeadlineOfRunsTogether }
+{
+    headline();
 }

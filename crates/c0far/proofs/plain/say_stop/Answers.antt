@@ -1,4 +1,3 @@
-use Rattle.std.proofs.Common.{rules}
 use Rattle.cells.specs.Stops.{stop_of}
 use Rattle.c0far.proofs.Placed.{said}
 use Rattle.command_messages.specs.Shown.{shown_stop}

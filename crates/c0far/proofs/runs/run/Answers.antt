@@ -20,22 +20,25 @@ returns-in-Ok-run_asked-clause-done g c =
     let share = c.share_of-share.ensures ∙ ap (share_of c.args.asked.memory.objects) (c.len.ensures ∙ long) in
     let held : List ℕ → Known = g.F.Files.holds c.args.files.now in
     let names : List (List ℕ) = map (λ n. n.now) c.args.names.now in
-    inl (record {
-      programs = c.in-Ok.programs.items;
-      codes = c.in-Ok.ensures.codes;
-      finished = c.in-Ok-run_asked.counted.programs.items;
-      movers = c.in-Ok-run_asked.counted.movers.items;
-      took = c.passed_since-took.result;
-      admitted = c.in-Ok-run_asked.ensures.admitted;
-      executed = c.in-Ok-run_asked.ensures.ended;
-      status = c.say_finished-status.result;
-      shown = subst (λ (l : List Finished). Says (writes g.O.Stream.contents g.O.Stream.failures c.args.out.now c.say_finished-status.new.out) (shown_ends (map end_of l)) (ends_status (map end_of l)) c.say_finished-status.result)
-          c.deref.ensures.value c.say_finished-status.ensures;
-      told = subst (λ (w : Writes). TellsBeside c.args.asked.explains c.args.asked.stats c.args.asked.limit held names (share_of c.args.asked.memory.objects (length c.in-Ok.programs.items)) c.in-Ok-run_asked.counted.programs.items c.in-Ok-run_asked.counted.movers.items c.passed_since-took.result w c.say_finished-status.result c.say_beside.result)
-          (after_quiet g.E.Stream.contents g.E.Stream.failures c.args.err.now c.codes_of.new.err c.say_beside.new.err c.in-Ok.ensures.quiet)
-          (subst (λ (x : ℕ × List Finished × List MoverCounts). TellsBeside c.args.asked.explains c.args.asked.stats c.args.asked.limit held names x.0 x.1 x.2 c.passed_since-took.result (writes g.E.Stream.contents g.E.Stream.failures c.codes_of.new.err c.say_beside.new.err) c.say_finished-status.result c.say_beside.result)
-          (λ i. (share i, c.deref-in-Ok-run_asked.ensures.value i, c.deref-in-Ok-run_asked-2.ensures.value i)) (c.say_beside.ensures.told held c.codes_of.ensures.files));
-    })
+    inl (
+      record {
+        programs = c.in-Ok.programs.items;
+        codes = c.in-Ok.ensures.codes;
+        finished = c.in-Ok-run_asked.counted.programs.items;
+        movers = c.in-Ok-run_asked.counted.movers.items;
+        took = c.passed_since-took.result;
+        admitted = c.in-Ok-run_asked.ensures.admitted;
+        executed = c.in-Ok-run_asked.ensures.ended;
+        status = c.say_finished-status.result;
+        shown = subst (λ (l : List Finished). Says (writes g.O.Stream.contents g.O.Stream.failures c.args.out.now c.say_finished-status.new.out) (shown_ends (map end_of l)) (ends_status (map end_of l)) c.say_finished-status.result)
+            c.deref.ensures.value c.say_finished-status.ensures;
+        told = subst (λ (w : Writes). TellsBeside c.args.asked.explains c.args.asked.stats c.args.asked.limit held names (share_of c.args.asked.memory.objects (length c.in-Ok.programs.items)) c.in-Ok-run_asked.counted.programs.items c.in-Ok-run_asked.counted.movers.items c.passed_since-took.result w c.say_finished-status.result c.say_beside.result)
+            (after_quiet g.E.Stream.contents g.E.Stream.failures c.args.err.now c.codes_of.new.err c.say_beside.new.err c.in-Ok.ensures.quiet)
+            (subst (λ (x : ℕ × List Finished × List MoverCounts). TellsBeside c.args.asked.explains c.args.asked.stats c.args.asked.limit held names x.0 x.1 x.2 c.passed_since-took.result (writes g.E.Stream.contents g.E.Stream.failures c.codes_of.new.err c.say_beside.new.err) c.say_finished-status.result c.say_beside.result)
+            (λ i. (share i, c.deref-in-Ok-run_asked.ensures.value i, c.deref-in-Ok-run_asked-2.ensures.value i)) (c.say_beside.ensures.told held c.codes_of.ensures.files));
+      },
+      c.in-Ok-run_asked.ensures.together,
+    )
 
 pub returns-in-Err-run_asked-clause-done : goal.returns-in-Err-run_asked-clause-done
 returns-in-Err-run_asked-clause-done g c = inr (inl (record {
