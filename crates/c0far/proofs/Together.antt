@@ -1,11 +1,6 @@
 -- Runs of all programs at once, over the memory that is asked for.
-use Rattle.std.proofs.Common.{◌≡◌, ◌≢◌, ◌/◌, ℕ, List, [], ◌∷◌, Some, Result, Ok, Err, length, refl, subst}
+use Rattle.std.proofs.Common.{◌≡◌, ◌/◌, ℕ, List, [], ◌∷◌, Some, Result, Ok, Err, length, refl, subst}
 use Rattle.std.specs.Prelude.{IfOk, slice_get}
-use Rattle.cells.specs.declared.ending.Run.{Run}
-use Rattle.cells.specs.declared.ending.Run.TheVariants.{Wanted}
-use Rattle.cells.specs.declared.ending.Want.TheVariants.{StoreFailed}
-use Rattle.code_form.specs.Code.{code}
-use Rattle.code_form.specs.Effects.{code_run}
 use Rattle.code_form.specs.Form.{Image}
 use Rattle.command_line.specs.Shell.{Memory}
 use Rattle.executor.specs.Ends.{AreFinished}
@@ -13,8 +8,8 @@ use Rattle.executor.specs.Together.{HasRunTogether}
 use Rattle.executor.specs.declared.counts.Counted.{Counted}
 use Rattle.object_lock.specs.Seats as seats
 use Rattle.pointer_word.specs.Machine.{State}
-use Rattle.program_run.specs.Acting.{Share, share_by}
-use Rattle.program_run.specs.Executed.{EndsAs, IsFinishedOver}
+use Rattle.program_run.specs.Acting.{share_by}
+use Rattle.program_run.specs.Executed.{IsFinishedOver}
 use Rattle.program_run.specs.declared.run.Finished.{Finished}
 use Rattle.region.specs.Admission.{image_at}
 use Rattle.scope_verifier.specs.declared.acceptance.Verified.{Verified}
@@ -33,10 +28,6 @@ over_honest honest z images sure w (e ∷ es) v f = (f.0, f.1, λ u. f.2 sure, o
 pub world_honest : (honest : Type 0) (z : Sizes) (images : ℕ → Image) (t : State) (ends : ℕ → Program) → honest → IsOneWorld honest z images t ends → IsOneWorld (Unit {0}) z images t ends
 world_honest honest z images t ends sure one = (one.0, one.1, over_honest honest z images sure (start images) one.0 one.1 one.2, one.3, one.4, one.5, one.6)
 
--- a reliable store ends no program
-pub never_wanted : (reliable : Type 0) (w : Share) (C : Image) (e : Finished) → reliable → IsFinishedOver reliable w C e → e.end.run ≢ Wanted StoreFailed
-never_wanted reliable w C e never is at = (subst (λ (r : Run). EndsAs reliable w.objects C (code_run (code C) e.end.completed).0 r) at is.executed.ends).1 never
-
 module _ {S : Type 0} (kept : S → ℕ → List ℕ → Type 0) (there : S → Type 0) (honest reliable : Type 0) (z : seats.Sizes) (all : List Verified) (evacuators fetchers : ℕ) (are : RunsAreSeats kept there honest reliable)
     (worlds_are : SeatsAreAWorld kept there honest reliable) where
   -- what all programs did together is one run of one world
@@ -46,8 +37,8 @@ module _ {S : Type 0} (kept : S → ℕ → List ℕ → Type 0) (there : S → 
   one_run ends finished ran sure never told =
       let n : ℕ = z.objects / length all in
       let run = ran sure in
-      let stored : (k : ℕ) (e : Finished) → slice_get ends k ≡ Some e → e.end.run ≢ Wanted StoreFailed = λ k e at. never_wanted reliable (share_by k n) (image_at all k) e never (finished.each k e at sure) in
-      let seated = are z n (length all) evacuators fetchers (image_at all) ends sure never refl finished.count stored told run in
+      let over : (k : ℕ) (e : Finished) → slice_get ends k ≡ Some e → IsFinishedOver reliable (share_by k n) (image_at all k) e = λ k e at. finished.each k e at sure in
+      let seated = are z n (length all) evacuators fetchers (image_at all) ends sure never refl finished.count over told run in
       let one = worlds_are z run.table (length all) evacuators fetchers (image_at all) seated.0 sure never run.rule seated.1 in
       (one.0, seated.0, world_honest honest (world_sizes z (length all) evacuators fetchers) (image_at all) one.0 seated.0 sure one.2, seated.2)
 

@@ -44,7 +44,7 @@ world_over memory evacuators fetchers programs = sizes_of (length programs) memo
 
 -- some events lead a world of these images from its beginning to where each program is where this end of it is told of, and each mover is idle
 abbrev pub IsOneRun : Sizes → (ℕ → Image) → List Finished → Type 0
-IsOneRun z images ends = (t : State) × (at : ℕ → Program) × IsOneWorld (Unit {0}) z images t at × ((k : ℕ) (e : Finished) → slice_get ends k ≡ Some e → IsEndedAt e (at k))
+IsOneRun z images ends = (t : State) × (at : ℕ → Program) × IsOneWorld (Unit {0}) z images t at × ((k : ℕ) (e : Finished) → slice_get ends k ≡ Some e → IsEndedAt (images k) e (at k))
 
 -- Over a store that is honest and reliable, where no end is a want of memory for the text of an error: what all programs, evacuators and fetchers did, on whichever threads and in whichever order, is one run of one world, which
 -- these ends are of

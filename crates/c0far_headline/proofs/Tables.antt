@@ -9,10 +9,9 @@ use Rattle.world_semantics.specs.Causes.{HasCause}
 use Rattle.world_semantics.specs.Programs.{Program}
 use Rattle.world_semantics.specs.Worlds.{Event, Follows, Sizes, World, start}
 use Rattle.c0far_headline.specs.Headline.{Headline, Promised}
-use Rattle.program_run.specs.Acting.{share_by}
 use Rattle.region.specs.Admission.{image_at}
 use Rattle.session_events.specs.Together.{RunsAreSeats}
-use Rattle.c0far.proofs.Together.{never_wanted, world_honest}
+use Rattle.c0far.proofs.Together.{world_honest}
 use Rattle.c0far.specs.Runs.{world_over}
 use Rattle.c0far_headline.specs.Tables.{HeadlineOfTables, IsPromisedRun, IsSettledIn}
 use Rattle.c0far_headline.specs.Threads.{HeadlineOfRunsTogether, HeadlineOfThreads}
@@ -55,7 +54,7 @@ of_tables kept there honest reliable headline worlds_are z s programs evacuators
 -- all that programs did together is one run, in which each is where its end is told of
 pub of_threads : {S : Type 0} (kept : S → ℕ → List ℕ → Type 0) (there : S → Type 0) (honest reliable : Type 0) → RunsAreSeats kept there honest reliable → HeadlineOfTables kept there honest reliable → HeadlineOfThreads kept there honest reliable
 of_threads kept there honest reliable are tables z objects programs evacuators fetchers images ends some sure never share many over told run =
-    let seats = are z objects programs evacuators fetchers images ends sure never share many (λ k e at. never_wanted reliable (share_by k objects) (images k) e never (over k e at)) told run in
+    let seats = are z objects programs evacuators fetchers images ends sure never share many over told run in
     (seats.0, tables z run.table programs evacuators fetchers images seats.0 some sure never run.rule seats.1, seats.2)
 
 -- and so is what `run` shows of them

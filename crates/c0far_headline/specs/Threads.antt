@@ -23,11 +23,11 @@ abbrev pub HeadlineOfThreads : {S : Type 0} → (S → ℕ → List ℕ → Type
 HeadlineOfThreads {S} kept there honest reliable = (z : Sizes) (objects programs evacuators fetchers : ℕ) (images : ℕ → Image) (ends : List Finished) → 0 < z.cells → honest → reliable → objects ≡ z.objects / programs → length ends ≡ programs
     → ((k : ℕ) (e : Finished) → slice_get ends k ≡ Some e → IsFinishedOver reliable (share_by k objects) (images k) e) → ((k : ℕ) (e : Finished) → slice_get ends k ≡ Some e → IsTold (images k) e)
     → (run : HasRunTogether kept there honest reliable z objects programs evacuators fetchers images ends)
-    → (at : ℕ → Program) × IsShownRun (world_sizes z programs evacuators fetchers) images run.table.words at × ((k : ℕ) (e : Finished) → slice_get ends k ≡ Some e → IsEndedAt e (at k))
+    → (at : ℕ → Program) × IsShownRun (world_sizes z programs evacuators fetchers) images run.table.words at × ((k : ℕ) (e : Finished) → slice_get ends k ≡ Some e → IsEndedAt (images k) e (at k))
 
 -- The headline of what the command `run` shows of all programs at once, over the store in memory, where no call is to fail, and memory was refused for no text of an error: what all of them did with their evacuators and fetchers,
 -- on whichever threads and in whichever order, is one run of one world. Each program is then where its end is shown, as promised of the text that its image was compiled to
 abbrev pub HeadlineOfRunsTogether : Type 0
 HeadlineOfRunsTogether = (asked : Started) (files : List Text) (held : Text → Known) (out err : Writes) (result : ℕ) → (ran : HasRunAsOne (Unit {0}) asked files held out err result) → IsReliableIn asked.memory
     → ((k : ℕ) (e : Finished) → slice_get ran.0.finished k ≡ Some e → IsTold (image_at ran.0.programs k) e)
-    → (at : ℕ → Program) × IsPromisedRun (world_over asked.memory asked.evacuators asked.fetchers ran.0.programs) (image_at ran.0.programs) at × ((k : ℕ) (e : Finished) → slice_get ran.0.finished k ≡ Some e → IsEndedAt e (at k))
+    → (at : ℕ → Program) × IsPromisedRun (world_over asked.memory asked.evacuators asked.fetchers ran.0.programs) (image_at ran.0.programs) at × ((k : ℕ) (e : Finished) → slice_get ran.0.finished k ≡ Some e → IsEndedAt (image_at ran.0.programs k) e (at k))

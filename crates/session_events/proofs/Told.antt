@@ -36,9 +36,9 @@ use Rattle.session_events.proofs.Wanting.{runs}
 -- ---- what instructions that are completed leave
 
 -- nothing is wanted that was not before, and no call was refused
-record Keeps (s t : session.State) : Type 0 where
-  want : t.want ≡ s.want
-  refusals : t.refusals ≡ s.refusals
+pub record Keeps (s t : session.State) : Type 0 where
+  pub want : t.want ≡ s.want
+  pub refusals : t.refusals ≡ s.refusals
 
 same_keeps : (s t : session.State) → t ≡ s → Keeps s t
 same_keeps s t e = record { want = ap (λ (x : session.State). x.want) e; refusals = ap (λ (x : session.State). x.refusals) e }
@@ -89,7 +89,7 @@ performs_keeps honest touch.Ends s t d =
 performs_keeps honest touch.Wrong s t d = absurd d
 performs_keeps honest touch.Nothing s t d = absurd d
 
-all_keep : (honest : Type 0) (us : List session.Logged) (s t : session.Logged) → PerformsBy honest us s t → Keeps s.state t.state
+pub all_keep : (honest : Type 0) (us : List session.Logged) (s t : session.Logged) → PerformsBy honest us s t → Keeps s.state t.state
 all_keep honest [] s t d = same_keeps s.state t.state (ap stated d)
 all_keep honest (u ∷ us) s t d = then_keeps s.state u.state t.state (performs_keeps honest d.0.touch s u d.0.performed) (all_keep honest us u t d.1)
 

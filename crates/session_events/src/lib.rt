@@ -48,9 +48,9 @@ pub fn seats_are_a_world<S: RawStore>()
     ensures { (n : ℕ) → SeatsAreAWorld (slot_keeps S.fits S.content n) (slot_has S.fits n) S.honest S.reliable }
 {}
 
-/// Where all programs of a region have run on threads over a store that is honest and reliable, beside evacuators and fetchers, and no end is a want of the store, or of memory
-/// for the text of an error: the seats of the state of the table in which they are told together are those of these programs, evacuators and fetchers, and each program is where its
-/// end is told of.
+/// Where all programs of a region have run on threads over a store that is honest and reliable, beside evacuators and fetchers, each to the end of its code's run, and no end is a want
+/// of memory for the text of an error: the seats of the state of the table in which they are told together are those of these programs, evacuators and fetchers, and each program is
+/// where its end is told of, with as many instructions completed, that output and that stop or want.
 pub fn runs_are_seats<S: RawStore>()
     ensures { (n : ℕ) → RunsAreSeats (slot_keeps S.fits S.content n) (slot_has S.fits n) S.honest S.reliable }
 {}
