@@ -11,7 +11,7 @@ use crate::arrival::bring_into;
 use crate::moved::StoreRefused;
 use crate::moves::Moves;
 use crate::room::make_room;
-use crate::search::{FEW, find_frame, find_near};
+use crate::search::{FEW, find_frame};
 use object_lock::{Begin, Held, ObjectTable, OwnerSeat};
 use remote_store::RawStore;
 use std::sync::Wait;
@@ -58,11 +58,11 @@ fn claim_once<S: RawStore>(
         (λ _. HandOnly owner.old owner.new × StillBrings owner.old.view.hand owner.new.view.hand × Refused S.reliable owner.old.refusals owner.new.refusals) }
     ensures visits { MatchResult result (λ claimed. MakesRoomFor table.now.sizes owner.old.view.number obj claimed (did_of owner.old) (did_of owner.new)) (λ _. LacksRoom table.now.sizes owner.old.view.number (did_of owner.old) (did_of owner.new)) }
 {
-    if let Some(frame) = find_near(table, owner, obj, from) {
+    if let Some(frame) = find_frame(table, owner, obj, from, FEW) {
         return Ok(Some(frame));
     }
     match make_room(table, owner, obj, moves) {
-        Ok(None) => Ok(find_frame(table, owner, obj, from)),
+        Ok(None) => Ok(find_frame(table, owner, obj, from, table.frames())),
         Ok(freed) => Ok(claim_freed(table, owner, obj, freed)),
         Err(refused) => Err(refused),
     }

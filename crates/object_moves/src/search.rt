@@ -57,39 +57,14 @@ fn find_between<S: RawStore>(
     None
 }
 
-/// Looks once at each of a few frames, from the one of this number on, behind the last of which comes frame 0, and claims the first that is free for the
-/// object that is being brought in.
-pub(crate) fn find_near<S: RawStore>(
-    table: &ObjectTable<S>,
-    mover: &mut MoverSeat<S>,
-    obj: usize,
-    from: usize,
-) -> Option<usize>
-    requires table { IsSeat table.now mover.old }
-    requires low { obj < table.now.sizes.objects }
-    requires hands { HasOnly obj mover.old.view }
-    ensures table { IsSeat table.now mover.new }
-    ensures told { ClaimsOne mover.old mover.new result }
-    ensures logged { IfSome result (λ frame. Adds mover.old.log mover.new.log (frame_word table.now.sizes frame) (Claims mover.old.view.number obj frame) (λ n. n ≡ 0)) }
-{
-    let count = table.frames();
-    let start = if from < count { from } else { 0 };
-    let end = count.min(start.saturating_add(FEW));
-    match find_between(table, mover, obj, start, end) {
-        Some(frame) => Some(frame),
-        None => {
-            let rest = FEW.saturating_sub(end - start);
-            find_between(table, mover, obj, 0, start.min(rest))
-        }
-    }
-}
-
-/// Looks once at each frame, from the one of this number on, and claims the first that is free for the object that is being brought in.
+/// Looks once at each of so many frames, or of all where there are no more, from the one of this number on, behind the last of which comes frame 0, and claims
+/// the first that is free for the object that is being brought in.
 pub fn find_frame<S: RawStore>(
     table: &ObjectTable<S>,
     mover: &mut MoverSeat<S>,
     obj: usize,
     from: usize,
+    most: usize,
 ) -> Option<usize>
     requires table { IsSeat table.now mover.old }
     requires low { obj < table.now.sizes.objects }
@@ -100,8 +75,12 @@ pub fn find_frame<S: RawStore>(
 {
     let count = table.frames();
     let start = if from < count { from } else { 0 };
-    match find_between(table, mover, obj, start, count) {
+    let end = count.min(start.saturating_add(most));
+    match find_between(table, mover, obj, start, end) {
         Some(frame) => Some(frame),
-        None => find_between(table, mover, obj, 0, start),
+        None => {
+            let rest = most.saturating_sub(end - start);
+            find_between(table, mover, obj, 0, start.min(rest))
+        }
     }
 }

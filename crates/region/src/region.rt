@@ -93,7 +93,7 @@ impl<S: RawStore> Region<S> {
         ensures told { ClaimsOne mover.old mover.new (frame_found result) }
         ensures logged { IfSome (frame_found result) (λ frame. Adds mover.old.log mover.new.log (frame_word self.now.table.sizes frame) (Claims mover.old.view.number obj frame) (λ n. n ≡ 0)) }
     {
-        match find_frame(&self.table, mover, obj, 0) {
+        match find_frame(&self.table, mover, obj, 0, self.table.frames()) {
             Some(frame) => Found::Claimed(frame),
             None => Found::None,
         }
