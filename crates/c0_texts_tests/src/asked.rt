@@ -13,6 +13,7 @@ pub(crate) enum Way {
     Waits,
     Counts,
     Joins,
+    Does,
 }
 
 /// What is asked: how the text is run, at which level of the language it is read, whether its contracts are checked, and a number, which is that of its turns,
@@ -60,6 +61,7 @@ impl Asked {
             "-w" => self.by(Way::Waits),
             "-c" => self.by(Way::Counts),
             "-t" => self.by(Way::Joins),
+            "-x" => self.by(Way::Does),
             "-d" => Some(Asked {
                 checks: true,
                 ..self

@@ -1,26 +1,30 @@
-//! Runs texts plainly, and compiled, from an image that was written and read again: alone, over a store that fails, or side by side beside movers. It
-//! goes through the texts that the words name: each is run plainly, and what it means is told: the command, what the program prints, and how it ends;
-//! where it ends, the text is compiled too, its image is written, read again and run, and a line tells whether that printed the same and ended the same
-//! way. Before a name may stand `-d`, for contracts to be checked, `-l`, for the level of the language that has `break` and `continue`, and a number of
-//! turns in place of 5,000. Behind `-p` it is checked, its tree is printed and read back, and its image runs with its contracts checked; behind `-f` it
-//! runs once for each call of the store, which fails; behind `-h` it runs alone, and what it hinted is looked at then; behind a number and `-o` it runs
-//! alone in a world, and opens no more holds than that; behind `-m` it runs twice at once, and both meet with two movers; behind `-w` it runs twice on
-//! one worker, the first behind the second; behind `-c` it runs by turns of one instruction, and what asks for them is counted; behind `-t` it is kept,
-//! and all that are kept run at once in the end, each of them twice. The status is 1 where a text is refused, or something is not as it has to be.
+//! Runs texts plainly, and compiled, from an image that was written and read again: alone, over a store that fails, or side by side beside movers; and
+//! does command lines over files in memory. It goes through the texts that the words name: each is run plainly, and what it means is told: the command,
+//! what the program prints, and how it ends; where it ends, the text is compiled too, its image is written, read again and run, and a line tells whether
+//! that printed the same and ended the same way. Before a name may stand `-d`, for contracts to be checked, `-l`, for the level of the language that has
+//! `break` and `continue`, and a number of turns in place of 5,000. Behind `-p` it is checked, its tree is printed and read back, and its image runs with
+//! its contracts checked; behind `-f` it runs once for each call of the store, which fails; behind `-h` it runs alone, and what it hinted is looked at
+//! then; behind a number and `-o` it runs alone in a world, and opens no more holds than that; behind `-m` it runs twice at once, and both meet with two
+//! movers; behind `-w` it runs twice on one worker, the first behind the second; behind `-c` it runs by turns of one instruction, and what asks for them
+//! is counted; behind `-t` it is kept, and all that are kept run at once in the end, each of them twice. Behind `-x` it is a file of rows of command
+//! lines, which are done over files in memory. The status is 1 where a text is refused, or something is not as it has to be.
 #![tactic(auto)]
 
 mod again;
 mod asked;
+mod commands;
 mod failures;
 mod hinted;
 mod means;
 mod opens;
 mod prints;
+mod rows;
 mod runs;
 mod together;
 mod turns;
 
 use crate::asked::{Asked, Way};
+use crate::commands::do_rows;
 use crate::failures::fail_each_call;
 use crate::hinted::leave_hints;
 use crate::means::mean;
@@ -56,6 +60,7 @@ fn tell<R: Threads + Wait + Clock + Sync, O: Write>(
         Way::Waits => one_behind_another(alloc, rt, name, text, out),
         Way::Counts => one_at_a_time(alloc, rt, name, text, out),
         Way::Joins => Ok(together.add(name, text)?),
+        Way::Does => do_rows(alloc, rt, text, out),
     }
 }
 

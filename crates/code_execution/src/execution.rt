@@ -58,6 +58,13 @@ impl<'a> Model for Execution<'a> {
 }
 
 impl<'a> Status<'a> {
+    /// The run is there from now on.
+    fn set(&mut self, status: Status<'a>)
+        ensures { self.new ≡ status.entry }
+    {
+        *self = status;
+    }
+
     /// Does what was decided, where that is no allocation; a load's value is given. `Err` where memory is refused: then nothing is
     /// changed.
     #[inline(never)]
@@ -92,11 +99,11 @@ impl<'a> Status<'a> {
             } => calls.enter(to, function, block, arguments)?,
             Decision::Returns { value } => {
                 if !calls.leave(value) {
-                    *self = Status::Stopped(Halt::Ended(number(value)));
+                    self.set(Status::Stopped(Halt::Ended(number(value))));
                 }
             }
-            Decision::Errs(text) => *self = Status::Stopped(Halt::ErrorCalled(text)),
-            Decision::Fails => *self = Status::Stuck,
+            Decision::Errs(text) => self.set(Status::Stopped(Halt::ErrorCalled(text))),
+            Decision::Fails => self.set(Status::Stuck),
         }
         Ok(())
     }
@@ -125,8 +132,8 @@ impl<'a> Status<'a> {
                 calls.print(alloc, output, printed)?;
                 calls.advance();
             }
-            Command::Stops(fault) => *self = Status::Stopped(Halt::Failed(fault)),
-            Command::Fails => *self = Status::Stuck,
+            Command::Stops(fault) => self.set(Status::Stopped(Halt::Failed(fault))),
+            Command::Fails => self.set(Status::Stuck),
         }
         Ok(())
     }

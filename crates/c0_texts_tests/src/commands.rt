@@ -1,5 +1,15 @@
 //! Command lines over files in memory, and streams of which a write may fail.
+//!
+//! A row is a line of a file of rows:
+//! - `= NAME` begins the text of a file in memory, which is the lines behind it, up to the next row;
+//! - `* N BYTES`, in a text, stands for `N` times these bytes, with no newline behind it;
+//! - `+ N LINE`, in a text, stands for `N` lines like this one;
+//! - `! folder NAME` makes a folder in memory, for stores;
+//! - `! out N` and `! err N` have one write of that stream of the next command fail, after `N` others;
+//! - `$ WORDS` does the command line of these words, with one blank between two of them;
+//! - `? WORDS` does the same, and tells only the first line that is written to each stream.
 
+use crate::rows::RowLine;
 use c0far::drive::drive;
 use c0far::files::{FileError, Files, MemFiles};
 use c0far::stream::CountedWriter;
@@ -47,7 +57,7 @@ impl Write for FailsOnce {
 
 /// What the rows so far have made: files, the text of the last one, and which writes of the next command fail.
 #[derive(Drop)]
-pub struct Bench {
+struct Bench {
     alloc: Global,
     files: MemFiles,
     name: String,
@@ -66,7 +76,7 @@ fn refusal(error: FileError) -> io::Error {
 
 impl Bench {
     /// No files.
-    pub(crate) fn new(alloc: Global) -> Bench {
+    fn new(alloc: Global) -> Bench {
         Bench {
             alloc,
             files: MemFiles::new(alloc),
@@ -91,21 +101,21 @@ impl Bench {
     }
 
     /// Begins the text of a file of this name.
-    pub(crate) fn begin(&mut self, name: &str) -> io::Result<()> {
+    fn begin(&mut self, name: &str) -> io::Result<()> {
         self.finish()?;
         self.name.push_str(name)?;
         Ok(())
     }
 
     /// A line of the text.
-    pub(crate) fn add_line(&mut self, line: &[u8]) -> io::Result<()> {
+    fn add_line(&mut self, line: &[u8]) -> io::Result<()> {
         self.text.extend_from_slice(line)?;
         self.text.push(b'\n')?;
         Ok(())
     }
 
     /// So many times these bytes in the text.
-    pub(crate) fn add_often(&mut self, count: usize, bytes: &[u8]) -> io::Result<()> {
+    fn add_often(&mut self, count: usize, bytes: &[u8]) -> io::Result<()> {
         for _ in 0..count {
             self.text.extend_from_slice(bytes)?;
         }
@@ -113,7 +123,7 @@ impl Bench {
     }
 
     /// So many times this line in the text.
-    pub(crate) fn add_lines(&mut self, count: usize, line: &[u8]) -> io::Result<()> {
+    fn add_lines(&mut self, count: usize, line: &[u8]) -> io::Result<()> {
         for _ in 0..count {
             self.add_line(line)?;
         }
@@ -121,24 +131,24 @@ impl Bench {
     }
 
     /// A folder of this name, for stores.
-    pub(crate) fn add_folder(&mut self, name: &str) -> io::Result<()> {
+    fn add_folder(&mut self, name: &str) -> io::Result<()> {
         let name = String::from_str(self.alloc, name)?;
         self.files.add_folder(name)?;
         Ok(())
     }
 
     /// One write to the standard output of the next command fails, after so many others.
-    pub(crate) fn fail_out(&mut self, after: u8) {
+    fn fail_out(&mut self, after: u8) {
         self.failing_out = Some(after);
     }
 
     /// One write to the standard error of the next command fails, after so many others.
-    pub(crate) fn fail_err(&mut self, after: u8) {
+    fn fail_err(&mut self, after: u8) {
         self.failing_err = Some(after);
     }
 
     /// Does the command line of these words, and tells its status and what it wrote, or the first lines of that.
-    pub(crate) fn command<R: Threads + Wait + Clock + Sync, O: Write>(
+    fn command<R: Threads + Wait + Clock + Sync, O: Write>(
         &mut self,
         rt: &R,
         words: &str,
@@ -210,4 +220,39 @@ fn tell<O: Write>(
     } else {
         writeln!(told, " (and no end of line)")
     }
+}
+
+/// Does what each line of these rows says.
+fn go_through<R: Threads + Wait + Clock + Sync, O: Write>(
+    rt: &R,
+    bench: &mut Bench,
+    rows: &[u8],
+    out: &mut O,
+) -> io::Result<()> {
+    for line in rows.split(|byte| *byte == b'\n') {
+        match RowLine::of(line) {
+            RowLine::File(name) => bench.begin(name)?,
+            RowLine::Repeated(count, text) => bench.add_often(count, text)?,
+            RowLine::Lines(count, line) => bench.add_lines(count, line)?,
+            RowLine::Folder(name) => bench.add_folder(name)?,
+            RowLine::FailingOut(after) => bench.fail_out(after),
+            RowLine::FailingErr(after) => bench.fail_err(after),
+            RowLine::Command(words) => bench.command(rt, words, false, out)?,
+            RowLine::Refused(words) => bench.command(rt, words, true, out)?,
+            RowLine::Text(line) => bench.add_line(line)?,
+        }
+    }
+    Ok(())
+}
+
+/// Does the command lines of these rows, and tells what each writes and its status.
+pub(crate) fn do_rows<R: Threads + Wait + Clock + Sync, O: Write>(
+    alloc: Global,
+    rt: &R,
+    rows: &[u8],
+    out: &mut O,
+) -> io::Result<bool> {
+    let mut bench = Bench::new(alloc);
+    go_through(rt, &mut bench, rows, out)?;
+    Ok(true)
 }

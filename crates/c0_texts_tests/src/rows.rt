@@ -1,10 +1,10 @@
-//! Reading a row.
+//! Reading a row of command lines.
 
 use std::str::from_utf8;
 
 /// What a line says.
 #[derive(Clone, Copy)]
-pub enum RowLine<'a> {
+pub(crate) enum RowLine<'a> {
     /// The text of a file of this name follows.
     File(&'a str),
     /// A part of a text: so many times these bytes.
