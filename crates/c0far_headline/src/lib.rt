@@ -105,7 +105,7 @@ pub fn headline_of_tables<S: RawStore>()
 }
 
 /// The headline of what `run_all` answers, whatever its threads did in whichever order: where all programs of a region have run together, over a store that is honest and reliable, all that they and their movers did is one run of
-/// a world, from its beginning on, and each program is then where its end is told of: with that output, so many instructions completed, wanting what it wants. Of each whose image a text was compiled to all is as promised of that text.
+/// a world, from its beginning on, and each program is then where its end is told of: with that output, so many instructions completed, stopped so or wanting what it wants. Of each whose image a text was compiled to all is as promised of that text.
 pub fn headline_of_threads<S: RawStore>()
     ensures { (n : ℕ) → HeadlineOfThreads (slot_keeps S.fits S.content n) (slot_has S.fits n) S.honest S.reliable }
 {
