@@ -1,5 +1,5 @@
 //! A program that is run to its end.
-ghost use Rattle.std.specs.Prelude.{◌≡◌, ◌≢◌, ◌+◌, ◌-◌, ◌<◌, ◌≤◌, ◌^◌, IfErr, IfOk, MatchResult, length, true};
+ghost use Rattle.std.specs.Prelude.{◌≡◌, ◌≢◌, ◌+◌, ◌-◌, ◌<◌, ◌≤◌, ◌^◌, IfErr, IfOk, length, true};
 ghost use Rattle.cells.specs.declared.ending.Run.TheVariants.{Running, Wanted};
 ghost use Rattle.cells.specs.declared.ending.Want.TheVariants.{OutOfMemory, StoreFailed};
 ghost use Rattle.cells.specs.Outcomes.{IsPrefix};
@@ -72,16 +72,6 @@ fn looked_last<S: RawStore>(session: Session<'_, S>) -> Session<'_, S>
     session
 }
 
-/// The session in a box. The only want is `OutOfMemory`, where memory is refused.
-fn boxed<S: RawStore>(alloc: Global, session: Session<'_, S>) -> Result<Box<Session<'_, S>>, Want>
-    ensures { MatchResult result (λ b. b.value ≡ session.entry) (λ want. want ≡ OutOfMemory) }
-{
-    match Box::new(alloc, session) {
-        Ok(boxed) => Ok(boxed),
-        Err(_refused) => Err(Want::OutOfMemory),
-    }
-}
-
 /// How a program ended, and what was refused through its own port to the store; and how many turns it had, modulo 2^64, with what its session did in them beside
 /// instructions.
 #[derive(Drop)]
@@ -98,8 +88,7 @@ pub struct Finished {
 pub struct ProgramRun<'a, S: RawStore> {
     region: &'a Region<S>,
     number: u32,
-    // In a box, as a run goes from hand to hand with each turn.
-    session: Box<Session<'a, S>>,
+    session: Session<'a, S>,
     run: Run,
     // How many turns it had, modulo 2^64.
     turns: u64,
@@ -113,15 +102,15 @@ impl<'a, S: RawStore> Model for ProgramRun<'a, S> {
 
     ghost Value = { RunView };
 
-    ghost view = { λ p. record { table = p.region.now.table; programs = p.region.now.programs; number = p.number; first = p.session.value.state.view.low; objects = p.session.value.state.view.high - p.session.value.state.view.low; completed = p.session.value.state.completed; refusals = p.session.value.state.refusals; printed = output_of p.session.value.state.core; over = is_over p.run } };
+    ghost view = { λ p. record { table = p.region.now.table; programs = p.region.now.programs; number = p.number; first = p.session.state.view.low; objects = p.session.state.view.high - p.session.state.view.low; completed = p.session.state.completed; refusals = p.session.state.refusals; printed = output_of p.session.state.core; over = is_over p.run } };
 
     ghost invariant = { λ p.
-        IsOnRun S.honest S.reliable p.session.value p.run
+        IsOnRun S.honest S.reliable p.session p.run
         × (p.number < length p.region.now.programs)
-        × (p.session.value.state.image ≡ image_at p.region.now.programs p.number)
-        × (p.session.value.state.view.number ≡ suc p.number)
-        × (p.session.value.state.table ≡ p.region.now.table.id)
-        × (p.session.value.state.view.sizes ≡ p.region.now.table.sizes) };
+        × (p.session.state.image ≡ image_at p.region.now.programs p.number)
+        × (p.session.state.view.number ≡ suc p.number)
+        × (p.session.state.table ≡ p.region.now.table.id)
+        × (p.session.state.view.sizes ≡ p.region.now.table.sizes) };
 }
 
 impl<'a, S: RawStore> ProgramRun<'a, S> {
@@ -145,14 +134,16 @@ impl<'a, S: RawStore> ProgramRun<'a, S> {
         // For the proof alone: there are at most 256 programs.
         let _ = region.programs();
         let number = (seat.number() - 1) as u32;
-        let session = boxed(alloc, Session::new(alloc, region, hints, pass, seat)?)?;
-        Ok(ProgramRun {
-            region,
-            number,
-            session,
-            run: Run::Running,
-            turns: 0,
-        })
+        match Session::new(alloc, region, hints, pass, seat) {
+            Ok(session) => Ok(ProgramRun {
+                region,
+                number,
+                session,
+                run: Run::Running,
+                turns: 0,
+            }),
+            Err(_refused) => Err(Want::OutOfMemory),
+        }
     }
 
     /// Has its calls and its output keep within a limit of memory, from now on: where one comes to more, the next call, or the next instruction that prints, wants
@@ -221,7 +212,7 @@ impl<'a, S: RawStore> ProgramRun<'a, S> {
             turns,
             ..
         } = self;
-        let session = looked_last(Box::into_inner(session));
+        let session = looked_last(session);
         let completed = session.completed();
         let refusals = session.refusals();
         let counts = session.counts();

@@ -15,7 +15,7 @@ pub returns-clause-end : goal.returns-clause-end
 returns-clause-end g c = λ honest.
     let t = c.looked_last-session.result in
     let reliable = g.S.RawStore.reliable in
-    let same : t ≡ c.self.inside.session.value = c.looked_last-session.ensures ∙ c.into_inner.ensures in
+    let same : t ≡ c.self.inside.session = c.looked_last-session.ensures in
     let here = subst (λ (s : Logged). IsOnRun g.S.RawStore.honest reliable s c.self.inside.run) (sym same) c.self.invariant.0 in
     let image = ap (λ (s : Logged). s.state.image) same ∙ c.self.invariant.2 ∙ ap (λ (p : RunView). image_at p.programs p.number) c.self.view_is in
     let many = ap (λ (s : Logged). s.state.view.high - s.state.view.low) same ∙ ap (λ (p : RunView). p.objects) c.self.view_is in
@@ -43,7 +43,7 @@ returns-clause-end g c = λ honest.
 pub returns-clause-seat : goal.returns-clause-seat
 unfolding returns-clause-end
 returns-clause-seat g c =
-    let same : c.looked_last-session.result ≡ c.self.inside.session.value = c.looked_last-session.ensures ∙ c.into_inner.ensures in
+    let same : c.looked_last-session.result ≡ c.self.inside.session = c.looked_last-session.ensures in
     let id = ap (λ (s : Logged). s.state.table) same ∙ c.self.invariant.4 ∙ ap (λ (p : RunView). p.table.id) c.self.view_is in
     let sizes = ap (λ (s : Logged). s.state.view.sizes) same ∙ c.self.invariant.5 ∙ ap (λ (p : RunView). p.table.sizes) c.self.view_is in
     let is = c.into_parts-output.ensures.seat in
