@@ -6,6 +6,7 @@ use mathlib.Core.Option.{some}
 use lib.ListN.{get_elem?}
 use Rattle.cells.specs.declared.ending.Run.{Run}
 use Rattle.cells.specs.declared.ending.Run.TheVariants.{Running, Stopped, Wanted}
+use Rattle.cells.specs.declared.ending.Want.{Want}
 use Rattle.cells.specs.declared.ending.Want.TheVariants.{NoObjects, OutOfMemory, StoreFailed}
 use Rattle.code_form.specs.Code.{Core, code, effect}
 use Rattle.code_form.specs.Effects.{code_run}
@@ -26,6 +27,10 @@ use Rattle.session_events.specs.Together.{IsEndedAt, IsTold, RunsAreSeats}
 use Rattle.session_events.proofs.Told.{all_keep, wants_so}
 
 -- ---- where a program is at its end
+
+-- what it wants then
+acted_wants : (honest reliable : Type 0) (s t : Logged) (r : Run) (w : Want) → Acts honest reliable s t r → r ≡ Wanted w → t.state.want ≡ Some w
+acted_wants honest reliable s t r w d e = let a : Acts honest reliable s t (Wanted w) = subst (λ (x : Run). Acts honest reliable s t x) e d in wants_so reliable w a.0 t a.2
 
 -- it has stopped so, or wants this
 at_end : (honest reliable : Type 0) (objects : ℕ) (C : Image) (s t : Logged) (r : Run) → s.state.want ≡ None → Acts honest reliable s t r → EndsAs reliable objects C t.state.core r → IsAtEnd C (program_of t.state) r
@@ -71,6 +76,7 @@ module _ (honest reliable : Type 0) (z : Sizes) (objects programs evacuators fet
           completed = sym a.completed;
           printed = sym a.printed;
           ended = at_end (Unit {0}) reliable objects (images k) (session_begun a.last.state.table (images k) a.acted.0) a.last e.end.run refl a.acted.3 here;
+          wants = λ w wants. ap mode_of (acted_wants (Unit {0}) reliable (session_begun a.last.state.table (images k) a.acted.0) a.last e.end.run w a.acted.3 wants);
         }
 
 pub runs_are : {S : Type 0} (kept : S → ℕ → List ℕ → Type 0) (there : S → Type 0) (honest reliable : Type 0) → RunsAreSeats kept there honest reliable

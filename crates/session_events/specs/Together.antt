@@ -1,6 +1,7 @@
 -- A run of all programs of a region as what the seats of a world do.
 use Rattle.std.specs.Prelude.{◌≡◌, ◌≢◌, ℕ, ◌/◌, List, Some, length, slice_get}
 use Rattle.cells.specs.declared.ending.Run.TheVariants.{Wanted}
+use Rattle.cells.specs.declared.ending.Want.{Want}
 use Rattle.cells.specs.declared.ending.Want.TheVariants.{OutOfMemory}
 use Rattle.code_form.specs.Code.{code, effect, output_of}
 use Rattle.code_form.specs.Effects.{code_run}
@@ -12,6 +13,7 @@ use Rattle.executor.specs.Together.{HasRunTogether}
 use Rattle.program_run.specs.Acting.{share_by}
 use Rattle.program_run.specs.Executed.{IsFinishedOver}
 use Rattle.program_run.specs.declared.run.Finished.{Finished}
+use Rattle.world_semantics.specs.Programs as worlds
 use Rattle.world_semantics.specs.Programs.{Program}
 use Rattle.session_events.specs.Laws.{IsAtEnd}
 use Rattle.session_events.specs.OneWorld.{AreSeatsOf}
@@ -25,6 +27,8 @@ pub record IsEndedAt (C : Image) (e : Finished) (q : Program) : Type 0 where
   pub completed : q.completed ≡ e.end.completed
   pub printed : output_of q.core ≡ e.end.output.items
   pub ended : IsAtEnd C q e.end.run
+  -- a want of memory, too, is then the program's own
+  pub wants : (w : Want) → e.end.run ≡ Wanted w → q.mode ≡ worlds.Wanted w
 
 -- Where all programs have run together over a store that is honest and reliable, each to the end of its code's run, and no end is a want of memory for the text of an error, the seats of that state of the table are those of programs, evacuators and fetchers, and each
 -- program is where its end is told of
