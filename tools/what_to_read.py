@@ -20,7 +20,7 @@ BEGIN, END = "<!-- what_to_read.py -->", "<!-- end -->"
 READ = (
     ("c0_front", "Texts", "IsTypedAs", "which texts are accepted, with the typed tree of each"),
     ("c0_front", "Texts", "IsRefusedText", "why a text is refused, and where the cause stands"),
-    ("c0_plain", "Plain", "IsMeant", "what the plain run of a typed tree gives"),
+    ("c0_typed", "Meaning", "mean", "what a typed tree means within a bound, as the plain run gives it"),
     ("c0_image", "Correct", "Behaves", "that an image does what a typed tree means"),
     ("code_verification", "Verified", "IsVerified", "which images are verified"),
     ("c0_image", "Compiled", "IsCompiled", "which image a text is compiled to, pass by pass"),

@@ -1,19 +1,19 @@
 //! A program that no text reads as, since it reads a local that it has not assigned.
 
 use c0_meaning::mean;
-use c0_typed::{Expression, Function, Statement, Typed, ValueType};
+use c0_typed::{Expression, Function, PlainType, Statement, Typed, ValueType};
 use std::alloc::{AllocError, Global};
 use std::fmt::Write;
 
 /// `int main() { bool b; int x; return .. }`, which returns what the local of this number holds.
 fn main_with(alloc: Global, local: u32) -> Result<Function, AllocError> {
     let mut locals = Vec::with_capacity(alloc, 2)?;
-    locals.push_reserved(ValueType::Bool);
-    locals.push_reserved(ValueType::Int);
+    locals.push_reserved(ValueType::Plain(PlainType::Bool));
+    locals.push_reserved(ValueType::Plain(PlainType::Int));
     let mut body = Vec::with_capacity(alloc, 1)?;
     body.push_reserved(Statement::ReturnValue(Expression::Local(local)));
     Ok(Function {
-        result: ValueType::Int,
+        result: ValueType::Plain(PlainType::Int),
         parameters: Vec::new(alloc),
         locals,
         preconditions: Vec::new(alloc),

@@ -1,8 +1,12 @@
 //! Which parts of typed trees are the same.
 
-use c0_typed::{Constant, Output, Relation, UnaryOperator, ValueType, layouts, more_turns, sound};
+use c0_typed::{
+    Constant, Levels, Output, PlainType, Relation, Target, UnaryOperator, ValueType, layouts,
+    more_turns, sound,
+};
 use std::alloc::{AllocError, Global};
 use std::fmt::{Debug, Write};
+use std::sync::Arc;
 
 const UNARY_OPERATORS: [UnaryOperator; 3] = [
     UnaryOperator::Negate,
@@ -45,14 +49,18 @@ fn put_type(types: &mut Vec<ValueType>, added: ValueType) -> Result<(), AllocErr
 /// Some types, of which the last is the fourth again.
 fn types(alloc: Global) -> Result<Vec<ValueType>, AllocError> {
     let mut types = Vec::new(alloc);
-    put_type(&mut types, ValueType::Int)?;
-    put_type(&mut types, ValueType::Struct(0))?;
-    put_type(&mut types, ValueType::Struct(1))?;
-    let of_truths = ValueType::Array(Box::new(alloc, ValueType::Bool)?);
+    put_type(&mut types, ValueType::Plain(PlainType::Int))?;
+    put_type(&mut types, ValueType::Plain(PlainType::Struct(0)))?;
+    put_type(&mut types, ValueType::Plain(PlainType::Struct(1)))?;
+    let of_truths = ValueType::Array(Target::of_plain(alloc, PlainType::Bool)?);
     put_type(&mut types, of_truths)?;
-    let pointer = ValueType::Pointer(Box::new(alloc, ValueType::Int)?);
-    put_type(&mut types, pointer)?;
-    let again = ValueType::Array(Box::new(alloc, ValueType::Bool)?);
+    let number = Target::of_plain(alloc, PlainType::Int)?;
+    let pointer = Target {
+        levels: Arc::new(alloc, Levels::Pointer(number.levels))?,
+        innermost: PlainType::Int,
+    };
+    put_type(&mut types, ValueType::Pointer(pointer))?;
+    let again = ValueType::Array(Target::of_plain(alloc, PlainType::Bool)?);
     put_type(&mut types, again)?;
     Ok(types)
 }

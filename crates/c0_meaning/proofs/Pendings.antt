@@ -25,7 +25,7 @@ use Rattle.c0_meaning.specs.declared.task.Task.{Task}
 use Rattle.c0_meaning.specs.declared.task.Task.TheVariants as task
 use Rattle.c0_values.specs.PlainStates.{Agrees, Texts, value_of}
 use Rattle.c0_meaning.specs.Run.{Calls, structs_in, texts_in, values_of}
-use Rattle.c0_meaning.specs.Pendings.{Combines, Completes, Extends, Reaches, Pending, Rest, Steps, behind, called, calling, calls_at, checked, completes, evaluates, executes, giving, leaving, means, pending_of, state_in}
+use Rattle.c0_meaning.specs.Pendings.{Combines, Completes, Extends, Gives, Reaches, Pending, Rest, Steps, behind, called, calling, calls_at, checked, completes, evaluates, executes, giving, leaving, means, pending_of, state_in}
 
 -- the rest of an expression that is this one
 pub combines_as : (c : Context) (x y : t.Exp) (r : PlainRun) (result : Result (Unit {0}) Halt) (s : PlainRun) → x ≡ y → Combines c y r result s → Combines c x r result s
@@ -66,6 +66,12 @@ pub extends_steps : (c : Context) (result : Result (Unit {0}) Halt) (ts : List T
     → x ≡ means c (record (pending_of r) { tasks = ts ++ (pending_of r).tasks }) → Steps c result x (pending_of s)
 extends_steps c (Ok u) ts r s x e h = h ∙ ap (means c) (sym e)
 extends_steps c (Err u) ts r s x e h = subst (λ k. Steps c (Err k) x (pending_of s)) (sym e) tt
+
+-- a value that is given to what is to come of the run
+pub gives_steps : (c : Context) (result : Result (Unit {0}) Halt) (a : Value) (r s : PlainRun) (x : m.Outcome v.Value) → Gives result a r s
+    → x ≡ means c (record (pending_of r) { values = a ∷ (pending_of r).values }) → Steps c result x (pending_of s)
+gives_steps c (Ok u) a r s x e h = h ∙ ap (means c) (sym e)
+gives_steps c (Err u) a r s x e h = subst (λ k. Steps c (Err k) x (pending_of s)) (sym e) tt
 
 -- a list of values with one more
 pub map_push : {A B : Type 0} (f : A → B) (xs : List A) (x : A) → map f (xs ++ x ∷ []) ≡ map f xs ++ f x ∷ []

@@ -1,5 +1,5 @@
 //! What a plain run may take, within a limit of memory.
-use c0_typed::{Struct, ValueType};
+use c0_typed::{PlainType, Struct, ValueType};
 use memory_limit::{MemoryLimit, MemoryUse};
 use std::alloc::{AllocError, Global};
 
@@ -35,7 +35,10 @@ pub(crate) struct Room {
 /// How many parts fresh memory of a type has, where that of the structs before it has so many. What passes 2^64 - 1 is as many.
 fn size_in(sizes: &[u64], ty: &ValueType) -> u64 {
     match ty {
-        ValueType::Struct(number) => sizes.get(*number as usize).copied().unwrap_or(1),
+        ValueType::Plain(PlainType::Struct(number)) => sizes
+            .get(*number as usize)
+            .copied()
+            .unwrap_or(1),
         _ => 1,
     }
 }

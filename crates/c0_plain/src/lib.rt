@@ -1,4 +1,4 @@
-//! The plain run of a text, on a thread of its own: what its program means within a bound.
+//! The plain run of a text: what its program means within a bound.
 #![tactic(auto)]
 
 mod plain;

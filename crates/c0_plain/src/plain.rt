@@ -9,33 +9,13 @@ ghost use Rattle.c0_typed.specs.Trees as y;
 ghost use Rattle.c0_typed.specs.Views.{program_of};
 ghost use Rattle.c0_meaning.specs.Run.{meant_of};
 ghost use Rattle.c0_front.specs.Texts.{IsRefusedText, IsTypedAs};
-ghost use Rattle.c0_plain.specs.Plain.{IsMeant};
 
 use c0_front::check_text;
-use c0_meaning::{Meant, NoRoom, Placed, mean_placed};
+use c0_meaning::{Meant, Placed, mean_placed};
 use c0_source::fault::Fault;
 use c0_syntax::level::Level;
-use c0_typed::Typed;
 use memory_limit::{MemoryLimit, MemoryUse};
 use std::alloc::Global;
-use std::snapshot::Snapshot;
-use std::thread::{Builder, Promise, Threads};
-
-/// The stack of the thread that runs a program. Calls do not nest on it, but a struct is made and read by what it holds, and structs may hold one another
-/// as deeply as a text of 1 MiB tells: some 40,000 of them, of at most 1 KiB each.
-const STACK: usize = 64 * 1024 * 1024;
-
-/// What a run of a program promises of its result.
-#[derive(Drop)]
-struct MeaningOf {
-    program: Snapshot<Typed>,
-    checks: bool,
-    turns: u64,
-}
-
-impl Promise<Result<Placed, NoRoom>> for MeaningOf {
-    ghost kept_by = { λ p r. IsMeant p.program.value p.checks p.turns r };
-}
 
 /// Why it is not told what a text means: by this fault. Where that is want of memory, it may be that the limit was passed, by a call of the function of number `call`,
 /// counted from 0 in the order of their definitions, or otherwise.
@@ -46,37 +26,12 @@ pub struct Untold {
     pub call: Option<usize>,
 }
 
-/// The bounded meaning of a program, by a thread of its own.
-fn mean_apart<R: Threads>(
-    alloc: Global,
-    rt: &R,
-    program: Typed,
-    checks: bool,
-    turns: u64,
-    limit: MemoryLimit,
-) -> Result<Placed, NoRoom>
-    ensures { IsMeant program checks turns result }
-{
-    let promise = MeaningOf {
-        program: Snapshot::of(&program),
-        checks,
-        turns,
-    };
-    let run = move || mean_placed(alloc, &program, checks, turns, limit);
-    let builder = Builder::new().stack_size(STACK);
-    match builder.spawn_with(rt, promise, run) {
-        Ok(thread) => thread.join(rt),
-        Err(_refused) => Err(NoRoom::of_the_system()),
-    }
-}
-
 /// What the program of a text means within this many turns: how it ends, what it prints, and where in the text that stands which stopped it, otherwise than by a
 /// result. `checks` tells whether contracts are checked, and `level` which statements are in the language. The fault is of the first stage that refuses the
-/// text, or 50, where memory runs out, or where the thread can't be made, or where what the calls, the output or the heap hold passes the limit: then it is told which.
+/// text, or 50, where memory runs out, or where what the calls, the output or the heap hold passes the limit: then it is told which.
 /// Of the place, and of which use of memory passed the limit, no clause tells.
-pub fn mean_text_placed<R: Threads>(
+pub fn mean_text_placed(
     alloc: Global,
-    rt: &R,
     text: &[u8],
     checks: bool,
     level: Level,
@@ -102,7 +57,7 @@ pub fn mean_text_placed<R: Threads>(
             });
         }
     };
-    match mean_apart(alloc, rt, program, checks, turns, limit) {
+    match mean_placed(alloc, &program, checks, turns, limit) {
         Ok(placed) => Ok(placed),
         Err(refused) => Err(Untold {
             fault: Fault::out_of_memory(),
@@ -113,9 +68,8 @@ pub fn mean_text_placed<R: Threads>(
 }
 
 /// The same without a limit, but for the place.
-pub fn mean_text<R: Threads>(
+pub fn mean_text(
     alloc: Global,
-    rt: &R,
     text: &[u8],
     checks: bool,
     level: Level,
@@ -127,7 +81,7 @@ pub fn mean_text<R: Threads>(
     ensures every { (p : y.Program) → IsTypedAs (has_loops level) text.now p → MatchResult result (λ m. meant_of m ≡ mean_of p checks turns) (λ f. f.kind ≡ OutOfMemory) }
 {
     let limit = MemoryLimit::of_mebibytes(0);
-    match mean_text_placed(alloc, rt, text, checks, level, turns, limit) {
+    match mean_text_placed(alloc, text, checks, level, turns, limit) {
         Ok(placed) => Ok(placed.meant),
         Err(untold) => Err(untold.fault),
     }

@@ -1,4 +1,5 @@
 //! What the words before the name of a text ask for.
+use crate::questions::Question;
 use c0_syntax::level::Level;
 
 /// How a text is run.
@@ -14,6 +15,7 @@ pub(crate) enum Way {
     Counts,
     Joins,
     Does,
+    Asks(Question),
 }
 
 /// What is asked: how the text is run, at which level of the language it is read, whether its contracts are checked, and a number, which is that of its turns,
@@ -70,7 +72,10 @@ impl Asked {
                 level: Level::Loops,
                 ..self
             }),
-            _ => self.numbered(word),
+            _ => match Question::of(word) {
+                Some(question) => self.by(Way::Asks(question)),
+                None => self.numbered(word),
+            },
         }
     }
 }

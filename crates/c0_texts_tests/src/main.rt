@@ -7,7 +7,12 @@
 //! then; behind a number and `-o` it runs alone in a world, and opens no more holds than that; behind `-m` it runs twice at once, and both meet with two
 //! movers; behind `-w` it runs twice on one worker, the first behind the second; behind `-c` it runs by turns of one instruction, and what asks for them
 //! is counted; behind `-t` it is kept, and all that are kept run at once in the end, each of them twice. Behind `-x` it is a file of rows of command
-//! lines, which are done over files in memory. The status is 1 where a text is refused, or something is not as it has to be.
+//! lines, which are done over files in memory.
+//!
+//! Behind a word it is a file of rows, and what is asked of each is told: of a text `tokens`, `kinds`, `count`, `read`, `read-loops`, `print`, `print-again`,
+//! `tree`, `shapes`, `check`, `check-loops` or `typed`; of a line of names, and a line of those that are looked for among them, `numbers`; and of the name of
+//! a type that stands for `int`, and a name, `pointer`. Each row of which something else is told than what stands beside it is shown, and then how many rows
+//! there were. The status is 1 where a text is refused, or something is not as it has to be.
 #![tactic(auto)]
 
 mod again;
@@ -18,6 +23,7 @@ mod hinted;
 mod means;
 mod opens;
 mod prints;
+mod questions;
 mod rows;
 mod runs;
 mod together;
@@ -30,6 +36,7 @@ use crate::hinted::leave_hints;
 use crate::means::mean;
 use crate::opens::open_few;
 use crate::prints::print_back;
+use crate::questions::ask;
 use crate::together::{Together, meet};
 use crate::turns::{one_at_a_time, one_behind_another};
 use std::alloc::Global;
@@ -61,6 +68,7 @@ fn tell<R: Threads + Wait + Clock + Sync, O: Write>(
         Way::Counts => one_at_a_time(alloc, rt, name, text, out),
         Way::Joins => Ok(together.add(name, text)?),
         Way::Does => do_rows(alloc, rt, text, out),
+        Way::Asks(question) => ask(alloc, question, name, text, out),
     }
 }
 

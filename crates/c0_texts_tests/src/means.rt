@@ -91,7 +91,7 @@ pub(crate) fn mean<R: Threads + Wait + Clock + Sync, O: Write>(
     };
     let turns = asked.number;
     writeln!(out, "mean{flag}{level} --turns {turns} {name}")?;
-    match mean_text(alloc, rt, text, asked.checks, asked.level, turns) {
+    match mean_text(alloc, text, asked.checks, asked.level, turns) {
         Ok(meant) => tell_both(alloc, rt, asked, text, &meant, out),
         Err(fault) => {
             writeln!(out, "{fault}")?;

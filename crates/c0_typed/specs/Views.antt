@@ -2,7 +2,12 @@
 use Rattle.std.specs.Prelude.{ℕ, zero, suc, List, [], ◌∷◌, get_or, map, string_bytes}
 use Rattle.c0_typed.specs.Values as v
 use Rattle.c0_typed.specs.Trees as t
-use Rattle.c0_typed.specs.declared.tree.ValueType.{ValueType, Void, Int, Bool, Char, Text as TextType, Struct as StructType, Pointer', Array'}
+use Rattle.c0_typed.specs.declared.tree.PlainType.{PlainType}
+use Rattle.c0_typed.specs.declared.tree.PlainType.TheVariants as p
+use Rattle.c0_typed.specs.declared.tree.Levels.{Levels, Innermost, Pointer', Array'}
+use Rattle.c0_typed.specs.declared.tree.Target.{Target}
+use Rattle.c0_typed.specs.declared.tree.ValueType.{ValueType}
+use Rattle.c0_typed.specs.declared.tree.ValueType.TheVariants as w
 use Rattle.c0_typed.specs.declared.tree.UnaryOperator.{UnaryOperator}
 use Rattle.c0_typed.specs.declared.tree.UnaryOperator.TheVariants as u
 use Rattle.c0_typed.specs.declared.tree.Relation.{Relation}
@@ -18,16 +23,41 @@ use Rattle.c0_typed.specs.declared.tree.Function.{Function}
 use Rattle.c0_typed.specs.declared.tree.Struct.{Struct}
 use Rattle.c0_typed.specs.declared.tree.Typed.{Typed}
 
+-- a type that is neither a pointer nor an array
+abbrev pub plain_of : PlainType → t.Ty
+plain_of p.Void = t.VoidTy
+plain_of p.Int = t.IntTy
+plain_of p.Bool = t.BoolTy
+plain_of p.Char = t.CharTy
+plain_of p.Text = t.TextTy
+plain_of (p.Struct k) = t.StructTy k
+
+-- what may stand round a type
+pub data Level : Type 0 where
+  PointerLevel : Level
+  ArrayLevel : Level
+
+-- pointers and arrays, from the outermost on
+abbrev pub levels_of : Levels → List Level
+levels_of Innermost = []
+levels_of (Pointer' p inner) = PointerLevel ∷ levels_of inner
+levels_of (Array' p inner) = ArrayLevel ∷ levels_of inner
+
+-- a type within pointers and arrays
+abbrev pub within : List Level → t.Ty → t.Ty
+within [] ty = ty
+within (PointerLevel ∷ levels) ty = t.PointerTy (within levels ty)
+within (ArrayLevel ∷ levels) ty = t.ArrayTy (within levels ty)
+
+-- what a pointer points to, or an array holds
+abbrev pub target_of : Target → t.Ty
+target_of x = within (levels_of x.levels.value) (plain_of x.innermost)
+
 -- a type
 abbrev pub type_of : ValueType → t.Ty
-type_of Void = t.VoidTy
-type_of Int = t.IntTy
-type_of Bool = t.BoolTy
-type_of Char = t.CharTy
-type_of TextType = t.TextTy
-type_of (StructType k) = t.StructTy k
-type_of (Pointer' p ty) = t.PointerTy (type_of ty)
-type_of (Array' p ty) = t.ArrayTy (type_of ty)
+type_of (w.Plain x) = plain_of x
+type_of (w.Pointer x) = t.PointerTy (target_of x)
+type_of (w.Array x) = t.ArrayTy (target_of x)
 
 -- an operator on one value
 abbrev pub unary_of : UnaryOperator → t.UnaryOp

@@ -8,8 +8,8 @@ ghost use Rattle.c0_typed.specs.More.{MoreTurnsExtend};
 ghost use Rattle.c0_typed.specs.Typing.{EvalSound, LocateSound, ExecSound, CallSound, FreshSound, LoadSound, StoreSound, MainSound};
 
 pub use tree::{
-    Constant, Expression, Function, Output, Place, Relation, Site, Statement, Struct, Typed,
-    UnaryOperator, ValueType,
+    Constant, Expression, Function, Levels, Output, Place, PlainType, Relation, Site, Statement,
+    Struct, Target, Typed, UnaryOperator, ValueType,
 };
 
 /// A well-typed program does what its types say, in every well-typed state: an expression gives a value of its type,

@@ -1,9 +1,15 @@
 //! Typed programs as code holds them: names are numbers, and each node tells its type.
-use cells::Int32Op;
 
-/// A type of a value, or of what is allocated.
-#[derive(Debug, PartialEq, Eq, Drop)]
-pub enum ValueType {
+ghost use Rattle.std.specs.Prelude.{◌≡◌, IfOk};
+ghost use Rattle.c0_typed.specs.Views.{plain_of, target_of, type_of};
+
+use cells::Int32Op;
+use std::alloc::{AllocError, Global};
+use std::sync::Arc;
+
+/// A type that is neither a pointer nor an array.
+#[derive(Clone, Copy, PartialEq, Eq, Debug)]
+pub enum PlainType {
     /// What a function without a result gives; no value has it.
     Void,
     Int,
@@ -13,10 +19,71 @@ pub enum ValueType {
     Text,
     /// The struct with this number.
     Struct(u32),
+}
+
+/// The pointers and arrays that stand round a type, from the outermost on. Types that were made of one another share those further in, so that
+/// they are had once more by one step, however many there are.
+#[derive(Debug, PartialEq, Eq, Drop)]
+pub enum Levels {
+    /// None: the type itself.
+    Innermost,
+    Pointer(Arc<Levels>),
+    Array(Arc<Levels>),
+}
+
+/// What a pointer points to, or an array holds: a type within pointers and arrays.
+#[derive(Debug, PartialEq, Eq, Drop)]
+pub struct Target {
+    pub levels: Arc<Levels>,
+    pub innermost: PlainType,
+}
+
+/// A type of a value, or of what is allocated.
+#[derive(Debug, PartialEq, Eq, Drop)]
+pub enum ValueType {
+    Plain(PlainType),
     /// A pointer, to what has this type.
-    Pointer(Box<ValueType>),
+    Pointer(Target),
     /// An array, of elements of this type.
-    Array(Box<ValueType>),
+    Array(Target),
+}
+
+impl Target {
+    /// A target that is neither a pointer nor an array. `Err` where memory is refused.
+    pub fn of_plain(alloc: Global, innermost: PlainType) -> Result<Target, AllocError>
+        ensures { IfOk result (λ r. target_of r ≡ plain_of innermost) }
+    {
+        let levels = Arc::new(alloc, Levels::Innermost)?;
+        Ok(Target { levels, innermost })
+    }
+
+    /// The type that this is. `Err` where there are 2^64 - 1 of it.
+    pub fn value_type(&self) -> Result<ValueType, AllocError>
+        ensures { IfOk result (λ r. type_of r ≡ target_of self.now) }
+    {
+        let innermost = self.innermost;
+        match &*self.levels {
+            Levels::Innermost => Ok(ValueType::Plain(innermost)),
+            Levels::Pointer(inner) => {
+                let levels = inner.clone()?;
+                Ok(ValueType::Pointer(Target { levels, innermost }))
+            }
+            Levels::Array(inner) => {
+                let levels = inner.clone()?;
+                Ok(ValueType::Array(Target { levels, innermost }))
+            }
+        }
+    }
+
+    /// The same target once more. `Err` where there are 2^64 - 1 of it.
+    pub fn share(&self) -> Result<Target, AllocError>
+        ensures { IfOk result (λ r. target_of r ≡ target_of self.now) }
+    {
+        Ok(Target {
+            levels: self.levels.clone()?,
+            innermost: self.innermost,
+        })
+    }
 }
 
 /// An operator on one value.

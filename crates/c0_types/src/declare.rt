@@ -274,7 +274,7 @@ pub(crate) fn has_main(environment: &Environment) -> bool
 {
     match environment.functions.get("main") {
         Some(main) => main.defined
-            && main.result.same_as(&ResolvedType::Int)
+            && main.result.same_as(&ResolvedType::INT)
             && has_no_parameters(main),
         None => false,
     }

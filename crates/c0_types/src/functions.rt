@@ -51,7 +51,7 @@ pub(crate) struct Parts {
 fn is_void(signature: &Signature) -> bool
     ensures { result ≡ same_type (signature_of signature.now).result VoidType }
 {
-    signature.result.same_as(&ResolvedType::Void)
+    signature.result.same_as(&ResolvedType::VOID)
 }
 
 // The type of `\result`; a void function has none.
@@ -178,7 +178,7 @@ fn numbered_types(
 {
     let mut numbered = Vec::new(alloc);
     for resolved in types {
-        numbered.push(environment.numbered(alloc, resolved)?)?;
+        numbered.push(environment.numbered(resolved)?)?;
     }
     Ok(numbered)
 }
@@ -196,7 +196,7 @@ fn function_from(
         conditions,
         checked,
     } = parts;
-    let result = environment.numbered(alloc, &signature.result)?;
+    let result = environment.numbered(&signature.result)?;
     let parameters = numbered_types(environment, alloc, &signature.parameters)?;
     let locals = numbered_types(environment, alloc, &checked.scope.declared)?;
     Ok(Function {

@@ -67,7 +67,7 @@ pub fn check_number(destination: &Destination<'_>, span: Span) -> Result<(), Fau
         Destination::Local(local) => &local.resolved,
         Destination::Place(found) => &found.resolved,
     };
-    if resolved.same_as(&ResolvedType::Int) {
+    if resolved.same_as(&ResolvedType::INT) {
         return Ok(());
     }
     Err(no_number(resolved, span))

@@ -42,12 +42,12 @@ fn push_spec(
 {
     match spec.kind {
         SpecKind::Contract(Clause::Requires) => {
-            let found = sited(before, &ResolvedType::Bool, &spec.condition)?;
+            let found = sited(before, &ResolvedType::BOOL, &spec.condition)?;
             conditions.preconditions.push(found)?;
             Ok(())
         }
         SpecKind::Contract(Clause::Ensures) => {
-            let found = sited(behind, &ResolvedType::Bool, &spec.condition)?;
+            let found = sited(behind, &ResolvedType::BOOL, &spec.condition)?;
             conditions.postconditions.push(found)?;
             Ok(())
         }

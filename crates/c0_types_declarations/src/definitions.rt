@@ -136,7 +136,7 @@ pub fn numbered_fields(
 {
     let mut types = Vec::new(alloc);
     for field in fields {
-        types.push(environment.numbered(alloc, &field.resolved)?)?;
+        types.push(environment.numbered(&field.resolved)?)?;
     }
     Ok(Struct { fields: types })
 }

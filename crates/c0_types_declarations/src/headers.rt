@@ -195,8 +195,13 @@ pub fn signature(
         defined,
     };
     check_again(environment, &signature, header.name.span)?;
-    names?;
-    Ok(signature)
+    match names {
+        Ok(_) => Ok(signature),
+        Err(fault) => {
+            drop(signature);
+            Err(fault)
+        }
+    }
 }
 
 /// From here on the function is declared; it is defined where it is now or was before. Where memory is refused, nothing is said of the

@@ -26,7 +26,7 @@ use c0_source::fault::{Fault, FaultKind, Span};
 use c0_syntax::expression::{Expression, ExpressionKind};
 use c0_syntax::name::Name;
 use c0_syntax::operator::PrefixOperator;
-use c0_typed::{Constant, Expression as TypedExpression, ValueType};
+use c0_typed::{Constant, Expression as TypedExpression, PlainType, ValueType};
 use c0_types_operators::operands::{chosen, left_operand, operated};
 use c0_types_operators::operators::operator_rule;
 use c0_types_places::memory::{allocated, allocated_array, held, lengthed};
@@ -34,7 +34,7 @@ use c0_types_places::names::{
     Callee, call_of, character, declared, number, output_takes, returned, text, variable,
 };
 use c0_types_places::places::{array_operand, element, fielded, pointed, pointer_field, read_of};
-use c0_types_tables::resolved::ResolvedType;
+use c0_types_tables::resolved::{ResolvedPlain, ResolvedType};
 use c0_types_terms::steps;
 use c0_types_terms::steps::fault_at;
 use c0_types_terms::typing::{ResolvedPlace, Terms, Typing};
@@ -45,9 +45,8 @@ fn is_void(resolved: &ResolvedType) -> bool
     ensures { result ≡ same_type VoidType (resolved_of resolved.now) }
 {
     match resolved {
-        ResolvedType::Void => true,
-        ResolvedType::Int | ResolvedType::Bool | ResolvedType::Char | ResolvedType::Text => false,
-        ResolvedType::Struct(_) | ResolvedType::Pointer(_) | ResolvedType::Array(_) => false,
+        ResolvedType::Plain(ResolvedPlain::Void) => true,
+        ResolvedType::Plain(_) | ResolvedType::Pointer(_) | ResolvedType::Array(_) => false,
     }
 }
 
@@ -128,10 +127,12 @@ fn typing(terms: &Terms<'_>, kind: &ExpressionKind, span: Span) -> Result<Typing
         ExpressionKind::Number(value) => Ok(number(terms, *value)),
         ExpressionKind::Character(code) => character(terms, *code, span),
         ExpressionKind::Truth(truth) => Ok(Typing::Has(
-            ResolvedType::Bool,
+            ResolvedType::BOOL,
             TypedExpression::Constant(Constant::Truth(*truth)),
         )),
-        ExpressionKind::Null => Ok(Typing::Null(TypedExpression::Null(ValueType::Int))),
+        ExpressionKind::Null => Ok(Typing::Null(TypedExpression::Null(ValueType::Plain(
+            PlainType::Int,
+        )))),
         ExpressionKind::Text(content) => Ok(text(terms, content)),
         ExpressionKind::Variable(name) => variable(terms, name),
         ExpressionKind::Parenthesized(inner) => typing(terms, &inner.kind, inner.span),
@@ -171,7 +172,7 @@ fn conditional(terms: &Terms<'_>, kind: &ExpressionKind, span: Span) -> Result<T
     match kind {
         ExpressionKind::Conditional(condition, first, second) => {
             let test = value(terms, &condition.kind, condition.span)?;
-            let truth = terms.as_wanted(&ResolvedType::Bool, test, condition.span)?;
+            let truth = terms.as_wanted(&ResolvedType::BOOL, test, condition.span)?;
             let one = match value(terms, &first.kind, first.span) {
                 Ok(one) => one,
                 Err(fault) => {

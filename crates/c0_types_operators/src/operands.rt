@@ -18,9 +18,9 @@ ghost use Rattle.c0_types_tables.specs.Views.{resolved_of};
 use crate::operators::{OperatorRule, is_compared, is_equality};
 use c0_source::fault::{Fault, FaultKind, Span};
 use c0_syntax::operator::PrefixOperator;
-use c0_typed::{Expression, Relation, UnaryOperator, ValueType};
+use c0_typed::{Expression, PlainType, Relation, Target, UnaryOperator, ValueType};
 use c0_types_tables::resolved::ResolvedType;
-use c0_types_terms::retyping::retype;
+use c0_types_terms::retyping::retype_to_numbers;
 use c0_types_terms::steps::{boxed, boxed_at, fault_at};
 use c0_types_terms::typing::{Terms, Typing};
 use cells::Int32Op;
@@ -36,13 +36,13 @@ fn takes_left(rule: OperatorRule, first: &Typing) -> bool
         }
         (OperatorRule::Compares(relation), Typing::Null(_)) => is_equality(relation),
         (OperatorRule::OnNumbers(_), Typing::Has(resolved, _)) => {
-            resolved.same_as(&ResolvedType::Int)
+            resolved.same_as(&ResolvedType::INT)
         }
         (OperatorRule::Conjunction, Typing::Has(resolved, _)) => {
-            resolved.same_as(&ResolvedType::Bool)
+            resolved.same_as(&ResolvedType::BOOL)
         }
         (OperatorRule::Disjunction, Typing::Has(resolved, _)) => {
-            resolved.same_as(&ResolvedType::Bool)
+            resolved.same_as(&ResolvedType::BOOL)
         }
         (_, Typing::Null(_)) => false,
     }
@@ -87,7 +87,7 @@ fn numbers_boxed(
 fn null_boxed(alloc: Global, e: Expression) -> Result<Box<Expression>, AllocError>
     ensures { (texts : List Name) → IfOk result (λ r. exp_of texts r.value ≡ x.retyped t.IntTy (exp_of texts e)) }
 {
-    Ok(Box::new(alloc, retype(alloc, &ValueType::Int, e)?)?)
+    Ok(Box::new(alloc, retype_to_numbers(alloc, e)?)?)
 }
 
 // A comparison of values of this type.
@@ -103,7 +103,7 @@ fn comparison(
     let (first, second) = boxed(terms.alloc, first, second)?;
     let value_type = terms.numbered(resolved)?;
     Ok(Typing::Has(
-        ResolvedType::Bool,
+        ResolvedType::BOOL,
         Expression::Compare(value_type, relation, first, second),
     ))
 }
@@ -220,9 +220,9 @@ fn comparison_of_nulls(
     match null_boxed(terms.alloc, first) {
         Ok(first) => {
             let second = null_boxed(terms.alloc, second)?;
-            let number = Box::new(terms.alloc, ValueType::Int)?;
+            let number = Target::of_plain(terms.alloc, PlainType::Int)?;
             Ok(Typing::Has(
-                ResolvedType::Bool,
+                ResolvedType::BOOL,
                 Expression::Compare(ValueType::Pointer(number), relation, first, second),
             ))
         }
@@ -272,7 +272,7 @@ fn choice_of_nulls(
     ensures { IfOk result (λ r. typing_of terms.now.texts.now r ≡ x.IsNull (t.Choose (t.PointerTy t.IntTy) (exp_of terms.now.texts.now condition.value) (exp_of terms.now.texts.now first) (exp_of terms.now.texts.now second))) }
 {
     let (first, second) = boxed(terms.alloc, first, second)?;
-    let number = Box::new(terms.alloc, ValueType::Int)?;
+    let number = Target::of_plain(terms.alloc, PlainType::Int)?;
     Ok(Typing::Null(Expression::Choose(ValueType::Pointer(number), condition, first, second)))
 }
 
@@ -354,21 +354,21 @@ pub fn prefixed(
 {
     match operator {
         PrefixOperator::Not => {
-            let a = terms.as_wanted(&ResolvedType::Bool, operand, span)?;
+            let a = terms.as_wanted(&ResolvedType::BOOL, operand, span)?;
             let a = Box::new(terms.alloc, a)?;
-            Ok(Typing::Has(ResolvedType::Bool, Expression::Unary(UnaryOperator::Not, a)))
+            Ok(Typing::Has(ResolvedType::BOOL, Expression::Unary(UnaryOperator::Not, a)))
         }
         PrefixOperator::Complement => {
-            let a = terms.as_wanted(&ResolvedType::Int, operand, span)?;
+            let a = terms.as_wanted(&ResolvedType::INT, operand, span)?;
             let a = Box::new(terms.alloc, a)?;
             let e = Expression::Unary(UnaryOperator::Complement, a);
-            Ok(Typing::Has(ResolvedType::Int, e))
+            Ok(Typing::Has(ResolvedType::INT, e))
         }
         PrefixOperator::Negate => {
-            let a = terms.as_wanted(&ResolvedType::Int, operand, span)?;
+            let a = terms.as_wanted(&ResolvedType::INT, operand, span)?;
             let a = Box::new(terms.alloc, a)?;
             let e = Expression::Unary(UnaryOperator::Negate, a);
-            Ok(Typing::Has(ResolvedType::Int, e))
+            Ok(Typing::Has(ResolvedType::INT, e))
         }
         PrefixOperator::Dereference => unreachable!(),
     }
@@ -414,20 +414,20 @@ pub fn operated(
 {
     match rule {
         OperatorRule::OnNumbers(operator) => {
-            let (a, b) = operands(terms, &ResolvedType::Int, first, second, spans)?;
+            let (a, b) = operands(terms, &ResolvedType::INT, first, second, spans)?;
             let (a, b) = numbers_boxed(terms.alloc, operator, a, b, spans.0)?;
-            Ok(Typing::Has(ResolvedType::Int, Expression::Binary(operator, a, b)))
+            Ok(Typing::Has(ResolvedType::INT, Expression::Binary(operator, a, b)))
         }
         OperatorRule::Compares(relation) => compared(terms, relation, first, second, spans.1),
         OperatorRule::Conjunction => {
-            let (a, b) = operands(terms, &ResolvedType::Bool, first, second, spans)?;
+            let (a, b) = operands(terms, &ResolvedType::BOOL, first, second, spans)?;
             let (a, b) = boxed(terms.alloc, a, b)?;
-            Ok(Typing::Has(ResolvedType::Bool, Expression::And(a, b)))
+            Ok(Typing::Has(ResolvedType::BOOL, Expression::And(a, b)))
         }
         OperatorRule::Disjunction => {
-            let (a, b) = operands(terms, &ResolvedType::Bool, first, second, spans)?;
+            let (a, b) = operands(terms, &ResolvedType::BOOL, first, second, spans)?;
             let (a, b) = boxed(terms.alloc, a, b)?;
-            Ok(Typing::Has(ResolvedType::Bool, Expression::Or(a, b)))
+            Ok(Typing::Has(ResolvedType::BOOL, Expression::Or(a, b)))
         }
     }
 }

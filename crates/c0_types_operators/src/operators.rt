@@ -8,7 +8,7 @@ ghost use Rattle.c0_types_tables.specs.Views.{resolved_of};
 
 use c0_source::kind::Operator;
 use c0_typed::Relation;
-use c0_types_tables::resolved::ResolvedType;
+use c0_types_tables::resolved::{ResolvedPlain, ResolvedType};
 use cells::Int32Op;
 
 /// What an operator between two operands works on.
@@ -61,9 +61,11 @@ pub fn is_compared(relation: Relation, resolved: &ResolvedType) -> bool
     ensures { result ≡ x.is_compared (relation_of relation) (resolved_of resolved.now) }
 {
     match resolved {
-        ResolvedType::Void | ResolvedType::Struct(_) | ResolvedType::Text => false,
-        ResolvedType::Int | ResolvedType::Char => true,
-        ResolvedType::Bool => is_equality(relation),
+        ResolvedType::Plain(plain) => match plain {
+            ResolvedPlain::Void | ResolvedPlain::Struct(_) | ResolvedPlain::Text => false,
+            ResolvedPlain::Int | ResolvedPlain::Char => true,
+            ResolvedPlain::Bool => is_equality(relation),
+        },
         ResolvedType::Pointer(_) | ResolvedType::Array(_) => is_equality(relation),
     }
 }

@@ -13,16 +13,15 @@ ghost use Rattle.c0_types_places.specs.Places.{array_of};
 ghost use Rattle.c0_types_terms.specs.Terms.{env_of, typing_of};
 ghost use Rattle.c0_rules.specs.Types as t;
 ghost use Rattle.c0_rules.specs.Answers.{Answers};
-ghost use Rattle.c0_types_tables.specs.Views.{resolved_of};
+ghost use Rattle.c0_types_tables.specs.Views.{resolved_of, resolved_target_of};
 
 use c0_source::fault::{Fault, FaultKind, Span};
 use c0_syntax::value_type::ValueType as WrittenType;
 use c0_typed::Expression;
-use c0_types_tables::resolved::ResolvedType;
+use c0_types_tables::resolved::{ResolvedTarget, ResolvedType};
 use c0_types_terms::steps::{fault_at, sited_boxed};
 use c0_types_terms::typing::{Terms, Typing};
 use std::alloc::AllocError;
-use std::rc::Rc;
 
 /// A type that memory can hold here.
 pub fn held(terms: &Terms<'_>, written: &WrittenType) -> Result<ResolvedType, Fault>
@@ -45,8 +44,8 @@ pub fn allocated(terms: &Terms<'_>, written: &WrittenType) -> Result<Typing, Fau
     ensures cause { IfErr result (λ f. (f.kind ≡ OutOfMemory) ⊎ HeldTypeCause (env_of terms.now) f written.now) }
 {
     let resolved = held(terms, written)?;
-    let target = Rc::new(terms.alloc, resolved)?;
-    let value_type = terms.numbered(&target)?;
+    let value_type = terms.numbered(&resolved)?;
+    let target = ResolvedTarget::of(terms.alloc, resolved)?;
     Ok(Typing::Has(ResolvedType::Pointer(target), Expression::Alloc(value_type)))
 }
 
@@ -60,7 +59,7 @@ pub fn allocated_array(
     ensures answers { Answers (typing_of terms.now.texts.now) result (array_of (env_of terms.now) (resolved_of element) (typing_of terms.now.texts.now length)) }
     ensures cause { IfErr result (λ f. (f.kind ≡ OutOfMemory) ⊎ ((x.as_wanted (env_of terms.now) t.IntType (typing_of terms.now.texts.now length) ≡ None) × Told TypeMismatch here f)) }
 {
-    let length = match terms.as_wanted(&ResolvedType::Int, length, here) {
+    let length = match terms.as_wanted(&ResolvedType::INT, length, here) {
         Ok(length) => length,
         Err(fault) => {
             drop(element);
@@ -84,8 +83,8 @@ fn array_made(
 ) -> Result<Typing, AllocError>
     ensures { IfOk result (λ r. typing_of terms.now.texts.now r ≡ x.Has (t.ArrayOf (resolved_of element)) (y.AllocArray (x.num (env_of terms.now) (resolved_of element)) (exp_of terms.now.texts.now length.value))) }
 {
-    let element = Rc::new(terms.alloc, element)?;
     let value_type = terms.numbered(&element)?;
+    let element = ResolvedTarget::of(terms.alloc, element)?;
     Ok(Typing::Has(
         ResolvedType::Array(element),
         Expression::AllocArray(value_type, length),
@@ -116,12 +115,12 @@ pub fn lengthed(terms: &Terms<'_>, array: Typing, span: Span) -> Result<Typing, 
 // The length of this array, of elements of this type.
 fn length_of(
     terms: &Terms<'_>,
-    element: Rc<ResolvedType>,
+    element: ResolvedTarget,
     array: Expression,
 ) -> Result<Typing, AllocError>
-    ensures { IfOk result (λ r. typing_of terms.now.texts.now r ≡ x.Has t.IntType (y.Length (x.num (env_of terms.now) (resolved_of element.value)) (exp_of terms.now.texts.now array))) }
+    ensures { IfOk result (λ r. typing_of terms.now.texts.now r ≡ x.Has t.IntType (y.Length (x.num (env_of terms.now) (resolved_target_of element)) (exp_of terms.now.texts.now array))) }
 {
     let array = Box::new(terms.alloc, array)?;
-    let value_type = terms.numbered(&element)?;
-    Ok(Typing::Has(ResolvedType::Int, Expression::Length(value_type, array)))
+    let value_type = terms.numbered(&element.resolved()?)?;
+    Ok(Typing::Has(ResolvedType::INT, Expression::Length(value_type, array)))
 }

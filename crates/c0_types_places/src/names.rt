@@ -51,10 +51,10 @@ pub fn output_takes(alloc: Global, output: Output) -> Result<Vec<ResolvedType>, 
     ensures { IfOk result (λ r. map resolved_of r.items ≡ t.output_takes (output_of output)) }
 {
     match output {
-        Output::Print | Output::Println => Ok(vec![in alloc; ResolvedType::Text]?),
-        Output::Printint => Ok(vec![in alloc; ResolvedType::Int]?),
-        Output::Printbool => Ok(vec![in alloc; ResolvedType::Bool]?),
-        Output::Printchar => Ok(vec![in alloc; ResolvedType::Char]?),
+        Output::Print | Output::Println => Ok(vec![in alloc; ResolvedType::TEXT]?),
+        Output::Printint => Ok(vec![in alloc; ResolvedType::INT]?),
+        Output::Printbool => Ok(vec![in alloc; ResolvedType::BOOL]?),
+        Output::Printchar => Ok(vec![in alloc; ResolvedType::CHAR]?),
         Output::Flush => Ok(Vec::new(alloc)),
     }
 }
@@ -78,7 +78,7 @@ pub fn number(terms: &Terms<'_>, value: u32) -> Typing
     ensures { typing_of terms.now.texts.now result ≡ x.Has t.IntType (y.Constant (v.Number (wrap32 (pos value)))) }
 {
     Typing::Has(
-        ResolvedType::Int,
+        ResolvedType::INT,
         Expression::Constant(Constant::Number(value.cast_signed())),
     )
 }
@@ -90,7 +90,7 @@ pub fn character(terms: &Terms<'_>, code: u8, span: Span) -> Result<Typing, Faul
 {
     if code < 128 {
         Ok(Typing::Has(
-            ResolvedType::Char,
+            ResolvedType::CHAR,
             Expression::Constant(Constant::Letter(code)),
         ))
     } else {
@@ -133,7 +133,7 @@ pub fn text(terms: &Terms<'_>, text: &str) -> Typing
 {
     match terms.texts.get(text) {
         Some(number) => Typing::Has(
-            ResolvedType::Text,
+            ResolvedType::TEXT,
             Expression::Constant(Constant::Text(number + 1)),
         ),
         None => unreachable!(),
@@ -175,7 +175,7 @@ pub fn call_of(
 {
     match callee {
         Callee::Output(output) => Ok(Typing::Has(
-            ResolvedType::Void,
+            ResolvedType::VOID,
             Expression::Print(output, arguments),
         )),
         Callee::Function(number, signature) => {

@@ -13,17 +13,16 @@ ghost use Rattle.c0_types_places.specs.Places.{ArrayCause, HasElements, PointedC
 ghost use Rattle.c0_types_terms.specs.Terms.{context_of, env_of, place_of, typing_of};
 ghost use Rattle.c0_rules.specs.Types as t;
 ghost use Rattle.c0_rules.specs.Answers.{Answers};
-ghost use Rattle.c0_types_tables.specs.Views.{field_entry_of, resolved_of, struct_entry_of};
+ghost use Rattle.c0_types_tables.specs.Views.{field_entry_of, resolved_of, resolved_target_of, struct_entry_of};
 
 use c0_source::fault::{Fault, FaultKind, Span};
 use c0_syntax::name::Name;
 use c0_typed::{Expression, Place};
-use c0_types_tables::resolved::ResolvedType;
+use c0_types_tables::resolved::{ResolvedPlain, ResolvedTarget, ResolvedType};
 use c0_types_tables::structs::{FieldEntry, StructEntry};
 use c0_types_terms::steps::{boxed_at, fault_at, sited_boxed};
 use c0_types_terms::typing::{ResolvedPlace, Terms, Typing};
 use std::alloc::AllocError;
-use std::rc::Rc;
 
 /// What a pointer points to. NULL itself points to nothing, which is told at the sign.
 pub fn pointed(
@@ -54,16 +53,17 @@ pub fn pointed(
 // What this pointer points to, of this type.
 fn target_of(
     terms: &Terms<'_>,
-    target: Rc<ResolvedType>,
+    target: ResolvedTarget,
     e: Expression,
     sign: Span,
 ) -> Result<ResolvedPlace, AllocError>
-    ensures { IfOk result (λ r. x.pointed (env_of terms.now) (x.Has (t.PointerTo (resolved_of target.value)) (exp_of terms.now.texts.now e)) ≡ Some (place_of terms.now.texts.now r)) }
+    ensures { IfOk result (λ r. x.pointed (env_of terms.now) (x.Has (t.PointerTo (resolved_target_of target)) (exp_of terms.now.texts.now e)) ≡ Some (place_of terms.now.texts.now r)) }
 {
     let pointer = sited_boxed(terms.alloc, e, sign)?;
-    let value_type = terms.numbered(&target)?;
+    let resolved = target.resolved()?;
+    let value_type = terms.numbered(&resolved)?;
     Ok(ResolvedPlace {
-        resolved: target.duplicate()?,
+        resolved,
         place: Place::Deref(value_type, pointer),
     })
 }
@@ -100,23 +100,24 @@ pub fn indexed(
 // An element of this array, of this type.
 fn element_at(
     terms: &Terms<'_>,
-    element: Rc<ResolvedType>,
+    element: ResolvedTarget,
     array: Expression,
     index: Expression,
     span: Span,
 ) -> Result<ResolvedPlace, Fault>
-    ensures answers { Answers (place_of terms.now.texts.now) result (x.indexed (env_of terms.now) (x.Has (t.ArrayOf (resolved_of element.value)) (exp_of terms.now.texts.now array)) (exp_of terms.now.texts.now index)) }
-    ensures cause { IfErr result (λ f. (f.kind ≡ OutOfMemory) ⊎ ((t.cells_of (env_of terms.now).structs (resolved_of element.value) ≡ None) × Told StructNotComplete span f)) }
+    ensures answers { Answers (place_of terms.now.texts.now) result (x.indexed (env_of terms.now) (x.Has (t.ArrayOf (resolved_target_of element)) (exp_of terms.now.texts.now array)) (exp_of terms.now.texts.now index)) }
+    ensures cause { IfErr result (λ f. (f.kind ≡ OutOfMemory) ⊎ ((t.cells_of (env_of terms.now).structs (resolved_target_of element) ≡ None) × Told StructNotComplete span f)) }
 {
-    if terms.environment.structs.cells(&element).is_none() {
+    if terms.environment.structs.element_cells(&element).is_none() {
         drop(array);
         drop(index);
         return Err(fault_at(FaultKind::StructNotComplete, span));
     }
     let (array, index) = boxed_at(terms.alloc, array, index, span)?;
-    let value_type = terms.numbered(&element)?;
+    let resolved = element.resolved()?;
+    let value_type = terms.numbered(&resolved)?;
     Ok(ResolvedPlace {
-        resolved: element.duplicate()?,
+        resolved,
         place: Place::Index(value_type, array, index),
     })
 }
@@ -149,7 +150,7 @@ fn array_fault(terms: &Terms<'_>, array: &Typing, here: Span, span: Span) -> Opt
 {
     match array {
         Typing::Has(ResolvedType::Array(element), _) => {
-            if terms.environment.structs.cells(element).is_none() {
+            if terms.environment.structs.element_cells(element).is_none() {
                 return Some(fault_at(FaultKind::StructNotComplete, span));
             }
             None
@@ -169,7 +170,7 @@ pub fn element(
     ensures answers { Answers (place_of terms.now.texts.now) result (t.and_so (x.as_wanted (env_of terms.now) t.IntType (typing_of terms.now.texts.now index)) (x.indexed (env_of terms.now) (typing_of terms.now.texts.now array))) }
     ensures cause { IfErr result (λ f. (f.kind ≡ OutOfMemory) ⊎ ((element_of (typing_of terms.now.texts.now array) ≡ None) × Told TypeMismatch spans.0 f) ⊎ ((x.as_wanted (env_of terms.now) t.IntType (typing_of terms.now.texts.now index) ≡ None) × Told TypeMismatch spans.1 f) ⊎ ((r : t.ResolvedType) × (element_of (typing_of terms.now.texts.now array) ≡ Some r) × (t.cells_of (env_of terms.now).structs r ≡ None) × Told StructNotComplete span f)) }
 {
-    match terms.as_wanted(&ResolvedType::Int, index, spans.1) {
+    match terms.as_wanted(&ResolvedType::INT, index, spans.1) {
         Ok(index) => indexed(terms, array, index, spans.0, span),
         Err(fault) => {
             drop(array);
@@ -211,17 +212,22 @@ pub fn fielded(
     ensures cause { IfErr result (λ f. (f.kind ≡ OutOfMemory) ⊎ FieldCause (env_of terms.now) (context_of terms.now) f (resolved_of of.resolved) here name.now span) }
 {
     let ResolvedPlace { resolved, place } = of;
-    let ResolvedType::Struct(struct_name) = &resolved else {
+    let ResolvedType::Plain(plain) = &resolved else {
         drop(resolved);
         drop(place);
         return Err(fault_at(FaultKind::TypeMismatch, here));
     };
-    let Some(entry) = terms.environment.structs.get(struct_name) else {
+    let ResolvedPlain::Struct(struct_name) = plain else {
+        drop(resolved);
+        drop(place);
+        return Err(fault_at(FaultKind::TypeMismatch, here));
+    };
+    let Some(entry) = terms.environment.structs.get(struct_name.as_str()) else {
         drop(resolved);
         drop(place);
         return Err(fault_at(FaultKind::StructNotComplete, span));
     };
-    let field = field_of(terms, struct_name, entry, place, name);
+    let field = field_of(terms, struct_name.as_str(), entry, place, name);
     drop(resolved);
     field
 }

@@ -1,3 +1,4 @@
+pub mod Levels
 pub mod Numbers
 pub mod SameTypes
 pub mod Tables

@@ -1,10 +1,15 @@
 -- What code holds, read as the definitions have it.
-use Rattle.std.specs.Prelude.{ℕ, option_map, map}
+use Rattle.std.specs.Prelude.{ℕ, List, [], ◌∷◌, option_map, map}
 use Rattle.std.specs.String.{string_bytes}
 use Rattle.std.specs.BTreeMap.{get_by_text}
+use Rattle.c0_typed.specs.Views.{Level, PointerLevel, ArrayLevel, levels_of}
 use Rattle.c0_rules.specs.Types as t
 use Rattle.c0_types_tables.specs.declared.environment.Environment.{Environment}
-use Rattle.c0_types_tables.specs.declared.resolved.ResolvedType.{ResolvedType, Void, Int, Bool, Char, Text, Struct, Pointer', Array'}
+use Rattle.c0_types_tables.specs.declared.resolved.ResolvedPlain.{ResolvedPlain}
+use Rattle.c0_types_tables.specs.declared.resolved.ResolvedPlain.TheVariants as p
+use Rattle.c0_types_tables.specs.declared.resolved.ResolvedTarget.{ResolvedTarget}
+use Rattle.c0_types_tables.specs.declared.resolved.ResolvedType.{ResolvedType}
+use Rattle.c0_types_tables.specs.declared.resolved.ResolvedType.TheVariants as r
 use Rattle.c0_types_tables.specs.declared.signatures.Functions.{Functions}
 use Rattle.c0_types_tables.specs.declared.signatures.Signature.{Signature}
 use Rattle.c0_types_tables.specs.declared.structs.FieldEntry.{FieldEntry}
@@ -13,16 +18,30 @@ use Rattle.c0_types_tables.specs.declared.structs.StructEntry.{StructEntry}
 use Rattle.c0_types_tables.specs.declared.structs.Structs.{Structs}
 use Rattle.c0_types_tables.specs.declared.typedefs.Typedefs.{Typedefs}
 
+-- a type that is neither a pointer nor an array
+abbrev pub resolved_plain_of : ResolvedPlain → t.ResolvedType
+resolved_plain_of p.Void = t.VoidType
+resolved_plain_of p.Int = t.IntType
+resolved_plain_of p.Bool = t.BoolType
+resolved_plain_of p.Char = t.CharType
+resolved_plain_of p.Text = t.StringType
+resolved_plain_of (p.Struct x) = t.StructNamed (string_bytes x.value)
+
+-- a type within pointers and arrays
+abbrev pub resolved_within : List Level → t.ResolvedType → t.ResolvedType
+resolved_within [] a = a
+resolved_within (PointerLevel ∷ levels) a = t.PointerTo (resolved_within levels a)
+resolved_within (ArrayLevel ∷ levels) a = t.ArrayOf (resolved_within levels a)
+
+-- what a pointer points to, or an array holds
+abbrev pub resolved_target_of : ResolvedTarget → t.ResolvedType
+resolved_target_of x = resolved_within (levels_of x.levels.value) (resolved_plain_of x.innermost.value)
+
 -- a type
 abbrev pub resolved_of : ResolvedType → t.ResolvedType
-resolved_of Void = t.VoidType
-resolved_of Int = t.IntType
-resolved_of Bool = t.BoolType
-resolved_of Char = t.CharType
-resolved_of Text = t.StringType
-resolved_of (Struct x) = t.StructNamed (string_bytes x)
-resolved_of (Pointer' p a) = t.PointerTo (resolved_of a)
-resolved_of (Array' p a) = t.ArrayOf (resolved_of a)
+resolved_of (r.Plain x) = resolved_plain_of x
+resolved_of (r.Pointer x) = t.PointerTo (resolved_target_of x)
+resolved_of (r.Array x) = t.ArrayOf (resolved_target_of x)
 
 -- what each typedef stands for
 abbrev pub typedefs_of : Typedefs → t.Table t.ResolvedType

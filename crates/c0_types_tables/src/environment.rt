@@ -1,18 +1,18 @@
 //! What is declared before a place in a program.
 
 ghost use Rattle.std.specs.Prelude.{◌≡◌, IfOk, is_some};
-ghost use Rattle.c0_typed.specs.Views.{type_of};
+ghost use Rattle.c0_typed.specs.Views.{plain_of, target_of, type_of};
 ghost use Rattle.c0_rules.specs.Programs.{is_callable};
 ghost use Rattle.c0_rules.specs.Statements.{is_function as is_called};
 ghost use Rattle.c0_rules.specs.Types.{no_names, number_in, numbered, output_named};
-ghost use Rattle.c0_types_tables.specs.Views.{environment_of, functions_of, resolved_of, structs_of, typedefs_of};
+ghost use Rattle.c0_types_tables.specs.Views.{environment_of, functions_of, resolved_of, resolved_plain_of, resolved_target_of, structs_of, typedefs_of};
 
 use crate::names::Names;
-use crate::resolved::ResolvedType;
+use crate::resolved::{ResolvedPlain, ResolvedTarget, ResolvedType};
 use crate::signatures::Functions;
 use crate::structs::Structs;
 use crate::typedefs::Typedefs;
-use c0_typed::ValueType;
+use c0_typed::{PlainType, Target, ValueType};
 use std::alloc::{AllocError, Global};
 
 /// What is declared before a place in a program. Whether the program uses conio, and the names of all structs and functions that it
@@ -77,26 +77,41 @@ impl Environment {
         self.is_output(name) || self.function_names.get(name).is_some()
     }
 
-    /// A type as typed trees have it: a struct by its number.
-    #[cycle(number)]
-    pub fn numbered(&self, alloc: Global, resolved: &ResolvedType) -> Result<ValueType, AllocError>
+    /// A type that is neither a pointer nor an array, as typed trees have it: a struct by its number.
+    fn numbered_plain(&self, plain: &ResolvedPlain) -> PlainType
+        ensures { plain_of result ≡ numbered self.now.struct_names (resolved_plain_of plain.now) }
+    {
+        match plain {
+            ResolvedPlain::Void => PlainType::Void,
+            ResolvedPlain::Int => PlainType::Int,
+            ResolvedPlain::Bool => PlainType::Bool,
+            ResolvedPlain::Char => PlainType::Char,
+            ResolvedPlain::Text => PlainType::Text,
+            ResolvedPlain::Struct(name) => PlainType::Struct(
+                self.struct_names.number(name.as_str()),
+            ),
+        }
+    }
+
+    /// What a pointer points to, or an array holds, as typed trees have it. Its pointers and arrays are shared. `Err` where there are 2^64 - 1 of them.
+    #[tactic(auto, using(crate::proofs::Levels::numbered_within))]
+    pub fn numbered_target(&self, target: &ResolvedTarget) -> Result<Target, AllocError>
+        ensures { IfOk result (λ r. target_of r ≡ numbered self.now.struct_names (resolved_target_of target.now)) }
+    {
+        Ok(Target {
+            levels: target.levels.clone()?,
+            innermost: self.numbered_plain(&target.innermost),
+        })
+    }
+
+    /// A type as typed trees have it, likewise.
+    pub fn numbered(&self, resolved: &ResolvedType) -> Result<ValueType, AllocError>
         ensures { IfOk result (λ r. type_of r ≡ numbered self.now.struct_names (resolved_of resolved.now)) }
     {
         match resolved {
-            ResolvedType::Void => Ok(ValueType::Void),
-            ResolvedType::Int => Ok(ValueType::Int),
-            ResolvedType::Bool => Ok(ValueType::Bool),
-            ResolvedType::Char => Ok(ValueType::Char),
-            ResolvedType::Text => Ok(ValueType::Text),
-            ResolvedType::Struct(name) => Ok(ValueType::Struct(self.struct_names.number(name))),
-            ResolvedType::Pointer(target) => {
-                let target = self.numbered(alloc, target)?;
-                Ok(ValueType::Pointer(Box::new(alloc, target)?))
-            }
-            ResolvedType::Array(element) => {
-                let element = self.numbered(alloc, element)?;
-                Ok(ValueType::Array(Box::new(alloc, element)?))
-            }
+            ResolvedType::Plain(plain) => Ok(ValueType::Plain(self.numbered_plain(plain))),
+            ResolvedType::Pointer(target) => Ok(ValueType::Pointer(self.numbered_target(target)?)),
+            ResolvedType::Array(element) => Ok(ValueType::Array(self.numbered_target(element)?)),
         }
     }
 }

@@ -2,9 +2,10 @@
 
 ghost use Rattle.std.specs.Prelude.{◌≡◌, OnOk, option_map, string_bytes};
 ghost use Rattle.c0_rules.specs.Types.{cells_of, no_names, with_name};
-ghost use Rattle.c0_types_tables.specs.Views.{field_entry_of, field_table_of, resolved_of, struct_entry_of, structs_of};
+ghost use Rattle.c0_types_tables.specs.Views.{field_entry_of, field_table_of, resolved_of, resolved_plain_of, resolved_target_of, struct_entry_of, structs_of};
 
-use crate::resolved::ResolvedType;
+use crate::resolved::{ResolvedPlain, ResolvedTarget, ResolvedType};
+use c0_typed::Levels;
 use std::alloc::{AllocError, Global};
 use std::collections::BTreeMap;
 
@@ -85,19 +86,38 @@ impl Structs {
         Ok(())
     }
 
+    /// How many cells a type that is neither a pointer nor an array takes in memory: none is known of `void`, or of a struct that is not defined yet.
+    fn plain_cells(&self, plain: &ResolvedPlain) -> Option<usize>
+        ensures { result ≡ cells_of (structs_of self.now) (resolved_plain_of plain.now) }
+    {
+        match plain {
+            ResolvedPlain::Void => None,
+            ResolvedPlain::Struct(name) => match self.get(name.as_str()) {
+                Some(entry) => Some(entry.cells),
+                None => None,
+            },
+            ResolvedPlain::Int | ResolvedPlain::Bool | ResolvedPlain::Char | ResolvedPlain::Text =>
+                Some(1),
+        }
+    }
+
     /// How many cells a type takes in memory: none is known of `void`, or of a struct that is not defined yet.
     pub fn cells(&self, resolved: &ResolvedType) -> Option<usize>
         ensures { result ≡ cells_of (structs_of self.now) (resolved_of resolved.now) }
     {
         match resolved {
-            ResolvedType::Void => None,
-            ResolvedType::Struct(name) => match self.get(name) {
-                Some(entry) => Some(entry.cells),
-                None => None,
-            },
-            ResolvedType::Int | ResolvedType::Bool | ResolvedType::Char | ResolvedType::Text =>
-                Some(1),
+            ResolvedType::Plain(plain) => self.plain_cells(plain),
             ResolvedType::Pointer(_) | ResolvedType::Array(_) => Some(1),
+        }
+    }
+
+    /// How many cells an element of an array takes in memory, likewise.
+    pub fn element_cells(&self, element: &ResolvedTarget) -> Option<usize>
+        ensures { result ≡ cells_of (structs_of self.now) (resolved_target_of element.now) }
+    {
+        match &*element.levels {
+            Levels::Innermost => self.plain_cells(&element.innermost),
+            Levels::Pointer(_) | Levels::Array(_) => Some(1),
         }
     }
 }

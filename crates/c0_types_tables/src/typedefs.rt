@@ -8,7 +8,7 @@ ghost use Rattle.c0_rules.specs.Types.{no_names, resolved_type, result_type, sma
 ghost use Rattle.c0_rules.specs.Answers.{Answers};
 ghost use Rattle.c0_types_tables.specs.Views.{resolved_of, typedefs_of};
 
-use crate::resolved::ResolvedType;
+use crate::resolved::{ResolvedPlain, ResolvedTarget, ResolvedType};
 use c0_source::fault::{Fault, FaultKind, Span};
 use c0_source::kind::Base;
 use c0_syntax::name::Name;
@@ -78,7 +78,7 @@ impl Typedefs {
         ensures cause { IfErr result (λ f. (f.kind ≡ OutOfMemory) ⊎ ResultTypeCause (typedefs_of self.now) f written.now) }
     {
         match written.kind {
-            TypeKind::Basic(Base::Void) => Ok(ResolvedType::Void),
+            TypeKind::Basic(Base::Void) => Ok(ResolvedType::VOID),
             _ => self.resolve_small(alloc, written),
         }
     }
@@ -99,7 +99,10 @@ impl Typedefs {
                 kind: FaultKind::VoidUse,
                 span,
             }),
-            TypeKind::Struct(name) => Ok(ResolvedType::Struct(name.text.clone()?)),
+            TypeKind::Struct(name) => {
+                let name = Rc::new(alloc, name.text.clone()?)?;
+                Ok(ResolvedType::Plain(ResolvedPlain::Struct(name)))
+            }
             TypeKind::Named(name) => match self.get(&name.text) {
                 Some(resolved) => Ok(resolved.duplicate()?),
                 None => Err(Fault {
@@ -109,11 +112,11 @@ impl Typedefs {
             },
             TypeKind::Pointer(target) => {
                 let resolved = self.resolve_kind(alloc, &target.kind, target.span)?;
-                Ok(ResolvedType::Pointer(Rc::new(alloc, resolved)?))
+                Ok(ResolvedType::Pointer(ResolvedTarget::of(alloc, resolved)?))
             }
             TypeKind::Array(element) => {
                 let resolved = self.resolve_kind(alloc, &element.kind, element.span)?;
-                Ok(ResolvedType::Array(Rc::new(alloc, resolved)?))
+                Ok(ResolvedType::Array(ResolvedTarget::of(alloc, resolved)?))
             }
         }
     }

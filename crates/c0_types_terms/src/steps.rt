@@ -82,7 +82,7 @@ impl<'a> Terms<'a> {
     pub fn numbered(&self, resolved: &ResolvedType) -> Result<ValueType, AllocError>
         ensures { IfOk result (λ r. type_of r ≡ x.num (env_of self.now) (resolved_of resolved.now)) }
     {
-        self.environment.numbered(self.alloc, resolved)
+        self.environment.numbered(resolved)
     }
 
     /// NULL where this type is wanted: every pointer type has it.
@@ -96,7 +96,7 @@ impl<'a> Terms<'a> {
         ensures cause { IfErr result (λ f. (f.kind ≡ OutOfMemory) ⊎ Told TypeMismatch span f) }
     {
         match want {
-            ResolvedType::Pointer(target) => match self.numbered(target) {
+            ResolvedType::Pointer(target) => match self.environment.numbered_target(target) {
                 Ok(target) => {
                     let pointer = retype(self.alloc, &target, e);
                     drop(target);

@@ -6,7 +6,7 @@ ghost use Rattle.c0_typed.specs.Views.{struct_of, type_of};
 ghost use Rattle.c0_values.specs.PlainStates.{Texts, tree_of, trees_of, value_of};
 
 use crate::value::{Value, blank_value};
-use c0_typed::{Struct, ValueType};
+use c0_typed::{PlainType, Struct, ValueType};
 use std::alloc::Global;
 use std::mem;
 
@@ -111,7 +111,10 @@ pub(crate) fn copies(alloc: Global, count: usize, tree: &Tree) -> Option<Vec<Tre
 pub(crate) fn default_tree(alloc: Global, structs: &[Struct], ty: &ValueType) -> Option<Tree>
     ensures { IfSome result (λ t. (texts : Texts) → tree_of texts t ≡ default (struct_defaults [] (map struct_of structs.now)) (type_of ty.now)) }
 {
-    let ValueType::Struct(number) = ty else {
+    let ValueType::Plain(plain) = ty else {
+        return Some(Tree::Leaf(blank_value(ty)));
+    };
+    let PlainType::Struct(number) = plain else {
         return Some(Tree::Leaf(blank_value(ty)));
     };
     let Some(one) = structs.get(*number as usize) else {

@@ -5,7 +5,7 @@ ghost use Rattle.c0_typed.specs.Meaning.{blank};
 ghost use Rattle.c0_typed.specs.Views.{constant_of, text_at, type_of};
 ghost use Rattle.c0_values.specs.PlainStates.{Texts, natural, value_of};
 
-use c0_typed::{Constant, ValueType};
+use c0_typed::{Constant, PlainType, ValueType};
 
 /// A value of a small type. A text is its number in the program, with 0 the empty one. A reference is its allocation's
 /// number, from 1, or 0 for NULL and for the empty default array.
@@ -36,11 +36,13 @@ pub fn blank_value(ty: &ValueType) -> Value
     ensures { (texts : Texts) → value_of texts result ≡ blank (type_of ty.now) }
 {
     match ty {
-        ValueType::Void | ValueType::Struct(_) => Value::Void,
-        ValueType::Int => Value::Number(0),
-        ValueType::Bool => Value::Truth(false),
-        ValueType::Char => Value::Letter(0),
-        ValueType::Text => Value::Text(0),
+        ValueType::Plain(plain) => match plain {
+            PlainType::Void | PlainType::Struct(_) => Value::Void,
+            PlainType::Int => Value::Number(0),
+            PlainType::Bool => Value::Truth(false),
+            PlainType::Char => Value::Letter(0),
+            PlainType::Text => Value::Text(0),
+        },
         ValueType::Pointer(_) | ValueType::Array(_) => Value::Reference(0),
     }
 }

@@ -160,7 +160,7 @@ pub fn drive<W: Wait + Threads + Clock + Sync, F: Files, O: Stream, E: Stream>(
         ) => build(alloc, compiling, target, file, files, out, err),
         Ok(Line::Check { level, file }) => check(alloc, level, file, files, out, err),
         Ok(Line::List { level, piece, file }) => list(alloc, level, piece, file, files, out, err),
-        Ok(Line::Mean { asked, file }) => mean(alloc, rt, asked, file, files, out, err),
+        Ok(Line::Mean { asked, file }) => mean(alloc, asked, file, files, out, err),
         Ok(
             Line::Replay {
                 asked,

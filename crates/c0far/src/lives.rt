@@ -151,7 +151,6 @@ pub fn run_live<W: Wait + Threads + Clock, F: Files, O: Stream, E: Stream>(
             let status = say_rest(out, &finished.end);
             say_beside(
                 alloc,
-                rt,
                 asked,
                 share,
                 &[name],

@@ -23,7 +23,6 @@ use command_messages::{REFUSED, STOPPED, say_more, status_of};
 use executor::{Finished, MoverCounts};
 use memory_limit::{MemoryLimit, MemoryUse};
 use std::alloc::Global;
-use std::thread::Threads;
 use streams::{Failed, Stream};
 
 /// What the plain run of a text came to.
@@ -50,9 +49,8 @@ struct LastCall {
 
 /// The plain run of the text of a file, within the limit of memory. A program reads no input, so it ends as it does however it is run, but for want of memory. There is none
 /// of an image.
-fn run_plainly<R: Threads, F: Files>(
+fn run_plainly<F: Files>(
     alloc: Global,
-    rt: &R,
     asked: RunOptions<'_>,
     file: &str,
     files: &mut F,
@@ -69,14 +67,13 @@ fn run_plainly<R: Threads, F: Files>(
     };
     let limit = MemoryLimit::of_mebibytes(asked.limit);
     let texts = asked.compiling.texts;
-    let came = mean_text_placed(alloc, rt, &text, texts.checks, texts.level, u64::MAX, limit);
+    let came = mean_text_placed(alloc, &text, texts.checks, texts.level, u64::MAX, limit);
     Some(PlainEnd { text, came })
 }
 
 /// Where the program of a file stops that is run plainly.
-fn stop_site<R: Threads, F: Files>(
+fn stop_site<F: Files>(
     alloc: Global,
-    rt: &R,
     asked: RunOptions<'_>,
     file: &str,
     files: &mut F,
@@ -85,7 +82,7 @@ fn stop_site<R: Threads, F: Files>(
     ensures text { IfSome result (λ r. HasText (F.holds files.old file.now) r.text.items) }
     ensures named { IfSome result (λ r. names_image file.now ≡ false) }
 {
-    let Some(PlainEnd { text, came }) = run_plainly(alloc, rt, asked, file, files) else {
+    let Some(PlainEnd { text, came }) = run_plainly(alloc, asked, file, files) else {
         return None;
     };
     let Ok(placed) = came else {
@@ -102,9 +99,8 @@ fn stop_site<R: Threads, F: Files>(
 }
 
 /// Which function the program of a file calls last that is run plainly, where its calls pass the limit.
-fn last_call<R: Threads, F: Files>(
+fn last_call<F: Files>(
     alloc: Global,
-    rt: &R,
     asked: RunOptions<'_>,
     file: &str,
     files: &mut F,
@@ -113,7 +109,7 @@ fn last_call<R: Threads, F: Files>(
     ensures text { IfSome result (λ r. HasText (F.holds files.old file.now) r.text.items) }
     ensures named { IfSome result (λ r. names_image file.now ≡ false) }
 {
-    let Some(PlainEnd { text, came }) = run_plainly(alloc, rt, asked, file, files) else {
+    let Some(PlainEnd { text, came }) = run_plainly(alloc, asked, file, files) else {
         return None;
     };
     let Err(untold) = came else {
@@ -140,9 +136,8 @@ fn write_found<E: Stream>(
 }
 
 /// Writes where the program of a file stopped, which ended so, if it is known.
-fn write_stopped<R: Threads, F: Files, E: Stream>(
+fn write_stopped<F: Files, E: Stream>(
     alloc: Global,
-    rt: &R,
     asked: RunOptions<'_>,
     file: &str,
     files: &mut F,
@@ -159,7 +154,7 @@ fn write_stopped<R: Threads, F: Files, E: Stream>(
     if status_of(run) != STOPPED {
         return Ok(());
     }
-    match stop_site(alloc, rt, asked, file, files) {
+    match stop_site(alloc, asked, file, files) {
         Some(found) => write_found(err, file, stop, &found),
         None => Ok(()),
     }
@@ -167,9 +162,8 @@ fn write_stopped<R: Threads, F: Files, E: Stream>(
 
 /// Writes which function the program of a file called last, which ended so, if its calls passed the limit and that is known. Where the system refused memory, the text is
 /// not run once more.
-fn write_wanted<R: Threads, F: Files, E: Stream>(
+fn write_wanted<F: Files, E: Stream>(
     alloc: Global,
-    rt: &R,
     asked: RunOptions<'_>,
     file: &str,
     files: &mut F,
@@ -187,16 +181,15 @@ fn write_wanted<R: Threads, F: Files, E: Stream>(
     let Run::Wanted(Want::OutOfMemory) = run else {
         return Ok(());
     };
-    match last_call(alloc, rt, asked, file, files) {
+    match last_call(alloc, asked, file, files) {
         Some(found) => write_call(err, file, &found.text, &found.name),
         None => Ok(()),
     }
 }
 
 /// Writes where the program of a file stopped, or which function it called last, which ended so, if that is known.
-fn write_place<R: Threads, F: Files, E: Stream>(
+fn write_place<F: Files, E: Stream>(
     alloc: Global,
-    rt: &R,
     asked: RunOptions<'_>,
     file: &str,
     files: &mut F,
@@ -209,16 +202,15 @@ fn write_place<R: Threads, F: Files, E: Stream>(
     ensures failed { IfErr result (λ u. OneFailed (writes E.contents E.failures err.old err.new)) }
 {
     if let Run::Wanted(_) = run {
-        write_wanted(alloc, rt, asked, file, files, run, passed, err)
+        write_wanted(alloc, asked, file, files, run, passed, err)
     } else {
-        write_stopped(alloc, rt, asked, file, files, run, err)
+        write_stopped(alloc, asked, file, files, run, err)
     }
 }
 
 /// Writes where the programs of files stopped, which ended so.
-fn write_places<R: Threads, F: Files, E: Stream>(
+fn write_places<F: Files, E: Stream>(
     alloc: Global,
-    rt: &R,
     asked: RunOptions<'_>,
     names: &[&str],
     files: &mut F,
@@ -236,17 +228,16 @@ fn write_places<R: Threads, F: Files, E: Stream>(
             [] => Ok(()),
             [one, rest @ ..] => {
                 let passed = one.counts.passed;
-                write_place(alloc, rt, asked, name, files, &one.end.run, passed, err)?;
-                write_places(alloc, rt, asked, others, files, rest, err)
+                write_place(alloc, asked, name, files, &one.end.run, passed, err)?;
+                write_places(alloc, asked, others, files, rest, err)
             }
         },
     }
 }
 
 /// Tells what is asked for beside the ends of the programs of files; the status is this one, unless a write failed.
-pub(crate) fn say_beside<R: Threads, F: Files, E: Stream>(
+pub(crate) fn say_beside<F: Files, E: Stream>(
     alloc: Global,
-    rt: &R,
     asked: RunOptions<'_>,
     share: usize,
     names: &[&str],
@@ -264,7 +255,7 @@ pub(crate) fn say_beside<R: Threads, F: Files, E: Stream>(
     if !asked.explains {
         return say_more(err, asked, share, programs, movers, took, status);
     }
-    match write_places(alloc, rt, asked, names, files, programs, err) {
+    match write_places(alloc, asked, names, files, programs, err) {
         Ok(()) => say_more(err, asked, share, programs, movers, took, status),
         Err(Failed) => REFUSED,
     }

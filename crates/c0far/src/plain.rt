@@ -29,7 +29,6 @@ use command_messages::{
 };
 use memory_limit::{MemoryLimit, MemoryUse};
 use std::alloc::Global;
-use std::thread::Threads;
 use streams::{Failed, Stream};
 
 /// The status of a program that has stopped so, or was cut.
@@ -206,9 +205,8 @@ fn say_no_room<E: Stream>(
 }
 
 /// The plain run of a text, which stands in this file.
-fn mean_named<R: Threads, O: Stream, E: Stream>(
+fn mean_named<O: Stream, E: Stream>(
     alloc: Global,
-    rt: &R,
     bound: Bound,
     file: &str,
     text: &[u8],
@@ -219,7 +217,6 @@ fn mean_named<R: Threads, O: Stream, E: Stream>(
 {
     match mean_text_placed(
         alloc,
-        rt,
         text,
         bound.texts.checks,
         bound.texts.level,
@@ -235,9 +232,8 @@ fn mean_named<R: Threads, O: Stream, E: Stream>(
 }
 
 /// The plain run of a file's text.
-pub fn mean<R: Threads, F: Files, O: Stream, E: Stream>(
+pub fn mean<F: Files, O: Stream, E: Stream>(
     alloc: Global,
-    rt: &R,
     bound: Bound,
     file: &str,
     files: &mut F,
@@ -248,7 +244,7 @@ pub fn mean<R: Threads, F: Files, O: Stream, E: Stream>(
     ensures done { Means (bound_of bound) file.now (F.holds files.old file.now) (writes O.contents O.failures out.old out.new) (writes E.contents E.failures err.old err.new) result }
 {
     match files.read_text(alloc, file) {
-        Ok(text) => mean_named(alloc, rt, bound, file, &text, out, err),
+        Ok(text) => mean_named(alloc, bound, file, &text, out, err),
         Err(FileError::Cannot) => say_unread(err, file),
         Err(FileError::OutOfMemory) => say_memory(err),
     }

@@ -160,7 +160,6 @@ pub fn run<W: Wait + Threads + Clock + Sync, F: Files, O: Stream, E: Stream>(
             let status = say_finished(out, &counted.programs);
             say_beside(
                 alloc,
-                rt,
                 asked,
                 share,
                 names,

@@ -12,7 +12,7 @@ ghost use Rattle.std.specs.Prelude.{◌≡◌, ◌++◌, ◌∷◌, ◌+◌, ◌
 
 use crate::exits::Exits;
 use crate::statement_code::statements;
-use c0_typed::{Function, Typed, ValueType};
+use c0_typed::{Function, PlainType, Typed, ValueType};
 use code_form::Kind;
 use lower_expressions::building::{fresh, sequence};
 use lower_expressions::condition_code::conditions;
@@ -30,14 +30,10 @@ fn result_kind(context: &Context, ty: &ValueType) -> Option<Kind>
     ensures { result ≡ result_with (length (structs_in context.now)) context.now.singles.now (type_of ty.now) }
 {
     match ty {
-        ValueType::Void => None,
-        ValueType::Int
-        | ValueType::Bool
-        | ValueType::Char
-        | ValueType::Text
-        | ValueType::Struct(_)
-        | ValueType::Pointer(_)
-        | ValueType::Array(_) => Some(kind_of(context.structs, context.singles, ty)),
+        ValueType::Plain(PlainType::Void) => None,
+        ValueType::Plain(_) | ValueType::Pointer(_) | ValueType::Array(_) => {
+            Some(kind_of(context.structs, context.singles, ty))
+        }
     }
 }
 

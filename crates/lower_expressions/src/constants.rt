@@ -4,7 +4,7 @@ ghost use Rattle.c0_typed.specs.Views.{type_of};
 ghost use Rattle.lower_tables.specs.Tables.{AreNumbered};
 ghost use Rattle.std.specs.Prelude.{◌≡◌, IfOk, map, string_bytes};
 
-use c0_typed::{Constant, Output, Relation, UnaryOperator, ValueType};
+use c0_typed::{Constant, Output, PlainType, Relation, UnaryOperator, ValueType};
 use code_form::{Kind, Operation};
 use lower_tables::texts::text_number;
 use std::alloc::AllocError;
@@ -101,14 +101,8 @@ pub(crate) fn result_register(ty: &ValueType, to: u32) -> Option<u32>
     ensures { result ≡ register_for (type_of ty.now) to }
 {
     match ty {
-        ValueType::Void => None,
-        ValueType::Int
-        | ValueType::Bool
-        | ValueType::Char
-        | ValueType::Text
-        | ValueType::Struct(_)
-        | ValueType::Pointer(_)
-        | ValueType::Array(_) => Some(to),
+        ValueType::Plain(PlainType::Void) => None,
+        ValueType::Plain(_) | ValueType::Pointer(_) | ValueType::Array(_) => Some(to),
     }
 }
 

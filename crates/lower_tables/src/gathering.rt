@@ -1,5 +1,5 @@
 //! The kinds of single cells that a program needs.
-ghost use Rattle.c0_typed.specs.Views.{type_of};
+ghost use Rattle.c0_typed.specs.Views.{levels_of, plain_of, type_of, within};
 ghost use Rattle.lower_tables.specs.Gathered.{all_learned, learned, singles_of, types_at, types_in, types_in_all, types_of, types_of_all, types_of_function, types_of_functions, with_kind};
 ghost use Rattle.lower_tables.specs.Kinds.{layout_number as layout_with};
 ghost use Rattle.lower_tables.specs.Known.{KnowsProgram};
@@ -8,7 +8,9 @@ ghost use Rattle.std.specs.Prelude.{◌≡◌, ◌++◌, ◌+◌, ◌<◌, ◌^�
 
 use crate::kinds::{single_layout, struct_number};
 use crate::singles::Singles;
-use c0_typed::{Expression, Function, Place, Statement, Typed, ValueType};
+use c0_typed::{
+    Expression, Function, Levels, Place, PlainType, Statement, Target, Typed, ValueType,
+};
 use code_form::Kind;
 use std::alloc::{AllocError, Global};
 
@@ -28,26 +30,68 @@ fn add_kind(structs: u32, singles: &mut Singles, kind: Kind) -> Result<(), Alloc
     }
 }
 
-/// What a type tells, and the number of its layout then.
+/// What a type that is neither a pointer nor an array tells, and the number of its layout then.
 #[tactic(auto, using(crate::proofs::CodeKnown::number_kept))]
-fn learn(structs: u32, singles: &mut Singles, ty: &ValueType) -> Result<u32, AllocError>
+fn learn_plain(structs: u32, singles: &mut Singles, plain: PlainType) -> Result<u32, AllocError>
     requires { structs + length singles.old + 1 < 2 ^ 32 }
     ensures numbered { structs + length singles.new + 1 < 2 ^ 32 }
-    ensures learned { OnOk result (singles.new ≡ learned structs singles.old (type_of ty.now)) }
-    ensures layout { IfOk result (λ n. n ≡ layout_with structs singles.new (type_of ty.now)) }
+    ensures learned { OnOk result (singles.new ≡ learned structs singles.old (plain_of plain)) }
+    ensures layout { IfOk result (λ n. n ≡ layout_with structs singles.new (plain_of plain)) }
 {
-    let kind = match ty {
-        ValueType::Void => return Ok(structs),
-        ValueType::Struct(number) => return Ok(struct_number(structs, *number)),
-        ValueType::Int => Kind::Int,
-        ValueType::Bool => Kind::Bool,
-        ValueType::Char => Kind::Char,
-        ValueType::Text => Kind::Text,
-        ValueType::Pointer(inner) => Kind::Ptr(learn(structs, singles, inner)?),
-        ValueType::Array(inner) => Kind::Arr(learn(structs, singles, inner)?),
+    let kind = match plain {
+        PlainType::Void => return Ok(structs),
+        PlainType::Struct(number) => return Ok(struct_number(structs, number)),
+        PlainType::Int => Kind::Int,
+        PlainType::Bool => Kind::Bool,
+        PlainType::Char => Kind::Char,
+        PlainType::Text => Kind::Text,
     };
     add_kind(structs, singles, kind)?;
     Ok(single_layout(structs, singles, kind))
+}
+
+/// What a type within pointers and arrays tells, and the number of its layout then.
+#[tactic(auto, using(crate::proofs::CodeKnown::number_kept))]
+fn learn_within(
+    structs: u32,
+    singles: &mut Singles,
+    levels: &Levels,
+    innermost: PlainType,
+) -> Result<u32, AllocError>
+    requires { structs + length singles.old + 1 < 2 ^ 32 }
+    ensures numbered { structs + length singles.new + 1 < 2 ^ 32 }
+    ensures learned { OnOk result (singles.new ≡ learned structs singles.old (within (levels_of levels.now) (plain_of innermost))) }
+    ensures layout { IfOk result (λ n. n ≡ layout_with structs singles.new (within (levels_of levels.now) (plain_of innermost))) }
+{
+    let kind = match levels {
+        Levels::Innermost => return learn_plain(structs, singles, innermost),
+        Levels::Pointer(inner) => Kind::Ptr(learn_within(structs, singles, inner, innermost)?),
+        Levels::Array(inner) => Kind::Arr(learn_within(structs, singles, inner, innermost)?),
+    };
+    add_kind(structs, singles, kind)?;
+    Ok(single_layout(structs, singles, kind))
+}
+
+/// What a type tells.
+#[tactic(auto, using(crate::proofs::CodeKnown::number_kept))]
+fn learn(structs: u32, singles: &mut Singles, ty: &ValueType) -> Result<(), AllocError>
+    requires { structs + length singles.old + 1 < 2 ^ 32 }
+    ensures numbered { structs + length singles.new + 1 < 2 ^ 32 }
+    ensures learned { OnOk result (singles.new ≡ learned structs singles.old (type_of ty.now)) }
+{
+    let kind = match ty {
+        ValueType::Plain(plain) => {
+            learn_plain(structs, singles, *plain)?;
+            return Ok(());
+        }
+        ValueType::Pointer(Target { levels, innermost }) => Kind::Ptr(learn_within(
+            structs, singles, levels, *innermost,
+        )?),
+        ValueType::Array(Target { levels, innermost }) => Kind::Arr(learn_within(
+            structs, singles, levels, *innermost,
+        )?),
+    };
+    add_kind(structs, singles, kind)
 }
 
 /// What an expression tells.
@@ -78,10 +122,7 @@ fn from_expression(
         Expression::Call(_, given) => from_expressions(structs, singles, given),
         Expression::Print(_, given) => from_expressions(structs, singles, given),
         Expression::Load(_, place) => from_place(structs, singles, place),
-        Expression::Alloc(ty) => {
-            learn(structs, singles, ty)?;
-            Ok(())
-        }
+        Expression::Alloc(ty) => learn(structs, singles, ty),
         Expression::AllocArray(ty, count) => {
             learn(structs, singles, ty)?;
             from_expression(structs, singles, count)

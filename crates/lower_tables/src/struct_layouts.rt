@@ -6,7 +6,7 @@ ghost use Rattle.std.specs.Prelude.{◌≡◌, ◌++◌, ◌∷◌, ◌+◌, ◌
 
 use crate::kinds::kind_of;
 use crate::singles::Singles;
-use c0_typed::{Struct, ValueType};
+use c0_typed::{PlainType, Struct, ValueType};
 use code_form::Kind;
 use std::alloc::{AllocError, Global};
 
@@ -15,17 +15,13 @@ pub fn cells_in(layouts: &[Vec<Kind>], ty: &ValueType) -> usize
     ensures { (n : ℕ) (singles : List Kind) → result ≡ length (cell_kinds n singles (layouts_read layouts.now) (type_of ty.now)) }
 {
     match ty {
-        ValueType::Void => 0,
-        ValueType::Struct(number) => match layouts.get(*number as usize) {
+        ValueType::Plain(PlainType::Void) => 0,
+        ValueType::Plain(PlainType::Struct(number)) => match layouts.get(*number as usize) {
             Some(layout) => layout.len(),
             None => 0,
         },
-        ValueType::Int
-        | ValueType::Bool
-        | ValueType::Char
-        | ValueType::Text
-        | ValueType::Pointer(_)
-        | ValueType::Array(_) => 1,
+        ValueType::Plain(PlainType::Int | PlainType::Bool | PlainType::Char | PlainType::Text) => 1,
+        ValueType::Pointer(_) | ValueType::Array(_) => 1,
     }
 }
 
@@ -41,17 +37,12 @@ fn add_cells(
     ensures { OnOk result (layout.new.items ≡ layout.old.items ++ cell_kinds structs singles.now (layouts_read layouts.now) (type_of ty.now)) }
 {
     match ty {
-        ValueType::Void => Ok(()),
-        ValueType::Struct(number) => match layouts.get(*number as usize) {
+        ValueType::Plain(PlainType::Void) => Ok(()),
+        ValueType::Plain(PlainType::Struct(number)) => match layouts.get(*number as usize) {
             Some(inner) => layout.extend_from_slice(inner),
             None => Ok(()),
         },
-        ValueType::Int
-        | ValueType::Bool
-        | ValueType::Char
-        | ValueType::Text
-        | ValueType::Pointer(_)
-        | ValueType::Array(_) => {
+        ValueType::Plain(_) | ValueType::Pointer(_) | ValueType::Array(_) => {
             layout.push(kind_of(structs, singles, ty))?;
             Ok(())
         }

@@ -17,11 +17,11 @@ use super::{has_value, is_void, void_use};
 use c0_source::fault::{Fault, Span};
 use c0_syntax::expression::Expression;
 use c0_syntax::operator::PrefixOperator;
-use c0_typed::{Expression as TypedExpression, ValueType};
+use c0_typed::Expression as TypedExpression;
 use c0_types_operators::operands::prefixed;
 use c0_types_places::places::{pointed, read_of};
 use c0_types_tables::resolved::ResolvedType;
-use c0_types_terms::retyping::retype;
+use c0_types_terms::retyping::retype_to_numbers;
 use c0_types_terms::typing::{Terms, Typing};
 
 /// An expression of this type, as it was typed; a void call has no value.
@@ -79,6 +79,6 @@ pub(crate) fn discarded(terms: &Terms<'_>, typing: Typing) -> Result<TypedExpres
                 Err(Fault::out_of_memory())
             }
         }
-        Typing::Null(e) => Ok(retype(terms.alloc, &ValueType::Int, e)?),
+        Typing::Null(e) => Ok(retype_to_numbers(terms.alloc, e)?),
     }
 }

@@ -48,7 +48,7 @@ fn condition(terms: &Terms<'_>, role: SpecKind, spec: &Spec) -> Result<TypedExpr
             span: spec.word,
         });
     }
-    sited(terms, &ResolvedType::Bool, &spec.condition)
+    sited(terms, &ResolvedType::BOOL, &spec.condition)
 }
 
 // The conditions of specs, which must all have this role, behind those so far.

@@ -60,7 +60,7 @@ impl<'a> Body<'a> {
         ensures answers { Answers (head_of self.now.texts.now) result (loop_head (environment_of self.now.environment.now) (expression_of condition.now) None (map annotation_of annotations.now) (scope_of self.now.scope)) }
         ensures cause { IfErr result (λ f. (f.kind ≡ OutOfMemory) ⊎ InWanted (environment_of self.now.environment.now) f (scope_of self.now.scope) BoolType condition.now ⊎ InAnnotations (environment_of self.now.environment.now) f Invariant (within (scope_of self.now.scope)) annotations.now) }
     {
-        let condition = self.wanted(&ResolvedType::Bool, condition)?;
+        let condition = self.wanted(&ResolvedType::BOOL, condition)?;
         let invariants = self.invariants(annotations);
         headed(condition, skip(self.alloc), invariants)
     }
@@ -79,7 +79,7 @@ impl<'a> Body<'a> {
         ensures answers { Answers (head_of self.old.texts.now) result (loop_head (environment_of self.old.environment.now) (expression_of condition.now) (option_map simple_of third.now) (map annotation_of annotations.now) (scope_of self.old.scope)) }
         ensures cause { IfErr result (λ f. (f.kind ≡ OutOfMemory) ⊎ ThirdCause (environment_of self.old.environment.now) f third.now ⊎ InHead (environment_of self.old.environment.now) f (scope_of self.old.scope) condition.now third.now annotations.now) }
     {
-        let condition = self.wanted(&ResolvedType::Bool, condition)?;
+        let condition = self.wanted(&ResolvedType::BOOL, condition)?;
         match self.third_part(third) {
             Ok(third) => {
                 let invariants = self.invariants(annotations);

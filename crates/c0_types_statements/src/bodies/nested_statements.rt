@@ -32,7 +32,7 @@ impl<'a> Body<'a> {
         ensures answers { Gives self.now.texts.now self.now.scope result (typed_statement (environment_of self.now.environment.now) t.Return (scope_of self.now.scope)) }
         ensures cause { IfErr result (λ f. InStatement (environment_of self.now.environment.now) f (scope_of self.now.scope) StatementKind.Return span) }
     {
-        if !self.scope.result.same_as(&ResolvedType::Void) {
+        if !self.scope.result.same_as(&ResolvedType::VOID) {
             return Err(Fault {
                 kind: FaultKind::TypeMismatch,
                 span,
@@ -78,7 +78,7 @@ impl<'a> Body<'a> {
         ensures answers { Gives self.now.texts.now self.now.scope result (typed_statement (environment_of self.now.environment.now) (t.ReturnValue (expression_of value.now)) (scope_of self.now.scope)) }
         ensures cause { IfErr result (λ f. (f.kind ≡ OutOfMemory) ⊎ ReturnCause (environment_of self.now.environment.now) f (scope_of self.now.scope) value.now) }
     {
-        if self.scope.result.same_as(&ResolvedType::Void) {
+        if self.scope.result.same_as(&ResolvedType::VOID) {
             return Err(Fault {
                 kind: FaultKind::TypeMismatch,
                 span: value.span,
@@ -120,11 +120,11 @@ impl<'a> Body<'a> {
                 self.for_loop(first, condition, third, annotations, body)
             }
             StatementKind::Assert(condition) => {
-                let condition = self.sited(&ResolvedType::Bool, condition)?;
+                let condition = self.sited(&ResolvedType::BOOL, condition)?;
                 Ok(TypedStatement::Assert(condition))
             }
             StatementKind::Error(text) => {
-                Ok(TypedStatement::Error(self.sited(&ResolvedType::Text, text)?))
+                Ok(TypedStatement::Error(self.sited(&ResolvedType::TEXT, text)?))
             }
             StatementKind::Break => self.broken(span),
             StatementKind::Continue => self.continued(span),
@@ -209,7 +209,7 @@ impl<'a> Body<'a> {
         ensures answers { Gives self.old.texts.now self.new.scope result (typed_statement (environment_of self.old.environment.now) (t.If (expression_of condition.now) (statement_of body.now)) (scope_of self.old.scope)) }
         ensures cause { IfErr result (λ f. (f.kind ≡ OutOfMemory) ⊎ InWanted (environment_of self.old.environment.now) f (scope_of self.old.scope) BoolType condition.now ⊎ InStatement (environment_of self.old.environment.now) f (scope_of self.old.scope) body.now.kind body.now.span) }
     {
-        let condition = self.wanted(&ResolvedType::Bool, condition)?;
+        let condition = self.wanted(&ResolvedType::BOOL, condition)?;
         match self.inner(body) {
             Ok(first) => Ok(choice(self.alloc, condition, first, skip(self.alloc))?),
             Err(fault) => {
@@ -233,7 +233,7 @@ impl<'a> Body<'a> {
         ensures answers { Gives self.old.texts.now self.new.scope result (typed_statement (environment_of self.old.environment.now) (t.IfElse (expression_of condition.now) (statement_of body.now) (statement_of other.now)) (scope_of self.old.scope)) }
         ensures cause { IfErr result (λ f. (f.kind ≡ OutOfMemory) ⊎ InIfElse (environment_of self.old.environment.now) f (scope_of self.old.scope) condition.now body.now other.now) }
     {
-        let condition = self.wanted(&ResolvedType::Bool, condition)?;
+        let condition = self.wanted(&ResolvedType::BOOL, condition)?;
         match self.inner(body) {
             Ok(first) => {
                 let second = self.inner(other);

@@ -30,6 +30,7 @@ use c0_types_bodies::branches::skip;
 use c0_types_bodies::changes::{change_of_operator, check_number, no_number, operator_of_step};
 use c0_types_bodies::scope::Destination;
 use c0_types_tables::resolved::ResolvedType;
+use c0_types_terms::steps::fault_at;
 use c0_types_terms::typing::ResolvedPlace;
 use cells::Int32Op;
 
@@ -147,14 +148,18 @@ impl<'a> Body<'a> {
             }
             ExpressionKind::Index(_, _)
             | ExpressionKind::Field(_, _)
-            | ExpressionKind::PointerField(_, _)
-            | ExpressionKind::Unary(PrefixOperator::Dereference, _) => {
+            | ExpressionKind::PointerField(_, _) => {
                 Ok(Destination::Place(self.place(kind, span, whole)?))
             }
-            _ => Err(Fault {
-                kind: FaultKind::NotDestination,
-                span: whole,
-            }),
+            ExpressionKind::Unary(operator, _) => match operator {
+                PrefixOperator::Dereference => {
+                    Ok(Destination::Place(self.place(kind, span, whole)?))
+                }
+                PrefixOperator::Negate | PrefixOperator::Complement | PrefixOperator::Not => {
+                    Err(fault_at(FaultKind::NotDestination, whole))
+                }
+            },
+            _ => Err(fault_at(FaultKind::NotDestination, whole)),
         }
     }
 
@@ -219,7 +224,7 @@ impl<'a> Body<'a> {
     {
         match destination {
             Destination::Local(local) => {
-                if !local.resolved.same_as(&ResolvedType::Int) {
+                if !local.resolved.same_as(&ResolvedType::INT) {
                     drop(number);
                     return Err(no_number(&local.resolved, span));
                 }
@@ -227,7 +232,7 @@ impl<'a> Body<'a> {
             }
             Destination::Place(found) => {
                 let ResolvedPlace { resolved, place } = found;
-                if !resolved.same_as(&ResolvedType::Int) {
+                if !resolved.same_as(&ResolvedType::INT) {
                     let fault = no_number(&resolved, span);
                     drop(resolved);
                     drop(place);
@@ -276,7 +281,7 @@ impl<'a> Body<'a> {
                 span,
             });
         };
-        match self.sited(&ResolvedType::Int, value) {
+        match self.sited(&ResolvedType::INT, value) {
             Ok(number) => self.updated(found, destination.span, change, number),
             Err(fault) => {
                 drop(found);

@@ -1,7 +1,7 @@
 //! What is told of a text.
 
-use crate::tables::{numbered, pointer};
-use crate::trees::{shapes, tree};
+use crate::questions::tables::{numbered, pointer};
+use crate::questions::trees::{shapes, tree};
 use c0_front::{check_text, read_text};
 use c0_lexer::lex::lex;
 use c0_source::fault::Fault;
@@ -12,8 +12,8 @@ use c0_syntax::print::print;
 use std::alloc::{AllocError, Global};
 
 /// What is asked of a text.
-#[derive(Clone, Copy)]
-pub enum Question {
+#[derive(Clone, Copy, Debug, PartialEq, Eq)]
+pub(crate) enum Question {
     /// Its tokens, a line for each.
     Tokens,
     /// What its tokens are, a line for each.

@@ -4,11 +4,10 @@ use c0_source::fault::{Fault, Span};
 use c0_syntax::name::Name;
 use c0_syntax::value_type::{TypeKind, ValueType};
 use c0_types_tables::names::Names;
-use c0_types_tables::resolved::ResolvedType;
+use c0_types_tables::resolved::{ResolvedTarget, ResolvedType};
 use c0_types_tables::typedefs::Typedefs;
 use std::alloc::{AllocError, Global};
 use std::fmt::Write;
-use std::rc::Rc;
 use std::str::from_utf8;
 
 /// The two lines of a text.
@@ -60,9 +59,10 @@ fn written(alloc: Global, name: Name) -> Result<ValueType, AllocError> {
 pub(crate) fn pointer(alloc: Global, text: &[u8]) -> Result<Vec<u8>, Fault> {
     let (known, asked) = two_lines(text);
     let mut typedefs = Typedefs::new(alloc);
-    typedefs.insert(&name(alloc, known, 0)?, ResolvedType::Int)?;
+    typedefs.insert(&name(alloc, known, 0)?, ResolvedType::INT)?;
     let written = written(alloc, name(alloc, asked, known.len().saturating_add(1))?)?;
     let resolved = typedefs.resolve(alloc, &written)?;
-    let same = resolved == ResolvedType::Pointer(Rc::new(alloc, ResolvedType::Int)?);
+    let number = ResolvedType::INT;
+    let same = resolved == ResolvedType::Pointer(ResolvedTarget::of(alloc, number)?);
     Ok(format!(in alloc; "{resolved:?} {same}")?.into_bytes())
 }
