@@ -55,6 +55,42 @@ def typedefs(stars):
     return text
 
 
+def functions(size):
+    """As many as a text may have, of which each calls those behind it."""
+    count = min(4_096, size // 250)
+    heads = [f"int f{number}(int x);\n" for number in range(count)]
+    rows = []
+    for number in range(count):
+        row = f"int f{number}(int x) {{ if (x < 1) return 0; return x"
+        step = 0
+        while len(heads[number]) + len(row) + 20 < size // count:
+            step += 1
+            row += f" + f{(number + step) % count}(x - {step})"
+        rows.append(row + "; }\n")
+    return "".join(heads + rows) + "int main() { return f0(1); }\n"
+
+
+def locals_of(size):
+    """Functions of 1,000 locals each, of which each is made of the one before."""
+    rows, length, number = [], 0, 0
+    while length < size:
+        body = "".join(f"int v{at} = {f'v{at - 1} + 1' if at else 'x'};\n" for at in range(1_000))
+        rows.append(f"int f{number}(int x) {{\n{body}return v999;\n}}\n")
+        length += len(rows[-1])
+        number += 1
+    return "".join(rows) + "int main() { return f0(1); }\n"
+
+
+def pointers(part):
+    """A part again and again, with two locals of a type of 2,000 levels."""
+
+    def text(size):
+        before = "".join(f"typedef {f't{number - 1}' if number else 'int'}{'*' * 190} t{number};\n" for number in range(11))
+        return repeated(before + "int main() { t10 p = NULL; t10 q = NULL;\n", part, "return 7; }\n")(size)
+
+    return text
+
+
 def structs(are_used):
     """Each has the one before in it; the last is allocated, or none is."""
 
@@ -85,6 +121,9 @@ FAMILIES = {
     "names of types": repeated("", "typedef int name#;\n", "int main() { return 7; }\n"),
     "typedefs of typedefs": typedefs(1),
     "typedefs of 190 stars": typedefs(190),
+    "pointers of 2,000 levels": pointers("if (p == q) q = p;\n"),
+    "functions that call one another": functions,
+    "functions of 1,000 locals": locals_of,
     "structs in structs": structs(False),
     "structs in structs that are used": structs(True),
 }

@@ -80,6 +80,16 @@ def a_type_of_many_levels_that_is_used(it):
     it.check("check", "a.c0i", out="ok\n", seconds=20)
 
 
+def a_type_of_many_levels_that_is_used_often(it):
+    """Each place has its type by one step, whatever its levels are: 19,000 here, at 1,000 places."""
+    before = typedefs(100, 190) + "int main() { t99 p = NULL; t99 q = NULL; t99[] a = alloc_array(t99, 1);\n"
+    for part in ("if (p == q) p = q;\n", "p = a[0];\n", "p = p == NULL ? q : *alloc(t99);\n"):
+        it.write("a.c0", before + part * 1_000 + "return 7; }\n")
+        for words in (["check"], ["mean", "--turns", "1"], ["build", "-o", "a.c0i"]):
+            status, out, err = it.run(*words, "a.c0", memory=800 * MEBIBYTE, seconds=20)
+            want((status, err) == (0, b""), f"{words[0]} of {part} gave {status} {out[:80]} {err[:80]}")
+
+
 def typedefs_of_typedefs(it):
     """What a name stands for is kept once."""
     it.write("a.c0", typedefs(40_000, 1) + TEXT)
@@ -122,6 +132,7 @@ TESTS = [
     statements_in_a_row,
     types_of_many_levels,
     a_type_of_many_levels_that_is_used,
+    a_type_of_many_levels_that_is_used_often,
     typedefs_of_typedefs,
     structs_in_structs,
     nests_on_a_small_stack,

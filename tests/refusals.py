@@ -281,14 +281,13 @@ def in_spaces(swept):
 
 
 def without_threads(swept):
-    """Each thread refused in turn, all from one on, and all by a limit of processes. Only `mean` wants its thread."""
-    wants = 1 if "mean" in swept.row.words else 0
+    """Each thread refused in turn, all from one on, and all by a limit of processes. None is wanted."""
     for how, refused in (("thread {} refused", only), ("all from thread {} on refused", from_on)):
         for number in itertools.count(1):
-            if not swept.run(how.format(number), wants, threads=refused(number)).threads_refused:
+            if not swept.run(how.format(number), 0, threads=refused(number)).threads_refused:
                 break
     swept.folder.empty_store()
-    told = swept.run("a limit of processes", wants, alone=True)
+    told = swept.run("a limit of processes", 0, alone=True)
     if told.threads == 0 or told.threads_refused < told.threads:
         swept.complain(f"a limit of processes, {told.threads_refused} of {told.threads} threads refused", told)
 
