@@ -13,7 +13,8 @@ use std::time::Clock;
 use std::{env, io};
 
 /// How many bytes the thread has for its calls on which a command is done, and how many where the system has no room for so many. A type may have
-/// as many levels as its text has bytes, and a call a level, of some 200 bytes, copies it or lets it go. What is not used takes no memory.
+/// as many levels as its text has bytes, and a call a level, of some 200 bytes, compares it or lets it go. A plain run makes a struct by what it holds, and structs
+/// may hold one another as deeply as a text tells: some 40,000 of them, by a call of at most 1 KiB each. What is not used takes no memory.
 const STACKS: [usize; 2] = [0x2000_0000, 0x400_0000];
 
 /// The words as slices.
