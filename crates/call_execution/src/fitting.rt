@@ -1,10 +1,10 @@
 //! Whether all that the instructions of an image name is there, and of the right kind, but for what scopes are aimed at and where jumps lead.
-ghost use Rattle.call_execution.specs.Fitting.{are_fit, is_fit, is_function_fit, is_image_fit};
+ghost use Rattle.call_execution.specs.Fitting.{are_fit, is_aimed_fit, is_fit, is_function_fit, is_image_fit, is_use_fit};
 ghost use Rattle.code_form.specs.Code.{on_kind, has};
 ghost use Rattle.code_form.specs.Form.{function_of, image_of, instruction_of};
 ghost use Rattle.std.specs.Prelude.{◌≡◌, map};
 
-use code_form::{Function, Image, Instruction, Kind, has_kind, is_place};
+use code_form::{Function, Image, Instruction, Kind, has_kind, is_place, kind_of_cell};
 use code_operations::{callee_fits, operation_fits};
 
 /// Whether the register is there and has the kind of the function's result.
@@ -46,12 +46,55 @@ fn instruction_fits(image: &Image, function: &Function, instruction: &Instructio
     }
 }
 
+/// Whether a register of a function is one for what is in the cell that is `displacement` cells behind the place of `register`.
+fn use_fits(image: &Image, function: &Function, used: u32, register: u32, displacement: u32) -> bool
+    ensures { result ≡ is_use_fit (image_of image.now) (function_of function.now) used register displacement }
+{
+    match kind_of_cell(image, &function.kinds, register, displacement) {
+        Some(kind) => has_kind(&function.kinds, used, kind),
+        None => false,
+    }
+}
+
+/// Whether a load or a store right behind an aim, the first of these instructions of a function, by its scope has a register for what is in the cell.
+fn aimed_fits(image: &Image, function: &Function, code: &[Instruction]) -> bool
+    ensures { result ≡ is_aimed_fit (image_of image.now) (function_of function.now) (map instruction_of code.now) }
+{
+    match (code.first(), code.get(1)) {
+        (
+            Some(
+                Instruction::Aim {
+                    scope,
+                    register,
+                    displacement,
+                    ..
+                },
+            ),
+            Some(Instruction::Load { to, scope: by }),
+        ) => scope != by || use_fits(image, function, *to, *register, *displacement),
+        (
+            Some(
+                Instruction::Aim {
+                    scope,
+                    register,
+                    displacement,
+                    ..
+                },
+            ),
+            Some(Instruction::Store { scope: by, from }),
+        ) => scope != by || use_fits(image, function, *from, *register, *displacement),
+        _ => true,
+    }
+}
+
 /// Whether what these instructions of a function name fits.
 fn code_fits(image: &Image, function: &Function, code: &[Instruction]) -> bool
     ensures { result ≡ are_fit (image_of image.now) (function_of function.now) (map instruction_of code.now) }
 {
-    for instruction in code {
-        if !instruction_fits(image, function, instruction) {
+    for at in 0..code.len() {
+        if !instruction_fits(image, function, &code[at])
+            || !aimed_fits(image, function, &code[at..])
+        {
             return false;
         }
     }

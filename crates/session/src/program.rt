@@ -1,4 +1,5 @@
 //! A program with what its scopes hold, at one seat of a table: single steps, and those that keep the holds right.
+ghost use Rattle.call_execution.specs.Plain.{is_store};
 ghost use Rattle.call_execution.specs.Planning.{Plans, touch_planned};
 ghost use Rattle.code_form.specs.Code.{effect, is_blocked as is_blocked_in, most_scopes, output_of, stop_of};
 ghost use Rattle.code_form.specs.Form.{image_of};
@@ -239,6 +240,14 @@ impl<'a, S: RawStore> SeatedProgram<'a, S> {
         ensures { MatchOption result (uses_scope (next_touch self.now.state) ≡ false) (λ p. Plans p self.now.state.image self.now.state.core × IsNext (touch_planned p) self.now.state) }
     {
         self.execution.plan()
+    }
+
+    /// Whether the next instruction is a store.
+    #[inline(always)]
+    pub(crate) fn is_store_next(&self) -> bool
+        ensures { result ≡ is_store (rest_of self.now.state.core) }
+    {
+        self.execution.is_store_next()
     }
 
     /// The end of the program's own objects.

@@ -1,4 +1,4 @@
-use Rattle.std.proofs.Common.{rules, subst}
+use Rattle.std.proofs.Common.{rules, subst, sym}
 use Rattle.cells.specs.declared.ending.Run.TheVariants.{Stopped, Wanted}
 use Rattle.cells.specs.declared.ending.Want.TheVariants.{StoreFailed}
 use Rattle.session.specs.Performing.{PerformsSome}
@@ -7,55 +7,54 @@ use Rattle.session.proofs.Performing.{acts_then, performs_both, performs_more}
 use Rattle.session.proofs.program.SeatedProgram.run.Goals as goal
 
 pub returns-in-Failed-clause-acts : goal.returns-in-Failed-clause-acts
-returns-in-Failed-clause-acts g c = λ q. acts_then g.S.RawStore.honest g.S.RawStore.reliable c.args.self.now c.loop-left.self c.step_in_scope.new.self (Wanted StoreFailed) c.loop-left.invariant.6 c.in-Failed.ensures.2
+returns-in-Failed-clause-acts g c = λ q.
+    let u = c.run_on-left.new.self in
+    let before = performs_both g.S.RawStore.honest c.args.self.now c.loop-left.self u c.loop-left.invariant.6 c.run_on-left.ensures.performed in
+    acts_then g.S.RawStore.honest g.S.RawStore.reliable c.args.self.now u c.step_in_scope.new.self (Wanted StoreFailed) before c.in-Failed.ensures.2
 
 pub returns-in-Stopped-clause-acts : goal.returns-in-Stopped-clause-acts
 returns-in-Stopped-clause-acts g c = λ q.
-    let u = c.run_plain-done.new.self in
-    let before = performs_both g.S.RawStore.honest c.args.self.now c.loop-left.self u c.loop-left.invariant.6 (subst (λ (x : Logged). PerformsSome g.S.RawStore.honest x u) c.in-Other.ensures.0 c.run_plain-done.ensures.performed) in
-    acts_then g.S.RawStore.honest g.S.RawStore.reliable c.args.self.now u c.step.new.self (Stopped c.in-Stopped.stop) before c.in-Stopped.ensures.acts
+    let u = c.run_on-left.new.self in
+    let w = c.step_in_scope.new.self in
+    let first = performs_both g.S.RawStore.honest c.args.self.now c.loop-left.self u c.loop-left.invariant.6 c.run_on-left.ensures.performed in
+    let before = subst (λ (x : Logged). PerformsSome g.S.RawStore.honest c.args.self.now x) (sym c.in-Other.ensures.0) first in
+    acts_then g.S.RawStore.honest g.S.RawStore.reliable c.args.self.now w c.step.new.self (Stopped c.in-Stopped.stop) before c.in-Stopped.ensures.acts
 
 pub returns-in-Wanted-clause-acts : goal.returns-in-Wanted-clause-acts
 returns-in-Wanted-clause-acts g c = λ q.
-    let u = c.run_plain-done.new.self in
-    let before = performs_both g.S.RawStore.honest c.args.self.now c.loop-left.self u c.loop-left.invariant.6 (subst (λ (x : Logged). PerformsSome g.S.RawStore.honest x u) c.in-Other.ensures.0 c.run_plain-done.ensures.performed) in
-    acts_then g.S.RawStore.honest g.S.RawStore.reliable c.args.self.now u c.step.new.self (Wanted c.in-Wanted.want) before c.in-Wanted.ensures.acts
+    let u = c.run_on-left.new.self in
+    let w = c.step_in_scope.new.self in
+    let first = performs_both g.S.RawStore.honest c.args.self.now c.loop-left.self u c.loop-left.invariant.6 c.run_on-left.ensures.performed in
+    let before = subst (λ (x : Logged). PerformsSome g.S.RawStore.honest c.args.self.now x) (sym c.in-Other.ensures.0) first in
+    acts_then g.S.RawStore.honest g.S.RawStore.reliable c.args.self.now w c.step.new.self (Wanted c.in-Wanted.want) before c.in-Wanted.ensures.acts
 
-pub returns-clause-acts : goal.returns-clause-acts
-returns-clause-acts g c = λ q. c.loop-left.invariant.6
+pub returns-then-left-eq0-clause-acts : goal.returns-then-left-eq0-clause-acts
+returns-then-left-eq0-clause-acts g c = λ q. performs_both g.S.RawStore.honest c.args.self.now c.loop-left.self c.run_on-left.new.self c.loop-left.invariant.6 c.run_on-left.ensures.performed
 
 pub loop-left-preserved-in-Completed : goal.loop-left-preserved-in-Completed
-loop-left-preserved-in-Completed g c = (
-  search rules,
-  search rules,
-  search rules,
-  search rules,
-  search rules,
-  search rules,
-  performs_more g.S.RawStore.honest c.args.self.now c.loop-left.self c.step_in_scope.new.self c.loop-left.invariant.6 c.in-Completed.ensures.2,
-)
-
-pub loop-left-preserved-then-done-gt0 : goal.loop-left-preserved-then-done-gt0
-loop-left-preserved-then-done-gt0 g c =
-    let u = c.run_plain-done.new.self in (
+loop-left-preserved-in-Completed g c =
+    let u = c.run_on-left.new.self in
+    let before = performs_both g.S.RawStore.honest c.args.self.now c.loop-left.self u c.loop-left.invariant.6 c.run_on-left.ensures.performed in (
       search rules,
       search rules,
       search rules,
       search rules,
       search rules,
       search rules,
-      performs_both g.S.RawStore.honest c.args.self.now c.loop-left.self u c.loop-left.invariant.6 (subst (λ (x : Logged). PerformsSome g.S.RawStore.honest x u) c.in-Other.ensures.0 c.run_plain-done.ensures.performed),
+      performs_more g.S.RawStore.honest c.args.self.now u c.step_in_scope.new.self before c.in-Completed.ensures.2,
     )
 
 pub loop-left-preserved : goal.loop-left-preserved
 loop-left-preserved g c =
-    let u = c.run_plain-done.new.self in
-    let before = performs_both g.S.RawStore.honest c.args.self.now c.loop-left.self u c.loop-left.invariant.6 (subst (λ (x : Logged). PerformsSome g.S.RawStore.honest x u) c.in-Other.ensures.0 c.run_plain-done.ensures.performed) in (
+    let u = c.run_on-left.new.self in
+    let w = c.step_in_scope.new.self in
+    let first = performs_both g.S.RawStore.honest c.args.self.now c.loop-left.self u c.loop-left.invariant.6 c.run_on-left.ensures.performed in
+    let before = subst (λ (x : Logged). PerformsSome g.S.RawStore.honest c.args.self.now x) (sym c.in-Other.ensures.0) first in (
       search rules,
       search rules,
       search rules,
       search rules,
       search rules,
       search rules,
-      performs_more g.S.RawStore.honest c.args.self.now u c.step.new.self before c.in-Running.ensures.acts,
+      performs_more g.S.RawStore.honest c.args.self.now w c.step.new.self before c.in-Running.ensures.acts,
     )
