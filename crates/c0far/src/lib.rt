@@ -10,6 +10,7 @@ mod lives;
 mod places;
 mod plain;
 mod replays;
+mod room;
 mod runs;
 mod timing;
 

@@ -11,6 +11,7 @@ ghost use Rattle.world_semantics.specs.Pieces.{piece_of as first_piece};
 
 use crate::code::codes_of;
 use crate::places::say_beside;
+use crate::room::take_room;
 use crate::runs::fits_asked;
 use crate::timing::{milliseconds, passed_since};
 use command_files::Files;
@@ -96,7 +97,9 @@ fn live_program<W: Wait, F: Files, O: Stream>(
 {
     match asked.memory.store {
         None => {
-            let stores = FarHeap::new(piece_of(&programs));
+            let piece = piece_of(&programs);
+            take_room(alloc, asked.memory.objects as usize, piece);
+            let stores = FarHeap::new(piece);
             live_over(alloc, rt, programs, asked, stores, out)
         }
         Some(name) => match files.folder(alloc, name) {

@@ -9,6 +9,7 @@ ghost use Rattle.streams.specs.Streams.{writes};
 
 use crate::code::codes_of;
 use crate::places::say_beside;
+use crate::room::take_room;
 use crate::timing::{milliseconds, passed_since};
 use command_files::Files;
 use command_line::words::RunOptions;
@@ -90,7 +91,9 @@ fn run_programs<W: Wait + Threads + Clock + Sync, F: Files>(
 {
     match asked.memory.store {
         None => {
-            let stores = FarHeap::new(piece_of(&programs));
+            let piece = piece_of(&programs);
+            take_room(alloc, asked.memory.objects as usize, piece);
+            let stores = FarHeap::new(piece);
             run_over(alloc, rt, programs, asked, stores)
         }
         Some(name) => match files.folder(alloc, name) {
