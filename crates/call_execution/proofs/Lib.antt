@@ -4,6 +4,7 @@ pub mod HeldRuns
 mod Marks
 mod Passing
 pub mod Plain
+mod Rests
 mod Scalars
 mod Stale
 pub mod There

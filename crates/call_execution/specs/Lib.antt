@@ -7,3 +7,4 @@ pub mod Inside
 pub mod Marked
 pub mod Plain
 pub mod Planning
+pub mod Resting

@@ -1,8 +1,8 @@
-//! Whether all that the instructions of an image name is there, and of the right kind, but for what scopes are aimed at and where jumps lead.
+//! Whether all that the instructions of an image name is there, and of the right kind, but for what scopes are aimed at.
 ghost use Rattle.call_execution.specs.Fitting.{are_fit, is_aimed_fit, is_fit, is_function_fit, is_image_fit, is_use_fit};
 ghost use Rattle.code_form.specs.Code.{on_kind, has};
 ghost use Rattle.code_form.specs.Form.{function_of, image_of, instruction_of};
-ghost use Rattle.std.specs.Prelude.{◌≡◌, map};
+ghost use Rattle.std.specs.Prelude.{◌≡◌, length, map, nat_lt};
 
 use code_form::{Function, Image, Instruction, Kind, has_kind, is_place, kind_of_cell};
 use code_operations::{callee_fits, operation_fits};
@@ -15,6 +15,13 @@ pub(crate) fn returns_kind(function: &Function, from: u32) -> bool
         Some(kind) => has_kind(&function.kinds, from, kind),
         None => false,
     }
+}
+
+/// Whether a function has a block of this number.
+fn is_block(function: &Function, block: u32) -> bool
+    ensures { result ≡ nat_lt block (length (function_of function.now).blocks) }
+{
+    (block as usize) < function.blocks.len()
 }
 
 /// Whether what an instruction names fits.
@@ -33,15 +40,21 @@ fn instruction_fits(image: &Image, function: &Function, instruction: &Instructio
             function: number,
             arguments,
         } => callee_fits(image, function, *to, *number, arguments),
-        Instruction::Branch { condition, .. } => {
+        Instruction::Jump { block } => is_block(function, *block),
+        Instruction::Branch {
+            condition,
+            then_block,
+            else_block,
+        } => {
             has_kind(&function.kinds, *condition, Kind::Bool)
+                && is_block(function, *then_block)
+                && is_block(function, *else_block)
         }
         Instruction::Return { from } => returns_kind(function, *from),
         Instruction::ReturnVoid => function.result.is_none(),
         Instruction::Load { .. }
         | Instruction::Store { .. }
         | Instruction::Leave { .. }
-        | Instruction::Jump { .. }
         | Instruction::Error { .. } => true,
     }
 }
@@ -106,7 +119,7 @@ fn function_fits(image: &Image, function: &Function) -> bool
     ensures { result ≡ is_function_fit (image_of image.now) (function_of function.now) }
 {
     for block in &function.blocks {
-        if !code_fits(image, function, &block.code) {
+        if !code_fits(image, function, block.code.instructions()) {
             return false;
         }
     }

@@ -4,12 +4,15 @@
 mod aims;
 mod call;
 mod fitting;
+mod fused;
 mod held;
 mod hinted;
 mod holder;
 mod inside;
 mod pairs;
 mod plan;
+mod rest;
+mod running;
 mod scopes;
 mod told;
 
@@ -18,6 +21,7 @@ pub use call::{Call, Decision, decide_call, decide_return};
 pub use fitting::image_fits;
 pub use hinted::{Hinted, Stretch};
 pub use holder::Holder;
-pub use inside::{behind, pass_all};
 pub use plan::Plan;
+pub use rest::Rest;
+pub use running::pass_all;
 pub use scopes::Scopes;

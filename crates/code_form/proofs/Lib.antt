@@ -1,5 +1,6 @@
 mod Addresses
 mod Arguments
+mod Begins
 mod Computing
 mod Endings
 mod Heaps

@@ -6,9 +6,11 @@ pub mod Effects
 pub mod Facts
 pub mod Form
 pub mod Growth
+pub mod Instructions
 pub mod Known
 pub mod Laws
 pub mod Placed
+pub mod Slots
 pub mod Touches
 pub mod Tracked
 pub mod WorkedFacts

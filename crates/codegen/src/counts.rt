@@ -39,7 +39,8 @@ fn few_in_code(code: &[Instruction]) -> bool
 fn few_in_block(block: &Block) -> bool
     ensures { result ≡ few_in (block_of block.now) }
 {
-    is_few(block.facts.len()) && is_few(block.code.len()) && few_in_code(&block.code)
+    let code = block.code.instructions();
+    is_few(block.facts.len()) && is_few(code.len()) && few_in_code(code)
 }
 
 /// Whether so has each of these blocks.

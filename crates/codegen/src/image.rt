@@ -11,7 +11,7 @@ use crate::counts::has_few_items;
 use crate::emit::{Exits, emit, finish, one};
 use crate::known::function_facts;
 use cells::Piece;
-use code_form::{Block, Fact, Image, Instruction, Kind};
+use code_form::{Block, BlockCode, Fact, Image, Instruction, Kind};
 use middle_form::{Scoped, ScopedFunction};
 use std::alloc::{AllocError, Global};
 
@@ -21,6 +21,7 @@ fn close(alloc: Global, entry: &[Fact], mut code: Vec<Instruction>) -> Result<Bl
 {
     code.reverse();
     let facts = Vec::from_slice(alloc, entry)?;
+    let code = BlockCode::new(alloc, code)?;
     Ok(Block { facts, code })
 }
 

@@ -136,7 +136,7 @@ fn facts_fit(facts: &[Fact]) -> bool
 fn block_fits(block: &Block) -> bool
     ensures { IsTrue result ↔ BlockFits (block_of block.now) }
 {
-    facts_fit(&block.facts) && code_fits(&block.code)
+    facts_fit(&block.facts) && code_fits(block.code.instructions())
 }
 
 /// Whether a list of blocks has bytes.

@@ -96,7 +96,7 @@ fn put_block(out: &mut Vec<u8>, block: &Block) -> Result<(), AllocError>
     ensures { OnOk result (out.new.items ≡ out.old.items ++ block_bytes (block_of block.now)) }
 {
     put_facts(out, &block.facts)?;
-    put_code(out, &block.code)
+    put_code(out, block.code.instructions())
 }
 
 /// A list of blocks more.

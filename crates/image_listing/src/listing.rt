@@ -121,7 +121,7 @@ fn put_blocks(text: &mut String, function: usize, blocks: &[Block]) -> Result<()
     ensures { OnOk result (string_bytes text.new ≡ string_bytes text.old ++ block_lines function 0 (map block_of blocks.now)) }
 {
     for (number, block) in blocks.iter().enumerate() {
-        put_code(text, function, number, &block.code)?;
+        put_code(text, function, number, block.code.instructions())?;
     }
     Ok(())
 }

@@ -8,7 +8,7 @@ ghost use Rattle.std.specs.Prelude.{map, string_bytes};
 use crate::failure::Failure;
 use crate::fields::{byte_of, cell_of, fact_of, kind_of, letter_of, number_of, result_of};
 use crate::instructions::instruction_from;
-use code_form::{Block, Fact, Function, Instruction, Kind};
+use code_form::{Block, BlockCode, Fact, Function, Instruction, Kind};
 use std::alloc::Global;
 
 /// A list of registers.
@@ -82,6 +82,7 @@ fn block_from(alloc: Global, bytes: &[u8]) -> Result<(Block, &[u8]), Failure>
 {
     let (facts, rest) = facts_of(alloc, bytes)?;
     let (code, rest) = code_of(alloc, rest)?;
+    let code = BlockCode::new(alloc, code)?;
     Ok((Block { facts, code }, rest))
 }
 

@@ -402,7 +402,7 @@ fn block(
 {
     namings(function, &block.facts)?;
     known.enter(&block.facts)?;
-    code(image, function, known, &block.code)
+    code(image, function, known, block.code.instructions())
 }
 
 /// Blocks.

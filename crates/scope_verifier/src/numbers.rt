@@ -210,8 +210,9 @@ fn block_numbers(image: &Image, function: &Function, block: &Block) -> Result<()
     ensures { Tells result (block_fault (image_of image.now) (function_of function.now) (block_of block.now)) }
 {
     facts_numbers(function, &block.facts)?;
-    unless(!block.code.is_empty(), VerifyFault::OutOfCode)?;
-    code_numbers(image, function, &block.code)
+    let code = block.code.instructions();
+    unless(!code.is_empty(), VerifyFault::OutOfCode)?;
+    code_numbers(image, function, code)
 }
 
 /// The numbers of these blocks.

@@ -6,7 +6,7 @@ ghost use Rattle.world_semantics.specs.Pieces.{piece_of as first_piece};
 ghost use Rattle.std.specs.Prelude.{◌≡◌, IfSome};
 
 use cells::Piece;
-use code_form::{Block, Function, Image, Instruction, Kind, Operation};
+use code_form::{Block, BlockCode, Function, Image, Instruction, Kind, Operation};
 use object_lock::{MoverSeat, OwnerSeat};
 use region::{Region, admit, piece_of};
 use remote_store::{Config, RawStore, Stores};
@@ -20,6 +20,7 @@ fn blocks(alloc: Global) -> Result<Vec<Block>, AllocError> {
     code.push_reserved(Instruction::Return { from: 0 });
     let mut blocks = Vec::with_capacity(alloc, 1)?;
     let facts = Vec::new(alloc);
+    let code = BlockCode::new(alloc, code)?;
     blocks.push_reserved(Block { facts, code });
     Ok(blocks)
 }

@@ -20,5 +20,5 @@ returns c = λ r.
     let none : first_in (naming_fault f) b.facts ≡ None = ap (first_in (naming_fault f)) (sym c.deref.ensures.value) ∙ c.in_ok-namings.ensures in
     let all = subst (All (FactHasPlace (length f.kinds) f.scopes)) (sym c.deref-2.ensures.value) (facts_placed f b.facts none) in
     let shows = subst (λ (l : List Fact). Shows (length f.kinds) f.scopes c.enter.new.self (facts_known l)) c.deref-2.ensures.value (c.in_ok-enter.ensures (length f.kinds) f.scopes r all) in
-    let here = subst (λ (l : List RustInstruction). Goes c.code.new.known f c.code.result (code_fault C f (facts_known b.facts) (map instruction_of l))) c.deref-3.ensures.value (c.code.ensures (facts_known b.facts) shows) in
+    let here = subst (λ (l : List RustInstruction). Goes c.code.new.known f c.code.result (code_fault C f (facts_known b.facts) (map instruction_of l))) c.instructions.ensures (c.code.ensures (facts_known b.facts) shows) in
     subst (λ (o : Option VerifyFault). Goes c.code.new.known f c.code.result o) (sym (second (first_in (naming_fault f) b.facts) (code_fault C f (facts_known b.facts) b.code) none)) here
