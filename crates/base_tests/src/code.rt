@@ -190,7 +190,12 @@ fn put_image(
         if !told.is_empty() {
             told.push('\n')?;
         }
-        write!(told, "{block:?}")?;
+        let code = block.code.instructions();
+        write!(
+            told,
+            "Block {{{{ facts: {:?}, code: {code:?} }}}}",
+            block.facts
+        )?;
     }
     Ok(())
 }
