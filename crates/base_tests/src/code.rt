@@ -191,11 +191,7 @@ fn put_image(
             told.push('\n')?;
         }
         let code = block.code.instructions();
-        write!(
-            told,
-            "Block {{{{ facts: {:?}, code: {code:?} }}}}",
-            block.facts
-        )?;
+        write!(told, "Block {{ facts: {:?}, code: {code:?} }}", block.facts)?;
     }
     Ok(())
 }
