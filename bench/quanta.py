@@ -20,7 +20,7 @@ ROOT = os.path.dirname(os.path.dirname(os.path.abspath(__file__)))
 sys.path.append(f"{ROOT}/tests")
 
 from process import Process
-from turns import QUANTA, ROOMS, Text, told
+from turn_lengths import QUANTA, ROOMS, Text, told
 
 PROGRAMS = 400
 # In the name or the text of one that does not end.

@@ -19,7 +19,7 @@ import refusals
 import schedules
 import sizes
 import stores
-import turns
+import turn_lengths
 import words
 from process import Failure, Process
 
@@ -29,7 +29,7 @@ def main():
         sys.exit(__doc__)
     program = os.path.abspath(sys.argv[1])
     passed = failed = 0
-    for script in (pages, files, commands, words, stores, depths, sizes, drawn, turns, schedules, refusals):
+    for script in (pages, files, commands, words, stores, depths, sizes, drawn, turn_lengths, schedules, refusals):
         for test in script.TESTS:
             with tempfile.TemporaryDirectory() as folder:
                 try:
