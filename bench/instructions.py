@@ -1,9 +1,9 @@
 #!/usr/bin/env python3
-"""How many machine instructions `c0far run` takes over the nine programs of run_speed.py: instructions.py PROGRAM..
+"""How many machine instructions `c0far run` takes over the nine programs of run_speed.py, or the ten of other_programs.py: instructions.py [--others] PROGRAM..
 
 One worker and no mover, with all objects in frames, and where 64 frames are too few, with 64 too. Counted by valgrind's callgrind, start-up included, so that
 nothing else on the machine matters. With several programs, what each takes beside the first, in per cent. Takes some minutes for each. Where `lua5.4` is
-installed: what it takes for the same program, and how many times that the first program takes, each less what it takes for nothing.
+installed: what it takes for the same program, and how many times that the first program takes, each less what it takes for nothing, with as many objects.
 """
 import concurrent.futures
 import os
@@ -13,6 +13,7 @@ import subprocess
 import sys
 import tempfile
 
+import other_programs
 import run_speed
 
 
@@ -32,19 +33,27 @@ def run_by(program, words):
     return [program, "run", "--workers", "1", "--evacuators", "0", "--fetchers", "0", *words]
 
 
+def rows(chosen):
+    """What is run: a name, the options, the text, and the same in Lua. Before those of one number of objects stands a program that does nothing."""
+    found, last = [], None
+    for name, pieces, text, in_lua in chosen:
+        for words, where in [(run_speed.local(pieces), "")] + ([([], ", in 64 frames")] if pieces >= 64 else []):
+            if words != last:
+                found.append((f"nothing{', with ' + words[-1] + ' objects' if words else ''}", words, *run_speed.NOTHING))
+                last = words
+            found.append((name + where, words, text, in_lua))
+    return found
+
+
 def main():
-    if len(sys.argv) < 2:
+    others = "--others" in sys.argv
+    programs = [os.path.abspath(it) for it in sys.argv[1:] if it != "--others"]
+    if not programs:
         sys.exit(__doc__)
-    programs = [os.path.abspath(it) for it in sys.argv[1:]]
     peer = shutil.which("lua5.4")
-    rows = [("nothing", [], *run_speed.NOTHING)]
-    for name, pieces, text, in_lua in run_speed.PROGRAMS:
-        rows.append((name, run_speed.local(pieces), text, in_lua))
-        if pieces >= 64:
-            rows.append((f"{name}, in 64 frames", [], text, in_lua))
     with tempfile.TemporaryDirectory() as room, concurrent.futures.ThreadPoolExecutor(2) as pool:
         runs = []
-        for name, words, text, in_lua in rows:
+        for name, words, text, in_lua in rows(other_programs.OTHERS if others else run_speed.PROGRAMS):
             beside = [pool.submit(counted, [peer], in_lua, room)] if peer else []
             runs.append((name, [pool.submit(counted, run_by(it, words), text, room) for it in programs], beside))
         nothing = None
@@ -54,7 +63,7 @@ def main():
             parts = [f"{count:,}" + (f" ({100 * (count - first) / first:+.2f} %)" if place and first else "") for place, (count, _) in enumerate(told)]
             lines = {line for _, line in told}
             for count, line in [it.result() for it in beside]:
-                if nothing is None:
+                if name.startswith("nothing"):
                     nothing = first, count
                 lines.add(line)
                 own = count - nothing[1]
