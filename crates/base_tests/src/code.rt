@@ -190,8 +190,7 @@ fn put_image(
         if !told.is_empty() {
             told.push('\n')?;
         }
-        let code = block.code.instructions();
-        write!(told, "Block {{ facts: {:?}, code: {code:?} }}", block.facts)?;
+        write!(told, "{block:?}")?;
     }
     Ok(())
 }
