@@ -2,7 +2,7 @@
 ghost use Rattle.cells.specs.Stops.{Stop as Stopped, stop_of as stop_read};
 ghost use Rattle.call_execution.specs.Decisions.{decided, growth_touch, is_simple, makes, refuses, uses_scope};
 ghost use Rattle.call_execution.specs.Holding.{RanWithin};
-ghost use Rattle.call_execution.specs.Plain.{EndsPlain, is_store};
+ghost use Rattle.call_execution.specs.Plain.{EndsPlain};
 ghost use Rattle.call_execution.specs.Planning.{Plans, touch_planned};
 ghost use Rattle.code_execution.specs.Statuses.{allocated, core_of, followed};
 ghost use Rattle.code_form.specs.Code.{Frame, Running, Stuck, begins, code, effect, most_scopes, output_of, stop_of, is_blocked as is_blocked_in};
@@ -201,17 +201,6 @@ impl<'a> Execution<'a> {
                 decision.into_plan(&self.allocations)
             }
             _ => None,
-        }
-    }
-
-    /// Whether the next instruction is a store.
-    #[inline(always)]
-    pub fn is_store_next(&self) -> bool
-        ensures { result ≡ is_store (rest_of self.now.core) }
-    {
-        match &self.status {
-            Status::Running(calls) => calls.is_store_next(),
-            _ => false,
         }
     }
 

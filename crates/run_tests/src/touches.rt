@@ -10,11 +10,10 @@ use std::fmt::Write;
 /// More instructions than a run of a row completes.
 const LIMIT: u32 = 400;
 
-/// What the next instruction touches, whether it is told to be a store, whether it is blocked, and whether the run has stopped.
+/// What the next instruction touches, whether it is blocked, and whether the run has stopped.
 #[derive(Clone, Copy)]
 struct Seen {
     touch: Touch,
-    store: bool,
     blocked: bool,
     stopped: bool,
 }
@@ -69,24 +68,6 @@ fn put_touch(text: &mut String, touch: Touch) -> Result<(), AllocError> {
     }
 }
 
-impl Seen {
-    /// Whether what is told of its form is what its touch says. A store that is wrong touches nothing.
-    fn is_told(&self) -> bool {
-        match self.touch {
-            Touch::Stores(..) => self.store,
-            Touch::Wrong => true,
-            Touch::Plain
-            | Touch::Hints(_)
-            | Touch::Aims(..)
-            | Touch::Loads(..)
-            | Touch::Leaves(_)
-            | Touch::Allocs(_)
-            | Touch::Ends
-            | Touch::Nothing => !self.store,
-        }
-    }
-}
-
 impl Tape {
     /// The plain touches are told.
     fn finish(&mut self) -> Result<(), AllocError> {
@@ -100,7 +81,7 @@ impl Tape {
 
     /// What is seen more.
     fn add(&mut self, seen: Seen) -> Result<(), AllocError> {
-        if seen.touch == Touch::Plain && !seen.blocked && !seen.stopped && seen.is_told() {
+        if seen.touch == Touch::Plain && !seen.blocked && !seen.stopped {
             self.plain = self.plain.saturating_add(1);
             return Ok(());
         }
@@ -112,9 +93,6 @@ impl Tape {
         if seen.stopped {
             self.told.push_str(", stopped")?;
         }
-        if !seen.is_told() {
-            self.told.push_str(", told otherwise by its form")?;
-        }
         self.told.push('\n')
     }
 }
@@ -123,7 +101,6 @@ impl Tape {
 fn look(alloc: Global, execution: &Execution<'_>) -> Result<Seen, AllocError> {
     Ok(Seen {
         touch: execution.next(),
-        store: execution.is_store_next(),
         blocked: execution.is_blocked(),
         stopped: execution.stop(alloc)?.is_some(),
     })

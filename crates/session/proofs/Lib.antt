@@ -1,6 +1,7 @@
 pub mod Alike
 pub mod CountsOf
 pub mod Holding
+mod Kept
 mod Laws
 mod Missing
 mod Opening

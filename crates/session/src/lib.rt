@@ -3,6 +3,7 @@
 
 mod counts;
 mod following;
+mod held_pieces;
 mod hint_sender;
 mod hold;
 mod kinds;

@@ -1,16 +1,15 @@
 //! A program with what its scopes hold, at one seat of a table: single steps, and those that keep the holds right.
-ghost use Rattle.call_execution.specs.Plain.{is_store};
 ghost use Rattle.call_execution.specs.Planning.{Plans, touch_planned};
 ghost use Rattle.code_form.specs.Code.{effect, is_blocked as is_blocked_in, most_scopes, output_of, stop_of};
 ghost use Rattle.code_form.specs.Form.{image_of};
 ghost use Rattle.code_form.specs.Growth.{has_text, may_grow, rest_of};
 ghost use Rattle.code_form.specs.Placed.{pieces as pieces_of};
 ghost use Rattle.code_form.specs.Touches.{IsCell, IsCellOrNone, IsWithin, resumed};
-ghost use Rattle.code_form.specs.declared.touch.Touch.TheVariants.{Allocs, Ends, Plain};
+ghost use Rattle.code_form.specs.declared.touch.Touch.TheVariants.{Aims, Allocs, Ends, Leaves, Loads, Plain, Stores};
 ghost use Rattle.cells.specs.Stops.{stop_of as stop_read};
 ghost use Rattle.session.specs.Keeping.{Changes, Closes, Fails, HasWriter, Holds, HoldsObject, IsHolding, IsNext, cleared, count_of, extended, finished, first_of, has_object, is_simple, Misses, shut, shut_at, uses_scope, wants, written};
 ghost use Rattle.session.specs.Performing.{HoldsLogged, HoldsWanted, Loses, LosesWanted, MissesLogged, Seizes, ShutLogged, ShutsAll, WritingLogged, wanting, writing_by};
-ghost use Rattle.session.specs.Pieces.{RanHeld};
+ghost use Rattle.session.specs.Pieces.{IsKept, KnowsMore, RanHeld, UsesView, kept_at};
 ghost use Rattle.session.specs.State.{AllShut, Matches, State, begin, hold_at, latest_in, next_touch, object_of, with_state};
 ghost use Rattle.object_moves.specs.Taken.{IsQuiet};
 ghost use Rattle.object_lock.specs.SeatViews.{IsSeat};
@@ -18,12 +17,13 @@ ghost use Rattle.object_lock.specs.Logs.{AddsOne};
 ghost use Rattle.object_lock.specs.Seats.{Owns, cell_word, note, with_note};
 ghost use Rattle.pointer_word.specs.Calls as call;
 ghost use Rattle.pointer_word.specs.Hands.{added};
-ghost use Rattle.std.specs.Prelude.{◌≡◌, ◌≢◌, ◌⊎◌, ◌+◌, ◌-◌, ◌/◌, ◌%◌, ◌<◌, ◌≤◌, ◌^◌, ℕ, IfOk, MatchBool, MatchOption, MatchResult, None, Some, false, length, option_map, slice_index, true};
+ghost use Rattle.std.specs.Prelude.{[], ◌≡◌, ◌≢◌, ◌⊎◌, ◌+◌, ◌-◌, ◌/◌, ◌%◌, ◌<◌, ◌≤◌, ◌^◌, ℕ, IfOk, MatchBool, MatchOption, MatchResult, None, Some, false, length, option_map, reverse, slice_index, true};
 
 use crate::counts::Counts;
+use crate::held_pieces::HeldPieces;
 use crate::hint_sender::HintSender;
 use crate::hold::Hold;
-use crate::pieces::HeldPieces;
+use crate::pieces::Pieces;
 use crate::scale::Scale;
 use cells::{Stop, Want};
 use code_execution::{Execution, Hinted, Plan};
@@ -43,9 +43,8 @@ pub(crate) struct SeatedProgram<'a, S: RawStore> {
     alloc: Global,
     table: &'a ObjectTable<S>,
     scale: Scale,
-    owner: OwnerSeat<S>,
+    pieces: Pieces<S>,
     execution: Execution<'a>,
-    holds: Vec<Option<Hold>>,
     firsts: Vec<u64>,
     next: u64,
     // The frame at which the next search for a free one begins.
@@ -70,9 +69,9 @@ impl<'a, S: RawStore> Model for SeatedProgram<'a, S> {
 
     ghost Value = { Logged };
 
-    ghost view = { λ m. record { log = m.owner.log; state = record { image = m.execution.image; core = m.execution.core; holds = m.holds.items; firsts = reverse m.firsts.items; next = m.next; table = m.owner.table; view = m.owner.view; refusals = m.owner.refusals; completed = m.completed; want = m.want } } };
+    ghost view = { λ m. record { log = m.pieces.owner.log; state = record { image = m.execution.image; core = m.execution.core; holds = m.pieces.holds.items; firsts = reverse m.firsts.items; next = m.next; table = m.pieces.owner.table; view = m.pieces.owner.view; refusals = m.pieces.owner.refusals; completed = m.completed; want = m.want } } };
 
-    ghost invariant = { λ m. IsSeat m.table.now m.owner × (2 ^ m.scale.shift ≡ m.table.now.sizes.cells) };
+    ghost invariant = { λ m. IsSeat m.table.now m.pieces.owner × (2 ^ m.scale.shift ≡ m.table.now.sizes.cells) };
 }
 
 impl<'a, S: RawStore> SeatedProgram<'a, S> {
@@ -94,9 +93,8 @@ impl<'a, S: RawStore> SeatedProgram<'a, S> {
             alloc,
             table,
             scale: Scale::of(table),
-            owner,
+            pieces: Pieces { owner, holds },
             execution,
-            holds,
             firsts: Vec::new(alloc),
             next,
             next_frame: 0,
@@ -131,7 +129,7 @@ impl<'a, S: RawStore> SeatedProgram<'a, S> {
     pub(crate) fn refusals(&self) -> Refusals
         ensures { result ≡ self.now.state.refusals }
     {
-        self.owner.refusals()
+        self.pieces.owner.refusals()
     }
 
     /// What it did beside completing instructions.
@@ -145,7 +143,7 @@ impl<'a, S: RawStore> SeatedProgram<'a, S> {
             calls,
         } = self.moves;
         Counts {
-            objects: self.next.saturating_sub(self.owner.low() as u64),
+            objects: self.next.saturating_sub(self.pieces.owner.low() as u64),
             frames: self.frames,
             opened: self.opened,
             brought,
@@ -162,7 +160,7 @@ impl<'a, S: RawStore> SeatedProgram<'a, S> {
     pub(crate) fn look_at_frames(&mut self)
         ensures { self.new ≡ self.old }
     {
-        let found = own_frames(self.table, &mut self.owner);
+        let found = own_frames(self.table, &mut self.pieces.owner);
         self.frames = self.frames.max(found);
     }
 
@@ -187,11 +185,11 @@ impl<'a, S: RawStore> SeatedProgram<'a, S> {
         ensures table { IsSeat (record { id = self.entry.state.table; sizes = self.entry.state.view.sizes }) result.1 }
     {
         let SeatedProgram {
-            owner,
+            pieces,
             execution,
             ..
         } = self;
-        (execution.into_output(), owner)
+        (execution.into_output(), pieces.owner)
     }
 
     /// How the program has stopped, if it has. `Err` where memory is refused for the text of an error.
@@ -242,20 +240,12 @@ impl<'a, S: RawStore> SeatedProgram<'a, S> {
         self.execution.plan()
     }
 
-    /// Whether the next instruction is a store.
-    #[inline(always)]
-    pub(crate) fn is_store_next(&self) -> bool
-        ensures { result ≡ is_store (rest_of self.now.state.core) }
-    {
-        self.execution.is_store_next()
-    }
-
     /// The end of the program's own objects.
     #[inline(always)]
     pub(crate) fn end(&self) -> u64
         ensures { result ≡ self.now.state.view.high }
     {
-        self.owner.high() as u64
+        self.pieces.owner.high() as u64
     }
 
     #[inline(always)]
@@ -271,7 +261,7 @@ impl<'a, S: RawStore> SeatedProgram<'a, S> {
         requires { scope < length self.now.state.holds }
         ensures { result ≡ hold_at self.now.state.holds scope }
     {
-        self.holds[scope]
+        self.pieces.holds[scope]
     }
 
     #[inline(always)]
@@ -281,8 +271,7 @@ impl<'a, S: RawStore> SeatedProgram<'a, S> {
         ensures shut { self.new.state ≡ shut_at self.old.state scope (Some hold) }
         ensures logged { AddsOne self.old.log self.new.log hold.object (call.Closes hold.object) }
     {
-        self.table.close(&mut self.owner, hold.object);
-        self.holds[scope] = None;
+        self.pieces.close(self.table, scope, hold);
     }
 
     /// Opens a hold of the object for the scope. False where the store failed.
@@ -295,10 +284,18 @@ impl<'a, S: RawStore> SeatedProgram<'a, S> {
     {
         let from = &mut self.next_frame;
         let moves = &mut self.moves;
-        match take(rt, self.table, &mut self.owner, object, count, from, moves) {
+        match take(
+            rt,
+            self.table,
+            &mut self.pieces.owner,
+            object,
+            count,
+            from,
+            moves,
+        ) {
             Some(frame) => {
                 self.opened = self.opened.wrapping_add(1);
-                self.holds[scope] = Some(Hold {
+                self.pieces.holds[scope] = Some(Hold {
                     object,
                     frame,
                     writes: false,
@@ -316,12 +313,7 @@ impl<'a, S: RawStore> SeatedProgram<'a, S> {
         ensures cleared { self.new.state ≡ cleared self.old.state scope hold }
         ensures logged { AddsOne self.old.log self.new.log hold.object (call.Clears hold.object) }
     {
-        self.table.begin_write(&mut self.owner, hold.object);
-        self.holds[scope] = Some(Hold {
-            object: hold.object,
-            frame: hold.frame,
-            writes: true,
-        });
+        self.pieces.clear(self.table, scope, hold);
     }
 
     #[inline(always)]
@@ -332,7 +324,7 @@ impl<'a, S: RawStore> SeatedProgram<'a, S> {
         ensures logged { AddsOne self.old.log self.new.log (cell_word self.old.state.view.sizes hold.frame index) (call.Stores hold.object hold.frame index value) }
     {
         let Hold { object, frame, .. } = hold;
-        let owner = &mut self.owner;
+        let owner = &mut self.pieces.owner;
         self.table.store(owner, object, frame, index, value);
     }
 
@@ -344,7 +336,8 @@ impl<'a, S: RawStore> SeatedProgram<'a, S> {
         ensures value { S.honest → result ≡ latest_in self.old.state.view hold.object index }
     {
         let Hold { object, frame, .. } = hold;
-        self.table.load(&mut self.owner, object, frame, index)
+        self.table
+            .load(&mut self.pieces.owner, object, frame, index)
     }
 
     /// Does what is left of the next instruction, which uses a scope or tells a cell.
@@ -392,8 +385,8 @@ impl<'a, S: RawStore> SeatedProgram<'a, S> {
         Ok(())
     }
 
-    /// Does instructions one after the other, as long as they touch nothing, tell a cell of which a hint would tell nothing new, or aim or use a scope that holds the
-    /// piece which it wants, and find no scope open that must be shut, at most `limit`, and tells how many.
+    /// Does instructions one after the other, as long as they touch nothing, tell a cell of which a hint would tell nothing new, aim or use a scope that holds the
+    /// piece which it wants, or leave one, and find no scope open that must be shut, at most `limit`, and tells how many.
     #[inline(always)]
     pub(crate) fn proceed_plainly(&mut self, limit: u64) -> u64
         requires holding { IsHolding self.old.state }
@@ -402,26 +395,36 @@ impl<'a, S: RawStore> SeatedProgram<'a, S> {
         ensures ran { RanHeld S.honest result self.old self.new }
     {
         let table = self.table;
-        let load = |seat: &mut OwnerSeat<S>, object: usize, frame: usize, index: usize| -> u64
-            requires { IsSeat table.now seat.old × ((frame < table.now.sizes.frames) × (index < table.now.sizes.cells)) × (Owns seat.old.view object × ((note seat.old.view object).frame ≡ Some frame)) }
-            ensures { (seat.new ≡ seat.old) × (S.honest → result ≡ latest_in seat.old.view object index) }
-        { table.load(seat, object, frame, index) };
-        let store = |seat: &mut OwnerSeat<S>, object: usize, frame: usize, index: usize, value: u64|
-            requires { IsSeat table.now seat.old × ((frame < table.now.sizes.frames) × (index < table.now.sizes.cells)) × (Owns seat.old.view object × ((note seat.old.view object).frame ≡ Some frame) × ((note seat.old.view object).writing ≡ true)) }
-            ensures { IsSeat table.entry.now seat.new × (seat.new ≡ record seat.old { view = with_note seat.old.view object (added (note seat.old.view object) index value); log = seat.new.log })
-                × AddsOne seat.old.log seat.new.log (cell_word table.entry.now.sizes frame index) (call.Stores object frame index value) }
-        { table.store(seat, object, frame, index, value) };
+        let scale = self.scale;
+        let firsts: &[u64] = &self.firsts;
+        let look = |pieces: &Pieces<S>, scope: u8, cell: Cell| -> bool
+            requires { IsKept table.now scale.shift pieces.now.holds.items pieces.now.owner }
+            ensures { result ≡ true → UsesView S.honest (reverse firsts.entry.now) (Aims scope (Some cell)) 0 (kept_at pieces.now.holds.items pieces.now.owner) (kept_at pieces.now.holds.items pieces.now.owner) }
+        { pieces.has(table, scale, firsts, scope, cell) };
+        let load = |pieces: &mut Pieces<S>, scope: u8, cell: Cell| -> Option<u64>
+            requires { IsKept table.now scale.shift pieces.old.holds.items pieces.old.owner }
+            ensures { (pieces.new ≡ pieces.old) × MatchOption result Unit (λ v. UsesView S.honest [] (Loads scope cell) v (kept_at pieces.old.holds.items pieces.old.owner) (kept_at pieces.new.holds.items pieces.new.owner)) }
+        { pieces.load(table, scale, scope, cell) };
+        let store = |pieces: &mut Pieces<S>, scope: u8, cell: Cell, value: u64| -> bool
+            requires { IsKept table.now scale.shift pieces.old.holds.items pieces.old.owner }
+            ensures { IsKept table.entry.now scale.shift pieces.new.holds.items pieces.new.owner × KnowsMore pieces.old.owner pieces.new.owner
+                × MatchBool result (UsesView S.honest [] (Stores scope cell value) 0 (kept_at pieces.old.holds.items pieces.old.owner) (kept_at pieces.new.holds.items pieces.new.owner)) (pieces.new ≡ pieces.old) }
+        { pieces.store(table, scale, scope, cell, value) };
+        let leave = |pieces: &mut Pieces<S>, scope: u8|
+            requires { IsKept table.now scale.shift pieces.old.holds.items pieces.old.owner }
+            ensures { IsKept table.entry.now scale.shift pieces.new.holds.items pieces.new.owner × KnowsMore pieces.old.owner pieces.new.owner
+                × UsesView S.honest [] (Leaves scope) 0 (kept_at pieces.old.holds.items pieces.old.owner) (kept_at pieces.new.holds.items pieces.new.owner) }
+        { pieces.leave(table, scale, scope) };
         let held = HeldPieces {
-            scale: self.scale,
-            holds: &self.holds,
-            firsts: &self.firsts,
+            look: &look,
             load: &load,
             store: &store,
+            leave: &leave,
             seats: PhantomData,
         };
         let done = self
             .execution
-            .run_plain(&self.hinted, &held, &mut self.owner, limit);
+            .run_plain(&self.hinted, &held, &mut self.pieces, limit);
         self.completed += done;
         done
     }
@@ -473,7 +476,7 @@ impl<'a, S: RawStore> SeatedProgram<'a, S> {
         requires four { length self.now.state.holds ≡ 4 }
         ensures { result ≡ count_of object self.now.state.holds }
     {
-        count_in(&self.holds, object)
+        count_in(&self.pieces.holds, object)
     }
 
     /// The first object of the allocation of this number.
@@ -503,7 +506,7 @@ impl<'a, S: RawStore> SeatedProgram<'a, S> {
         requires { scope < length self.now.state.holds }
         ensures { result ≡ has_object (hold_at self.now.state.holds scope) object }
     {
-        is_of(&self.holds[scope], object)
+        is_of(&self.pieces.holds[scope], object)
     }
 
     /// Makes the scope, which held nothing, hold the object. False where the store failed.
@@ -581,7 +584,7 @@ impl<'a, S: RawStore> SeatedProgram<'a, S> {
         self.hinted.add(self.scale.piece_of(cell));
         let object = self.object_at(cell);
         let word = Word {
-            bits: self.table.word(&mut self.owner, object),
+            bits: self.table.word(&mut self.pieces.owner, object),
         };
         let Some(sender) = &mut self.sender else {
             return;
@@ -617,7 +620,7 @@ impl<'a, S: RawStore> SeatedProgram<'a, S> {
         requires held { hold_at self.now.state.holds scope ≢ None }
         ensures { hold_at self.now.state.holds scope ≡ Some result }
     {
-        match self.holds[scope] {
+        match self.pieces.holds[scope] {
             Some(hold) => hold,
             None => unreachable!(),
         }
@@ -640,7 +643,7 @@ impl<'a, S: RawStore> SeatedProgram<'a, S> {
     fn scopes(&self) -> usize
         ensures { result ≡ length self.now.state.holds }
     {
-        self.holds.len()
+        self.pieces.holds.len()
     }
 }
 

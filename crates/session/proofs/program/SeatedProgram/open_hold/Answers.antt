@@ -10,14 +10,14 @@ use Rattle.session.proofs.program.SeatedProgram.open_hold.Goals as goal
 pub returns-in-Some-clause-logged : goal.returns-in-Some-clause-logged
 returns-in-Some-clause-logged g c =
     let m = c.self.inside in
-    let s = m.owner in
+    let s = m.pieces.owner in
     let t = c.take.new.owner in
     let o : ℕ = c.args.object in
     let f = c.in-Some.frame in
     let w = c.in-Some.ensures.way in
     let sizes = sym c.self.invariant.0.1 in
     let count = c.requires.hold.2 ∙ sym (ap (λ (x : Logged). (note x.state.view o).count) c.self.view_is) in
-    let new : Logged = record { log = t.log; state = record { image = m.execution.image; core = m.execution.core; holds = set m.holds.items c.args.scope (Some (a_hold o f false)); firsts = reverse m.firsts.items; next = m.next; table = t.table; view = t.view; refusals = t.refusals; completed = m.completed; want = m.want } } in
+    let new : Logged = record { log = t.log; state = record { image = m.execution.image; core = m.execution.core; holds = set m.pieces.holds.items c.args.scope (Some (a_hold o f false)); firsts = reverse m.firsts.items; next = m.next; table = t.table; view = t.view; refusals = t.refusals; completed = m.completed; want = m.want } } in
     subst (λ (x : Logged). HoldsLogged c.args.scope o x new) c.self.view_is (
       record { frame = f; takes = c.in-Some.ensures.told.0; came = record { way = w.way; leads = w.leads; did = w.did; logged = tt }; same = search rules },
       subst (λ (q : Sizes × ℕ). TakeLogged q.0 s.view.number o q.1 (Some f) w.way s.log t.log) (λ i. (sizes i, count i)) w.logged,
@@ -26,13 +26,13 @@ returns-in-Some-clause-logged g c =
 pub returns-in-None-clause-logged : goal.returns-in-None-clause-logged
 returns-in-None-clause-logged g c =
     let m = c.self.inside in
-    let s = m.owner in
+    let s = m.pieces.owner in
     let t = c.take.new.owner in
     let o : ℕ = c.args.object in
     let w = c.in-None.ensures.way in
     let sizes = sym c.self.invariant.0.1 in
     let count = c.requires.hold.2 ∙ sym (ap (λ (x : Logged). (note x.state.view o).count) c.self.view_is) in
-    let new : Logged = record { log = t.log; state = record { image = m.execution.image; core = m.execution.core; holds = m.holds.items; firsts = reverse m.firsts.items; next = m.next; table = t.table; view = t.view; refusals = t.refusals; completed = m.completed; want = m.want } } in
+    let new : Logged = record { log = t.log; state = record { image = m.execution.image; core = m.execution.core; holds = m.pieces.holds.items; firsts = reverse m.firsts.items; next = m.next; table = t.table; view = t.view; refusals = t.refusals; completed = m.completed; want = m.want } } in
     subst (λ (x : Logged). MissesLogged g.S.RawStore.reliable o x new) c.self.view_is (
       record { gives = c.in-None.ensures.told.0; came = record { way = w.way; leads = w.leads; did = w.did; logged = tt }; refused = c.in-None.ensures.told.1; same = search rules },
       subst (λ (q : Sizes × ℕ). TakeLogged q.0 s.view.number o q.1 None w.way s.log t.log) (λ i. (sizes i, count i)) w.logged,
