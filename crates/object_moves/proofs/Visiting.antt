@@ -1,18 +1,20 @@
 -- Visits, one behind the other, and what an owner did by which it came to an object.
-use Rattle.std.proofs.Common.{◌≡◌, ℕ, ◌<◌, suc, Bool, true, false, List, [], ◌∷◌, ◌++◌, length, append_assoc, refl, sym, ap, ◌∙◌, subst}
+use Rattle.std.proofs.Common.{◌≡◌, ℕ, ◌<◌, true, false, List, [], ◌∷◌, ◌++◌, length, append_assoc, refl, sym, ap, ◌∙◌, subst}
 use Rattle.std.specs.Prelude.{MatchResult, Option, Some, None, Result, Ok, Err}
-use Rattle.pointer_word.specs.Words.{Here, Word, face, framed}
+use Rattle.pointer_word.specs.Words.{Away, Coming, Here, Leaving, Place, Word, face, framed}
 use Rattle.pointer_word.specs.Calls.{Begins, Claims, Closes, Marks, Opens, Retreats}
-use Rattle.object_lock.specs.Plays.{Found as IsFound, FoundWord}
+use Rattle.object_lock.specs.Plays.{Found as IsFound}
 use Rattle.object_lock.specs.Seats.{Sizes, frame_word}
+use Rattle.object_lock.specs.Telling.{held}
+use Rattle.object_lock.specs.declared.answers.Held.TheVariants as H
 use Rattle.object_lock.specs.Logs.{Adds, AddsOne, Deed, deed}
 use Rattle.pointer_word.specs.Hands.{Hand, Move, Began, Claimed, Arrived, Unclaimed, Retreated, Marked, Aborted, leaving, marking, releasing}
 use Rattle.object_moves.specs.declared.moved.Moved.{Moved}
 use Rattle.object_moves.specs.declared.moved.Moved.TheVariants as M
 use Rattle.object_moves.specs.Moving.{hand_after}
-use Rattle.object_moves.specs.Deeds.{BringsLogged, BringsWith, LeavesLogged, MovesLogged, begins, claims, marks}
+use Rattle.object_moves.specs.Deeds.{BringsLogged, BringsWith, LeavesLogged, MovesLogged, marks}
 use Rattle.object_moves.specs.Visits.{AreServed, LetsLeave, MovesOut, Visit, VisitLogged, VisitsLogged, moves_at, moves_in}
-use Rattle.object_moves.specs.Ways.{Begun, BroughtIn, Comes, ComesByMoves, Course, CourseLogged, Did, Found, GoesOn, LacksRoom, MakesRoom, MakesRoomAt, NotRead, NotWritten, Way, WayLogged, WayOrClosed, moves_along, moves_on}
+use Rattle.object_moves.specs.Ways.{BehindOpen, Begun, BroughtIn, Comes, ComesByMoves, Course, CourseLogged, Did, Found, GoesOn, LacksRoom, MakesRoom, MakesRoomAt, NotRead, NotWritten, TakeLogged, Way, WayLogged, WayOrClosed, moves_along}
 
 pub moves_in_order : (xs ys : List Visit) → moves_in (xs ++ ys) ≡ moves_in xs ++ moves_in ys
 moves_in_order [] ys = refl
@@ -148,6 +150,20 @@ not_written z m o before between after x e l = record {
 
 pub comes_found : (Logs : Way → List Deed → List Deed → Type 0) (o f : ℕ) (before after : Did) → after.past ≡ before.past → Logs Found before.log after.log → Comes Logs o (Some f) before after
 comes_found Logs o f before after e l = record { way = Found; leads = tt; did = e ∙ nothing_more before.past; logged = l }
+
+in_frame : (p : Place) (f : ℕ) → H.Here f ≡ held p → framed p ≡ Some f
+in_frame Away f e = cc
+in_frame (Coming m) f e = cc
+in_frame (Here g k) f e = cc
+in_frame (Leaving g m k) f e = cc
+
+-- a hold that was opened found the object in a frame
+pub comes_here : (z : Sizes) (m o c f n : ℕ) (w : Word) (before after : Did) → after.past ≡ before.past → after.log ≡ before.log ++ deed o n (Opens o) ∷ [] → IsFound z w n → w.count ≡ c → H.Here f ≡ held w.place
+    → Comes (TakeLogged z m o c (Some f)) o (Some f) before after
+comes_here z m o c f n w before after e l found counted here =
+    let opened = before.log ++ deed o n (Opens o) ∷ [] in
+    comes_found (TakeLogged z m o c (Some f)) o f before after e
+    (n, w, found, counted, subst (λ r. BehindOpen z m o c r (Some f) Found opened after.log) (sym (in_frame w.place f here)) (refl, refl, l))
 
 begun_logged : (z : Sizes) (m o c : ℕ) (r : Option ℕ) (k : Course) (old mid new : List Deed) → Adds old mid o (Begins m o c true) (λ n. n ≡ c) → CourseLogged z m o k mid new → WayLogged z m o c r (Begun k) old new
 begun_logged z m o c None k old mid new a l = subst (λ (ds : List Deed). CourseLogged z m o k ds new) (a.1 ∙ ap (λ (n : ℕ). old ++ deed o n (Begins m o c true) ∷ []) a.2) l

@@ -1,5 +1,5 @@
 //! How an owner takes a hold of an object, which it brings into a frame where it is away.
-ghost use Rattle.std.specs.Prelude.{◌≡◌, ◌<◌, None, IfOk, IfSome, MatchResult};
+ghost use Rattle.std.specs.Prelude.{◌≡◌, ◌<◌, ℕ, None, IfOk, IfSome, MatchResult};
 ghost use Rattle.object_lock.specs.SeatViews.{IsSeat};
 ghost use Rattle.object_lock.specs.Logs.{Adds};
 ghost use Rattle.object_lock.specs.Seats.{Owns, frame_word, note};
@@ -174,6 +174,8 @@ fn fetch<R: Wait, S: RawStore>(
 
 /// Waits until the object, of which a hold was just opened, is in a frame. `None` where the store failed: then the hold is closed
 /// again.
+#[inline(never)]
+#[cold]
 fn fetch_or_close<R: Wait, S: RawStore>(
     rt: &R,
     table: &ObjectTable<S>,
@@ -200,27 +202,29 @@ fn fetch_or_close<R: Wait, S: RawStore>(
     }
 }
 
-/// Opens a hold of the object, of which there are `count` more, and tells the frame where it is. `None` where the store failed:
-/// then no hold more is open. Looks for a free frame from frame `from` on, which is the one behind it then, and counts what it does.
-pub fn take<R: Wait, S: RawStore>(
+/// Opens a hold of the object, and tells the frame where it is. `count` tells how many holds of it there are before, and is asked only where the object is in no frame. `None`
+/// where the store failed: then no hold more is open. Looks for a free frame from frame `from` on, which is the one behind it then, and counts what it does.
+#[inline(always)]
+pub fn take<R: Wait, S: RawStore, C: Fn() -> u64>(
     rt: &R,
     table: &ObjectTable<S>,
     owner: &mut OwnerSeat<S>,
     obj: usize,
-    count: u64,
+    count: &C,
     from: &mut usize,
     moves: &mut Moves,
 ) -> Option<usize>
     requires table { IsSeat table.now owner.old }
-    requires hold { Owns owner.old.view obj × (count < 4) × (count ≡ (note owner.old.view obj).count) }
+    requires hold { Owns owner.old.view obj × ((note owner.old.view obj).count < 4) }
+    requires count { C.IsAlwaysCallable count.now × ((n : ℕ) → C.post count.now n → n ≡ (note owner.old.view obj).count) }
     requires quiet { IsQuiet owner.old.view }
     ensures table { IsSeat table.now owner.new }
     ensures told { TakesOr S.reliable obj owner.old owner.new result }
-    ensures way { Comes (TakeLogged table.now.sizes owner.old.view.number obj count result) obj result (did_of owner.old) (did_of owner.new) }
+    ensures way { Comes (TakeLogged table.now.sizes owner.old.view.number obj (note owner.old.view obj).count result) obj result (did_of owner.old) (did_of owner.new) }
 {
     match table.open(owner, obj) {
         Held::Here(frame) => Some(frame),
-        Held::Away => fetch_or_close(rt, table, owner, obj, count + 1, from, moves),
-        Held::Coming => fetch_or_close(rt, table, owner, obj, count + 1, from, moves),
+        Held::Away => fetch_or_close(rt, table, owner, obj, count() + 1, from, moves),
+        Held::Coming => fetch_or_close(rt, table, owner, obj, count() + 1, from, moves),
     }
 }

@@ -35,7 +35,7 @@ fn bring_in<R: Wait, S: RawStore>(
     }
     let mut from = 0;
     let mut moves = Moves::none();
-    let Some(_frame) = take(rt, table, owner, obj, 0, &mut from, &mut moves) else {
+    let Some(_frame) = take(rt, table, owner, obj, &|| 0, &mut from, &mut moves) else {
         return false;
     };
     if written {

@@ -119,13 +119,13 @@ pub closes_more : (s t u : State) (k : ℕ) → Closes s t → Changes k t u →
 closes_more s t u k a b = record { image = b.image ∙ a.image; core = b.core ∙ a.core; firsts = b.firsts ∙ a.firsts; next = b.next ∙ a.next; completed = b.completed ∙ a.completed; want = b.want ∙ a.want; refusals = b.refusals ∙ a.refusals; low = b.low ∙ a.low; high = b.high ∙ a.high; seat = b.seat ∙ a.seat; stored = λ o. b.stored o ∙ a.stored o }
 
 -- another hold of an object may be opened, where a scope holds nothing
-pub may_open : (s : State) (k o n : ℕ) → IsHolding s → k < length s.holds → hold_at s.holds k ≡ None → Owns s.view o → n ≡ count_of o s.holds
-    → Owns s.view o × (n < 4) × (n ≡ (note s.view o).count)
-may_open s k o n ok l e own is =
+pub may_open : (s : State) (k o : ℕ) → IsHolding s → k < length s.holds → hold_at s.holds k ≡ None → Owns s.view o
+    → Owns s.view o × ((note s.view o).count < 4) × (count_of o s.holds ≡ (note s.view o).count)
+may_open s k o ok l e own =
     let a = ok.counted o own in
     let b = count_room o s.holds k l e in
     let d = ok.four in
-    (own, omega arith, omega arith)
+    (own, omega arith, a)
 
 pub holds_one : (s t : State) (k o : ℕ) → IsHolding s → k < length s.holds → hold_at s.holds k ≡ None → Owns s.view o → Holds k o s t → HoldsObject t k o
 holds_one s t k o ok l e own h = (a_hold o h.frame false, opened_hold s t k o ok l e own h, refl)

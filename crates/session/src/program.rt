@@ -275,21 +275,24 @@ impl<'a, S: RawStore> SeatedProgram<'a, S> {
     }
 
     /// Opens a hold of the object for the scope. False where the store failed.
-    fn open_hold<R: Wait>(&mut self, rt: &R, scope: usize, object: usize, count: u64) -> bool
+    fn open_hold<R: Wait>(&mut self, rt: &R, scope: usize, object: usize) -> bool
         requires scope { scope < length self.old.state.holds }
-        requires hold { Owns self.old.state.view object × (count < 4) × (count ≡ (note self.old.state.view object).count) }
+        requires hold { Owns self.old.state.view object × ((note self.old.state.view object).count < 4) × (count_of object self.old.state.holds ≡ (note self.old.state.view object).count) }
+        requires four { length self.old.state.holds ≡ 4 }
         requires quiet { IsQuiet self.old.state.view }
         ensures exact { MatchBool result (Holds scope object self.old.state self.new.state) (Misses S.reliable object self.old.state self.new.state) }
         ensures logged { MatchBool result (HoldsLogged scope object self.old self.new) (MissesLogged S.reliable object self.old self.new) }
     {
         let from = &mut self.next_frame;
         let moves = &mut self.moves;
+        let holds = &self.pieces.holds;
+        let owner = &mut self.pieces.owner;
         match take(
             rt,
             self.table,
-            &mut self.pieces.owner,
+            owner,
             object,
-            count,
+            &|| count_in(holds, object),
             from,
             moves,
         ) {
@@ -470,15 +473,6 @@ impl<'a, S: RawStore> SeatedProgram<'a, S> {
         }
     }
 
-    /// How many scopes hold the object.
-    #[inline(always)]
-    fn count(&self, object: usize) -> u64
-        requires four { length self.now.state.holds ≡ 4 }
-        ensures { result ≡ count_of object self.now.state.holds }
-    {
-        count_in(&self.pieces.holds, object)
-    }
-
     /// The first object of the allocation of this number.
     #[inline(always)]
     fn first(&self, reference: u64) -> u64
@@ -521,8 +515,7 @@ impl<'a, S: RawStore> SeatedProgram<'a, S> {
         ensures exact { MatchBool result (Holds scope object self.old.state self.new.state) (Misses S.reliable object self.old.state self.new.state) }
         ensures logged { MatchBool result (HoldsLogged scope object self.old self.new) (MissesLogged S.reliable object self.old self.new) }
     {
-        let count = self.count(object);
-        self.open_hold(rt, scope, object, count)
+        self.open_hold(rt, scope, object)
     }
 
     /// Makes the scope hold the piece of the cell. False where the store failed.

@@ -1,4 +1,4 @@
-use Rattle.std.proofs.Common.{◌≡◌, ℕ, true, false, ap, subst, sym}
+use Rattle.std.proofs.Common.{◌≡◌, true, false, ap, subst, sym}
 use Rattle.pointer_word.specs.Calls.{Retreats}
 use Rattle.object_lock.specs.Logs.{AddsOne}
 use Rattle.object_lock.specs.Plays.{Holds}

@@ -1,4 +1,4 @@
-use Rattle.std.proofs.Common.{◌≡◌, ℕ, true, false, not, [], ◌∷◌, ◌++◌, arith, ap, ne_eqb, refl, ◌∙◌, subst}
+use Rattle.std.proofs.Common.{◌≡◌, ℕ, true, not, [], ◌∷◌, ◌++◌, arith, ap, ne_eqb, refl, ◌∙◌, subst}
 use Rattle.std.specs.Prelude.{Bool, Some, ◌==◌}
 use Rattle.pointer_word.specs.Hands.{Began}
 use Rattle.pointer_word.specs.Calls.{Begins}

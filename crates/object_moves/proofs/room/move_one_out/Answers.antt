@@ -1,6 +1,6 @@
 use Rattle.std.proofs.Common.{arith, ◌≡◌, ℕ, false, List, length, refl, ap, ◌∙◌, subst}
 use Rattle.pointer_word.specs.Hands.{Hand, marking}
-use Rattle.object_lock.specs.Logs.{Adds, Deed}
+use Rattle.object_lock.specs.Logs.{Adds}
 use Rattle.pointer_word.specs.Calls.{Marks}
 use Rattle.pointer_word.specs.Words.{Here, face}
 use Rattle.object_moves.specs.Deeds.{MovesLogged}
