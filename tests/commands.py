@@ -384,6 +384,23 @@ def as_if_built(it):
     it.write("built/stamp", f"{at.st_dev}:{at.st_ino}\nHANDLES\n")
 
 
+def large_pages(it):
+    """The script asks the C library for large pages, and what the user asks of it stands behind. The program runs so, too."""
+    as_if_built(it)
+    os.mkdir(it.path("work"))
+    it.write("work/a.c0", SEVEN)
+    told = started_by_the_script(it, "run a.c0", resource.RLIM_INFINITY)
+    want(told == (0, b"result: 7\n", b""), f"run gave {told}")
+    os.remove(it.path("built/c0far_program"))
+    it.write("built/c0far_program", '#!/bin/sh\necho "$GLIBC_TUNABLES" "$@"\n')
+    os.chmod(it.path("built/c0far_program"), 0o755)
+    asked = "glibc.malloc.arena_max=1:glibc.malloc.hugetlb=1"
+    for own, told in (("", asked), ("glibc.malloc.perturb=3", f"{asked}:glibc.malloc.perturb=3")):
+        started = {**os.environ, "C0FAR_BUILD": it.path("built"), "GLIBC_TUNABLES": own}
+        ran = subprocess.run([SCRIPT, "run", "a b"], env=started, capture_output=True, stdin=subprocess.DEVNULL, timeout=60, check=False)
+        want((ran.returncode, ran.stdout) == (0, f"{told} run a b\n".encode()), f"with {own!r} it gave {ran.returncode}, {ran.stdout}")
+
+
 def a_limit_of_the_size_of_files(it):
     """An image that is cut is no image: what was there stays, and nothing is left beside it. A file of the store that is cut is a failure of the store."""
     as_if_built(it)
@@ -550,6 +567,7 @@ TESTS = [
     calls_that_nest,
     what_a_limit_keeps,
     movers,
+    large_pages,
     a_limit_of_the_size_of_files,
     what_cannot_be_written_to_a_store,
     what_cannot_be_read_from_a_store,
