@@ -1,9 +1,10 @@
 -- Signs, `\result`, `\length`, and the end of an annotation.
-use Rattle.std.proofs.Common.{◌≡◌, ℕ, zero, suc, ◌<◌, ◌≤◌, Bool, true, false, cond, ◌==◌, List, [], ◌∷◌, length, take, Option, Some, None, refl, sym, subst, arith}
+use Rattle.std.proofs.Common.{◌≡◌, ℕ, zero, suc, ◌<◌, ◌≤◌, Bool, true, false, cond, ◌==◌, List, [], ◌∷◌, length, take, Option, Some, None, refl, sym, ap, ◌∙◌, subst, arith}
 use Rattle.std.specs.Prelude.{slice_index, codes}
 use Rattle.std.specs.Str.{bytes_eq}
-use Rattle.std.proofs.lemmas.Bool.{ne_eqb}
+use Rattle.std.proofs.lemmas.Bool.{eq-eqb, ne_eqb}
 use Rattle.std.proofs.lemmas.Slice.Eq.{bytes_eq-Decides}
+use Rattle.c0_source.specs.declared.kind.Kind.{Kind}
 use Rattle.c0_source.specs.declared.kind.Kind.TheVariants as k
 use Rattle.c0_source.specs.declared.kind.Mode.{Mode}
 use Rattle.c0_source.specs.declared.kind.Mode.TheVariants as m
@@ -14,7 +15,7 @@ use Rattle.c0_source.specs.Bytes.{is_blank}
 use Rattle.c0_lexer.specs.declared.longest.LongestPiece.{LongestPiece}
 use Rattle.c0_lexer.specs.Tables.{first_entry, found}
 use Rattle.c0_lexer.specs.Pieces.{Gives, IsSignByte}
-use Rattle.c0_lexer.proofs.Tables.{table_gives}
+use Rattle.c0_lexer.proofs.Tables.{all_plain, falls, none_gives, table_gives}
 
 -- Signs.
 
@@ -23,9 +24,43 @@ unfolding sign_of
 sign_piece mode b bs zero s lt = absurd (omega arith)
 sign_piece mode b bs (suc i) s lt = rw (s.blank, s.letter, s.digit, ne_eqb _ _ s.slash, ne_eqb _ _ s.text, ne_eqb _ _ s.character, ne_eqb _ _ s.backslash, ne_eqb _ _ s.library, ne_eqb _ _ s.annotation_end) refl
 
-pub sign_front : (mode : Mode) (xs : List ℕ) (o : Option LongestPiece) → 0 < length xs → IsSignByte (slice_index xs 0) → found o ≡ first_entry signs xs → Gives mode xs o
-sign_front mode [] o lt s e = absurd (omega arith)
-sign_front mode (b ∷ bs) o lt s e = table_gives mode signs (b ∷ bs) o (record { order = refl; plain = refl; empty = refl; pieces = λ i some. sign_piece mode b bs i s some }) e
+-- those of a table whose texts begin with byte b
+abbrev pub begun : ℕ → Table → Table
+begun b [] = []
+begun b (s ∷ ss) = cond (slice_index s.0 0 == b) (s ∷ begun b ss) (begun b ss)
+
+-- a table has the signs that begin with byte b, and is in order
+pub record IsGroup (b : ℕ) (ss : Table) : Type 0 where
+  pub order : falls ss ≡ true
+  pub plain : all_plain ss ≡ true
+  pub empty : lookup ss [] ≡ None
+  pub same : (t : List ℕ) → lookup signs (b ∷ t) ≡ lookup ss (b ∷ t)
+
+same_front : (b : ℕ) (bs : List ℕ) (ss : Table) (i : ℕ) → IsGroup b ss → 0 < i → lookup signs (take i (b ∷ bs)) ≡ lookup ss (take i (b ∷ bs))
+same_front b bs ss zero g lt = absurd (omega arith)
+same_front b bs ss (suc i) g lt = g.same (take i bs)
+
+pub group_front : (mode : Mode) (b : ℕ) (ss : Table) (xs : List ℕ) (o : Option LongestPiece) → 0 < length xs → IsSignByte (slice_index xs 0) → slice_index xs 0 ≡ b → IsGroup b ss → found o ≡ first_entry ss xs → Gives mode xs o
+group_front mode b ss [] o lt s is g e = absurd (omega arith)
+group_front mode b ss (c ∷ bs) o lt s is g e =
+    let h : IsGroup c ss = subst (λ y. IsGroup y ss) (sym is) g in
+    table_gives mode ss (c ∷ bs) o (record { order = h.order; plain = h.plain; empty = h.empty; pieces = λ i some. sign_piece mode c bs i s some ∙ ap token_of (same_front c bs ss i h some) }) e
+
+-- a sign of one byte with which no longer one begins
+pub lone_front : (mode : Mode) (b : ℕ) (kind : Kind) (xs : List ℕ) (o : Option LongestPiece) → 0 < length xs → IsSignByte (slice_index xs 0) → slice_index xs 0 ≡ b → IsGroup b ((b ∷ [], kind) ∷ [])
+    → found o ≡ Some (1, p.Token kind) → Gives mode xs o
+lone_front mode b kind [] o lt s is g e = absurd (omega arith)
+lone_front mode b kind (c ∷ bs) o lt s is g e =
+    group_front mode b ((b ∷ [], kind) ∷ []) (c ∷ bs) o lt s is g (rw (is, eq-eqb b b refl) e)
+
+-- with another byte no sign begins
+pub no_sign : (mode : Mode) (xs : List ℕ) → 0 < length xs → IsSignByte (slice_index xs 0) → ((t : List ℕ) → lookup signs (slice_index xs 0 ∷ t) ≡ None) → Gives mode xs None
+no_sign mode [] lt s h = absurd (omega arith)
+no_sign mode (b ∷ bs) lt s h = none_gives mode (b ∷ bs) (λ i some le. sign_piece mode b bs i s some ∙ ap token_of (none_at b bs i h some))
+  where
+    none_at : (b : ℕ) (bs : List ℕ) (i : ℕ) → ((t : List ℕ) → lookup signs (b ∷ t) ≡ None) → 0 < i → lookup signs (take i (b ∷ bs)) ≡ None
+    none_at b bs zero h lt = absurd (omega arith)
+    none_at b bs (suc i) h lt = h (take i bs)
 
 -- Words behind `\`.
 

@@ -133,7 +133,7 @@ some_bytes : (ss : Table) (text : List ℕ) (n : ℕ) (kind : Kind) → lookup s
 some_bytes ss text zero kind empty e = absurd cc
 some_bytes ss text (suc n) kind empty e = omega arith
 
-none_gives : (mode : Mode) (text : List ℕ) → ((i : ℕ) → 0 < i → i ≤ length text → piece_of mode (take i text) ≡ None) → NoCut mode text
+pub none_gives : (mode : Mode) (text : List ℕ) → ((i : ℕ) → 0 < i → i ≤ length text → piece_of mode (take i text) ≡ None) → NoCut mode text
 none_gives mode text h n what c = let none = h n c.some c.within in let some = c.shape in cc
 
 table_by : (mode : Mode) (ss : Table) (text : List ℕ) (o : Option LongestPiece) → Fits mode ss text → FirstOr ss text (found o) → Gives mode text o

@@ -1,16 +1,20 @@
 //! The longest piece at the front of a text.
 
-ghost use Rattle.std.specs.Prelude.{◌≡◌, ◌<◌, ◌==◌, if◌then◌else◌, length, slice_index};
+ghost use Rattle.std.specs.Prelude.{◌≡◌, ◌<◌, ◌==◌, if◌then◌else◌, Some, length, slice_index};
 ghost use Rattle.c0_source.specs.Spelling.{after, kind_of_piece, newline_of};
-ghost use Rattle.c0_source.specs.declared.kind.Piece.TheVariants.{Gap};
+ghost use Rattle.c0_source.specs.declared.kind.Piece.TheVariants.{Gap, Token};
 ghost use Rattle.c0_lexer.specs.Pieces.{Gives, IsSignByte};
+ghost use Rattle.c0_lexer.specs.Tables.{found};
 
 use crate::byte::{is_blank, is_digit, is_letter};
 use crate::comment::slash;
 use crate::literal::{character, text_literal, use_directive};
 use crate::longest::LongestPiece;
 use crate::number::number;
-use crate::table::{ENDS, RESULTS, SIGNS, first_entry};
+use crate::table::{
+    AMPERSANDS, BANGS, BARS, CARETS, ENDS, EQUALS, GREATER, LESS, MINUS, PERCENTS, PLUS, RESULTS,
+    STARS, first_entry,
+};
 use crate::word::word;
 use c0_source::kind::{Kind, Mode, Piece};
 
@@ -46,13 +50,48 @@ fn annotation_end(mode: Mode, text: &[u8]) -> Option<LongestPiece>
     }
 }
 
-/// A sign that does not begin with `/`.
+/// A sign of one byte.
+fn one_byte(kind: Kind) -> Option<LongestPiece>
+    ensures { found result ≡ Some (1, Token kind) }
+{
+    Some(LongestPiece {
+        length: 1,
+        piece: Piece::Token(kind),
+    })
+}
+
+/// A sign that does not begin with `/`. With most first bytes no longer one begins.
 fn sign(mode: Mode, text: &[u8]) -> Option<LongestPiece>
     requires some { 0 < length text.now }
     requires first { IsSignByte (slice_index text.now 0) }
     ensures { Gives mode text.now result }
 {
-    first_entry(&SIGNS, text)
+    match text[0] {
+        b'(' => one_byte(Kind::LParen),
+        b')' => one_byte(Kind::RParen),
+        b'{' => one_byte(Kind::LBrace),
+        b'}' => one_byte(Kind::RBrace),
+        b'[' => one_byte(Kind::LBracket),
+        b']' => one_byte(Kind::RBracket),
+        b';' => one_byte(Kind::Semi),
+        b',' => one_byte(Kind::Comma),
+        b'.' => one_byte(Kind::Dot),
+        b'?' => one_byte(Kind::Question),
+        b':' => one_byte(Kind::Colon),
+        b'~' => one_byte(Kind::Tilde),
+        b'<' => first_entry(&LESS, text),
+        b'>' => first_entry(&GREATER, text),
+        b'-' => first_entry(&MINUS, text),
+        b'+' => first_entry(&PLUS, text),
+        b'|' => first_entry(&BARS, text),
+        b'&' => first_entry(&AMPERSANDS, text),
+        b'=' => first_entry(&EQUALS, text),
+        b'!' => first_entry(&BANGS, text),
+        b'*' => first_entry(&STARS, text),
+        b'%' => first_entry(&PERCENTS, text),
+        b'^' => first_entry(&CARETS, text),
+        _ => None,
+    }
 }
 
 /// The longest piece at the front of a text that is not empty.

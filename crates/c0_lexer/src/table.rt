@@ -48,51 +48,79 @@ pub(crate) static RESULTS: [(&str, Kind); 2] = [
 /// The end of an annotation of a block.
 pub(crate) static ENDS: [(&str, Kind); 1] = [("@*/", Kind::End)];
 
-/// The signs but those that begin with `/`, the longer ones first.
-pub(crate) static SIGNS: [(&str, Kind); 43] = [
+/// The signs that begin with `<`, the longer ones first.
+pub(crate) static LESS: [(&str, Kind); 4] = [
     ("<<=", Kind::Update(Operator::ShiftLeft)),
-    (">>=", Kind::Update(Operator::ShiftRight)),
-    ("->", Kind::Arrow),
-    ("++", Kind::PlusPlus),
-    ("--", Kind::MinusMinus),
-    ("||", Kind::Infix(Operator::Or)),
-    ("&&", Kind::Infix(Operator::And)),
-    ("==", Kind::Infix(Operator::Equal)),
-    ("!=", Kind::Infix(Operator::NotEqual)),
     ("<=", Kind::Infix(Operator::LessEqual)),
-    (">=", Kind::Infix(Operator::GreaterEqual)),
     ("<<", Kind::Infix(Operator::ShiftLeft)),
-    (">>", Kind::Infix(Operator::ShiftRight)),
-    ("+=", Kind::Update(Operator::Add)),
-    ("-=", Kind::Update(Operator::Subtract)),
-    ("*=", Kind::Update(Operator::Multiply)),
-    ("%=", Kind::Update(Operator::Modulo)),
-    ("&=", Kind::Update(Operator::BitAnd)),
-    ("^=", Kind::Update(Operator::BitXor)),
-    ("|=", Kind::Update(Operator::BitOr)),
-    ("(", Kind::LParen),
-    (")", Kind::RParen),
-    ("{", Kind::LBrace),
-    ("}", Kind::RBrace),
-    ("[", Kind::LBracket),
-    ("]", Kind::RBracket),
-    (";", Kind::Semi),
-    (",", Kind::Comma),
-    (".", Kind::Dot),
-    ("?", Kind::Question),
-    (":", Kind::Colon),
-    ("!", Kind::Bang),
-    ("~", Kind::Tilde),
-    ("=", Kind::Assign),
-    ("|", Kind::Infix(Operator::BitOr)),
-    ("^", Kind::Infix(Operator::BitXor)),
-    ("&", Kind::Infix(Operator::BitAnd)),
     ("<", Kind::Infix(Operator::Less)),
+];
+
+/// The signs that begin with `>`, the longer ones first.
+pub(crate) static GREATER: [(&str, Kind); 4] = [
+    (">>=", Kind::Update(Operator::ShiftRight)),
+    (">=", Kind::Infix(Operator::GreaterEqual)),
+    (">>", Kind::Infix(Operator::ShiftRight)),
     (">", Kind::Infix(Operator::Greater)),
-    ("+", Kind::Infix(Operator::Add)),
+];
+
+/// The signs that begin with `-`, the longer ones first.
+pub(crate) static MINUS: [(&str, Kind); 4] = [
+    ("->", Kind::Arrow),
+    ("--", Kind::MinusMinus),
+    ("-=", Kind::Update(Operator::Subtract)),
     ("-", Kind::Infix(Operator::Subtract)),
+];
+
+/// The signs that begin with `+`, the longer ones first.
+pub(crate) static PLUS: [(&str, Kind); 3] = [
+    ("++", Kind::PlusPlus),
+    ("+=", Kind::Update(Operator::Add)),
+    ("+", Kind::Infix(Operator::Add)),
+];
+
+/// The signs that begin with `|`, the longer ones first.
+pub(crate) static BARS: [(&str, Kind); 3] = [
+    ("||", Kind::Infix(Operator::Or)),
+    ("|=", Kind::Update(Operator::BitOr)),
+    ("|", Kind::Infix(Operator::BitOr)),
+];
+
+/// The signs that begin with `&`, the longer ones first.
+pub(crate) static AMPERSANDS: [(&str, Kind); 3] = [
+    ("&&", Kind::Infix(Operator::And)),
+    ("&=", Kind::Update(Operator::BitAnd)),
+    ("&", Kind::Infix(Operator::BitAnd)),
+];
+
+/// The signs that begin with `=`, the longer ones first.
+pub(crate) static EQUALS: [(&str, Kind); 2] = [
+    ("==", Kind::Infix(Operator::Equal)),
+    ("=", Kind::Assign),
+];
+
+/// The signs that begin with `!`, the longer ones first.
+pub(crate) static BANGS: [(&str, Kind); 2] = [
+    ("!=", Kind::Infix(Operator::NotEqual)),
+    ("!", Kind::Bang),
+];
+
+/// The signs that begin with `*`, the longer ones first.
+pub(crate) static STARS: [(&str, Kind); 2] = [
+    ("*=", Kind::Update(Operator::Multiply)),
     ("*", Kind::Infix(Operator::Multiply)),
+];
+
+/// The signs that begin with `%`, the longer ones first.
+pub(crate) static PERCENTS: [(&str, Kind); 2] = [
+    ("%=", Kind::Update(Operator::Modulo)),
     ("%", Kind::Infix(Operator::Modulo)),
+];
+
+/// The signs that begin with `^`, the longer ones first.
+pub(crate) static CARETS: [(&str, Kind); 2] = [
+    ("^=", Kind::Update(Operator::BitXor)),
+    ("^", Kind::Infix(Operator::BitXor)),
 ];
 
 /// What the table says that the text is.
