@@ -4,17 +4,27 @@ use Rattle.std.proofs.lemmas.List.Elements.{All-push}
 use Rattle.program_run.specs.Acting.{IsLeft, share_by}
 use Rattle.program_run.specs.Executed.{IsFinishedOver}
 use Rattle.program_run.specs.declared.run.Finished.{Finished}
-use Rattle.program_run.specs.Runs.{RunView, share_in}
+use Rattle.program_run.specs.Runs.{HasTurned, RunView, share_in}
+use Rattle.program_run.specs.declared.run.Turn.{Turn}
+use Rattle.program_run.specs.declared.run.Turn.TheVariants as turn
 use Rattle.region.specs.Admission.{image_at}
 use Rattle.task_queue.specs.Queues.{PassView, QueueView}
 use Rattle.task_queue.specs.Tasked.{IsTask, roster_of}
 use Rattle.task_queue.specs.declared.rule.Roster.{Roster}
 use Rattle.object_lock.specs.SeatViews.{SeatView}
-use Rattle.executor.specs.Ends.{AreDone, DoneView, IsDone, Works}
+use Rattle.executor.specs.Ends.{AreDone, DoneView, HasHadTurns, IsDone, Works}
 
 -- a task that was run and goes on is the same task
-pub still_task : (r : Roster) (p q : RunView) (n : ℕ) → IsTask r p → q ≡ record p { completed = p.completed + n; printed = q.printed } → IsTask r q
-still_task r p q n t is = subst (IsTask r) (sym is) (record { of = t.of; named = t.named; placed = t.placed; going = t.going })
+pub still_task : (r : Roster) (p q : RunView) → IsTask r p → q ≡ record p { completed = q.completed; printed = q.printed } → IsTask r q
+still_task r p q t is = subst (IsTask r) (sym is) (record { of = t.of; named = t.named; placed = t.placed; going = t.going })
+
+-- behind some turns there was one more
+pub one_more : (n : ℕ) (p q s : RunView) (t : Turn) → q ≡ record p { completed = q.completed; printed = q.printed } → HasTurned n q s t → HasHadTurns p s t
+one_more n p q s turn.Held h e = subst (λ (x : RunView). x ≡ record p { completed = x.completed; printed = x.printed }) (sym e) h
+one_more n p q s turn.Ran h e =
+    let more : s.completed ≡ q.completed + n = ap (λ (x : RunView). x.completed) e in
+    e ∙ ap (λ k. record q { completed = k; printed = s.printed }) (sym more) ∙ ap (λ (x : RunView). record x { completed = s.completed; printed = s.printed }) h
+one_more n p q s turn.Ended h e = e.1 ∙ ap (λ (x : RunView). record x { completed = s.completed; refusals = s.refusals; printed = s.printed; over = true }) h
 
 -- the end of a task whose run is over is that of its program, and its seat the program's
 pub ended_task : {W C : Type 0} (honest reliable : Type 0) (r : Roster) (p q : RunView) (k : ℕ) (e : Finished) (x : SeatView W C) → IsTask r p → q ≡ record p { completed = q.completed; refusals = q.refusals; printed = q.printed; over = true } → k ≡ q.number

@@ -1,5 +1,5 @@
 -- How all programs of a region end.
-use Rattle.std.specs.Prelude.{◌≡◌, ℕ, ◌<◌, ◌≤◌, ◌+◌, ◌++◌, IfSome, List, [], Option, Some, None, length, map, slice_index_or, slice_get}
+use Rattle.std.specs.Prelude.{◌≡◌, ℕ, ◌<◌, ◌≤◌, ◌+◌, ◌++◌, IfSome, List, [], Option, Some, None, length, map, slice_index_or, slice_get, true}
 use Rattle.std.specs.List.{All, AllZip}
 use Rattle.cells.specs.declared.ending.Ended.{Ended}
 use Rattle.code_form.specs.Form.{image_of}
@@ -8,6 +8,8 @@ use Rattle.pointer_word.specs.Asked.{HasNothing}
 use Rattle.program_run.specs.Acting.{IsLeft, share_by}
 use Rattle.program_run.specs.Executed.{IsExecutedOver, IsFinishedOver}
 use Rattle.program_run.specs.declared.run.Finished.{Finished}
+use Rattle.program_run.specs.declared.run.Turn.{Turn}
+use Rattle.program_run.specs.declared.run.Turn.TheVariants as turn
 use Rattle.program_run.specs.Runs.{RunView}
 use Rattle.region.specs.Admission.{image_at}
 use Rattle.scope_verifier.specs.declared.acceptance.Verified.{Verified}
@@ -45,6 +47,11 @@ IsDone honest reliable r d = (d.number < length r.programs) × IsDoneAt honest r
 -- each of these ends is that of the program of its number
 abbrev pub AreDone : {W C : Type 0} → Type 0 → Type 0 → Roster → List (DoneView W C) → Type 0
 AreDone honest reliable r = All (IsDone honest reliable r)
+
+-- a program had some turns, of which this became of the last: it goes on as it was but for what it completed and printed, or it is over
+abbrev pub HasHadTurns : RunView → RunView → Turn → Type 0
+HasHadTurns p q turn.Ended = q ≡ record p { completed = q.completed; refusals = q.refusals; printed = q.printed; over = true }
+HasHadTurns p q _ = q ≡ record p { completed = q.completed; printed = q.printed }
 
 -- A worker of this queue, whose pass is this, which keeps this task, and has so many of these ends and room for so many: each task that is in hand with it has
 -- ended or is kept

@@ -1,6 +1,6 @@
 //! Workers, which take programs in turn from the queue of tasks.
 ghost use Rattle.std.specs.Prelude.{◌≡◌, ◌≢◌, ◌+◌, ◌<◌, ◌≤◌, IfOk, IfSome, MatchOption, None, false, length, true};
-ghost use Rattle.executor.specs.Ends.{AreDone};
+ghost use Rattle.executor.specs.Ends.{AreDone, HasHadTurns};
 ghost use Rattle.task_queue.specs.Tasked.{IsTask};
 
 use crate::movers::rest;
@@ -79,6 +79,25 @@ fn put_unless<'a, S: RawStore, R: Wait>(
     }
 }
 
+/// Gives a task a turn, and more as long as it goes on and is the only one that has not ended, for which no other waits. What became of it in the last.
+fn turns<'a, S: RawStore, G: Gate, R: Wait>(
+    rt: &R,
+    gate: &G,
+    task: &mut ProgramRun<'a, S>,
+    left: &AtomicUsize,
+    quantum: u64,
+) -> Turn
+    ensures { HasHadTurns task.old task.new result }
+{
+    for _ in rt.forever() {
+        match task.turn(rt, gate, quantum) {
+            Turn::Ran if left.load(Ordering::SeqCst) == 1 => (),
+            other => return other,
+        }
+    }
+    unreachable!()
+}
+
 impl<'q, 'a, S: RawStore> Worker<'q, 'a, S> {
     /// A worker with this pass of the queue, and room for so many ends.
     pub(crate) fn new(
@@ -109,15 +128,15 @@ impl<'q, 'a, S: RawStore> Worker<'q, 'a, S> {
         }
     }
 
-    /// Gives the task that it keeps a turn, and puts it back, unless it has ended, or goes on and is the only one that has not: that is kept, as no other
-    /// waits for a turn. False where there was nothing to do.
+    /// Gives the task that it keeps a turn, or more where it is the only one that has not ended, and puts it back, unless it has ended, or is the only one
+    /// now: that is kept. False where there was nothing to do.
     fn turn<G: Gate, R: Wait>(&mut self, rt: &R, gate: &G, left: &AtomicUsize, quantum: u64) -> bool
         ensures { self.new ≡ self.old }
     {
         let Some(mut task) = self.kept.take() else {
             return false;
         };
-        match task.turn(rt, gate, quantum) {
+        match turns(rt, gate, &mut task, left, quantum) {
             Turn::Held => {
                 self.kept = put_unless(self.queue, rt, &mut self.pass, task, false);
                 false

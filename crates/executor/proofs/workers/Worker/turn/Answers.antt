@@ -3,7 +3,6 @@ use Rattle.std.specs.Mem.{manually_drop_value}
 use Rattle.std.specs.Vec.{vec_capacity, vec_len}
 use Rattle.program_run.specs.Runs.{RunView}
 use Rattle.task_queue.specs.Queues.{PassView}
-use Rattle.task_queue.specs.Tasked.{IsTask}
 use Rattle.executor.specs.Ends.{Works}
 use Rattle.executor.proofs.Working.{ended_task, still_task, works_filed, works_put}
 use Rattle.executor.proofs.workers.Worker.turn.Goals as goal
@@ -20,9 +19,9 @@ invariant_of-self-in-Ran g c =
     let most = vec_capacity c.self.inside.done in
     let was : c.self.inside.kept ≡ Some c.in-Some.task = search rules in
     let w : Works h r q p (Some c.in-Some.task) items long most = subst (λ k. Works h r q p k items long most) was c.self.invariant in
-    let ran : c.turn.new.self ≡ record c.in-Some.task { completed = c.in-Some.task.completed + c.args.quantum; printed = c.turn.new.self.printed } = search rules in
-    let put : MatchOption c.put_unless-in-Ran.result (after.in_hand + 1 ≡ p.in_hand) (λ b. (b ≡ c.turn.new.self) × (after ≡ p)) = search rules in
-    works_put h r q p after c.in-Some.task c.turn.new.self c.put_unless-in-Ran.result items long most w c.put_unless-in-Ran.ensures.queue put (still_task q.roster c.in-Some.task c.turn.new.self c.args.quantum w.task ran)
+    let ran : c.turns.new.task ≡ record c.in-Some.task { completed = c.turns.new.task.completed; printed = c.turns.new.task.printed } = search rules in
+    let put : MatchOption c.put_unless-in-Ran.result (after.in_hand + 1 ≡ p.in_hand) (λ b. (b ≡ c.turns.new.task) × (after ≡ p)) = search rules in
+    works_put h r q p after c.in-Some.task c.turns.new.task c.put_unless-in-Ran.result items long most w c.put_unless-in-Ran.ensures.queue put (still_task q.roster c.in-Some.task c.turns.new.task w.task ran)
 
 pub invariant_of-self-in-Ended : goal.invariant_of-self-in-Ended
 invariant_of-self-in-Ended g c =
@@ -35,8 +34,8 @@ invariant_of-self-in-Ended g c =
     let most = vec_capacity c.self.inside.done in
     let was : c.self.inside.kept ≡ Some c.in-Some.task = search rules in
     let w : Works h r q p (Some c.in-Some.task) items long most = subst (λ k. Works h r q p k items long most) was c.self.invariant in
-    let ended : c.turn.new.self ≡ record c.in-Some.task { completed = c.turn.new.self.completed; refusals = c.turn.new.self.refusals; printed = c.turn.new.self.printed; over = true } = search rules in
-    let end = ended_task h r q.roster c.in-Some.task c.turn.new.self c.number-number.result c.into_finished-end.result.0 c.into_finished-end.result.1 w.task ended c.number-number.ensures.number c.into_finished-end.ensures.end c.into_finished-end.ensures.seat in
+    let ended : c.turns.new.task ≡ record c.in-Some.task { completed = c.turns.new.task.completed; refusals = c.turns.new.task.refusals; printed = c.turns.new.task.printed; over = true } = search rules in
+    let end = ended_task h r q.roster c.in-Some.task c.turns.new.task c.number-number.result c.into_finished-end.result.0 c.into_finished-end.result.1 w.task ended c.number-number.ensures.number c.into_finished-end.ensures.end c.into_finished-end.ensures.seat in
     let none : c.take.new.self ≡ None = search rules in
     let more = c.push_reserved.ensures.len in
     let filed = works_filed h r q p c.in-Some.task items c.push_reserved.new.self.items _ long (vec_len c.push_reserved.new.self) most w c.push_reserved.ensures.items (search rules) end in
@@ -56,6 +55,6 @@ invariant_of-self-in-Held g c =
     let most = vec_capacity c.self.inside.done in
     let was : c.self.inside.kept ≡ Some c.in-Some.task = search rules in
     let w : Works h r q p (Some c.in-Some.task) items long most = subst (λ k. Works h r q p k items long most) was c.self.invariant in
-    let held : c.turn.new.self ≡ c.in-Some.task = search rules in
-    let put : MatchOption c.put_unless.result (after.in_hand + 1 ≡ p.in_hand) (λ b. (b ≡ c.turn.new.self) × (after ≡ p)) = search rules in
-    works_put h r q p after c.in-Some.task c.turn.new.self c.put_unless.result items long most w c.put_unless.ensures.queue put (subst (IsTask q.roster) (sym held) w.task)
+    let held : c.turns.new.task ≡ record c.in-Some.task { completed = c.turns.new.task.completed; printed = c.turns.new.task.printed } = search rules in
+    let put : MatchOption c.put_unless.result (after.in_hand + 1 ≡ p.in_hand) (λ b. (b ≡ c.turns.new.task) × (after ≡ p)) = search rules in
+    works_put h r q p after c.in-Some.task c.turns.new.task c.put_unless.result items long most w c.put_unless.ensures.queue put (still_task q.roster c.in-Some.task c.turns.new.task w.task held)
