@@ -150,7 +150,7 @@ module _ (reliable honest : Type 0) (sure : honest) (s : session.State) where
       let o : ℕ = object_of g (ready_of v) a in
       let f : ℕ = h.frame in
       let w : session.State = record v { holds = slice_set v.holds k (Some (a_hold o f false)); view = u.view } in
-      let few = may_open v k o (count_of o v.holds) ok low free own refl in
+      let few = may_open v k o ok low free own in
       let some : (note v.view o).count < 65535 = let b = few.1 in let c = few.2 in omega arith in
       let q : Program = record (ready_of v) { holds = slice_set (map hold_seen v.holds) k (Some (record { object = o; writes = false })) } in
       let mine : (s.view.low ≤ o) × (o < s.view.high) = let b = own.0 in let c = own.1 in (omega arith, omega arith) in

@@ -74,7 +74,7 @@ takes_object g s u t k a n r low none image free ok own h done is =
     let x = touch.Aims k (Some a) in
     let f = h.frame in
     let w = h.came.way in
-    let few = (may_open s k o (count_of o s.holds) ok low free own refl) in
+    let few = (may_open s k o ok low free own) in
     let count : (n.notes o).count < 4 = let a = few.1 in let b = few.2 in let c = ap (λ (y : Note). y.count) (is.notes o own) in omega arith in
     let v : session.State = record s { holds = slice_set s.holds k (Some (a_hold o f false)); view = u.view } in
     let known = known_taken g s.view u.view n o f w h.came.leads (owned_here s o ok own) is h.takes.notes h.takes.low h.takes.high h.came.did own in

@@ -21,7 +21,7 @@ use Rattle.pointer_word.specs.Words.{Away, counted}
 use Rattle.object_lock.specs.Seats.{Owns}
 use Rattle.object_moves.specs.Ways.{Begun, Found, LeadsTo, Way, moves_on}
 use Rattle.session.specs.declared.hold.Hold as own
-use Rattle.session.specs.Keeping.{IsHolding, IsNext, Misses, count_of, shut_at, wants}
+use Rattle.session.specs.Keeping.{IsHolding, IsNext, Misses, shut_at, wants}
 use Rattle.session.specs.Performing.{Acts, GivesIn, LosesAt, PerformsBy, WantsNext, shut_all}
 use Rattle.session.specs.State as session
 use Rattle.session.proofs.Holding.{holding_shut}
@@ -94,7 +94,7 @@ loses_object reliable g s u t k a n r low free ok mine m e is = by_way m.came.wa
     by_way Found leads did = absurd leads
     by_way (Begun c) leads did =
         let o : ℕ = object_of g (ready_of s) a in
-        let few = may_open s k o (count_of o s.holds) ok low free mine refl in
+        let few = may_open s k o ok low free mine in
         let count : (n.notes o).count < 4 = let x = few.1 in let y = few.2 in let z = ap (λ (b : Note). b.count) (is.notes o mine) in omega arith in
         lost_then reliable s u t k o n c low free ok mine m leads did e is g (touch.Aims k (Some a)) r count
         (λ b. aims_turn g b (ready_of s) (answers true) k (Some a) None (Some o) (omega (arith, length-map s.holds hold_seen)) (seen_at s.holds k ∙ ap hold_seen free) refl)
